@@ -1,0 +1,4 @@
+-- The definitions that contracts cite, in reading order.
+pub mod Outside
+pub mod Path
+pub mod Memory

@@ -1,0 +1,45 @@
+use crate::{List, Name};
+
+/// A name and its value: a property, a variable of an environment, or a path and what it holds.
+#[derive(Debug, Drop)]
+pub struct Pair {
+    pub name: Name,
+    pub value: Name,
+}
+
+/// One need of a test: so many slots of one resource of a kind.
+///
+/// Source: CMake manual, ctest(1), Resource Allocation.
+#[derive(Debug, Drop)]
+pub struct Need {
+    /// The resource group that it belongs to, from 0.
+    pub group: u32,
+    pub kind: Name,
+    pub slots: u32,
+}
+
+/// One resource that the machine lends to tests.
+///
+/// Source: CMake manual, ctest(1), Resource Allocation.
+#[derive(Debug, Drop)]
+pub struct Resource {
+    pub kind: Name,
+    pub id: Name,
+    pub slots: u32,
+}
+
+/// A test as the test files define it.
+///
+/// Source: CMake manual, add_test and cmake-properties(7), Properties on Tests.
+#[derive(Debug, Drop)]
+pub struct TestDef {
+    pub name: Name,
+    /// The program and its arguments.
+    pub command: List<Name>,
+    /// The folder whose test file defines the test.
+    pub dir: Name,
+    /// One pair for each property key, in the order of first use, with the last value.
+    pub props: List<Pair>,
+    /// The labels that come from the folder.
+    pub dir_labels: List<Name>,
+}

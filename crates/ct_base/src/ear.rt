@@ -1,0 +1,12 @@
+ghost use Rattle.std.specs.Prelude.{List, ℕ, ◌++◌};
+
+/// What hears the output of a test's program. It cannot fail.
+///
+/// `stands_for` says of a text that it may be all that was heard.
+pub trait Ear {
+    ghost stands_for: { Self → List ℕ → Type 0 };
+
+    /// Hears one more piece.
+    fn hear(&mut self, piece: &[u8])
+        ensures { (text : List ℕ) → stands_for self.old text → stands_for self.new (text ++ piece.now) };
+}

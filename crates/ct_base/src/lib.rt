@@ -1,0 +1,33 @@
+//! Lists, names and bytes, and the traits of the outside with their forms in memory.
+//!
+//! Hands up: `Name`, `Blob`, `List`, the records of a test file, and `Files`, `Sink`, `Ear`.
+//! Stands on: std alone.
+//! Read first: `specs/Outside.antt`, then `files.rt`, `sink.rt` and `ear.rt`.
+#![tactic(auto)]
+
+mod blob;
+mod calls;
+mod collect;
+mod defs;
+mod ear;
+mod files;
+mod list;
+mod mem_files;
+mod mem_sink;
+mod memory;
+mod name;
+mod path;
+mod sink;
+
+pub use blob::Blob;
+pub use collect::Collect;
+pub use defs::{Need, Pair, Resource, TestDef};
+pub use ear::Ear;
+pub use files::{Files, FilesFault};
+pub use list::List;
+pub use mem_files::{CalmFiles, MemFiles};
+pub use mem_sink::{CalmSink, MemSink};
+pub use memory::NoMemory;
+pub use name::Name;
+pub use path::join_path;
+pub use sink::{Sink, SinkFault};
