@@ -1,0 +1,82 @@
+ghost use Rattle.std.specs.Prelude.{◌≡◌, ◌↔◌, IsNone};
+ghost use Rattle.ct_verdict.specs.Verdict.{asks_again, is_repeated};
+
+use crate::Verdict;
+
+/// What makes a run try a test again.
+///
+/// Source: CMake manual, ctest(1), --repeat.
+#[derive(Clone, Copy, Debug, PartialEq, Eq)]
+pub enum Mode {
+    Once,
+    UntilFail,
+    UntilPass,
+    AfterTimeout,
+}
+
+/// How often a run tries a test at most, and what makes it try again.
+///
+/// Source: CMake manual, ctest(1), --repeat.
+#[derive(Clone, Copy, Debug, PartialEq, Eq)]
+pub struct Repeat {
+    pub mode: Mode,
+    pub times: u32,
+}
+
+impl Repeat {
+    /// Tells whether a test is tried again after so many attempts, the last with this verdict.
+    pub fn again(&self, done: u32, last: Option<Verdict>) -> bool
+        requires { IsNone last ↔ (done ≡ 0) }
+        ensures { result ≡ is_repeated self.now done last }
+    {
+        match last {
+            None => true,
+            Some(verdict) => done < self.times && self.mode.asks_again(verdict),
+        }
+    }
+}
+
+impl Mode {
+    fn asks_again(self, last: Verdict) -> bool
+        ensures { result ≡ asks_again self last }
+    {
+        match self {
+            Mode::Once => false,
+            Mode::UntilFail => matches!(last, Verdict::Passed),
+            Mode::UntilPass => last.is_failing(),
+            Mode::AfterTimeout => matches!(last, Verdict::Timeout),
+        }
+    }
+}
+
+#[cfg(test)]
+mod tests {
+    use super::*;
+
+    #[test]
+    fn tries_again_as_the_mode_tells(rt: HostRuntime) {
+        for (mode, times, done, last, again) in [
+            (Mode::UntilPass, 3, 1, Verdict::Failed, true),
+            (Mode::UntilPass, 3, 2, Verdict::Failed, true),
+            (Mode::UntilPass, 3, 3, Verdict::Passed, false),
+            (Mode::UntilPass, 3, 3, Verdict::Failed, false),
+            (Mode::UntilPass, 3, 1, Verdict::Skipped, false),
+            (Mode::UntilFail, 3, 1, Verdict::Passed, true),
+            (Mode::UntilFail, 3, 2, Verdict::Failed, false),
+            (Mode::AfterTimeout, 2, 1, Verdict::Failed, false),
+            (Mode::AfterTimeout, 2, 1, Verdict::Timeout, true),
+            (Mode::AfterTimeout, 2, 2, Verdict::Passed, false),
+            (Mode::Once, 1, 1, Verdict::Failed, false),
+        ] {
+            assert!(rt; 0 < done);
+            let repeat = Repeat { mode, times };
+            let told = repeat.again(done, Some(last));
+            assert_eq!(rt; told, again, "{repeat:?} after {done}, {last:?}");
+        }
+        let once = Repeat {
+            mode: Mode::Once,
+            times: 1,
+        };
+        assert!(rt; once.again(0, None));
+    }
+}
