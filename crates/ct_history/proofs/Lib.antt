@@ -1,0 +1,5 @@
+pub mod AttemptLemmas
+pub mod BoolLemmas
+pub mod LegalLemmas
+pub mod OpenLemmas
+pub mod PlanLemmas

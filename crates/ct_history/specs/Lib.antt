@@ -1,0 +1,6 @@
+-- The definitions that contracts cite, in reading order.
+pub mod Plan
+pub mod History
+pub mod Verdicts
+pub mod Rules
+pub mod Legal

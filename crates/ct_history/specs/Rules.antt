@@ -1,0 +1,93 @@
+-- When a test may start, and when it may be settled. Source: CMake manual, cmake-properties(7), DEPENDS,
+-- FIXTURES_REQUIRED, PROCESSORS, RESOURCE_LOCK, RUN_SERIAL; ctest(1), Resource Allocation, --stop-on-failure.
+use Rattle.std.specs.Prelude.{ℕ, ◌+◌, Bool, true, false, not, ◌&&◌, List, [], ◌∷◌, find, Option, Some, None, is_some, is_none, nat_le, bytes_eq, if◌then◌else◌}
+use Rattle.std.specs.List.{list_any, list_all}
+use Rattle.ct_base.specs.declared.defs.Resource.{Resource}
+use Rattle.ct_base.specs.declared.defs.Need.{Need}
+use Rattle.ct_alloc.specs.declared.placement.Placement.{Placement}
+use Rattle.ct_alloc.specs.Placement.{is_placement, fits_beside}
+use Rattle.ct_verdict.specs.declared.verdict.Cause.{Cause}
+use Rattle.ct_verdict.specs.declared.verdict.Cause.TheVariants.{Fixture, Stopped}
+use Rattle.ct_history.specs.declared.plan.PlanTest.{PlanTest}
+use Rattle.ct_history.specs.declared.plan.PlanParts.{PlanParts}
+use Rattle.ct_history.specs.declared.history.Entry.{Entry}
+pub use Rattle.ct_history.specs.Plan.{test_at}
+use Rattle.ct_history.specs.History.{Running, open_starts, is_open_in, used_processors, used_slots, has_stop}
+pub use Rattle.ct_history.specs.Verdicts.{is_final_in, verdict_of_test, is_passed_verdict}
+
+-- the name is one of these
+abbrev pub is_among : List ℕ → List (List ℕ) → Bool
+is_among name others = list_any (λ other. bytes_eq name other) others
+
+-- some name stands in both lists
+abbrev pub shares_name : List (List ℕ) → List (List ℕ) → Bool
+shares_name names others = list_any (λ name. is_among name others) names
+
+-- the test names one of these locks
+abbrev pub shares_lock : List (List ℕ) → Option PlanTest → Bool
+shares_lock locks None = false
+shares_lock locks (Some t) = shares_name t.locks locks
+
+abbrev pub is_serial : Option PlanTest → Bool
+is_serial None = false
+is_serial (Some t) = t.serial
+
+-- an open test names one of these locks
+abbrev pub has_locked : List PlanTest → List (List ℕ) → List Entry → Bool
+has_locked tests locks entries = list_any (λ (r : Running). shares_lock locks (test_at tests r.test)) (open_starts entries)
+
+-- an open test is serial
+abbrev pub has_serial : List PlanTest → List Entry → Bool
+has_serial tests entries = list_any (λ (r : Running). is_serial (test_at tests r.test)) (open_starts entries)
+
+-- nothing is open
+abbrev pub is_idle : List Entry → Bool
+is_idle entries = not (list_any (λ (r : Running). true) (open_starts entries))
+
+-- each test in `before` is final
+abbrev pub follows_finals : PlanParts → PlanTest → List Entry → Bool
+follows_finals plan t entries = list_all (λ j. is_some (verdict_of_test plan entries j)) t.before
+
+-- the least setup that has not passed; `setups` ascends
+abbrev pub first_unpassed : PlanParts → PlanTest → List Entry → Option ℕ
+first_unpassed plan t entries = find (λ s. not (is_passed_verdict (verdict_of_test plan entries s))) t.setups
+
+-- the placement is right for the test: one for its needs that fits beside what is used, where it has needs
+-- and resources are given, and otherwise none
+abbrev pub is_placed : Option (List Resource) → List Need → (ℕ → ℕ) → Option Placement → Bool
+is_placed None needs used placement = is_none placement
+is_placed (Some resources) [] used placement = is_none placement
+is_placed (Some resources) (need ∷ needs) used None = false
+is_placed (Some resources) (need ∷ needs) used (Some p) = is_placement resources (need ∷ needs) p.picks && fits_beside resources used p.picks
+
+-- neither final nor open
+abbrev pub is_pending : PlanParts → PlanTest → List Entry → Bool
+is_pending plan t entries = not (is_final_in plan.repeat t entries) && not (is_open_in t.number entries)
+
+-- predecessors are final, setups have passed, and nothing keeps the test from running at all
+abbrev pub is_ready : PlanParts → PlanTest → List Entry → Bool
+is_ready plan t entries = follows_finals plan t entries && is_none (first_unpassed plan t entries) && is_none t.fixed
+
+-- the test's processors and the used ones are at most the level
+abbrev pub has_processors : PlanParts → PlanTest → List Entry → Bool
+has_processors plan t entries = nat_le (t.processors + used_processors plan.tests entries) plan.level
+
+-- processors, locks and serial tests leave room for the test
+abbrev pub has_room : PlanParts → PlanTest → List Entry → Bool
+has_room plan t entries =
+    has_processors plan t entries && not (has_locked plan.tests t.locks entries) && not (t.serial && not (is_idle entries)) && not (has_serial plan.tests entries)
+
+-- the test may start with this placement
+abbrev pub may_start : PlanParts → PlanTest → Option Placement → List Entry → Bool
+may_start plan t placement entries =
+    not (has_stop entries) && is_pending plan t entries && is_ready plan t entries && has_room plan t entries && is_placed plan.resources t.needs (used_slots entries) placement
+
+-- the cause that a test is settled with once its predecessors are final: a setup that did not pass, or the fixed one
+abbrev pub cause_behind : Option ℕ → Option Cause → Option Cause
+cause_behind None fixed = fixed
+cause_behind (Some setup) fixed = Some (Fixture setup)
+
+-- the cause that a test may be settled with, where there is one
+abbrev pub settle_cause : PlanParts → PlanTest → List Entry → Option Cause
+settle_cause plan t entries =
+    if not (is_pending plan t entries) then None else (if has_stop entries then Some Stopped else (if follows_finals plan t entries then cause_behind (first_unpassed plan t entries) t.fixed else None))

@@ -1,0 +1,20 @@
+//! Plans of a run, histories of what happened in it, and what a history says of each test.
+//!
+//! Hands up: `Plan`, `History`, `final_verdict`, and the rules by which tests start and are settled.
+//! Stands on: ct_base, ct_alloc, ct_verdict.
+//! Read first: `specs/History.antt`, `specs/Verdicts.antt`, `specs/Rules.antt`, `specs/Legal.antt`.
+#![tactic(auto)]
+
+mod history;
+mod open_starts;
+mod plan;
+mod rules;
+mod verdicts;
+
+pub use history::{Entry, History};
+pub use open_starts::{has_locked, has_serial, is_idle, is_open, used_processors};
+pub use plan::{Plan, PlanParts, PlanTest, test_at};
+pub use rules::{may_start, settle_cause};
+pub use verdicts::{
+    are_all_final, count_attempts, final_verdict, has_failing, is_final, verdict, verdict_of,
+};

@@ -1,0 +1,155 @@
+ghost use Rattle.std.specs.Prelude.{◌≡◌, ◌<◌, ◌≤◌, ◌^◌, length, IsSome};
+ghost use Rattle.ct_history.specs.History.{attempt_by, attempts_of, settled_by};
+ghost use Rattle.ct_history.specs.Legal.{has_failing};
+ghost use Rattle.ct_history.specs.Plan.{test_at as planned_test};
+ghost use Rattle.ct_history.specs.Verdicts.{are_all_final, attempted_verdict, is_failing_in, is_final_in, last_of_list, settled_cause, verdict_in, verdict_of_test};
+
+use crate::open_starts::is_open;
+use crate::plan::test_at;
+use crate::{Entry, History, Plan, PlanParts, PlanTest};
+use ct_verdict::{Cause, Repeat, Rules, Verdict, one};
+
+/// Gives a test's verdict: Disabled, or what it was settled with, or what its attempts came to.
+///
+/// It is `None` as long as the test is not final.
+pub fn final_verdict(plan: &Plan, history: &History, test: u32) -> Option<Verdict>
+    requires known { IsSome (planned_test plan.now.tests test) }
+    requires few { length history.now.entries.items < 2 ^ 32 }
+    ensures { result ≡ verdict_of_test plan.now history.now.entries.items test }
+{
+    verdict_of(plan.parts(), history.entries.as_slice(), test)
+}
+
+/// Gives the verdict of the test with this number.
+pub fn verdict_of(plan: &PlanParts, entries: &[Entry], number: u32) -> Option<Verdict>
+    requires { length entries.now < 2 ^ 32 }
+    ensures { result ≡ verdict_of_test plan.now entries.now number }
+{
+    match test_at(plan.tests.as_slice(), number) {
+        Some(test) => verdict(&plan.repeat, test, entries),
+        None => None,
+    }
+}
+
+/// Tells whether some test of the plan has a verdict that makes the run fail.
+pub fn has_failing(plan: &PlanParts, entries: &[Entry]) -> bool
+    requires { length entries.now < 2 ^ 32 }
+    ensures { result ≡ has_failing plan.now entries.now }
+{
+    plan.tests
+        .as_slice()
+        .iter()
+        .any(|test| is_failing(verdict(&plan.repeat, test, entries)))
+}
+
+fn is_failing(verdict: Option<Verdict>) -> bool
+    ensures { result ≡ is_failing_in verdict }
+{
+    match verdict {
+        Some(verdict) => verdict.is_failing(),
+        None => false,
+    }
+}
+
+/// Tells whether each test of the plan is final.
+pub fn are_all_final(plan: &PlanParts, entries: &[Entry]) -> bool
+    requires { length entries.now < 2 ^ 32 }
+    ensures { result ≡ are_all_final plan.now entries.now }
+{
+    plan.tests
+        .as_slice()
+        .iter()
+        .all(|test| is_final(&plan.repeat, test, entries))
+}
+
+/// Tells whether a test has a verdict.
+pub fn is_final(repeat: &Repeat, test: &PlanTest, entries: &[Entry]) -> bool
+    requires { length entries.now < 2 ^ 32 }
+    ensures { result ≡ is_final_in repeat.now test.now entries.now }
+{
+    verdict(repeat, test, entries).is_some()
+}
+
+/// Gives the verdict of a test of the plan, where it is final.
+pub fn verdict(repeat: &Repeat, test: &PlanTest, entries: &[Entry]) -> Option<Verdict>
+    requires { length entries.now < 2 ^ 32 }
+    ensures { result ≡ verdict_in repeat.now test.now entries.now }
+{
+    if test.disabled {
+        return Some(Verdict::Disabled);
+    }
+    match settled(entries, test.number) {
+        Some(cause) => Some(Verdict::NotRun(cause)),
+        None => attempted(repeat, test, entries),
+    }
+}
+
+fn settled(entries: &[Entry], number: u32) -> Option<Cause>
+    ensures { result ≡ settled_cause number entries.now }
+{
+    for entry in entries {
+        let cause = settled_with(entry, number);
+        if cause.is_some() {
+            return cause;
+        }
+    }
+    None
+}
+
+fn settled_with(entry: &Entry, number: u32) -> Option<Cause>
+    ensures { result ≡ settled_by number entry.now }
+{
+    match entry {
+        Entry::Settle { test, cause } if *test == number => Some(*cause),
+        _ => None,
+    }
+}
+
+fn attempted(repeat: &Repeat, test: &PlanTest, entries: &[Entry]) -> Option<Verdict>
+    requires { length entries.now < 2 ^ 32 }
+    ensures { result ≡ attempted_verdict repeat.now test.now entries.now }
+{
+    let last = last_attempt(test, entries);
+    if is_open(entries, test.number) || repeat.again(count_attempts(test, entries), last) {
+        None
+    } else {
+        last
+    }
+}
+
+/// Counts the attempts of a test that have ended.
+pub fn count_attempts(test: &PlanTest, entries: &[Entry]) -> u32
+    requires { length entries.now < 2 ^ 32 }
+    ensures is { result ≡ length (attempts_of test.now.number test.now.rules entries.now) }
+    ensures bound { result ≤ length entries.now }
+{
+    let mut count: u32 = 0;
+    for entry in entries {
+        if attempt(entry, test.number, &test.rules).is_some() {
+            count += 1;
+        }
+    }
+    count
+}
+
+fn last_attempt(test: &PlanTest, entries: &[Entry]) -> Option<Verdict>
+    ensures { result ≡ last_of_list (attempts_of test.now.number test.now.rules entries.now) }
+{
+    let mut last = None;
+    for entry in entries {
+        let verdict = attempt(entry, test.number, &test.rules);
+        if verdict.is_some() {
+            last = verdict;
+        }
+    }
+    last
+}
+
+fn attempt(entry: &Entry, number: u32, rules: &Rules) -> Option<Verdict>
+    ensures { result ≡ attempt_by number rules.now entry.now }
+{
+    match entry {
+        Entry::End { test, seen, .. } if *test == number => Some(one(rules, seen)),
+        _ => None,
+    }
+}
