@@ -1,0 +1,3 @@
+pub mod ChoiceLemmas
+pub mod FindLemmas
+pub mod KeptLemmas

@@ -1,0 +1,53 @@
+-- What a gate was asked, what it tells, and how it answers. This project's own.
+use Rattle.std.specs.Prelude.{◌≡◌, ℕ, ◌≤◌, pos, Bool, true, false, ◌&&◌, List, [], ◌∷◌, ◌++◌, find, Option, unwrap_or, IfSome, ◌==◌, if◌then◌else◌}
+use Rattle.ct_base.specs.Outside.{Rose}
+use Rattle.ct_verdict.specs.declared.attempt.How.{How}
+use Rattle.ct_verdict.specs.declared.attempt.How.TheVariants.{Exited, Signalled, TimedOut, NotStarted, Lacks, NoMemory}
+use Rattle.ct_core.specs.declared.gate.Asked.{Asked}
+use Rattle.ct_core.specs.declared.gate.Ended.{Ended}
+use Rattle.ct_core.specs.declared.gate.Told.{Told}
+
+abbrev pub is_no_memory : How → Bool
+is_no_memory (Exited code) = false
+is_no_memory Signalled = false
+is_no_memory TimedOut = false
+is_no_memory NotStarted = false
+is_no_memory (Lacks place) = false
+is_no_memory NoMemory = true
+
+abbrev pub is_not_started : How → Bool
+is_not_started (Exited code) = false
+is_not_started Signalled = false
+is_not_started TimedOut = false
+is_not_started NotStarted = true
+is_not_started (Lacks place) = false
+is_not_started NoMemory = false
+
+-- an attempt of which nothing is told hears nothing and exits with 0 at once
+abbrev pub untold : ℕ → ℕ → Told
+untold test attempt = record { test = test; attempt = attempt; heard = []; ended = record { how = Exited (pos 0); micros = 0 } }
+
+-- what a world tells of an attempt: its first entry of that test and attempt
+abbrev pub told : List Told → ℕ → ℕ → Told
+told world test attempt = unwrap_or (find (λ (t : Told). t.test == test && t.attempt == attempt) world) (untold test attempt)
+
+-- what a call that ended so is recorded as: nothing where memory was wanting
+abbrev pub recorded : {A : Type 0} → How → A → List A
+recorded how item = if is_no_memory how then [] else item ∷ []
+
+-- the test and the attempt that a gate was asked
+abbrev pub asked_for : ℕ → ℕ → Asked
+asked_for test attempt = record { test = test; attempt = attempt }
+
+-- an answer is the told one, or memory was wanting
+abbrev pub IsTold : Option (List Told) → ℕ → ℕ → Ended → Type 0
+IsTold world test attempt ended = is_no_memory ended.how ≡ false → IfSome world (λ w. ended ≡ (told w test attempt).ended)
+
+-- each text that stood before is followed by what is told, unless memory was wanting
+abbrev pub HearsTold : Option (List Told) → ℕ → ℕ → How → (List ℕ → Type 0) → (List ℕ → Type 0) → Type 0
+HearsTold world test attempt how before now = is_no_memory how ≡ false → IfSome world (λ w. (text : List ℕ) → before text → now (text ++ (told w test attempt).heard))
+
+-- the count of faults never falls, and an attempt that was not started raised it
+pub record HasStartCause (before now : ℕ) (how : How) : Type 0 where
+  pub later : before ≤ now
+  pub failed : is_not_started how ≡ true → Rose before now

@@ -1,0 +1,22 @@
+-- What a gate that follows a script is to its callers. This project's own.
+use Rattle.std.specs.Prelude.{◌≡◌, ℕ, ◌+◌, ◌-◌, ◌^◌, min, List, [], ◌∷◌, ◌++◌, if◌then◌else◌}
+use Rattle.ct_verdict.specs.declared.attempt.How.{How}
+use Rattle.ct_core.specs.declared.gate.Asked.{Asked}
+use Rattle.ct_core.specs.declared.gate.Request.{Request}
+use Rattle.ct_core.specs.declared.gate.Told.{Told}
+use Rattle.ct_core.specs.Gate.{asked_for, is_not_started}
+
+-- its world, what it was asked and sent so far, and how many attempts were not started
+pub record ScriptValue : Type 0 where
+  pub world : List Told
+  pub asked : List Asked
+  pub sent : List Request
+  pub faults : ℕ
+
+-- the request was recorded, and nothing else changed
+abbrev pub Records : ScriptValue → Request → ScriptValue → Type 0
+Records old request new = new ≡ record old { asked = old.asked ++ asked_for request.test request.attempt ∷ []; sent = old.sent ++ request ∷ [] }
+
+-- an attempt that was not started raised the count, and nothing else changed
+abbrev pub CountsStart : ScriptValue → How → ScriptValue → Type 0
+CountsStart old how new = new ≡ record old { faults = (if is_not_started how then min (old.faults + 1) (2 ^ 64 - 1) else old.faults) }

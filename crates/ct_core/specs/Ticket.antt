@@ -1,0 +1,32 @@
+-- What a ticket stands for. This project's own.
+use Rattle.std.specs.Prelude.{ℕ, Bool, List, Option}
+use Rattle.ct_alloc.specs.declared.placement.Placement.{Placement}
+use Rattle.ct_verdict.specs.declared.attempt.Seen.{Seen}
+use Rattle.ct_history.specs.declared.history.Entry.{Entry}
+use Rattle.ct_history.specs.declared.history.Entry.TheVariants.{Start, End}
+use Rattle.ct_history.specs.History.{holds_start}
+use Rattle.ct_core.specs.declared.ticket.Ticket.{Ticket}
+
+abbrev pub test_of : Ticket → ℕ
+test_of ticket = ticket.test
+
+abbrev pub attempt_of : Ticket → ℕ
+attempt_of ticket = ticket.attempt
+
+abbrev pub worker_of : Ticket → ℕ
+worker_of ticket = ticket.worker
+
+abbrev pub placement_of : Ticket → Option Placement
+placement_of ticket = ticket.placement
+
+-- the start that gave out the ticket
+abbrev pub start_of : Ticket → Entry
+start_of ticket = Start ticket.test ticket.attempt ticket.worker ticket.placement
+
+-- the end of the ticket's attempt
+abbrev pub end_of : Ticket → Seen → Entry
+end_of ticket seen = End ticket.test ticket.attempt ticket.worker seen
+
+-- the ticket's start is open
+abbrev pub holds_ticket : Ticket → List Entry → Bool
+holds_ticket ticket entries = holds_start ticket.test ticket.attempt ticket.worker entries

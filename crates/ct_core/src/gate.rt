@@ -1,0 +1,145 @@
+ghost use Rattle.std.specs.Prelude.{◌≡◌, IfOk, List, Option, ℕ};
+ghost use Rattle.ct_base.specs.Outside.{Adds, Becomes};
+ghost use Rattle.ct_core.specs.Gate.{HasStartCause, HearsTold, IsTold, asked_for, is_no_memory, recorded};
+ghost use Rattle.ct_core.specs.Ticket.{attempt_of, test_of};
+ghost use Rattle.ct_core.specs.declared.gate.Asked.{Asked};
+ghost use Rattle.ct_core.specs.declared.gate.Request.{Request};
+ghost use Rattle.ct_core.specs.declared.gate.Told.{Told};
+
+use crate::Ticket;
+use ct_base::{Blob, Ear, List, Name, NoMemory, Pair};
+use ct_verdict::How;
+use std::alloc::Global;
+
+/// What a gate is asked to run.
+///
+/// Source: CMake manual, cmake-properties(7), ENVIRONMENT, REQUIRED_FILES, TIMEOUT,
+/// WORKING_DIRECTORY.
+#[derive(Debug, Drop)]
+pub struct Request {
+    pub test: u32,
+    /// From 1.
+    pub attempt: u32,
+    pub name: Name,
+    /// The program and its arguments.
+    pub command: List<Name>,
+    /// The folder that the program starts in.
+    pub dir: Name,
+    /// The whole environment of the program.
+    pub env: List<Pair>,
+    /// How long it may run, in microseconds; `None` is no limit.
+    pub limit: Option<u64>,
+    /// The files that have to be there before it starts.
+    pub required: List<Name>,
+}
+
+impl Request {
+    /// Makes a second request of the same parts.
+    pub fn copy(&self, alloc: Global) -> Result<Request, NoMemory>
+        ensures { IfOk result (λ request. request ≡ self.now) }
+    {
+        Ok(Request {
+            test: self.test,
+            attempt: self.attempt,
+            name: self.name.copy(alloc)?,
+            command: copy_names(alloc, self.command.as_slice())?,
+            dir: self.dir.copy(alloc)?,
+            env: copy_pairs(alloc, self.env.as_slice())?,
+            limit: self.limit,
+            required: copy_names(alloc, self.required.as_slice())?,
+        })
+    }
+}
+
+/// Copies names, in order.
+pub fn copy_names(alloc: Global, names: &[Name]) -> Result<List<Name>, NoMemory>
+    ensures { IfOk result (λ copies. copies ≡ names.now) }
+{
+    let mut copies = List::new(alloc);
+    for name in names {
+        copies.push(name.copy(alloc)?)?;
+    }
+    Ok(copies)
+}
+
+/// Copies pairs, in order.
+pub fn copy_pairs(alloc: Global, pairs: &[Pair]) -> Result<List<Pair>, NoMemory>
+    ensures { IfOk result (λ copies. copies ≡ pairs.now) }
+{
+    let mut copies = List::new(alloc);
+    for pair in pairs {
+        copies.push(Pair {
+            name: pair.name.copy(alloc)?,
+            value: pair.value.copy(alloc)?,
+        })?;
+    }
+    Ok(copies)
+}
+
+/// How a program ended, and how long it took.
+#[derive(Clone, Copy, Debug, PartialEq, Eq)]
+pub struct Ended {
+    pub how: How,
+    /// In microseconds.
+    pub micros: u64,
+}
+
+/// Tells whether memory was wanting for an attempt that ended so.
+pub fn lacks_memory(how: How) -> bool
+    ensures { result ≡ is_no_memory how }
+{
+    matches!(how, How::NoMemory)
+}
+
+/// One line of a world: what an attempt of a test hears, and how it ends.
+#[derive(Debug, Drop)]
+pub struct Told {
+    pub test: u32,
+    pub attempt: u32,
+    pub heard: Blob,
+    pub ended: Ended,
+}
+
+/// That a gate was asked to run an attempt of a test.
+#[derive(Clone, Copy, Debug, PartialEq, Eq)]
+pub struct Asked {
+    pub test: u32,
+    pub attempt: u32,
+}
+
+/// What runs the programs of tests.
+///
+/// `world` is what each attempt comes to, where the gate tells that. `asked` and `sent` are the
+/// attempts and the requests that were run so far, where it tells them. `faults` counts the starts
+/// and waits that failed, and never falls.
+pub trait Gate {
+    ghost world: { Self → Option (List Told) };
+
+    ghost asked: { Self → Option (List Asked) };
+
+    ghost sent: { Self → Option (List Request) };
+
+    ghost faults: { Self → ℕ };
+
+    /// Runs the program of a request, and lets the ear hear its output. It may wait for the program.
+    fn run<E: Ear>(
+        &mut self,
+        alloc: Global,
+        ticket: &Ticket,
+        request: &Request,
+        ear: &mut E,
+    ) -> Ended
+        requires test { request.now.test ≡ test_of ticket.now }
+        requires attempt { request.now.attempt ≡ attempt_of ticket.now }
+
+        // The answer and what is heard are told, or memory was wanting.
+        ensures told { IsTold (world self.old) request.now.test request.now.attempt result }
+        ensures heard { HearsTold (world self.old) request.now.test request.now.attempt result.how (E.stands_for ear.old) (E.stands_for ear.new) }
+
+        // The call is recorded, unless memory was wanting.
+        ensures asked { Becomes (asked self.old) (asked self.new) (Adds (recorded result.how (asked_for request.now.test request.now.attempt))) }
+        ensures sent { Becomes (sent self.old) (sent self.new) (Adds (recorded result.how request.now)) }
+
+        ensures world { world self.new ≡ world self.old }
+        ensures cause { HasStartCause (faults self.old) (faults self.new) result.how };
+}
