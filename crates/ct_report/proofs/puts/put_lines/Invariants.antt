@@ -1,0 +1,7 @@
+use Rattle.std.proofs.Common.{◌≤◌, take}
+use Rattle.ct_base.specs.Outside.{Adds, Becomes}
+use Rattle.ct_report.specs.Report.{text_of}
+use Rattle.ct_report.proofs.puts.put_lines.Given as goal
+
+abbrev pub invariant-loop-line : goal.invariant-loop-line
+invariant-loop-line g l = (Becomes (g.S.Sink.written l.initial.sink) (g.S.Sink.written l.sink) (Adds (text_of (take l.line-index l.lines)))) × (g.S.Sink.faults l.initial.sink ≤ g.S.Sink.faults l.sink)

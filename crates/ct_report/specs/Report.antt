@@ -1,0 +1,174 @@
+-- The texts of a run. Each is a list of lines with their line feeds; the report is the lines in a row.
+-- Source: this project's choice, after what ctest(1) prints.
+use Rattle.std.specs.Prelude.{ℕ, ◌+◌, ◌*◌, ◌/◌, ◌%◌, ◌^◌, min, Bool, true, false, List, [], ◌∷◌, ◌++◌, map, filter, length, flat_map, sum_by, count_by, Option, Some, None, codes, decimal, ◌==◌, if◌then◌else◌}
+use Rattle.ct_verdict.specs.declared.verdict.Cause.{Cause}
+use Rattle.ct_verdict.specs.declared.verdict.Cause.TheVariants.{Unstarted, Lacks, Fixture, NotAvailable, BadOperation, Insufficient, Stopped, Memory}
+use Rattle.ct_verdict.specs.declared.verdict.Verdict.{Verdict}
+use Rattle.ct_verdict.specs.declared.verdict.Verdict.TheVariants.{Passed, Failed, Timeout, Exception, Skipped, NotRun, Disabled}
+use Rattle.ct_history.specs.declared.plan.PlanTest.{PlanTest}
+use Rattle.ct_history.specs.declared.plan.PlanParts.{PlanParts}
+use Rattle.ct_history.specs.declared.history.Entry.{Entry}
+use Rattle.ct_history.specs.declared.history.Entry.TheVariants.{Start, End, Settle, Stop}
+use Rattle.ct_history.specs.Plan.{test_at, enabled}
+use Rattle.ct_history.specs.Verdicts.{verdict_in, verdict_of_test, are_all_final, is_failing_in}
+
+-- the bytes of these lines
+abbrev pub text_of : List (List ℕ) → List ℕ
+text_of lines = flat_map (λ line. line) lines
+
+-- two digits
+abbrev pub two_digits : ℕ → List ℕ
+two_digits n = (48 + n / 10) ∷ (48 + n % 10) ∷ []
+
+-- microseconds as seconds with two digits of hundredths, rounded down
+abbrev pub seconds_text : ℕ → List ℕ
+seconds_text micros = decimal (micros / 1000000) ++ codes "." ++ two_digits (micros / 10000 % 100)
+
+-- the name of a test, where there is one
+abbrev pub name_of : Option PlanTest → List ℕ
+name_of None = []
+name_of (Some t) = t.name
+
+-- why a test did not run
+abbrev pub cause_text : List PlanTest → Cause → List ℕ
+cause_text tests Unstarted = codes "Unable to start"
+cause_text tests (Lacks place) = codes "Required file " ++ decimal place
+cause_text tests (Fixture setup) = codes "Fixture " ++ name_of (test_at tests setup)
+cause_text tests NotAvailable = codes "Not available"
+cause_text tests (BadOperation place) = codes "Bad environment"
+cause_text tests Insufficient = codes "Insufficient resources"
+cause_text tests Stopped = codes "Stopped"
+cause_text tests Memory = codes "Out of memory"
+
+-- a verdict in the line of its test; a disabled test has no line
+abbrev pub verdict_text : List PlanTest → Verdict → List ℕ
+verdict_text tests Passed = codes "Passed"
+verdict_text tests Failed = codes "***Failed"
+verdict_text tests Timeout = codes "***Timeout"
+verdict_text tests Exception = codes "***Exception"
+verdict_text tests Skipped = codes "***Skipped"
+verdict_text tests (NotRun cause) = codes "***Not Run (" ++ cause_text tests cause ++ codes ")"
+verdict_text tests Disabled = []
+
+-- a verdict in the lists of the summary
+abbrev pub cause_word : Cause → List ℕ
+cause_word Stopped = codes "Stopped"
+cause_word _ = codes "Not Run"
+
+abbrev pub verdict_word : Verdict → List ℕ
+verdict_word Passed = []
+verdict_word Failed = codes "Failed"
+verdict_word Timeout = codes "Timeout"
+verdict_word Exception = codes "Exception"
+verdict_word Skipped = codes "Skipped"
+verdict_word (NotRun cause) = cause_word cause
+verdict_word Disabled = codes "Disabled"
+
+-- the microseconds of an End of the test
+abbrev pub micros_by : ℕ → Entry → ℕ
+micros_by test (Start t a worker placement) = 0
+micros_by test (End t a worker seen) = if t == test then seen.micros else 0
+micros_by test (Settle t cause) = 0
+micros_by test Stop = 0
+
+-- the microseconds of a test's Ends together, which count up to 10^18
+abbrev pub micros_of : ℕ → List Entry → ℕ
+micros_of test entries = min (sum_by (micros_by test) entries) (10 ^ 18)
+
+-- the first line of a report
+abbrev pub header_line : PlanParts → List ℕ
+header_line plan = codes "Test project " ++ plan.dir ++ codes "\n"
+
+-- the line of a test with this verdict, which is the place-th to become final
+abbrev pub verdict_line : PlanParts → List Entry → ℕ → PlanTest → Verdict → List ℕ
+verdict_line plan entries place t verdict =
+    decimal place ++ codes "/" ++ decimal (length (enabled plan.tests)) ++ codes " Test #" ++ decimal t.number ++ codes ": " ++ t.name ++ codes " ... " ++ verdict_text plan.tests verdict ++ codes " " ++ seconds_text (micros_of t.number entries) ++ codes " sec\n"
+
+abbrev pub line_with : PlanParts → List Entry → ℕ → PlanTest → Option Verdict → List ℕ
+line_with plan entries place t None = []
+line_with plan entries place t (Some verdict) = verdict_line plan entries place t verdict
+
+-- the line of a test, by the verdict that the history gives it
+abbrev pub test_line : PlanParts → List Entry → ℕ → Option PlanTest → List ℕ
+test_line plan entries place None = []
+test_line plan entries place (Some t) = line_with plan entries place t (verdict_in plan.repeat t entries)
+
+-- a test counts as passed: Passed or Skipped
+abbrev pub is_good_in : Option Verdict → Bool
+is_good_in (Some Passed) = true
+is_good_in (Some Skipped) = true
+is_good_in _ = false
+
+-- the tests of the failing class, in order of number
+abbrev pub failing_tests : PlanParts → List Entry → List PlanTest
+failing_tests plan entries = filter (λ t. is_failing_in (verdict_in plan.repeat t entries)) plan.tests
+
+-- how many tests count as passed
+abbrev pub good_count : PlanParts → List Entry → ℕ
+good_count plan entries = count_by (λ t. is_good_in (verdict_in plan.repeat t entries)) plan.tests
+
+-- the share that passed, in whole percent, rounded down; all where there is no test
+abbrev pub percent : ℕ → ℕ → ℕ
+percent good all = if all == 0 then 100 else (100 * good) / all
+
+-- the counts of a run
+abbrev pub counts_line : PlanParts → List Entry → List ℕ
+counts_line plan entries =
+    decimal (percent (good_count plan entries) (length (enabled plan.tests))) ++ codes "% tests passed, " ++ decimal (length (failing_tests plan entries)) ++ codes " tests failed out of " ++ decimal (length (enabled plan.tests)) ++ codes "\n"
+
+abbrev pub word_of : Option Verdict → List ℕ
+word_of None = []
+word_of (Some verdict) = verdict_word verdict
+
+-- a test in a list of the summary
+abbrev pub listed_line : PlanParts → List Entry → PlanTest → List ℕ
+listed_line plan entries t = codes "\t" ++ decimal t.number ++ codes " - " ++ t.name ++ codes " (" ++ word_of (verdict_in plan.repeat t entries) ++ codes ")\n"
+
+-- the list of the tests that failed, where there is one
+abbrev pub failed_lines : PlanParts → List Entry → List PlanTest → List (List ℕ)
+failed_lines plan entries [] = []
+failed_lines plan entries (t ∷ ts) = codes "\n" ∷ codes "The following tests FAILED:\n" ∷ map (listed_line plan entries) (t ∷ ts) ++ codes "Errors while running CTest\n" ∷ []
+
+-- the summary of a run. The list of labels and that of the tests that did not run are not there yet.
+abbrev pub summary_lines : PlanParts → List Entry → List (List ℕ)
+summary_lines plan entries = codes "\n" ∷ counts_line plan entries ∷ failed_lines plan entries (failing_tests plan entries)
+
+-- the test that an entry may make final
+abbrev pub finished_by : Entry → Option ℕ
+finished_by (Start t a worker placement) = None
+finished_by (End t a worker seen) = Some t
+finished_by (Settle t cause) = Some t
+finished_by Stop = None
+
+-- the line that an entry brings: that of the test that it makes final, where it does
+abbrev pub lines_with : PlanParts → List Entry → ℕ → Option PlanTest → Option Verdict → List (List ℕ)
+lines_with plan entries place None verdict = []
+lines_with plan entries place (Some t) None = []
+lines_with plan entries place (Some t) (Some verdict) = verdict_line plan entries place t verdict ∷ []
+
+abbrev pub lines_of_test : PlanParts → List Entry → ℕ → Option ℕ → List (List ℕ)
+lines_of_test plan entries place None = []
+lines_of_test plan entries place (Some number) = lines_with plan entries place (test_at plan.tests number) (verdict_of_test plan entries number)
+
+-- the lines that these entries bring behind those in front of them, of which so many tests are final
+abbrev pub lines_behind : PlanParts → ℕ → List Entry → List Entry → List (List ℕ)
+lines_behind plan finals front [] = []
+lines_behind plan finals front (e ∷ es) =
+    let here = lines_of_test plan (front ++ e ∷ []) (finals + 1) (finished_by e) in
+    here ++ lines_behind plan (finals + length here) (front ++ e ∷ []) es
+
+-- the lines of the tests, in the order in which they become final
+abbrev pub test_lines : PlanParts → List Entry → List (List ℕ)
+test_lines plan entries = lines_behind plan 0 [] entries
+
+-- the lines behind the header: that there is no test, or the lines of the tests and, where all are final, the summary
+abbrev pub body_lines : PlanParts → List Entry → List PlanTest → List (List ℕ)
+body_lines plan entries [] = codes "No tests were found!!!\n" ∷ []
+body_lines plan entries (t ∷ ts) = test_lines plan entries ++ (if are_all_final plan entries then summary_lines plan entries else [])
+
+-- the report of a history
+abbrev pub report_lines : PlanParts → List Entry → List (List ℕ)
+report_lines plan entries = header_line plan ∷ body_lines plan entries plan.tests
+
+abbrev pub report_text : PlanParts → List Entry → List ℕ
+report_text plan entries = text_of (report_lines plan entries)
