@@ -1,0 +1,10 @@
+pub mod PlainLemmas
+pub mod RunLemmas
+pub mod NextLemmas
+pub mod StepLemmas
+pub mod HasRunLemmas
+pub mod LineLemmas
+pub mod Progress
+pub mod ReportLemmas
+pub mod EndLemmas
+pub mod AnswerLemmas

@@ -1,0 +1,57 @@
+-- The outcome of a top call, its status and its line. Source: CMake manual, ctest(1), for 0 and 8; else this project's own.
+use Rattle.std.specs.Prelude.{ℕ, List, [], ◌++◌, codes, decimal, if◌then◌else◌}
+use Rattle.ct_testfile.specs.declared.fault.ReadFault.{ReadFault}
+use Rattle.ct_testfile.specs.declared.fault.ReadFault.TheVariants as Read
+use Rattle.ct_testfile.specs.declared.fault.ReadKind.{ReadKind}
+use Rattle.ct_testfile.specs.declared.fault.ReadKind.TheVariants.{BadChar, TooLong}
+use Rattle.ct_history.specs.declared.plan.PlanParts.{PlanParts}
+use Rattle.ct_history.specs.declared.history.Entry.{Entry}
+use Rattle.ct_history.specs.Legal.{has_failing}
+use Rattle.ct_app.specs.declared.outcome.UsageKind.{UsageKind}
+use Rattle.ct_app.specs.declared.outcome.UsageKind.TheVariants.{UnknownOption}
+use Rattle.ct_app.specs.declared.outcome.Refusal.{Refusal}
+use Rattle.ct_app.specs.declared.outcome.Refusal.TheVariants.{TestFile}
+use Rattle.ct_app.specs.declared.outcome.Outcome.{Outcome}
+use Rattle.ct_app.specs.declared.outcome.Outcome.TheVariants.{Completed, Usage, Refused, FilesFault, OutputFault, Memory}
+
+-- what a fault of reading is to a run
+abbrev pub outcome_of : ReadFault → Outcome
+outcome_of (Read.At file line kind) = Refused (TestFile file line kind)
+outcome_of (Read.FilesFailed path) = FilesFault path
+outcome_of Read.NoMemory = Memory
+
+-- the status of a completed run: 8 where some verdict is of the failing class
+abbrev pub status_of : PlanParts → List Entry → ℕ
+status_of plan entries = if has_failing plan entries then 8 else 0
+
+abbrev pub usage_text : UsageKind → List ℕ
+usage_text UnknownOption = codes "unknown option"
+
+abbrev pub kind_text : ReadKind → List ℕ
+kind_text BadChar = codes "unexpected byte"
+kind_text TooLong = codes "too much text"
+
+abbrev pub refusal_text : Refusal → List ℕ
+refusal_text (TestFile file line kind) = file ++ codes ":" ++ decimal line ++ codes ": " ++ kind_text kind
+
+-- what an outcome says of itself, where it does
+abbrev pub outcome_text : Outcome → List ℕ
+outcome_text Completed = []
+outcome_text (Usage word kind) = codes "word " ++ decimal word ++ codes ": " ++ usage_text kind
+outcome_text (Refused refusal) = refusal_text refusal
+outcome_text (FilesFault path) = codes "cannot use file " ++ path
+outcome_text OutputFault = []
+outcome_text Memory = codes "out of memory"
+
+-- the line of an outcome
+abbrev pub fault_line : Outcome → List ℕ
+fault_line outcome = codes "ctest: " ++ outcome_text outcome ++ codes "\n"
+
+-- the exit status of an outcome, by that of a completed run
+abbrev pub exit_status : Outcome → ℕ → ℕ
+exit_status Completed completed = completed
+exit_status (Usage word kind) completed = 1
+exit_status (Refused refusal) completed = 2
+exit_status (FilesFault path) completed = 3
+exit_status OutputFault completed = 4
+exit_status Memory completed = 5

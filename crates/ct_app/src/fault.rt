@@ -1,0 +1,123 @@
+ghost use Rattle.std.specs.Prelude.{◌≡◌, ◌++◌, codes, decimal, IfOk, OnOk, OnErr};
+ghost use Rattle.ct_app.specs.Ends.{Tells, is_silent as is_silent_outcome};
+ghost use Rattle.ct_app.specs.Outcome.{fault_line, kind_text, outcome_text, refusal_text, usage_text};
+ghost use Rattle.ct_base.specs.Outside.{Adds, AddsPrefix, Becomes, HasCause};
+
+use crate::run::Halt;
+use crate::{Outcome, Refusal, UsageKind};
+use ct_base::{Blob, Name, NoMemory, Sink};
+use ct_testfile::ReadKind;
+use std::alloc::Global;
+
+/// Tells an outcome that the report has not told, and gives it back; where memory is wanting for
+/// its line, the outcome is that.
+pub(crate) fn tell<S: Sink>(alloc: Global, sink: &mut S, outcome: Outcome) -> Outcome
+    ensures { Tells outcome result (S.written sink.old) (S.written sink.new) (S.faults sink.old) (S.faults sink.new) }
+{
+    if is_silent(&outcome) {
+        return outcome;
+    }
+    match put_fault(alloc, sink, &outcome) {
+        Ok(()) => outcome,
+        Err(Halt::Output) => outcome,
+        Err(Halt::Memory) => Outcome::Memory,
+    }
+}
+
+fn is_silent(outcome: &Outcome) -> bool
+    ensures { result ≡ is_silent_outcome outcome.now }
+{
+    match outcome {
+        Outcome::Completed | Outcome::OutputFault => true,
+        Outcome::Usage { .. }
+        | Outcome::Refused(_)
+        | Outcome::FilesFault { .. }
+        | Outcome::Memory => false,
+    }
+}
+
+/// Puts the line of an outcome.
+fn put_fault<S: Sink>(alloc: Global, sink: &mut S, outcome: &Outcome) -> Result<(), Halt>
+    ensures ok { OnOk result (Becomes (S.written sink.old) (S.written sink.new) (Adds (fault_line outcome.now))) }
+    ensures err { OnErr result (Becomes (S.written sink.old) (S.written sink.new) (AddsPrefix (fault_line outcome.now))) }
+    ensures cause { HasCause Halt.Output (S.faults sink.old) (S.faults sink.new) result }
+{
+    let line = fault_line(alloc, outcome)?;
+    sink.put(line.bytes())?;
+    Ok(())
+}
+
+fn fault_line(alloc: Global, outcome: &Outcome) -> Result<Blob, NoMemory>
+    ensures { IfOk result (λ line. line ≡ fault_line outcome.now) }
+{
+    let mut line = Blob::of(alloc, b"ctest: ")?;
+    line.append(outcome_text(alloc, outcome)?.bytes())?;
+    line.append(b"\n")?;
+    Ok(line)
+}
+
+fn outcome_text(alloc: Global, outcome: &Outcome) -> Result<Blob, NoMemory>
+    ensures { IfOk result (λ text. text ≡ outcome_text outcome.now) }
+{
+    match outcome {
+        Outcome::Completed | Outcome::OutputFault => Ok(Blob::new(alloc)),
+        Outcome::Usage { word, kind } => text_of_usage(alloc, *word, *kind),
+        Outcome::Refused(refusal) => text_of_refusal(alloc, refusal),
+        Outcome::FilesFault { path } => text_of_files_fault(alloc, path),
+        Outcome::Memory => Blob::of(alloc, b"out of memory"),
+    }
+}
+
+fn text_of_usage(alloc: Global, word: u32, kind: UsageKind) -> Result<Blob, NoMemory>
+    ensures { IfOk result (λ text. text ≡ codes "word " ++ decimal word ++ codes ": " ++ usage_text kind) }
+{
+    let mut text = Blob::of(alloc, b"word ")?;
+    text.append(word.to_string(alloc)?.as_bytes())?;
+    text.append(b": ")?;
+    text.append(text_of_word_fault(kind))?;
+    Ok(text)
+}
+
+fn text_of_word_fault(kind: UsageKind) -> &'static [u8]
+    ensures { result.now ≡ usage_text kind }
+{
+    match kind {
+        UsageKind::UnknownOption => b"unknown option",
+    }
+}
+
+fn text_of_refusal(alloc: Global, refusal: &Refusal) -> Result<Blob, NoMemory>
+    ensures { IfOk result (λ text. text ≡ refusal_text refusal.now) }
+{
+    match refusal {
+        Refusal::TestFile { file, line, kind } => text_of_place(alloc, file, *line, *kind),
+    }
+}
+
+fn text_of_place(alloc: Global, file: &Name, line: u32, kind: ReadKind) -> Result<Blob, NoMemory>
+    ensures { IfOk result (λ text. text ≡ file.now ++ codes ":" ++ decimal line ++ codes ": " ++ kind_text kind) }
+{
+    let mut text = Blob::of(alloc, file.bytes())?;
+    text.append(b":")?;
+    text.append(line.to_string(alloc)?.as_bytes())?;
+    text.append(b": ")?;
+    text.append(text_of_kind(kind))?;
+    Ok(text)
+}
+
+fn text_of_kind(kind: ReadKind) -> &'static [u8]
+    ensures { result.now ≡ kind_text kind }
+{
+    match kind {
+        ReadKind::BadChar => b"unexpected byte",
+        ReadKind::TooLong => b"too much text",
+    }
+}
+
+fn text_of_files_fault(alloc: Global, path: &Name) -> Result<Blob, NoMemory>
+    ensures { IfOk result (λ text. text ≡ codes "cannot use file " ++ path.now) }
+{
+    let mut text = Blob::of(alloc, b"cannot use file ")?;
+    text.append(path.bytes())?;
+    Ok(text)
+}

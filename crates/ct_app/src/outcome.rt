@@ -1,0 +1,80 @@
+ghost use Rattle.ct_app.specs.declared.outcome.Outcome.TheVariants as Ends;
+ghost use Rattle.std.specs.Prelude.{◌≡◌};
+
+use ct_base::{Name, NoMemory};
+use ct_history::{History, Plan};
+use ct_testfile::{ReadFault, ReadKind};
+
+/// What is wrong with a word of the command line.
+#[derive(Clone, Copy, Debug, PartialEq, Eq)]
+pub enum UsageKind {
+    /// The word is no option. No word is one yet.
+    UnknownOption,
+}
+
+/// What a run refuses.
+#[derive(Debug, Drop)]
+pub enum Refusal {
+    /// A line of a test file, counted from 1, or the file as a whole at line 0.
+    TestFile {
+        file: Name,
+        line: u32,
+        kind: ReadKind,
+    },
+}
+
+/// What a call of the top came to.
+#[derive(Debug, Drop)]
+pub enum Outcome {
+    /// The test file was read to its end, and every test is final.
+    Completed,
+    /// A word of the command line, counted from 1, is refused.
+    Usage { word: u32, kind: UsageKind },
+    /// The test file is refused.
+    Refused(Refusal),
+    /// The files could not give what the path holds.
+    FilesFault { path: Name },
+    /// The sink did not take the report.
+    OutputFault,
+    /// Memory was wanting.
+    Memory,
+}
+
+/// What a call of the top gives back, with what it was handed.
+#[derive(Drop)]
+pub struct Finished<F, G, S> {
+    pub outcome: Outcome,
+    /// The exit status of the program.
+    pub status: u8,
+    /// The plan of the run, where one was made.
+    pub plan: Option<Plan>,
+    /// What happened in the run, where a plan was made.
+    pub history: Option<History>,
+    pub files: F,
+    pub gates: Vec<G>,
+    pub sink: S,
+}
+
+impl From<NoMemory> for Outcome {
+    ghost from_gives = { λ _ e. e ≡ Ends.Memory };
+
+    fn from(_e: NoMemory) -> Outcome {
+        Outcome::Memory
+    }
+}
+
+impl From<ReadFault> for Outcome {
+    ghost use Rattle.ct_app.specs.Outcome.{outcome_of};
+
+    ghost from_gives = { λ fault e. e ≡ outcome_of fault };
+
+    fn from(fault: ReadFault) -> Outcome {
+        match fault {
+            ReadFault::At { file, line, kind } => {
+                Outcome::Refused(Refusal::TestFile { file, line, kind })
+            }
+            ReadFault::FilesFailed { path } => Outcome::FilesFault { path },
+            ReadFault::NoMemory => Outcome::Memory,
+        }
+    }
+}
