@@ -1,0 +1,18 @@
+//! The program `ctest`: it runs the tests of the folder that it is started in.
+//!
+//! Hands up: nothing; it is the program.
+//! Stands on: ct_base, ct_verdict, ct_core, ct_app.
+//! Read first: `start.rt`; then `real_files.rt`, `real_sink.rt` and `process_gate.rt`, the edge to
+//! the machine.
+#![tactic(auto)]
+
+mod process_gate;
+mod real_files;
+mod real_sink;
+mod start;
+
+use std::process::ExitCode;
+
+fn main(rt: HostRuntime) -> ExitCode {
+    ExitCode::from(start::run(rt))
+}
