@@ -1,0 +1,10 @@
+use Rattle.ct_lex.specs.Place.{beginning}
+use Rattle.ct_lex.proofs.OneReading.{one_reading}
+use Rattle.ct_lex.proofs.RoundTrip.{reads_written}
+use Rattle.ct_lex.proofs.lexer.Lexer.new.Goals as goal
+
+pub returns-clause-one : goal.returns-clause-one
+returns-clause-one c = one_reading (beginning c.args.text.now)
+
+pub returns-clause-again : goal.returns-clause-again
+returns-clause-again c = reads_written c.args.text.now

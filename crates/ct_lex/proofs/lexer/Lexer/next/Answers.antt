@@ -1,0 +1,5 @@
+use Rattle.ct_lex.proofs.OneReading.{reads_on}
+use Rattle.ct_lex.proofs.lexer.Lexer.next.Goals as goal
+
+pub returns-clause-reading : goal.returns-clause-reading
+returns-clause-reading c = reads_on _ _ _ c.advance.ensures.answer

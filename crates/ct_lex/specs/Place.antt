@@ -1,0 +1,61 @@
+-- Where a lexer stands in a text, and what comes next there.
+use Rattle.std.specs.Prelude.{ℕ, ◌+◌, ◌-◌, Bool, true, false, List, length, take, drop, if◌then◌else◌, ◌&&◌, Option, Some, None, Result, Ok, Err}
+use Rattle.ct_lex.specs.Bytes.{feeds, stands}
+use Rattle.ct_lex.specs.Command.{CommandRead, command, start_from}
+use Rattle.ct_lex.specs.declared.call.Call.{Call}
+use Rattle.ct_lex.specs.declared.stop.Cause.{Cause}
+use Rattle.ct_lex.specs.declared.stop.Cause.TheVariants.{OpenString, OpenBracket, OpenCall, BadEscape, BadChar, BadReference}
+use Rattle.ct_lex.specs.declared.stop.Stop.{Stop}
+use Rattle.ct_lex.specs.declared.stop.Stop.TheVariants.{Ended, At}
+use Rattle.ct_lex.specs.declared.fault.LexFault.{LexFault}
+use Rattle.ct_lex.specs.declared.fault.LexFault.TheVariants as fault
+
+-- what is left of the text, the line at its front, and whether it stands behind a command on that command's line
+pub record Place : Type 0 where
+  pub rest : List ℕ
+  pub line : ℕ
+  pub behind : Bool
+
+-- a text without the byte order mark of UTF-8 that it may begin with
+abbrev pub unmarked : List ℕ → List ℕ
+unmarked text = if stands 239 0 text && stands 187 1 text && stands 191 2 text then drop 3 text else text
+
+-- where a text begins
+abbrev pub beginning : List ℕ → Place
+beginning text = record { rest = unmarked text; line = 1; behind = false }
+
+-- the line of what stands behind the next n bytes
+abbrev pub line_behind : Place → ℕ → ℕ
+line_behind place n = place.line + feeds (take n place.rest)
+
+abbrev pub fault_of : Cause → ℕ → LexFault
+fault_of OpenString line = fault.OpenString line
+fault_of OpenBracket line = fault.OpenBracket line
+fault_of OpenCall line = fault.OpenCall line
+fault_of BadEscape line = fault.BadEscape line
+fault_of BadChar line = fault.BadChar line
+fault_of BadReference line = fault.BadReference line
+
+-- a refusal with its line; where the text ends in a command, the line is that of the command, behind n bytes
+abbrev pub fault_at : Place → ℕ → Stop → LexFault
+fault_at place n Ended = fault_of OpenCall (line_behind place n)
+fault_at place n (At cause left) = fault_of cause (line_behind place (length place.rest - left))
+
+-- behind a command
+abbrev pub behind_command : Place → ℕ → Place
+behind_command place n = record { rest = drop n place.rest; line = line_behind place n; behind = true }
+
+-- the command that stands behind the next n bytes, and where it ends
+abbrev pub call_at : Place → ℕ → Result CommandRead Stop → Result (Option (Call × Place)) LexFault
+call_at place n (Err stop) = Err (fault_at place n stop)
+call_at place n (Ok read) =
+    Ok (Some (record { name = read.0; args = read.1; line = line_behind place n }, behind_command place (n + read.2)))
+
+abbrev pub next_by : Place → Result (Option ℕ) Stop → Result (Option (Call × Place)) LexFault
+next_by place (Err stop) = Err (fault_at place 0 stop)
+next_by place (Ok None) = Ok None
+next_by place (Ok (Some n)) = call_at place n (command (drop n place.rest))
+
+-- the next command from a place on and the place behind it, none at the end of the text, or why there is no reading
+abbrev pub next_of : Place → Result (Option (Call × Place)) LexFault
+next_of place = next_by place (start_from place.behind 0 place.rest)

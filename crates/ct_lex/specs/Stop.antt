@@ -1,0 +1,27 @@
+-- Why a text has no reading at a place.
+use Rattle.std.specs.Prelude.{◌≡◌, ℕ, ⊤, List, length, Result, Ok, Err}
+use Rattle.ct_lex.specs.declared.stop.Cause.{Cause}
+use Rattle.ct_lex.specs.declared.stop.Stop.{Stop}
+use Rattle.ct_lex.specs.declared.stop.Stop.TheVariants.{At}
+use Rattle.ct_lex.specs.declared.stop.Halt.{Halt}
+use Rattle.ct_lex.specs.declared.stop.Halt.TheVariants.{Memory, Text}
+
+-- goes on with what was read, or passes on why nothing was
+infixl 10 ◌>>=◌
+abbrev pub ◌>>=◌ : {A B : Type 0} → Result A Stop → (A → Result B Stop) → Result B Stop
+(Ok x) >>= f = f x
+(Err stop) >>= f = Err stop
+
+-- there is no reading at the first byte of what is left of the text
+abbrev pub refused : {A : Type 0} → Cause → List ℕ → Result A Stop
+refused cause left = Err (At cause (length left))
+
+-- a reader halts for want of memory, or as the definition does
+abbrev pub Halts : {A : Type 0} → Halt → Result A Stop → Type 0
+Halts Memory read = ⊤
+Halts (Text stop) read = read ≡ Err stop
+
+-- what a reader returned is what the definition gives, unless memory was wanting
+abbrev pub Gives : {A : Type 0} → Result A Halt → Result A Stop → Type 0
+Gives (Ok x) read = read ≡ Ok x
+Gives (Err halt) read = Halts halt read

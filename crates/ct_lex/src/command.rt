@@ -1,0 +1,96 @@
+ghost use Rattle.std.specs.Prelude.{◌≡◌, ◌≤◌, ◌<◌, ◌+◌, length, IfOk, IfSome, drop, ◌&&◌, not, ◌==◌};
+ghost use Rattle.std.specs.List.{prefix_len};
+ghost use Rattle.ct_lex.specs.Bytes.{is_space};
+ghost use Rattle.ct_lex.specs.Stop.{Gives};
+ghost use Rattle.ct_lex.specs.Command.{word_len, paren_at, lower, command, start_from};
+
+use crate::argument::arguments;
+use crate::bracket::gap_at;
+use crate::bytes::{begins_word, is_space, is_word, stands};
+use crate::call::Arg;
+use crate::stop::{Cause, Halt, Stop};
+use ct_base::{List, Name, NoMemory};
+use std::alloc::Global;
+
+/// Counts the bytes of the identifier that a text begins with.
+fn word_len(text: &[u8]) -> usize
+    ensures count { result ≡ word_len text.now }
+    ensures within { result ≤ length text.now }
+{
+    text.iter().take_while(|byte| is_word(**byte)).count()
+}
+
+/// Counts the spaces and tabs that a text begins with.
+fn space_len(text: &[u8]) -> usize
+    ensures count { result ≡ prefix_len (λ byte. is_space byte) text.now }
+    ensures within { result ≤ length text.now }
+{
+    text.iter().take_while(|byte| is_space(**byte)).count()
+}
+
+/// Finds the first byte behind the identifier that a text begins with, and the spaces and tabs behind that.
+fn paren_at(text: &[u8]) -> usize
+    ensures place { result ≡ paren_at text.now }
+    ensures within { result ≤ length text.now }
+{
+    let word = word_len(text);
+    word + space_len(&text[word..])
+}
+
+/// Makes the name of a command from its identifier.
+fn lower(alloc: Global, word: &[u8]) -> Result<Name, NoMemory>
+    ensures { IfOk result (λ name. name ≡ lower word.now) }
+{
+    let lowered: Vec<u8> = word
+        .iter()
+        .map(|byte| byte.to_ascii_lowercase())
+        .collect(alloc)?;
+    Name::of(alloc, lowered.as_slice())
+}
+
+/// Reads the command that a text begins with: its name, its arguments, and how many bytes it takes.
+pub fn command(alloc: Global, text: &[u8]) -> Result<(Name, List<Arg>, usize), Halt>
+    ensures value { Gives result (command text.now) }
+    ensures within { IfOk result (λ x. (0 < x.2) × (x.2 ≤ length text.now)) }
+{
+    let paren = paren_at(text);
+    if paren == text.len() {
+        return Err(Halt::Text(Stop::Ended));
+    }
+    if !stands(text, paren, b'(') {
+        return Err(Halt::Text(Stop::at(Cause::BadChar, &text[paren..])));
+    }
+    let (args, taken) = arguments(alloc, &text[paren + 1..])?;
+    let name = lower(alloc, &text[..word_len(text)])?;
+    Ok((name, args, taken + paren + 1))
+}
+
+/// Tells whether what follows a gap stands behind a command on its line still. Only a line feed ends that.
+fn stays_behind(behind: bool, first: u8) -> bool
+    ensures { result ≡ (behind && not (first == 10)) }
+{
+    behind && first != b'\n'
+}
+
+/// Counts the bytes in front of the next command: `None` where none comes up to the end of the text. Behind a
+/// command no other one begins before the next line feed outside a comment.
+pub fn start(behind_command: bool, text: &[u8]) -> Result<Option<usize>, Stop>
+    ensures value { result ≡ start_from behind_command 0 text.now }
+    ensures within { IfOk result (λ start. IfSome start (λ n. n < length text.now)) }
+{
+    let mut behind = behind_command;
+    let mut at = 0;
+    while at < text.len() {
+        let first = text[at];
+        let gap = gap_at(&text[at..])?;
+        if gap == 0 {
+            if behind || !begins_word(first) {
+                return Err(Stop::at(Cause::BadChar, &text[at..]));
+            }
+            return Ok(Some(at));
+        }
+        behind = stays_behind(behind, first);
+        at += gap;
+    }
+    Ok(None)
+}

@@ -1,0 +1,66 @@
+ghost use Rattle.std.specs.Prelude.{◌≡◌, ◌++◌, [], OnOk, IfOk};
+ghost use Rattle.ct_lex.specs.Seen.{piece_of};
+
+use crate::call::Part;
+use crate::unit::Unit;
+use ct_base::{List, Name, NoMemory};
+use std::alloc::Global;
+
+/// The parts of an argument so far: those that are whole, and the bytes behind them.
+#[derive(Drop)]
+pub struct Parts {
+    pub whole: List<Part>,
+    pub bytes: Vec<u8>,
+}
+
+impl Parts {
+    ghost use Rattle.ct_lex.specs.Unit.{with_piece};
+    ghost use Rattle.ct_lex.specs.Joined.{joined};
+
+    pub fn new(alloc: Global) -> Parts
+        ensures { (more : List Part) → joined result more ≡ more }
+    {
+        Parts {
+            whole: List::new(alloc),
+            bytes: Vec::new(alloc),
+        }
+    }
+
+    /// Puts a unit behind the others.
+    pub fn add(&mut self, alloc: Global, unit: Unit<'_>) -> Result<(), NoMemory>
+        ensures { OnOk result ((more : List Part) → joined self.new more ≡ joined self.old (with_piece (piece_of unit.entry) more)) }
+    {
+        match unit {
+            Unit::Byte(byte) => self.bytes.push(byte)?,
+            Unit::Semicolon => self.bytes.extend_from_slice(b"\\;")?,
+            Unit::Nothing => {}
+            Unit::Ref(name) => {
+                self.flush(alloc)?;
+                self.whole.push(Part::Ref(Name::of(alloc, name)?))?;
+            }
+        }
+        Ok(())
+    }
+
+    /// Makes the bytes a whole part, if there are any.
+    fn flush(&mut self, alloc: Global) -> Result<(), NoMemory>
+        ensures whole { OnOk result (self.new.whole ≡ joined self.old []) }
+        ensures empty { OnOk result (self.new.bytes.items ≡ []) }
+    {
+        if !self.bytes.is_empty() {
+            self.whole
+                .push(Part::Bytes(Name::of(alloc, self.bytes.as_slice())?))?;
+            self.bytes.clear();
+        }
+        Ok(())
+    }
+
+    /// The parts, with the bytes behind them as the last one.
+    pub fn finish(mut self, alloc: Global) -> Result<List<Part>, NoMemory>
+        ensures { IfOk result (λ parts. parts ≡ joined self []) }
+    {
+        self.flush(alloc)?;
+        let Parts { whole, bytes: _ } = self;
+        Ok(whole)
+    }
+}
