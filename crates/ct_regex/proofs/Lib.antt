@@ -1,0 +1,11 @@
+pub mod AmongLemmas
+pub mod PathLemmas
+pub mod MeaningLemmas
+pub mod SignsLemmas
+pub mod HitLemmas
+pub mod LawLemmas
+pub mod GrammarLemmas
+pub mod WrittenLemmas
+pub mod ReadBackLemmas
+pub mod LiveLemmas
+pub mod SoundLemmas

@@ -1,0 +1,28 @@
+-- What the laws of patterns speak of.
+use Rattle.std.specs.Prelude.{◌≡◌, ℕ, ◌==◌, Bool, ◌&&◌, not, List, ◌++◌, Result, Ok, Err}
+use Rattle.ct_regex.specs.Tree.{Tree}
+use Rattle.ct_regex.specs.Ends.{hits}
+use Rattle.ct_regex.specs.declared.fault.RegexFault.{RegexFault}
+use Rattle.ct_regex.specs.declared.fault.RegexFault.TheVariants.{TooLarge}
+use Rattle.std.specs.List.{list_all}
+
+-- bytes of special meaning outside a set: ^ $ . [ \ ( ) | * + ?
+abbrev pub is_plain : ℕ → Bool
+is_plain byte =
+    not (byte == 91) && (not (byte == 92) && (not (byte == 94) && (not (byte == 36) && (not (byte == 46) && (not (byte == 40)
+    && (not (byte == 41) && (not (byte == 124) && (not (byte == 42) && (not (byte == 43) && not (byte == 63))))))))))
+
+abbrev pub are_plain : List ℕ → Bool
+are_plain bytes = list_all is_plain bytes
+
+-- the text has the bytes somewhere, one directly behind the other
+pub record HasPart (bytes text : List ℕ) : Type 0 where
+  pub front : List ℕ
+  pub back : List ℕ
+  pub there : text ≡ front ++ (bytes ++ back)
+
+-- a pattern that was read hits the text where the tree does, or it was too large
+abbrev pub HitsAlike : Tree → List ℕ → Result Tree RegexFault → Type 0
+HitsAlike tree text (Ok other) = hits other text ≡ hits tree text
+HitsAlike tree text (Err (TooLarge place)) = Unit {0}
+HitsAlike tree text (Err why) = ⊥

@@ -1,0 +1,11 @@
+-- The definitions that contracts cite, in reading order.
+pub mod Tree
+pub mod Ends
+pub mod Signs
+pub mod Reading
+pub mod Grammar
+pub mod Laws
+pub mod Meaning
+pub mod TreeOf
+pub mod Gives
+pub mod Live

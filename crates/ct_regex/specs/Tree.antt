@@ -1,0 +1,43 @@
+-- A pattern as a tree: CMake manual, string(REGEX), Regex Specification.
+use Rattle.std.specs.Prelude.{ℕ, Bool, true, ◌&&◌, not, ◌==◌, nat_le, List, [], ◌∷◌}
+use Rattle.std.specs.List.{list_any}
+use Rattle.ct_regex.specs.declared.tree.Span.{Span}
+use Rattle.ct_regex.specs.declared.tree.Quantifier.{Quantifier}
+
+-- which bytes an atom of one byte takes: any, that one, one of a set, one outside it
+pub data Test : Type 0 where
+  any : Test
+  same : ℕ → Test
+  inside : List Span → Test
+  outside : List Span → Test
+
+pub data Tree : Type 0 where
+  empty : Tree
+  never : Tree
+  start : Tree
+  end : Tree
+  one : Test → Tree
+  sequence : Tree → Tree → Tree
+  choice : Tree → Tree → Tree
+  repeat : Quantifier → Tree → Tree
+
+-- whether one of the spans has the byte
+abbrev pub has_byte : List Span → ℕ → Bool
+has_byte spans byte = list_any (λ (span : Span). nat_le span.low byte && nat_le byte span.high) spans
+
+-- whether the test takes the byte
+abbrev pub takes : Test → ℕ → Bool
+takes any byte = true
+takes (same wanted) byte = byte == wanted
+takes (inside spans) byte = has_byte spans byte
+takes (outside spans) byte = not (has_byte spans byte)
+
+-- one behind the other; of none the empty text
+abbrev pub sequence_of : List Tree → Tree
+sequence_of [] = empty
+sequence_of (tree ∷ trees) = sequence tree (sequence_of trees)
+
+-- one of them; of none nothing matches
+abbrev pub choice_of : List Tree → Tree
+choice_of [] = never
+choice_of (tree ∷ trees) = choice tree (choice_of trees)

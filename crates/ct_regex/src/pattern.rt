@@ -1,0 +1,76 @@
+ghost use Rattle.std.specs.Prelude.{◌≡◌, ◌≤◌, IsTrue, length};
+ghost use Rattle.ct_regex.specs.Meaning.{meaning};
+ghost use Rattle.ct_regex.specs.Live.{is_sound};
+ghost use Rattle.ct_regex.specs.Reading.{reading};
+ghost use Rattle.ct_regex.specs.Gives.{Gives};
+
+use crate::RegexFault;
+use crate::live::has_match;
+use crate::reader::Reader;
+use crate::sign::sign_at;
+use crate::tree::Node;
+use ct_base::NoMemory;
+use std::alloc::Global;
+
+/// How many bytes a pattern may have. This project's choice.
+const MOST_BYTES: usize = 65_536;
+
+/// A pattern of CMake. In contracts `tree_of` is its tree.
+///
+/// Source: CMake manual, string(REGEX), Regex Specification.
+#[derive(Debug, Drop)]
+pub struct Regex {
+    root: Node,
+    // `*` and `+` repeat only what cannot be empty.
+    ghost sound: { IsTrue (is_sound (meaning root)) },
+}
+
+impl Regex {
+    ghost use Rattle.std.specs.Prelude.{◌≡◌, IfOk};
+    ghost use Rattle.ct_regex.specs.Tree.{Tree};
+    ghost use Rattle.ct_regex.specs.TreeOf.{tree_of};
+    ghost use Rattle.ct_regex.specs.Ends.{hits};
+    ghost use Rattle.ct_regex.specs.Reading.{reading};
+    ghost use Rattle.ct_regex.specs.Gives.{Gives, IsReadAs};
+    ghost use Rattle.ct_regex.specs.Grammar.{IsPattern};
+
+    /// Reads a pattern, or finds its first fault from the left.
+    ///
+    /// Source: CMake manual, string(REGEX), Regex Specification. The faults and the limits are this
+    /// project's choice.
+    pub fn parse(alloc: Global, text: &[u8]) -> Result<Regex, RegexFault>
+        ensures exact { Gives tree_of result (reading text.now) }
+        // The grammar that the tree is written by, apart from how it is read.
+        ensures written { IfOk result (λ regex. IsPattern text.now (tree_of regex)) }
+        ensures read { (tree : Tree) → IsPattern text.now tree → IsReadAs tree_of tree result }
+    {
+        if text.len() > MOST_BYTES {
+            return Err(RegexFault::TooLarge(65_536));
+        }
+        let root = read(alloc, text)?;
+        Ok(Regex { root })
+    }
+
+    /// Tells whether the text has a match anywhere.
+    ///
+    /// Source: CMake manual, string(REGEX), Regex Specification.
+    pub fn hit(&self, alloc: Global, text: &[u8]) -> Result<bool, NoMemory>
+        ensures { IfOk result (λ found. found ≡ hits (tree_of self.now) text.now) }
+    {
+        has_match(alloc, &self.root, text)
+    }
+}
+
+fn read(alloc: Global, text: &[u8]) -> Result<Node, RegexFault>
+    requires few { length text.now ≤ 65536 }
+    ensures { Gives meaning result (reading text.now) }
+{
+    let mut reader = Reader::new(alloc);
+    let mut at = 0;
+    'signs: while at < text.len() {
+        let (sign, behind) = sign_at(alloc, text, at)?;
+        reader = reader.take(alloc, sign, at as u32)?;
+        at = behind;
+    }
+    reader.finish()
+}
