@@ -1,10 +1,10 @@
 -- What pairs hold when one more is put behind them.
-use Rattle.std.specs.Prelude.{ℕ, ◌≡◌, ◌≢◌, List, [], ◌∷◌, ◌++◌, Bool, true, false, bytes_eq, refl}
+use Rattle.std.specs.Prelude.{ℕ, ◌≡◌, ◌≢◌, List, Bool, true, false, bytes_eq, refl}
 use Rattle.std.proofs.Common.{sym}
 use Rattle.std.proofs.lemmas.List.{reverse-append}
 use Rattle.std.proofs.lemmas.Slice.Eq.{bytes_eq-Decides}
 use Rattle.ct_base.specs.declared.defs.Pair.{Pair}
-use Rattle.ct_base.specs.Memory.{held_by}
+use Rattle.ct_base.specs.Memory.{held_by, with_pair}
 use Rattle.ct_base.specs.Outside.{Writes}
 
 bytes_eq-refl : (bytes : List ℕ) → bytes_eq bytes bytes ≡ true
@@ -19,7 +19,7 @@ bytes_eq-other one other differ =
     false-from_not (bytes_eq one other) (λ same. differ (sym ((bytes_eq-Decides one other).0 same)))
 
 -- the pair behind the others is the one that counts for its path
-pub held_by-put : (pairs after : List Pair) (path bytes : List ℕ) → after ≡ pairs ++ record { name = path; value = bytes } ∷ [] → Writes path bytes (held_by pairs) (held_by after)
+pub held_by-put : (pairs after : List Pair) (path bytes : List ℕ) → after ≡ with_pair pairs path bytes → Writes path bytes (held_by pairs) (held_by after)
 held_by-put pairs after path bytes is = rw is (record {
   here = rw (reverse-append, bytes_eq-refl path);
   others = λ other differ. rw (reverse-append, bytes_eq-other path other differ);

@@ -1,4 +1,5 @@
 -- The definitions that contracts cite, in reading order.
 pub mod Outside
 pub mod Path
+pub mod Entries
 pub mod Memory

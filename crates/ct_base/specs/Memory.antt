@@ -1,8 +1,12 @@
 -- The files, the sink and the ear in memory: what each of them holds. This project's own.
-use Rattle.std.specs.Prelude.{ℕ, ◌+◌, ◌-◌, ◌^◌, min, Bool, true, List, Option, option_map, ◌≡◌, ◌==◌, ◌⊎◌, bytes_eq, reverse}
+use Rattle.std.specs.Prelude.{ℕ, ◌+◌, ◌-◌, ◌^◌, min, Bool, true, false, List, [], ◌∷◌, ◌++◌, Option, Some, option_map, Result, IsErrOf, OnOk, ◌≡◌, ◌==◌, ◌⊎◌, bytes_eq, reverse}
 use Rattle.std.specs.List.{find, list_any}
 use Rattle.ct_base.specs.declared.defs.Pair.{Pair}
-use Rattle.ct_base.specs.Outside.{Held}
+use Rattle.ct_base.specs.declared.files.FilesFault.{FilesFault}
+use Rattle.ct_base.specs.declared.files.FilesFault.TheVariants as Files
+use Rattle.ct_base.specs.declared.sink.SinkFault.{SinkFault}
+use Rattle.ct_base.specs.declared.sink.SinkFault.TheVariants as Sinks
+use Rattle.ct_base.specs.Outside.{FilesTell, Held, SinkTell}
 
 -- what these pairs hold: each path the value of its last pair, and other paths nothing
 abbrev pub held_by : List Pair → Held
@@ -40,10 +44,54 @@ pub record MemFilesValue : Type 0 where
   pub counts : Calls
   pub refused : Option (List ℕ)
 
+-- what files in memory tell: all
+abbrev pub told_by : MemFilesValue → FilesTell
+told_by files = record { held = Some (held_by files.pairs); refused = Some files.refused; faults = files.counts.faults }
+
+-- the pairs with one more behind them, which is the one that counts for its path
+abbrev pub with_pair : List Pair → List ℕ → List ℕ → List Pair
+with_pair pairs path bytes = pairs ++ record { name = path; value = bytes } ∷ []
+
+-- the call failed since it was due to, and only the counts and the refused path say so
+pub record FailsAsDue (path : List ℕ) (before now : MemFilesValue) : Type 0 where
+  pub due : is_due before.counts ≡ true
+  pub is : now ≡ record before { counts = failed before.counts; refused = Some path }
+
+-- the call was not due to fail; it was counted, and left these pairs
+pub record PassesWith (pairs : List Pair) (before now : MemFilesValue) : Type 0 where
+  pub not_due : is_due before.counts ≡ false
+  pub is : now ≡ record before { pairs = pairs; counts = passed before.counts }
+
+-- a call on files in memory: it fails exactly where it is due to, each such call is counted, and want of memory changes nothing
+pub record IsCall {T : Type 0} (path : List ℕ) (pairs : List Pair) (before now : MemFilesValue) (result : Result T FilesFault) : Type 0 where
+  pub passes : OnOk result (PassesWith pairs before now)
+  pub fails : IsErrOf result Files.Failed → FailsAsDue path before now
+  pub unchanged : IsErrOf result Files.NoMemory → now ≡ before
+
 -- a sink in memory: the bytes that it took, and the calls
 pub record MemSinkValue : Type 0 where
   pub written : List ℕ
   pub counts : Calls
+
+-- what a sink in memory tells: all
+abbrev pub told_of : MemSinkValue → SinkTell
+told_of sink = record { written = Some sink.written; faults = sink.counts.faults }
+
+-- the put failed since it was due to, and wrote nothing
+pub record PutFailsAsDue (before now : MemSinkValue) : Type 0 where
+  pub due : is_due before.counts ≡ true
+  pub is : now ≡ record before { counts = failed before.counts }
+
+-- the put was not due to fail; it was counted, and the piece was written
+pub record PutPasses (piece : List ℕ) (before now : MemSinkValue) : Type 0 where
+  pub not_due : is_due before.counts ≡ false
+  pub is : now ≡ record before { written = before.written ++ piece; counts = passed before.counts }
+
+-- a put into a sink in memory: it fails exactly where it is due to, each is counted, and want of memory changes nothing
+pub record IsPut (piece : List ℕ) (before now : MemSinkValue) (result : Result (Unit {0}) SinkFault) : Type 0 where
+  pub passes : OnOk result (PutPasses piece before now)
+  pub fails : IsErrOf result Sinks.Failed → PutFailsAsDue before now
+  pub unchanged : IsErrOf result Sinks.NoMemory → now ≡ before
 
 -- what an ear in memory kept, and whether it was short of memory
 pub record CollectValue : Type 0 where

@@ -1,11 +1,15 @@
 -- Paths. This project's own.
 use Rattle.std.specs.Prelude.{ℕ, List, [], ◌∷◌, ◌++◌, Bool, false, ◌==◌, if◌then◌else◌}
 
--- a path that begins with '/'
+-- the byte `/`
+abbrev pub slash : ℕ
+slash = 47
+
+-- a path that begins with `/`
 abbrev pub is_absolute : List ℕ → Bool
 is_absolute [] = false
-is_absolute (first ∷ _) = first == 47
+is_absolute (first ∷ _) = first == slash
 
 -- the name where that is absolute, and else the name below the folder
 abbrev pub joined : List ℕ → List ℕ → List ℕ
-joined dir name = if is_absolute name then name else dir ++ 47 ∷ [] ++ name
+joined dir name = if is_absolute name then name else dir ++ slash ∷ [] ++ name

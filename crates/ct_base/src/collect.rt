@@ -55,21 +55,3 @@ impl Ear for Collect {
         }
     }
 }
-
-#[cfg(test)]
-mod tests {
-    use super::*;
-
-    fn hear_twice<E: Ear>(ear: &mut E) {
-        ear.hear(b"one ");
-        ear.hear(b"two");
-    }
-
-    #[test]
-    fn keeps_what_it_hears(rt: HostRuntime) {
-        let mut ear = Collect::new(rt.alloc());
-        hear_twice(&mut ear);
-        assert!(rt; !ear.short());
-        assert_eq!(rt; ear.heard().bytes(), b"one two".as_slice());
-    }
-}

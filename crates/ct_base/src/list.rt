@@ -29,6 +29,20 @@ impl<T> List<T> {
         }
     }
 
+    /// Takes the items as they are, without a copy.
+    pub fn from_vec(items: Vec<T>) -> List<T>
+        ensures { result ≡ items.items }
+    {
+        List { items }
+    }
+
+    /// Gives the items back, without a copy.
+    pub fn into_vec(self) -> Vec<T>
+        ensures { result.items ≡ self }
+    {
+        self.items
+    }
+
     pub fn len(&self) -> usize
         ensures { result ≡ length self.now }
     {

@@ -1,7 +1,7 @@
-ghost use Rattle.std.specs.Prelude.{◌≡◌, ◌+◌, ◌∷◌, ◌++◌, [], List, ℕ, take, option_map, None, Some, IsErrOf, IfOk, OnOk, OnErr};
+ghost use Rattle.std.specs.Prelude.{◌≡◌, ◌+◌, ◌≤◌, take, length, is_some, option_map, None, Some, true, false, IsErrOf, IfOk, IfSome, OnOk, OnErr};
 ghost use Rattle.std.specs.Option.{option_copied};
-ghost use Rattle.ct_base.specs.Memory.{held_by, no_calls};
-ghost use Rattle.ct_base.specs.Outside.{HasCause};
+ghost use Rattle.ct_base.specs.Memory.{FailsAsDue, IsCall, held_by, is_due, no_calls, told_by, with_pair};
+ghost use Rattle.ct_base.specs.Outside.{HasCause, LooksAt, WritesTo};
 
 use crate::calls::Calls;
 use crate::{Blob, Files, FilesFault, List, Name, NoMemory, Pair};
@@ -44,12 +44,13 @@ impl MemFiles {
         last_value(self.pairs.as_slice(), path)
     }
 
-    /// Fails the call where it is planned to, and counts it then.
+    /// Fails the call where it is due to, and counts it then.
     fn admit(&mut self, alloc: Global, path: &Name) -> Result<(), FilesFault>
-        ensures kept { self.new.pairs ≡ self.old.pairs }
-        ensures refused { IsErrOf result FilesFault.Failed → self.new.refused ≡ Some path.now }
+        ensures admitted { OnOk result (self.new ≡ self.old) }
+        ensures due { OnOk result (is_due self.old.counts ≡ false) }
+        ensures fails { IsErrOf result FilesFault.Failed → FailsAsDue path.now self.old self.new }
+        ensures unchanged { IsErrOf result FilesFault.NoMemory → self.new ≡ self.old }
         ensures cause { HasCause FilesFault.Failed self.old.counts.faults self.new.counts.faults result }
-        ensures admitted { IfOk result (λ _. self.new ≡ self.old) }
     {
         if self.counts.is_due() {
             let copied = path.copy(alloc)?;
@@ -62,27 +63,35 @@ impl MemFiles {
 }
 
 impl Files for MemFiles {
-    ghost held = { λ files. Some (held_by files.pairs) };
+    ghost tells = { told_by };
 
-    ghost faults = { λ files. files.counts.faults };
-
-    ghost refused = { λ files. files.refused };
-
-    fn read(&mut self, alloc: Global, path: &Name, most: u64) -> Result<Option<Blob>, FilesFault> {
+    fn read(&mut self, alloc: Global, path: &Name, most: u64) -> Result<Option<Blob>, FilesFault>
+        ensures ok { IfOk result (λ got. got ≡ option_map (take (most + 1)) (held_by self.old.pairs path.now)) }
+        ensures bound { IfOk result (λ got. IfSome got (λ bytes. length bytes ≤ most + 1)) }
+        ensures looks { LooksAt path.now (told_by self.old) (told_by self.new) result }
+        ensures planned { IsCall path.now self.old.pairs self.old self.new result }
+    {
         self.admit(alloc, path)?;
         let got = read_last(alloc, self.pairs.as_slice(), path, most)?;
         self.counts.pass();
         Ok(got)
     }
 
-    fn exists(&mut self, alloc: Global, path: &Name) -> Result<bool, FilesFault> {
+    fn exists(&mut self, alloc: Global, path: &Name) -> Result<bool, FilesFault>
+        ensures ok { IfOk result (λ is. is ≡ is_some (held_by self.old.pairs path.now)) }
+        ensures looks { LooksAt path.now (told_by self.old) (told_by self.new) result }
+        ensures planned { IsCall path.now self.old.pairs self.old self.new result }
+    {
         self.admit(alloc, path)?;
         let is = self.held(path).is_some();
         self.counts.pass();
         Ok(is)
     }
 
-    fn write(&mut self, alloc: Global, path: &Name, bytes: &[u8]) -> Result<(), FilesFault> {
+    fn write(&mut self, alloc: Global, path: &Name, bytes: &[u8]) -> Result<(), FilesFault>
+        ensures writes { WritesTo path.now bytes.now (told_by self.old) (told_by self.new) result }
+        ensures planned { IsCall path.now (with_pair self.old.pairs path.now bytes.now) self.old self.new result }
+    {
         self.admit(alloc, path)?;
         put_last(alloc, &mut self.pairs, path, bytes)?;
         self.counts.pass();
@@ -123,11 +132,7 @@ impl CalmFiles {
 }
 
 impl Files for CalmFiles {
-    ghost held = { λ files. Some (held_by files) };
-
-    ghost faults = { λ _. 0 };
-
-    ghost refused = { λ _. None };
+    ghost tells = { λ files. record { held = Some (held_by files); refused = Some None; faults = 0 } };
 
     fn read(&mut self, alloc: Global, path: &Name, most: u64) -> Result<Option<Blob>, FilesFault> {
         Ok(read_last(alloc, self.pairs.as_slice(), path, most)?)
@@ -184,79 +189,10 @@ fn put_last(
     path: &Name,
     bytes: &[u8],
 ) -> Result<(), NoMemory>
-    ensures ok { OnOk result (pairs.new ≡ pairs.old ++ record { name = path.now; value = bytes.now } ∷ []) }
+    ensures ok { OnOk result (pairs.new ≡ with_pair pairs.old path.now bytes.now) }
     ensures err { OnErr result (pairs.new ≡ pairs.old) }
 {
     let name = path.copy(alloc)?;
     let value = Name::of(alloc, bytes)?;
     pairs.push(Pair { name, value })
-}
-
-#[cfg(test)]
-mod tests {
-    use super::*;
-    use std::process::Abort;
-    use std::test::Fail;
-
-    fn pairs(alloc: Global) -> Result<List<Pair>, NoMemory> {
-        let mut pairs = List::new(alloc);
-        for (name, value) in [(b"a", b"old"), (b"b", b"two"), (b"a", b"new")] {
-            pairs.push(Pair {
-                name: Name::of(alloc, name)?,
-                value: Name::of(alloc, value)?,
-            })?;
-        }
-        Ok(pairs)
-    }
-
-    /// Reads, looks and writes, and tells which of the three calls failed.
-    fn three_calls<F: Files>(
-        alloc: Global,
-        files: &mut F,
-        path: &Name,
-    ) -> (Option<usize>, bool, bool) {
-        let read = match files.read(alloc, path, 2) {
-            Ok(Some(bytes)) => Some(bytes.bytes().len()),
-            _ => None,
-        };
-        let seen = files.exists(alloc, path) == Ok(true);
-        let wrote = files.write(alloc, path, b"xy").is_ok();
-        (read, seen, wrote)
-    }
-
-    fn holds(rt: &impl Abort, held: Option<&Name>, want: &[u8]) {
-        match held {
-            Some(bytes) => assert_eq!(rt; bytes.bytes(), want),
-            None => panic!(rt; "nothing is held"),
-        }
-    }
-
-    #[test]
-    fn fails_the_calls_that_are_planned(rt: HostRuntime) -> Result<(), Fail> {
-        let path = Name::of(rt.alloc(), b"a")?;
-        for (number, want, left) in [
-            (0, (Some(3), true, true), b"xy".as_slice()),
-            (1, (None, true, true), b"xy"),
-            (2, (Some(3), false, true), b"xy"),
-            (3, (Some(3), true, false), b"new"),
-        ] {
-            let mut fail_at = List::new(rt.alloc());
-            fail_at.push(number)?;
-            let mut files = MemFiles::new(pairs(rt.alloc())?, fail_at);
-            let got = three_calls(rt.alloc(), &mut files, &path);
-            assert_eq!(rt; got, want, "at {number}");
-            holds(&rt, files.held(&path), left);
-        }
-        Ok(())
-    }
-
-    #[test]
-    fn calm_files_never_fail(rt: HostRuntime) -> Result<(), Fail> {
-        let path = Name::of(rt.alloc(), b"a")?;
-        let mut files = CalmFiles::new(pairs(rt.alloc())?);
-        let got = three_calls(rt.alloc(), &mut files, &path);
-        assert_eq!(rt; got, (Some(3), true, true));
-        holds(&rt, files.held(&path), b"xy");
-        Ok(())
-    }
 }

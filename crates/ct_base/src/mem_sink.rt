@@ -1,5 +1,6 @@
-ghost use Rattle.std.specs.Prelude.{◌≡◌, List, ℕ, Some, []};
-ghost use Rattle.ct_base.specs.Memory.{no_calls};
+ghost use Rattle.std.specs.Prelude.{◌≡◌, Some, []};
+ghost use Rattle.ct_base.specs.Memory.{IsPut, no_calls, told_of};
+ghost use Rattle.ct_base.specs.Outside.{Puts};
 
 use crate::calls::Calls;
 use crate::{Blob, List, Sink, SinkFault};
@@ -41,11 +42,12 @@ impl MemSink {
 }
 
 impl Sink for MemSink {
-    ghost written = { λ sink. Some sink.written };
+    ghost tells = { told_of };
 
-    ghost faults = { λ sink. sink.counts.faults };
-
-    fn put(&mut self, piece: &[u8]) -> Result<(), SinkFault> {
+    fn put(&mut self, piece: &[u8]) -> Result<(), SinkFault>
+        ensures puts { Puts piece.now (told_of self.old) (told_of self.new) result }
+        ensures planned { IsPut piece.now self.old self.new result }
+    {
         if self.counts.is_due() {
             self.counts.fail();
             return Err(SinkFault::Failed);
@@ -88,39 +90,9 @@ impl CalmSink {
 }
 
 impl Sink for CalmSink {
-    ghost written = { λ sink. Some sink };
-
-    ghost faults = { λ _. 0 };
+    ghost tells = { λ sink. record { written = Some sink; faults = 0 } };
 
     fn put(&mut self, piece: &[u8]) -> Result<(), SinkFault> {
         Ok(self.written.append(piece)?)
-    }
-}
-
-#[cfg(test)]
-mod tests {
-    use super::*;
-    use std::test::Fail;
-
-    /// Puts three pieces, and tells which of them were taken.
-    fn three_puts<S: Sink>(sink: &mut S) -> (bool, bool, bool) {
-        (
-            sink.put(b"one").is_ok(),
-            sink.put(b"two").is_ok(),
-            sink.put(b"six").is_ok(),
-        )
-    }
-
-    #[test]
-    fn fails_the_puts_that_are_planned(rt: HostRuntime) -> Result<(), Fail> {
-        let mut fail_at = List::new(rt.alloc());
-        fail_at.push(2)?;
-        let mut sink = MemSink::new(rt.alloc(), fail_at);
-        assert_eq!(rt; three_puts(&mut sink), (true, false, true));
-        assert_eq!(rt; sink.written().bytes(), b"onesix".as_slice());
-        let mut calm = CalmSink::new(rt.alloc());
-        assert_eq!(rt; three_puts(&mut calm), (true, true, true));
-        assert_eq!(rt; calm.written().bytes(), b"onetwosix".as_slice());
-        Ok(())
     }
 }

@@ -28,6 +28,20 @@ impl Name {
         })
     }
 
+    /// Takes the bytes as they are, without a copy.
+    pub fn from_vec(bytes: Vec<u8>) -> Name
+        ensures { result ≡ bytes.items }
+    {
+        Name { bytes }
+    }
+
+    /// Gives the bytes back, without a copy.
+    pub fn into_vec(self) -> Vec<u8>
+        ensures { result.items ≡ self }
+    {
+        self.bytes
+    }
+
     pub fn bytes(&self) -> &[u8]
         ensures { result.now ≡ self.now }
     {

@@ -28,25 +28,3 @@ fn begins_at_root(name: &[u8]) -> bool
         [first, ..] => *first == b'/',
     }
 }
-
-#[cfg(test)]
-mod tests {
-    use super::*;
-    use std::test::Fail;
-
-    #[test]
-    fn joins_a_folder_and_a_name(rt: HostRuntime) -> Result<(), Fail> {
-        for (dir, name, want) in [
-            (b"a".as_slice(), b"b".as_slice(), b"a/b".as_slice()),
-            (b".", b"c/d", b"./c/d"),
-            (b"a", b"/b", b"/b"),
-            (b"", b"", b"/"),
-        ] {
-            let dir = Name::of(rt.alloc(), dir)?;
-            let name = Name::of(rt.alloc(), name)?;
-            let path = join_path(rt.alloc(), &dir, &name)?;
-            assert_eq!(rt; path.bytes(), want, "at {name:?}");
-        }
-        Ok(())
-    }
-}

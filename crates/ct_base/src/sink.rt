@@ -1,5 +1,5 @@
-ghost use Rattle.std.specs.Prelude.{◌≡◌, List, Option, ℕ, OnOk, OnErr};
-ghost use Rattle.ct_base.specs.Outside.{Adds, AddsPrefix, Becomes, HasCause};
+ghost use Rattle.std.specs.Prelude.{◌≡◌};
+ghost use Rattle.ct_base.specs.Outside.{Puts, SinkTell};
 ghost use Rattle.ct_base.specs.declared.sink.SinkFault.TheVariants as SinkCause;
 
 use crate::NoMemory;
@@ -23,16 +23,11 @@ impl From<NoMemory> for SinkFault {
 
 /// What takes the report.
 ///
-/// `written` is all that it took, where it tells that. `faults` counts the calls that failed, and
-/// never falls.
+/// `tells` is all that it took, where it tells that, and how many calls failed, which never falls.
 pub trait Sink {
-    ghost written: { Self → Option (List ℕ) };
-
-    ghost faults: { Self → ℕ };
+    ghost tells: { Self → SinkTell };
 
     /// Writes the piece behind what was written. After a fault some beginning of it was written.
     fn put(&mut self, piece: &[u8]) -> Result<(), SinkFault>
-        ensures ok { OnOk result (Becomes (written self.old) (written self.new) (Adds piece.now)) }
-        ensures err { OnErr result (Becomes (written self.old) (written self.new) (AddsPrefix piece.now)) }
-        ensures cause { HasCause SinkFault.Failed (faults self.old) (faults self.new) result };
+        ensures { Puts piece.now (tells self.old) (tells self.new) result };
 }

@@ -1,0 +1,42 @@
+-- A text as a list of entries. Source: CMake manual, cmake-language(7), Lists. That square brackets protect nothing and
+-- that no entry is empty is this project's choice.
+use Rattle.std.specs.Prelude.{ℕ, Bool, true, false, ◌&&◌, List, [], ◌∷◌, ◌++◌, filter, ◌==◌, if◌then◌else◌}
+
+-- the byte that ends an entry
+abbrev pub semicolon : ℕ
+semicolon = 59
+
+-- the byte that makes a semicolon behind it a byte of the entry
+abbrev pub backslash : ℕ
+backslash = 92
+
+-- the text begins with an escaped semicolon
+abbrev pub is_escape : List ℕ → Bool
+is_escape [] = false
+is_escape (byte ∷ []) = false
+is_escape (byte ∷ next ∷ rest) = byte == backslash && next == semicolon
+
+-- the piece in front of the first of some parts
+abbrev pub with_front : List ℕ → List (List ℕ) → List (List ℕ)
+with_front piece [] = piece ∷ []
+with_front piece (part ∷ parts) = (piece ++ part) ∷ parts
+
+-- the parts that come of a byte and those of what stands behind it
+abbrev pub parts_with : ℕ → List (List ℕ) → List (List ℕ)
+parts_with byte parts = if byte == semicolon then [] ∷ parts else with_front (byte ∷ []) parts
+
+-- the parts between the semicolons of a text, the empty ones too; an escaped semicolon is a byte of its part
+abbrev pub parts_of : List ℕ → List (List ℕ)
+parts_of [] = [] ∷ []
+parts_of (byte ∷ []) = parts_with byte ([] ∷ [])
+parts_of (byte ∷ next ∷ rest) =
+    if is_escape (byte ∷ next ∷ rest) then with_front (semicolon ∷ []) (parts_of rest) else parts_with byte (parts_of (next ∷ rest))
+
+-- a part that is an entry: it is not empty
+abbrev pub is_entry : List ℕ → Bool
+is_entry [] = false
+is_entry (byte ∷ bytes) = true
+
+-- the entries of a text: its parts that are not empty
+abbrev pub entries_of : List ℕ → List (List ℕ)
+entries_of text = filter is_entry (parts_of text)
