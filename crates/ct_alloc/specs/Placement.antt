@@ -1,6 +1,6 @@
 -- When a placement meets a test's needs, and when it fits beside what is used.
 -- Source: CMake manual, ctest(1), Resource Allocation. One pick for each need is this project's choice.
-use Rattle.std.specs.Prelude.{ℕ, ◌+◌, Bool, true, false, ◌&&◌, List, [], ◌∷◌, filter, sum_by, Option, Some, None, slice_get, bytes_eq, nat_le, ◌==◌}
+use Rattle.std.specs.Prelude.{◌≡◌, ℕ, ◌+◌, Bool, true, false, ◌&&◌, List, [], ◌∷◌, filter, sum_by, Option, Some, None, slice_get, bytes_eq, nat_le, ◌==◌}
 use Rattle.ct_base.specs.declared.defs.Need.{Need}
 use Rattle.ct_base.specs.declared.defs.Resource.{Resource}
 use Rattle.ct_alloc.specs.declared.placement.Pick.{Pick}
@@ -34,3 +34,9 @@ fits_from place (resource ∷ resources) used picks = nat_le (used place + slots
 -- the picks fit beside what is used of each resource
 abbrev pub fits_beside : List Resource → (ℕ → ℕ) → List Pick → Bool
 fits_beside resources used picks = fits_from 0 resources used picks
+
+-- some placement for the needs fits beside what is used of each resource
+pub record SomeFits (resources : List Resource) (needs : List Need) (used : ℕ → ℕ) : Type 0 where
+  pub picks : List Pick
+  pub placed : is_placement resources needs picks ≡ true
+  pub fits : fits_beside resources used picks ≡ true

@@ -2,7 +2,7 @@
 use Rattle.std.specs.Prelude.{ℕ, ◌≡◌, ◌+◌, ◌-◌, ◌<◌, ◌==◌, List, [], ◌∷◌, ◌++◌, length, drop, Option, Some, None, option_map, option_and_then, position, take, refl}
 use Rattle.std.proofs.Common.{sym, ap, ◌∙◌, append_assoc, get_or, arith}
 use Rattle.std.proofs.lemmas.List.{at_drop_more, drop_all, append-nil, take_all, length-drop}
-use Rattle.ct_testfile.specs.Line.{values_in, value_in, pieces_of, test_of}
+use Rattle.ct_testfile.specs.Line.{values_in, value_in, pieces_of, test_on}
 use Rattle.ct_testfile.proofs.SplitLemmas.{slice_split-position, slice_split-no_position, length-slice_split-some}
 
 -- these values, and behind them those of the rest
@@ -69,31 +69,31 @@ pub values_in-rest : (at : ℕ) (text : List ℕ) → values_in (pieces_of (take
 values_in-rest at text =
     ap (λ (rest : List ℕ). values_in (pieces_of rest)) (take_all (length text - (at + 1)) (drop (at + 1) text) (omega (arith, length-drop (at + 1) text)))
 
-test_of-more : (dir name : List ℕ) (command : List (List ℕ)) → 0 < length command → Some (record { name = name; command = command; dir = dir; props = []; dir_labels = [] }) ≡ test_of dir (name ∷ command)
+test_of-more : (dir name : List ℕ) (command : List (List ℕ)) → 0 < length command → Some (record { name = name; command = command; dir = dir; props = []; dir_labels = [] }) ≡ test_on dir (name ∷ command)
 test_of-more dir name [] some = absurd (omega arith)
 test_of-more dir name (program ∷ arguments) some = refl
 
-test_of-one : (dir : List ℕ) (first : Option (List ℕ)) → None ≡ option_and_then (test_of dir) (option_and_then (λ value. option_map (λ more. value ∷ more) (Some [])) first)
+test_of-one : (dir : List ℕ) (first : Option (List ℕ)) → None ≡ option_and_then (test_on dir) (option_and_then (λ value. option_map (λ more. value ∷ more) (Some [])) first)
 test_of-one dir None = refl
 test_of-one dir (Some value) = refl
 
 -- a text without a space has one piece, which is no test
-pub test_of-alone : (dir text : List ℕ) → None ≡ position (λ byte. byte == 32) text → None ≡ option_and_then (test_of dir) (values_in (pieces_of text))
+pub test_of-alone : (dir text : List ℕ) → None ≡ position (λ byte. byte == 32) text → None ≡ option_and_then (test_on dir) (values_in (pieces_of text))
 test_of-alone dir text none =
     rw (slice_split-no_position (λ byte. byte == 32) text (sym none)) (test_of-one dir (value_in text))
 
 -- a text whose first piece spells no value is no test
-pub test_of-no_name : (dir text : List ℕ) (at : ℕ) → Some at ≡ position (λ byte. byte == 32) text → None ≡ value_in (take at text) → None ≡ option_and_then (test_of dir) (values_in (pieces_of text))
+pub test_of-no_name : (dir text : List ℕ) (at : ℕ) → Some at ≡ position (λ byte. byte == 32) text → None ≡ value_in (take at text) → None ≡ option_and_then (test_on dir) (values_in (pieces_of text))
 test_of-no_name dir text at some spelled =
     rw (slice_split-position (λ byte. byte == 32) text 0 at (sym some)) (rw (values_in-none (take at text) (pieces_of (drop (at + 1) text)) (sym spelled)) refl)
 
 -- a text whose further pieces are not all values is no test
-pub test_of-no_command : (dir text name : List ℕ) (at : ℕ) → Some at ≡ position (λ byte. byte == 32) text → Some name ≡ value_in (take at text) → None ≡ values_in (pieces_of (drop (at + 1) text)) → None ≡ option_and_then (test_of dir) (values_in (pieces_of text))
+pub test_of-no_command : (dir text name : List ℕ) (at : ℕ) → Some at ≡ position (λ byte. byte == 32) text → Some name ≡ value_in (take at text) → None ≡ values_in (pieces_of (drop (at + 1) text)) → None ≡ option_and_then (test_on dir) (values_in (pieces_of text))
 test_of-no_command dir text name at some spelled lost =
     rw (slice_split-position (λ byte. byte == 32) text 0 at (sym some), values_in-some (take at text) name (pieces_of (drop (at + 1) text)) (sym spelled), sym lost) refl
 
 -- a text of a value, a space and further values is a test
-pub test_of-made : (dir text name : List ℕ) (command : List (List ℕ)) (at : ℕ) → Some at ≡ position (λ byte. byte == 32) text → Some name ≡ value_in (take at text) → Some command ≡ values_in (pieces_of (drop (at + 1) text)) → Some (record { name = name; command = command; dir = dir; props = []; dir_labels = [] }) ≡ option_and_then (test_of dir) (values_in (pieces_of text))
+pub test_of-made : (dir text name : List ℕ) (command : List (List ℕ)) (at : ℕ) → Some at ≡ position (λ byte. byte == 32) text → Some name ≡ value_in (take at text) → Some command ≡ values_in (pieces_of (drop (at + 1) text)) → Some (record { name = name; command = command; dir = dir; props = []; dir_labels = [] }) ≡ option_and_then (test_on dir) (values_in (pieces_of text))
 test_of-made dir text name command at some spelled kept =
     let l : length command ≡ length (pieces_of (drop (at + 1) text)) = length-values_in (pieces_of (drop (at + 1) text)) command (sym kept) in
     let n : 0 < length (pieces_of (drop (at + 1) text)) = length-slice_split-some (λ byte. byte == 32) (drop (at + 1) text) in

@@ -11,7 +11,7 @@ use Rattle.ct_testfile.specs.declared.fault.ReadFault.{ReadFault}
 use Rattle.ct_testfile.specs.declared.fault.ReadFault.TheVariants.{At}
 use Rattle.ct_testfile.specs.declared.fault.ReadKind.TheVariants.{BadChar, TooLong}
 use Rattle.ct_testfile.specs.declared.tree.TheConstants.{MOST_BYTES}
-use Rattle.ct_testfile.specs.Line.{test_in, test_of, values_in, pieces_of, between}
+use Rattle.ct_testfile.specs.Line.{test_in, test_on, values_in, pieces_of, between}
 use Rattle.ct_testfile.specs.Tree.{test_file, tests_or_refusal, tests_at, tests_from, tests_in, lines_of, and_then_tests, IsPlain}
 
 -- at most so many tests, each of this folder and plain
@@ -19,7 +19,7 @@ pub record ArePlain (dir : List ℕ) (most : ℕ) (defs : List TestDef) : Type 0
   pub few : length defs ≤ most
   pub each : All (IsPlain dir) defs
 
-test_of-plain : (dir : List ℕ) (values : Option (List (List ℕ))) (test : TestDef) → option_and_then (test_of dir) values ≡ Some test → IsPlain dir test
+test_of-plain : (dir : List ℕ) (values : Option (List (List ℕ))) (test : TestDef) → option_and_then (test_on dir) values ≡ Some test → IsPlain dir test
 test_of-plain dir None test is = cc
 test_of-plain dir (Some []) test is = cc
 test_of-plain dir (Some (name ∷ [])) test is = cc
@@ -28,7 +28,7 @@ test_of-plain dir (Some (name ∷ program ∷ arguments)) test is =
     let e : made ≡ test = cc in
     rw (← e) (record { folder = refl; no_props = refl; no_labels = refl })
 
-inside-plain : (dir : List ℕ) (inside : Option (List ℕ)) (test : TestDef) → option_and_then (λ text. option_and_then (test_of dir) (values_in (pieces_of text))) inside ≡ Some test → IsPlain dir test
+inside-plain : (dir : List ℕ) (inside : Option (List ℕ)) (test : TestDef) → option_and_then (λ text. option_and_then (test_on dir) (values_in (pieces_of text))) inside ≡ Some test → IsPlain dir test
 inside-plain dir None test is = cc
 inside-plain dir (Some text) test is = test_of-plain dir (values_in (pieces_of text)) test is
 

@@ -11,7 +11,7 @@ use Rattle.ct_testfile.specs.declared.fault.ReadFault.TheVariants.{At, FilesFail
 use Rattle.ct_testfile.specs.declared.fault.ReadKind.TheVariants.{TooLong}
 use Rattle.ct_testfile.specs.declared.tree.TheConstants.{MOST_BYTES}
 use Rattle.ct_testfile.specs.Tree.{test_file, tests_from, lines_of, tests_in, tree_of}
-use Rattle.ct_testfile.specs.Fault.{IsRefusal, IsRefusalOf}
+use Rattle.ct_testfile.specs.Fault.{IsTreeRefusal, IsRefusalOf}
 
 cut-long : (most : ℕ) (content : List ℕ) → nat_lt most (length content) ≡ true → nat_lt most (length (take (most + 1) content)) ≡ true
 cut-long most content long =
@@ -40,7 +40,7 @@ tree_of-ok (Some held) dir path got defs here read is =
     sym (tests_in-read dir got (held (test_file dir)) (read ∙ ap (λ (at : List ℕ). option_map (take (MOST_BYTES + 1)) (held at)) here)) ∙ is
 
 -- the refusal of what was read is that of the tree
-pub tree_of-refused : (told : Option Held) (dir path : List ℕ) (got : Option (List ℕ)) (fault : ReadFault) → path ≡ test_file dir → IfSome told (λ files. got ≡ option_map (take (MOST_BYTES + 1)) (files path)) → IsRefusalOf (tests_in dir got) fault → IsRefusal told dir fault
+pub tree_of-refused : (told : Option Held) (dir path : List ℕ) (got : Option (List ℕ)) (fault : ReadFault) → path ≡ test_file dir → IfSome told (λ files. got ≡ option_map (take (MOST_BYTES + 1)) (files path)) → IsRefusalOf (tests_in dir got) fault → IsTreeRefusal told dir fault
 tree_of-refused None dir path got (At file line kind) here read is = tt
 tree_of-refused (Some held) dir path got (At file line kind) here read is =
     sym (tests_in-read dir got (held (test_file dir)) (read ∙ ap (λ (at : List ℕ). option_map (take (MOST_BYTES + 1)) (held at)) here)) ∙ is

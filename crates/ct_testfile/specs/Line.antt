@@ -17,8 +17,8 @@ abbrev pub as_value : List ℕ → Option (List ℕ)
 as_value bytes = if is_value bytes then Some bytes else None
 
 -- what stands behind this beginning of a text
-abbrev pub behind : List ℕ → List ℕ → Option (List ℕ)
-behind front text = if bytes_eq (take (length front) text) front then Some (drop (length front) text) else None
+abbrev pub text_behind : List ℕ → List ℕ → Option (List ℕ)
+text_behind front text = if bytes_eq (take (length front) text) front then Some (drop (length front) text) else None
 
 -- what stands before this end of a text
 abbrev pub before : List ℕ → List ℕ → Option (List ℕ)
@@ -26,7 +26,7 @@ before back text = if bytes_eq (drop (length text - length back) text) back then
 
 -- what stands in a text between this beginning and this end
 abbrev pub between : List ℕ → List ℕ → List ℕ → Option (List ℕ)
-between front back text = option_and_then (before back) (behind front text)
+between front back text = option_and_then (before back) (text_behind front text)
 
 -- the value that a piece of a line spells: the piece itself, or what stands between two quotes
 unfoldable pub value_in : List ℕ → Option (List ℕ)
@@ -42,11 +42,11 @@ abbrev pub pieces_of : List ℕ → List (List ℕ)
 pieces_of text = slice_split (λ byte. byte == 32) text
 
 -- the test of this folder that two or more values define: its name, then its command
-abbrev pub test_of : List ℕ → List (List ℕ) → Option TestDef
-test_of dir [] = None
-test_of dir (name ∷ []) = None
-test_of dir (name ∷ program ∷ arguments) = Some (record { name = name; command = program ∷ arguments; dir = dir; props = []; dir_labels = [] })
+abbrev pub test_on : List ℕ → List (List ℕ) → Option TestDef
+test_on dir [] = None
+test_on dir (name ∷ []) = None
+test_on dir (name ∷ program ∷ arguments) = Some (record { name = name; command = program ∷ arguments; dir = dir; props = []; dir_labels = [] })
 
 -- the test that a line `add_test(name command ..)` defines
 unfoldable pub test_in : List ℕ → List ℕ → Option TestDef
-test_in dir line = option_and_then (λ inside. option_and_then (test_of dir) (values_in (pieces_of inside))) (between (codes "add_test(") (codes ")") line)
+test_in dir line = option_and_then (λ inside. option_and_then (test_on dir) (values_in (pieces_of inside))) (between (codes "add_test(") (codes ")") line)

@@ -1,6 +1,6 @@
 ghost use Rattle.std.specs.Prelude.{◌≡◌, ◌==◌, ◌<◌, IfOk, IfSome, List, length, position, option_and_then, option_map};
 ghost use Rattle.std.specs.List.{list_all};
-ghost use Rattle.ct_testfile.specs.Line.{is_plain, is_value, between, value_in, values_in, pieces_of, test_of, test_in};
+ghost use Rattle.ct_testfile.specs.Line.{is_plain, is_value, between, value_in, values_in, pieces_of, test_on, test_in};
 
 use ct_base::{List, Name, NoMemory, TestDef};
 use std::alloc::Global;
@@ -20,7 +20,7 @@ pub(crate) fn test_in(alloc: Global, dir: &Name, line: &[u8]) -> Result<Option<T
 
 /// Makes the test of two or more values with one space between two.
 fn test_of(alloc: Global, dir: &Name, inside: &[u8]) -> Result<Option<TestDef>, NoMemory>
-    ensures { IfOk result (λ test. test ≡ option_and_then (test_of dir.now) (values_in (pieces_of inside.now))) }
+    ensures { IfOk result (λ test. test ≡ option_and_then (test_on dir.now) (values_in (pieces_of inside.now))) }
 {
     let Some(space) = first_space(inside) else {
         return Ok(None);

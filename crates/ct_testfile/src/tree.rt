@@ -1,6 +1,6 @@
 ghost use Rattle.std.specs.Prelude.{◌≡◌, ◌-◌, ◌^◌, ◌<◌, ◌≤◌, List, Ok, Err, IfOk, IfErr, IfSome, length, Some, All, OnOk};
 ghost use Rattle.ct_base.specs.Outside.{Becomes, SameHeld};
-ghost use Rattle.ct_testfile.specs.Fault.{HasFilesCause, IsRefusal, IsRefusalOf};
+ghost use Rattle.ct_testfile.specs.Fault.{HasFilesCause, IsTreeRefusal, IsRefusalOf};
 ghost use Rattle.ct_testfile.specs.Tree.{IsPlain, test_file, tests_at, tests_from, lines_of, tests_in, and_then_tests, tree_of};
 
 use crate::line::test_in;
@@ -23,12 +23,12 @@ pub fn read_tree<F: Files>(
     dir: &Name,
     _config: &Name,
 ) -> Result<List<TestDef>, ReadFault>
-    ensures ok { IfOk result (λ defs. IfSome (F.held files.old) (λ held. tree_of held dir.now ≡ Ok defs)) }
-    ensures refused { IfErr result (λ fault. IsRefusal (F.held files.old) dir.now fault) }
+    ensures ok { IfOk result (λ defs. IfSome (F.tells files.old).held (λ held. tree_of held dir.now ≡ Ok defs)) }
+    ensures refused { IfErr result (λ fault. IsTreeRefusal (F.tells files.old).held dir.now fault) }
     ensures few { IfOk result (λ defs. length defs < 2 ^ 32 - 1) }
     ensures plain { IfOk result (λ defs. All (IsPlain dir.now) defs) }
-    ensures failed { HasFilesCause (F.faults files.old) (F.faults files.new) (F.refused files.new) result }
-    ensures kept { Becomes (F.held files.old) (F.held files.new) SameHeld }
+    ensures cause { HasFilesCause (F.tells files.old) (F.tells files.new) result }
+    ensures kept { Becomes (F.tells files.old).held (F.tells files.new).held SameHeld }
 {
     let path = test_file(alloc, dir)?;
     match files.read(alloc, &path, MOST_BYTES) {
@@ -101,93 +101,4 @@ fn test_file(alloc: Global, dir: &Name) -> Result<Name, NoMemory>
     ensures { IfOk result (λ path. path ≡ test_file dir.now) }
 {
     join_path(alloc, dir, &Name::of(alloc, b"CTestTestfile.cmake")?)
-}
-
-#[cfg(test)]
-mod tests {
-    use super::*;
-    use ct_base::{CalmFiles, Pair};
-    use std::process::Abort;
-    use std::test::Fail;
-
-    fn read(alloc: Global, text: &[u8]) -> Result<Result<List<TestDef>, ReadFault>, NoMemory> {
-        let mut pairs = List::new(alloc);
-        pairs.push(Pair {
-            name: Name::of(alloc, b"./CTestTestfile.cmake")?,
-            value: Name::of(alloc, text)?,
-        })?;
-        let mut files = CalmFiles::new(pairs);
-        let dir = Name::of(alloc, b".")?;
-        let config = Name::of(alloc, b"")?;
-        Ok(read_tree(alloc, &mut files, &dir, &config))
-    }
-
-    /// The number of tests, or the line that is refused.
-    fn count(alloc: Global, text: &[u8]) -> Result<Result<usize, u32>, NoMemory> {
-        match read(alloc, text)? {
-            Ok(tests) => Ok(Ok(tests.len())),
-            Err(ReadFault::At { line, .. }) => Ok(Err(line)),
-            Err(_) => Err(NoMemory),
-        }
-    }
-
-    #[test]
-    fn reads_the_narrow_form_of_lines(rt: HostRuntime) -> Result<(), Fail> {
-        for (text, want) in [
-            (b"".as_slice(), Ok(0)),
-            (b"\n\n", Ok(0)),
-            (b"add_test(ok \"true\")", Ok(1)),
-            (
-                b"add_test(ok \"true\")\n\nadd_test(\"a/b\" c.d e-f _1)\n",
-                Ok(2),
-            ),
-            (b"add_test(ok)", Err(1)),
-            (b"add_test(ok  true)", Err(1)),
-            (b"add_test( ok true)", Err(1)),
-            (b"add_test(ok true )", Err(1)),
-            (b"add_test(ok \"true)", Err(1)),
-            (b"add_test(ok true\")", Err(1)),
-            (b"add_test(ok \"\")", Err(1)),
-            (b"add_test(ok t+)", Err(1)),
-            (b"add_test(ok true)\r\n", Err(1)),
-            (b"add_test(ok true)\n add_test(a b)", Err(2)),
-            (b"add_test(ok \"true\")\nadd_tests(a b)", Err(2)),
-        ] {
-            assert_eq!(rt; count(rt.alloc(), text)?, want, "at {text:?}");
-        }
-        Ok(())
-    }
-
-    fn is_named(rt: &impl Abort, name: Option<&Name>, want: &[u8]) {
-        match name {
-            Some(name) => assert_eq!(rt; name.bytes(), want),
-            None => panic!(rt; "no name"),
-        }
-    }
-
-    #[test]
-    fn takes_the_name_and_the_command(rt: HostRuntime) -> Result<(), Fail> {
-        let tests = read(rt.alloc(), b"add_test(\"a.b\" \"/bin/x-y\" z_1)")??;
-        match tests.get(0) {
-            None => panic!(rt; "no test"),
-            Some(test) => {
-                is_named(&rt, Some(&test.name), b"a.b");
-                is_named(&rt, test.command.get(0), b"/bin/x-y");
-                is_named(&rt, test.command.get(1), b"z_1");
-                is_named(&rt, Some(&test.dir), b".");
-            }
-        }
-        Ok(())
-    }
-
-    #[test]
-    fn reads_two_mebibytes(rt: HostRuntime) -> Result<(), Fail> {
-        let line = b"add_test(t \"/bin/true\")\n";
-        let mut text = ct_base::Blob::new(rt.alloc());
-        for _ in 0..87_382 {
-            text.append(line)?;
-        }
-        assert_eq!(rt; count(rt.alloc(), text.bytes())?, Ok(87_382));
-        Ok(())
-    }
 }

@@ -48,35 +48,3 @@ impl Mode {
         }
     }
 }
-
-#[cfg(test)]
-mod tests {
-    use super::*;
-
-    #[test]
-    fn tries_again_as_the_mode_tells(rt: HostRuntime) {
-        for (mode, times, done, last, again) in [
-            (Mode::UntilPass, 3, 1, Verdict::Failed, true),
-            (Mode::UntilPass, 3, 2, Verdict::Failed, true),
-            (Mode::UntilPass, 3, 3, Verdict::Passed, false),
-            (Mode::UntilPass, 3, 3, Verdict::Failed, false),
-            (Mode::UntilPass, 3, 1, Verdict::Skipped, false),
-            (Mode::UntilFail, 3, 1, Verdict::Passed, true),
-            (Mode::UntilFail, 3, 2, Verdict::Failed, false),
-            (Mode::AfterTimeout, 2, 1, Verdict::Failed, false),
-            (Mode::AfterTimeout, 2, 1, Verdict::Timeout, true),
-            (Mode::AfterTimeout, 2, 2, Verdict::Passed, false),
-            (Mode::Once, 1, 1, Verdict::Failed, false),
-        ] {
-            assert!(rt; 0 < done);
-            let repeat = Repeat { mode, times };
-            let told = repeat.again(done, Some(last));
-            assert_eq!(rt; told, again, "{repeat:?} after {done}, {last:?}");
-        }
-        let once = Repeat {
-            mode: Mode::Once,
-            times: 1,
-        };
-        assert!(rt; once.again(0, None));
-    }
-}
