@@ -1,5 +1,10 @@
 pub mod AttemptLemmas
 pub mod BoolLemmas
-pub mod LegalLemmas
 pub mod OpenLemmas
 pub mod PlanLemmas
+pub mod ExcludeLemmas
+pub mod MayLemmas
+pub mod WithinLemmas
+pub mod FinalLemmas
+pub mod LegalLemmas
+pub mod ProgressLemmas

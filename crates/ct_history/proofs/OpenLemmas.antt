@@ -1,6 +1,6 @@
 -- How the open starts of a history change with one entry more.
 use Rattle.std.proofs.Common.{◌≡◌, ◌∙◌, sym, ap, Bool, true, false, ℕ, ◌+◌, ◌≤◌, List, [], ◌∷◌, ◌++◌, length, refl, arith, subst}
-use Rattle.std.specs.Prelude.{Option, Some, None, ◌==◌, ◌&&◌, ◌||◌, ◌⊎◌, cond, IsSomeAnd}
+use Rattle.std.specs.Prelude.{Option, Some, None, filter, not, ◌==◌, ◌&&◌, ◌||◌, ◌⊎◌, cond, IsSomeAnd}
 use Rattle.std.specs.List.{list_any, cons_option}
 use Rattle.std.proofs.Common.{inl, inr}
 use Rattle.std.proofs.lemmas.Bool.{cases_Bool}
@@ -53,7 +53,7 @@ open_starts-snoc (x ∷ xs) e is =
     ∙ append-cons_option (opened x xs) (open_starts xs) (cons_option (opened e []) [])
 
 -- this attempt of the test
-abbrev is_of : ℕ → ℕ → Running → Bool
+abbrev pub is_of : ℕ → ℕ → Running → Bool
 is_of t a r = r.test == t && r.attempt == a
 
 true_is_false : true ≡ false → ⊥
@@ -156,3 +156,28 @@ any_held t a w (r ∷ rs) any = elim (cases_Bool (is_of t a r)) [
 -- the End of a held start leaves one less open
 pub one_less_held : (es : List Entry) (t a w v : ℕ) (s : Seen) → holds_start t a w es ≡ true → length (open_starts (es ++ End t a v s ∷ [])) + 1 ≤ length (open_starts es)
 one_less_held es t a w v s holds = one_less_open es t a v s (any_held t a w (open_starts es) holds)
+
+keeps : (o : Option Running) (t a : ℕ) (xs : List Running) → (IsSomeAnd o (λ r. is_of t a r ≡ true) → ⊥) → filter (λ r. not (is_of t a r)) (cons_option o xs) ≡ cons_option o (filter (λ r. not (is_of t a r)) xs)
+keeps None t a xs other = refl
+keeps (Some r) t a xs other = elim (cases_Bool (is_of t a r)) [
+  | inl same ↦ absurd (other same)
+  | inr unlike ↦ ap (λ (b : Bool). cond (not b) (r ∷ filter (λ q. not (is_of t a q)) xs) (filter (λ q. not (is_of t a q)) xs)) unlike
+]
+
+drops : (o : Option Running) (t a : ℕ) (xs : List Running) → IsSomeAnd o (λ r. is_of t a r ≡ true) → filter (λ r. not (is_of t a r)) (cons_option o xs) ≡ filter (λ r. not (is_of t a r)) xs
+drops None t a xs same = absurd same
+drops (Some r) t a xs same = ap (λ (b : Bool). cond (not b) (r ∷ filter (λ q. not (is_of t a q)) xs) (filter (λ q. not (is_of t a q)) xs)) same
+
+-- an End closes this attempt, and leaves the other open starts as they are
+pub open_starts-end : (es : List Entry) (t a w : ℕ) (s : Seen) → open_starts (es ++ End t a w s ∷ []) ≡ filter (λ r. not (is_of t a r)) (open_starts es)
+open_starts-end [] t a w s = refl
+open_starts-end (x ∷ xs) t a w s = elim (closes x xs t a w s) [
+  | inl same ↦
+      ap (λ (o : Option Running). cons_option o (open_starts (xs ++ End t a w s ∷ []))) same.0
+      ∙ ap (λ (rs : List Running). cons_option (opened x xs) rs) (open_starts-end xs t a w s)
+      ∙ sym (keeps (opened x xs) t a (open_starts xs) same.1)
+  | inr shut ↦
+      ap (λ (o : Option Running). cons_option o (open_starts (xs ++ End t a w s ∷ []))) (shut.0)
+      ∙ open_starts-end xs t a w s
+      ∙ sym (drops (opened x xs) t a (open_starts xs) shut.1)
+]

@@ -1,6 +1,6 @@
 -- Looking up the tests of a plan, whose numbers ascend.
-use Rattle.std.proofs.Common.{◌≡◌, ◌∙◌, sym, ap, Bool, true, false, ℕ, ◌+◌, ◌≤◌, List, [], ◌∷◌, arith, subst}
-use Rattle.std.specs.Prelude.{map, find, Some, ◌==◌, cond}
+use Rattle.std.proofs.Common.{◌≡◌, ◌∙◌, sym, ap, Bool, true, false, ℕ, zero, suc, ◌+◌, ◌≤◌, List, [], ◌∷◌, arith, subst}
+use Rattle.std.specs.Prelude.{map, find, Contains, Some, ◌==◌, cond}
 use Rattle.std.proofs.lemmas.Bool.{cases_Bool}
 use Rattle.std.proofs.lemmas.Bool.Decides.{nat_tests}
 use Rattle.std.proofs.Common.{inl, inr}
@@ -19,7 +19,7 @@ find_passes p (y ∷ ys) x is = elim (cases_Bool (p y)) [
 ]
 
 -- a found test's number is at least the least one
-found_bound : (p : PlanTest → Bool) (least : ℕ) (ts : List PlanTest) (t : PlanTest) → IsAscendingFrom least (map (λ (x : PlanTest). x.number) ts) → find p ts ≡ Some t → least ≤ t.number
+pub found_bound : (p : PlanTest → Bool) (least : ℕ) (ts : List PlanTest) (t : PlanTest) → IsAscendingFrom least (map (λ (x : PlanTest). x.number) ts) → find p ts ≡ Some t → least ≤ t.number
 found_bound p least [] t ascends is = cc
 found_bound p least (x ∷ xs) t ascends is = elim (cases_Bool (p x)) [
   | inl passes ↦
@@ -46,3 +46,21 @@ found_at p least (x ∷ xs) t ascends is = elim (cases_Bool (p x)) [
       let other : (x.number == t.number) ≡ false = grind (arith, nat_tests) in
       ap (λ (b : Bool). cond b (Some x) (test_at xs t.number)) other ∙ found_at p (x.number + 1) xs t ascends.1 rest
 ]
+
+contained_bound : (least : ℕ) (ts : List PlanTest) (t : PlanTest) → IsAscendingFrom least (map (λ (x : PlanTest). x.number) ts) → Contains ts t → least ≤ t.number
+contained_bound least [] t ascends is = absurd (omega (arith, is.1))
+contained_bound least (x ∷ xs) t ascends (zero, lt, same) = subst (λ (y : PlanTest). least ≤ y.number) same ascends.0
+contained_bound least (x ∷ xs) t ascends (suc k, lt, same) = omega (arith, ascends.0, contained_bound (x.number + 1) xs t ascends.1 (k, omega (arith, lt), same))
+
+-- a test of the plan is found by its number
+pub contained_at : (least : ℕ) (ts : List PlanTest) (t : PlanTest) → IsAscendingFrom least (map (λ (x : PlanTest). x.number) ts) → Contains ts t → test_at ts t.number ≡ Some t
+contained_at least [] t ascends is = absurd (omega (arith, is.1))
+contained_at least (x ∷ xs) t ascends (zero, lt, same) =
+    let here : x ≡ t = same in
+    let itself : (x.number == x.number) ≡ true = grind (arith, nat_tests) in
+    subst (λ (y : PlanTest). test_at (x ∷ xs) y.number ≡ Some y) here (ap (λ (b : Bool). cond b (Some x) (test_at xs x.number)) itself)
+contained_at least (x ∷ xs) t ascends (suc k, lt, same) =
+    let rest : Contains xs t = (k, omega (arith, lt), same) in
+    let later = contained_bound (x.number + 1) xs t ascends.1 rest in
+    let other : (x.number == t.number) ≡ false = grind (arith, nat_tests) in
+    ap (λ (b : Bool). cond b (Some x) (test_at xs t.number)) other ∙ contained_at (x.number + 1) xs t ascends.1 rest

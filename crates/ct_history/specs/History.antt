@@ -68,13 +68,14 @@ placed_slots place (Some p) = slots_at place p.picks
 abbrev pub used_slots : List Entry → ℕ → ℕ
 used_slots entries place = sum_by (λ (r : Running). placed_slots place r.placement) (open_starts entries)
 
--- a Stop stands in the history
+-- the entry is a Stop
 abbrev pub is_stop : Entry → Bool
 is_stop (Start t a worker placement) = false
 is_stop (End t a worker seen) = false
 is_stop (Settle t cause) = false
 is_stop Stop = true
 
+-- a Stop stands in the history
 abbrev pub has_stop : List Entry → Bool
 has_stop entries = list_any is_stop entries
 

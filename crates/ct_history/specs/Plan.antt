@@ -1,7 +1,8 @@
 -- What a plan says of its tests, and when it is sound. This project's own, after ctest(1).
-use Rattle.std.specs.Prelude.{◌≡◌, ℕ, ◌+◌, ◌≤◌, Bool, true, false, not, ◌&&◌, List, [], ◌∷◌, map, filter, find, Option, Some, None, nat_le, nat_lt, ◌==◌, IsPermutation, is_some}
+use Rattle.std.specs.Prelude.{◌≡◌, ℕ, ◌+◌, ◌≤◌, Bool, true, false, not, ◌&&◌, List, [], ◌∷◌, map, filter, find, All, AllPairs, Option, Some, None, IfSome, nat_le, nat_lt, ◌==◌, bytes_eq, IsPermutation, is_some}
 use Rattle.std.specs.List.{list_any, list_all}
 use Rattle.ct_base.specs.declared.defs.Resource.{Resource}
+use Rattle.ct_alloc.specs.Placement.{SomeFits}
 use Rattle.ct_verdict.specs.declared.verdict.Cause.{Cause}
 use Rattle.ct_verdict.specs.declared.verdict.Cause.TheVariants.{NotAvailable, BadOperation, Insufficient}
 use Rattle.ct_history.specs.declared.plan.PlanTest.{PlanTest}
@@ -47,7 +48,19 @@ is_fixed_cause resources (Some _) = false
 abbrev pub has_sound_processors : ℕ → PlanTest → Bool
 has_sound_processors level t = nat_le 1 t.processors && nat_le t.processors level
 
--- what holds of each plan. No resources can be given yet.
+-- the resource has this kind and this id
+abbrev pub same_resource : Resource → Resource → Bool
+same_resource one other = bytes_eq one.kind other.kind && bytes_eq one.id other.id
+
+-- no two resources have the same kind and id
+abbrev pub AreDistinct : List Resource → Type 0
+AreDistinct resources = AllPairs (λ one other. same_resource one other ≡ false) resources
+
+-- a test that nothing keeps from running has needs that fit while nothing is used
+abbrev pub IsPlaceable : List Resource → PlanTest → Type 0
+IsPlaceable resources t = t.fixed ≡ None → SomeFits resources t.needs (λ place. 0)
+
+-- what holds of each plan
 pub record IsSound (plan : PlanParts) : Type 0 where
   pub numbers : IsAscendingFrom 1 (map (λ (t : PlanTest). t.number) plan.tests)
   pub before : AllAscend (λ t. t.before) plan.tests
@@ -57,4 +70,10 @@ pub record IsSound (plan : PlanParts) : Type 0 where
   pub fixed : list_all (λ (t : PlanTest). is_fixed_cause plan.resources t.fixed) plan.tests ≡ true
   pub queue : IsPermutation plan.queue (map (λ (t : PlanTest). t.number) (enabled plan.tests))
   pub times : 1 ≤ plan.repeat.times
-  pub resources : plan.resources ≡ None
+  pub distinct : IfSome plan.resources AreDistinct
+  pub placeable : IfSome plan.resources (λ resources. All (IsPlaceable resources) plan.tests)
+
+-- what a plan keeps of its parts. No resources can be given yet.
+pub record IsPlanned (plan : PlanParts) : Type 0 where
+  pub sound : IsSound plan
+  pub unresourced : plan.resources ≡ None

@@ -1,6 +1,6 @@
 -- When a test may start, and when it may be settled. Source: CMake manual, cmake-properties(7), DEPENDS,
 -- FIXTURES_REQUIRED, PROCESSORS, RESOURCE_LOCK, RUN_SERIAL; ctest(1), Resource Allocation, --stop-on-failure.
-use Rattle.std.specs.Prelude.{ℕ, ◌+◌, Bool, true, false, not, ◌&&◌, List, [], ◌∷◌, find, Option, Some, None, is_some, is_none, nat_le, bytes_eq, if◌then◌else◌}
+use Rattle.std.specs.Prelude.{◌≡◌, ℕ, ◌+◌, Bool, true, false, not, ◌&&◌, ◌||◌, List, [], ◌∷◌, find, Option, Some, None, is_some, is_none, nat_le, bytes_eq, if◌then◌else◌}
 use Rattle.std.specs.List.{list_any, list_all}
 use Rattle.ct_base.specs.declared.defs.Resource.{Resource}
 use Rattle.ct_base.specs.declared.defs.Need.{Need}
@@ -23,22 +23,23 @@ is_among name others = list_any (λ other. bytes_eq name other) others
 abbrev pub shares_name : List (List ℕ) → List (List ℕ) → Bool
 shares_name names others = list_any (λ name. is_among name others) names
 
--- the test names one of these locks
-abbrev pub shares_lock : List (List ℕ) → Option PlanTest → Bool
-shares_lock locks None = false
-shares_lock locks (Some t) = shares_name t.locks locks
+-- the locks that a test names
+abbrev pub locks_of : Option PlanTest → List (List ℕ)
+locks_of None = []
+locks_of (Some t) = t.locks
 
+-- the test runs alone
 abbrev pub is_serial : Option PlanTest → Bool
 is_serial None = false
 is_serial (Some t) = t.serial
 
--- an open test names one of these locks
-abbrev pub has_locked : List PlanTest → List (List ℕ) → List Entry → Bool
-has_locked tests locks entries = list_any (λ (r : Running). shares_lock locks (test_at tests r.test)) (open_starts entries)
+-- two tests exclude each other: they name a lock in common, or one of them is serial
+unfoldable pub exclude : Option PlanTest → Option PlanTest → Bool
+exclude one other = shares_name (locks_of one) (locks_of other) || is_serial one || is_serial other
 
--- an open test is serial
-abbrev pub has_serial : List PlanTest → List Entry → Bool
-has_serial tests entries = list_any (λ (r : Running). is_serial (test_at tests r.test)) (open_starts entries)
+-- an open test and this one exclude each other
+abbrev pub is_excluded : List PlanTest → PlanTest → List Entry → Bool
+is_excluded tests t entries = list_any (λ (r : Running). exclude (Some t) (test_at tests r.test)) (open_starts entries)
 
 -- nothing is open
 abbrev pub is_idle : List Entry → Bool
@@ -72,15 +73,24 @@ is_ready plan t entries = follows_finals plan t entries && is_none (first_unpass
 abbrev pub has_processors : PlanParts → PlanTest → List Entry → Bool
 has_processors plan t entries = nat_le (t.processors + used_processors plan.tests entries) plan.level
 
--- processors, locks and serial tests leave room for the test
+-- the processors suffice for the test, and no open test excludes it
 abbrev pub has_room : PlanParts → PlanTest → List Entry → Bool
-has_room plan t entries =
-    has_processors plan t entries && not (has_locked plan.tests t.locks entries) && not (t.serial && not (is_idle entries)) && not (has_serial plan.tests entries)
+has_room plan t entries = has_processors plan t entries && not (is_excluded plan.tests t entries)
 
 -- the test may start with this placement
 abbrev pub may_start : PlanParts → PlanTest → Option Placement → List Entry → Bool
 may_start plan t placement entries =
     not (has_stop entries) && is_pending plan t entries && is_ready plan t entries && has_room plan t entries && is_placed plan.resources t.needs (used_slots entries) placement
+
+-- the test that was looked up may start with this placement
+abbrev pub may_start_at : PlanParts → List Entry → Option Placement → Option PlanTest → Bool
+may_start_at plan entries placement None = false
+may_start_at plan entries placement (Some t) = may_start plan t placement entries
+
+-- the test with this number may start with some placement
+pub record CanStart (plan : PlanParts) (entries : List Entry) (number : ℕ) : Type 0 where
+  pub placement : Option Placement
+  pub may : may_start_at plan entries placement (test_at plan.tests number) ≡ true
 
 -- the cause that a test is settled with once its predecessors are final: a setup that did not pass, or the fixed one
 abbrev pub cause_behind : Option ℕ → Option Cause → Option Cause
@@ -91,3 +101,12 @@ cause_behind (Some setup) fixed = Some (Fixture setup)
 abbrev pub settle_cause : PlanParts → PlanTest → List Entry → Option Cause
 settle_cause plan t entries =
     if not (is_pending plan t entries) then None else (if has_stop entries then Some Stopped else (if follows_finals plan t entries then cause_behind (first_unpassed plan t entries) t.fixed else None))
+
+-- the cause that the test that was looked up may be settled with
+abbrev pub settle_cause_at : PlanParts → List Entry → Option PlanTest → Option Cause
+settle_cause_at plan entries None = None
+settle_cause_at plan entries (Some t) = settle_cause plan t entries
+
+-- the cause that the test with this number may be settled with
+abbrev pub settle_cause_of_test : PlanParts → List Entry → ℕ → Option Cause
+settle_cause_of_test plan entries number = settle_cause_at plan entries (test_at plan.tests number)

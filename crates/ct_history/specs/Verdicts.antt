@@ -12,6 +12,7 @@ use Rattle.ct_history.specs.declared.history.Entry.{Entry}
 use Rattle.ct_history.specs.Plan.{test_at}
 use Rattle.ct_history.specs.History.{settled_by, attempts_of, is_open_in}
 
+-- the first element
 abbrev pub first_of_list : {A : Type 0} → List A → Option A
 first_of_list [] = None
 first_of_list (x ∷ xs) = Some x
@@ -21,6 +22,7 @@ abbrev pub last_behind : {A : Type 0} → Option A → List A → Option A
 last_behind found [] = found
 last_behind found (x ∷ xs) = last_behind (Some x) xs
 
+-- the last element
 abbrev pub last_of_list : {A : Type 0} → List A → Option A
 last_of_list xs = last_behind None xs
 
@@ -37,6 +39,7 @@ abbrev pub attempted_verdict : Repeat → PlanTest → List Entry → Option Ver
 attempted_verdict repeat t entries =
     if not (is_open_in t.number entries) && is_over repeat (attempts_of t.number t.rules entries) then last_of_list (attempts_of t.number t.rules entries) else None
 
+-- the verdict of a test that was settled so, or else of its attempts
 abbrev pub settled_or : Option Cause → Option Verdict → Option Verdict
 settled_or None attempted = attempted
 settled_or (Some cause) attempted = Some (NotRun cause)
@@ -54,18 +57,21 @@ is_final_in repeat t entries = is_some (verdict_in repeat t entries)
 abbrev pub are_all_final : PlanParts → List Entry → Bool
 are_all_final plan entries = list_all (λ t. is_final_in plan.repeat t entries) plan.tests
 
--- the verdict of the test with this number
+-- the verdict of the test that was looked up
 abbrev pub verdict_at : PlanParts → List Entry → Option PlanTest → Option Verdict
 verdict_at plan entries None = None
 verdict_at plan entries (Some t) = verdict_in plan.repeat t entries
 
+-- the verdict of the test with this number
 abbrev pub verdict_of_test : PlanParts → List Entry → ℕ → Option Verdict
 verdict_of_test plan entries number = verdict_at plan entries (test_at plan.tests number)
 
+-- the test passed
 abbrev pub is_passed_verdict : Option Verdict → Bool
 is_passed_verdict (Some Passed) = true
 is_passed_verdict _ = false
 
+-- the verdict is there, and of the failing class
 abbrev pub is_failing_in : Option Verdict → Bool
 is_failing_in None = false
 is_failing_in (Some v) = is_failing_verdict v

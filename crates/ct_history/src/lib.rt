@@ -6,15 +6,17 @@
 #![tactic(auto)]
 
 mod history;
+mod legal;
 mod open_starts;
 mod plan;
 mod rules;
 mod verdicts;
 
 pub use history::{Entry, History};
-pub use open_starts::{has_locked, has_serial, is_idle, is_open, used_processors};
+pub use legal::{is_stop_due, judge};
+pub use open_starts::{holds_start, is_busy};
 pub use plan::{Plan, PlanParts, PlanTest, test_at};
 pub use rules::{may_start, settle_cause};
 pub use verdicts::{
-    are_all_final, count_attempts, final_verdict, has_failing, is_final, verdict, verdict_of,
+    are_all_final, count_attempts, final_verdict, has_failing, verdict, verdict_of,
 };

@@ -1,6 +1,6 @@
-ghost use Rattle.std.specs.Prelude.{◌≡◌, ◌<◌, ◌^◌, length, option_map};
-ghost use Rattle.ct_history.specs.History.{is_open_in, opened};
+ghost use Rattle.std.specs.Prelude.{◌≡◌, ◌+◌, ◌-◌, ◌^◌, min, option_map, Some};
 ghost use Rattle.ct_history.specs.History as History;
+ghost use Rattle.ct_history.specs.History.{is_busy_in, is_open_in, opened as opened_in};
 ghost use Rattle.ct_history.specs.Rules as Rules;
 
 use crate::history::is_ended;
@@ -8,16 +8,34 @@ use crate::plan::test_at;
 use crate::{Entry, PlanTest};
 use ct_base::Name;
 
-/// Gives the test of the start that an entry opens, where no End of it stands behind.
-fn opened_test(entry: &Entry, behind: &[Entry]) -> Option<u32>
-    ensures { result ≡ option_map (λ r. r.test) (opened entry.now behind.now) }
+/// A start behind which no End of it stands.
+#[derive(Clone, Copy)]
+struct OpenStart {
+    test: u32,
+    attempt: u32,
+    worker: u32,
+}
+
+/// Gives the start that an entry opens, where no End of it stands behind.
+fn opened(entry: &Entry, behind: &[Entry]) -> Option<OpenStart>
+    ensures { result ≡ option_map (λ r. record { test = r.test; attempt = r.attempt; worker = r.worker })
+        (opened_in entry.now behind.now) }
 {
     match entry {
-        Entry::Start { test, attempt, .. } => {
+        Entry::Start {
+            test,
+            attempt,
+            worker,
+            ..
+        } => {
             if is_ended(behind, *test, *attempt) {
                 None
             } else {
-                Some(*test)
+                Some(OpenStart {
+                    test: *test,
+                    attempt: *attempt,
+                    worker: *worker,
+                })
             }
         }
         Entry::End { .. } | Entry::Settle { .. } | Entry::Stop => None,
@@ -25,12 +43,12 @@ fn opened_test(entry: &Entry, behind: &[Entry]) -> Option<u32>
 }
 
 /// Tells whether a start of the test is open.
-pub fn is_open(entries: &[Entry], test: u32) -> bool
+pub(crate) fn is_open(entries: &[Entry], test: u32) -> bool
     ensures { result ≡ is_open_in test entries.now }
 {
     for at in 0..entries.len() {
-        if let Some(open) = opened_test(&entries[at], &entries[at + 1..]) {
-            if open == test {
+        if let Some(open) = opened(&entries[at], &entries[at + 1..]) {
+            if open.test == test {
                 return true;
             }
         }
@@ -38,25 +56,13 @@ pub fn is_open(entries: &[Entry], test: u32) -> bool
     false
 }
 
-/// Tells whether no start is open.
-pub fn is_idle(entries: &[Entry]) -> bool
-    ensures { result ≡ Rules.is_idle entries.now }
+/// Tells whether the worker has an open start.
+pub fn is_busy(entries: &[Entry], worker: u32) -> bool
+    ensures { result ≡ is_busy_in worker entries.now }
 {
     for at in 0..entries.len() {
-        if opened_test(&entries[at], &entries[at + 1..]).is_some() {
-            return false;
-        }
-    }
-    true
-}
-
-/// Tells whether an open test is serial.
-pub fn has_serial(tests: &[PlanTest], entries: &[Entry]) -> bool
-    ensures { result ≡ Rules.has_serial tests.now entries.now }
-{
-    for at in 0..entries.len() {
-        if let Some(open) = opened_test(&entries[at], &entries[at + 1..]) {
-            if is_serial(tests, open) {
+        if let Some(open) = opened(&entries[at], &entries[at + 1..]) {
+            if open.worker == worker {
                 return true;
             }
         }
@@ -64,42 +70,52 @@ pub fn has_serial(tests: &[PlanTest], entries: &[Entry]) -> bool
     false
 }
 
-fn is_serial(tests: &[PlanTest], number: u32) -> bool
-    ensures { result ≡ Rules.is_serial (Rules.test_at tests.now number) }
+/// Tells whether this attempt of the test is open, and the worker made it.
+pub fn holds_start(entries: &[Entry], test: u32, attempt: u32, worker: u32) -> bool
+    ensures { result ≡ History.holds_start test attempt worker entries.now }
+{
+    for at in 0..entries.len() {
+        if let Some(open) = opened(&entries[at], &entries[at + 1..]) {
+            if open.test == test && open.attempt == attempt && open.worker == worker {
+                return true;
+            }
+        }
+    }
+    false
+}
+
+/// Tells whether an open test and this one exclude each other.
+pub(crate) fn is_excluded(tests: &[PlanTest], test: &PlanTest, entries: &[Entry]) -> bool
+    ensures { result ≡ Rules.is_excluded tests.now test.now entries.now }
+{
+    for at in 0..entries.len() {
+        if let Some(open) = opened(&entries[at], &entries[at + 1..]) {
+            if excludes(tests, test, open.test) {
+                return true;
+            }
+        }
+    }
+    false
+}
+
+#[tactic(auto, unfolding(crate::specs::Rules::exclude))]
+fn excludes(tests: &[PlanTest], test: &PlanTest, number: u32) -> bool
+    ensures { result ≡ Rules.exclude (Some test.now) (Rules.test_at tests.now number) }
 {
     match test_at(tests, number) {
-        Some(test) => test.serial,
-        None => false,
+        Some(other) => shares_lock(test, other) || test.serial || other.serial,
+        None => test.serial,
     }
 }
 
-/// Tells whether an open test names one of the locks.
-pub fn has_locked(tests: &[PlanTest], locks: &[Name], entries: &[Entry]) -> bool
-    ensures { result ≡ Rules.has_locked tests.now locks.now entries.now }
+fn shares_lock(test: &PlanTest, other: &PlanTest) -> bool
+    ensures { result ≡ Rules.shares_name test.now.locks other.now.locks }
 {
-    for at in 0..entries.len() {
-        if let Some(open) = opened_test(&entries[at], &entries[at + 1..]) {
-            if is_locked(tests, locks, open) {
-                return true;
-            }
-        }
-    }
-    false
-}
-
-fn is_locked(tests: &[PlanTest], locks: &[Name], number: u32) -> bool
-    ensures { result ≡ Rules.shares_lock locks.now (Rules.test_at tests.now number) }
-{
-    match test_at(tests, number) {
-        Some(test) => shares_name(test.locks.as_slice(), locks),
-        None => false,
-    }
-}
-
-fn shares_name(names: &[Name], others: &[Name]) -> bool
-    ensures { result ≡ Rules.shares_name names.now others.now }
-{
-    names.iter().any(|name| is_among(name, others))
+    let others = other.locks.as_slice();
+    test.locks
+        .as_slice()
+        .iter()
+        .any(|name| is_among(name, others))
 }
 
 fn is_among(name: &Name, others: &[Name]) -> bool
@@ -108,15 +124,14 @@ fn is_among(name: &Name, others: &[Name]) -> bool
     others.iter().any(|other| name.is(other))
 }
 
-/// Adds up the processors of the open starts.
-pub fn used_processors(tests: &[PlanTest], entries: &[Entry]) -> u64
-    requires { length entries.now < 2 ^ 32 }
-    ensures { result ≡ History.used_processors tests.now entries.now }
+/// Adds up the processors of the open starts, up to the greatest number.
+pub(crate) fn used_processors(tests: &[PlanTest], entries: &[Entry]) -> u64
+    ensures { result ≡ min (History.used_processors tests.now entries.now) (2 ^ 64 - 1) }
 {
     let mut used: u64 = 0;
     for at in 0..entries.len() {
-        if let Some(open) = opened_test(&entries[at], &entries[at + 1..]) {
-            used += u64::from(processors_of(tests, open));
+        if let Some(open) = opened(&entries[at], &entries[at + 1..]) {
+            used = used.saturating_add(u64::from(processors_of(tests, open.test)));
         }
     }
     used

@@ -1,9 +1,9 @@
-ghost use Rattle.std.specs.Prelude.{◌≡◌, ◌<◌, ◌^◌, length};
+ghost use Rattle.std.specs.Prelude.{◌≡◌, None};
 ghost use Rattle.ct_history.specs.Rules.{cause_behind, first_unpassed, follows_finals, has_processors, has_room, is_passed_verdict as has_passed, is_pending, is_ready, may_start as may_start_in, settle_cause as settle_cause_in};
 ghost use Rattle.ct_history.specs.Verdicts.{verdict_of_test};
 
 use crate::history::has_stop;
-use crate::open_starts::{has_locked, has_serial, is_idle, is_open, used_processors};
+use crate::open_starts::{is_excluded, is_open, used_processors};
 use crate::verdicts::{is_final, verdict_of};
 use crate::{Entry, PlanParts, PlanTest};
 use ct_verdict::{Cause, Verdict};
@@ -13,8 +13,7 @@ use ct_verdict::{Cause, Verdict};
 /// Source: CMake manual, cmake-properties(7), DEPENDS, FIXTURES_REQUIRED, PROCESSORS,
 /// RESOURCE_LOCK, RUN_SERIAL.
 pub fn may_start(plan: &PlanParts, test: &PlanTest, entries: &[Entry]) -> bool
-    requires none { plan.now.resources ≡ None }
-    requires few { length entries.now < 2 ^ 32 }
+    requires { plan.now.resources ≡ None }
     ensures { result ≡ may_start_in plan.now test.now None entries.now }
 {
     !has_stop(entries)
@@ -27,7 +26,6 @@ pub fn may_start(plan: &PlanParts, test: &PlanTest, entries: &[Entry]) -> bool
 ///
 /// Source: CMake manual, cmake-properties(7), FIXTURES_REQUIRED; ctest(1), --stop-on-failure.
 pub fn settle_cause(plan: &PlanParts, test: &PlanTest, entries: &[Entry]) -> Option<Cause>
-    requires { length entries.now < 2 ^ 32 }
     ensures { result ≡ settle_cause_in plan.now test.now entries.now }
 {
     if !is_pending(plan, test, entries) {
@@ -51,14 +49,12 @@ fn cause_behind(setup: Option<u32>, fixed: Option<Cause>) -> Option<Cause>
 }
 
 fn is_pending(plan: &PlanParts, test: &PlanTest, entries: &[Entry]) -> bool
-    requires { length entries.now < 2 ^ 32 }
     ensures { result ≡ is_pending plan.now test.now entries.now }
 {
     !is_final(&plan.repeat, test, entries) && !is_open(entries, test.number)
 }
 
 fn is_ready(plan: &PlanParts, test: &PlanTest, entries: &[Entry]) -> bool
-    requires { length entries.now < 2 ^ 32 }
     ensures { result ≡ is_ready plan.now test.now entries.now }
 {
     follows_finals(plan, test, entries)
@@ -67,7 +63,6 @@ fn is_ready(plan: &PlanParts, test: &PlanTest, entries: &[Entry]) -> bool
 }
 
 fn follows_finals(plan: &PlanParts, test: &PlanTest, entries: &[Entry]) -> bool
-    requires { length entries.now < 2 ^ 32 }
     ensures { result ≡ follows_finals plan.now test.now entries.now }
 {
     test.before
@@ -77,7 +72,6 @@ fn follows_finals(plan: &PlanParts, test: &PlanTest, entries: &[Entry]) -> bool
 }
 
 fn first_unpassed(plan: &PlanParts, test: &PlanTest, entries: &[Entry]) -> Option<u32>
-    requires { length entries.now < 2 ^ 32 }
     ensures { result ≡ first_unpassed plan.now test.now entries.now }
 {
     test.setups
@@ -88,25 +82,18 @@ fn first_unpassed(plan: &PlanParts, test: &PlanTest, entries: &[Entry]) -> Optio
 }
 
 fn is_passed(plan: &PlanParts, entries: &[Entry], number: u32) -> bool
-    requires { length entries.now < 2 ^ 32 }
     ensures { result ≡ has_passed (verdict_of_test plan.now entries.now number) }
 {
     matches!(verdict_of(plan, entries, number), Some(Verdict::Passed))
 }
 
 fn has_room(plan: &PlanParts, test: &PlanTest, entries: &[Entry]) -> bool
-    requires { length entries.now < 2 ^ 32 }
     ensures { result ≡ has_room plan.now test.now entries.now }
 {
-    let tests = plan.tests.as_slice();
-    has_processors(plan, test, entries)
-        && !has_locked(tests, test.locks.as_slice(), entries)
-        && !(test.serial && !is_idle(entries))
-        && !has_serial(tests, entries)
+    has_processors(plan, test, entries) && !is_excluded(plan.tests.as_slice(), test, entries)
 }
 
 fn has_processors(plan: &PlanParts, test: &PlanTest, entries: &[Entry]) -> bool
-    requires { length entries.now < 2 ^ 32 }
     ensures { result ≡ has_processors plan.now test.now entries.now }
 {
     let used = used_processors(plan.tests.as_slice(), entries);

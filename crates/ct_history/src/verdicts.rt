@@ -1,4 +1,5 @@
-ghost use Rattle.std.specs.Prelude.{◌≡◌, ◌<◌, ◌≤◌, ◌^◌, length, IsSome};
+ghost use Rattle.std.specs.Prelude.{◌≡◌, ◌-◌, ◌^◌, min, length, IsSome};
+ghost use Rattle.ct_verdict.specs.Verdict.{is_repeated};
 ghost use Rattle.ct_history.specs.History.{attempt_by, attempts_of, settled_by};
 ghost use Rattle.ct_history.specs.Legal.{has_failing};
 ghost use Rattle.ct_history.specs.Plan.{test_at as planned_test};
@@ -13,8 +14,7 @@ use ct_verdict::{Cause, Repeat, Rules, Verdict, one};
 ///
 /// It is `None` as long as the test is not final.
 pub fn final_verdict(plan: &Plan, history: &History, test: u32) -> Option<Verdict>
-    requires known { IsSome (planned_test plan.now.tests test) }
-    requires few { length history.now.entries.items < 2 ^ 32 }
+    requires { IsSome (planned_test plan.now.tests test) }
     ensures { result ≡ verdict_of_test plan.now history.now.entries.items test }
 {
     verdict_of(plan.parts(), history.entries.as_slice(), test)
@@ -22,7 +22,6 @@ pub fn final_verdict(plan: &Plan, history: &History, test: u32) -> Option<Verdic
 
 /// Gives the verdict of the test with this number.
 pub fn verdict_of(plan: &PlanParts, entries: &[Entry], number: u32) -> Option<Verdict>
-    requires { length entries.now < 2 ^ 32 }
     ensures { result ≡ verdict_of_test plan.now entries.now number }
 {
     match test_at(plan.tests.as_slice(), number) {
@@ -33,7 +32,6 @@ pub fn verdict_of(plan: &PlanParts, entries: &[Entry], number: u32) -> Option<Ve
 
 /// Tells whether some test of the plan has a verdict that makes the run fail.
 pub fn has_failing(plan: &PlanParts, entries: &[Entry]) -> bool
-    requires { length entries.now < 2 ^ 32 }
     ensures { result ≡ has_failing plan.now entries.now }
 {
     plan.tests
@@ -53,7 +51,6 @@ fn is_failing(verdict: Option<Verdict>) -> bool
 
 /// Tells whether each test of the plan is final.
 pub fn are_all_final(plan: &PlanParts, entries: &[Entry]) -> bool
-    requires { length entries.now < 2 ^ 32 }
     ensures { result ≡ are_all_final plan.now entries.now }
 {
     plan.tests
@@ -64,7 +61,6 @@ pub fn are_all_final(plan: &PlanParts, entries: &[Entry]) -> bool
 
 /// Tells whether a test has a verdict.
 pub fn is_final(repeat: &Repeat, test: &PlanTest, entries: &[Entry]) -> bool
-    requires { length entries.now < 2 ^ 32 }
     ensures { result ≡ is_final_in repeat.now test.now entries.now }
 {
     verdict(repeat, test, entries).is_some()
@@ -72,7 +68,6 @@ pub fn is_final(repeat: &Repeat, test: &PlanTest, entries: &[Entry]) -> bool
 
 /// Gives the verdict of a test of the plan, where it is final.
 pub fn verdict(repeat: &Repeat, test: &PlanTest, entries: &[Entry]) -> Option<Verdict>
-    requires { length entries.now < 2 ^ 32 }
     ensures { result ≡ verdict_in repeat.now test.now entries.now }
 {
     if test.disabled {
@@ -106,27 +101,39 @@ fn settled_with(entry: &Entry, number: u32) -> Option<Cause>
 }
 
 fn attempted(repeat: &Repeat, test: &PlanTest, entries: &[Entry]) -> Option<Verdict>
-    requires { length entries.now < 2 ^ 32 }
     ensures { result ≡ attempted_verdict repeat.now test.now entries.now }
 {
     let last = last_attempt(test, entries);
-    if is_open(entries, test.number) || repeat.again(count_attempts(test, entries), last) {
+    if is_open(entries, test.number) || is_tried_again(repeat, test, entries, last) {
         None
     } else {
         last
     }
 }
 
-/// Counts the attempts of a test that have ended.
+fn is_tried_again(
+    repeat: &Repeat,
+    test: &PlanTest,
+    entries: &[Entry],
+    last: Option<Verdict>,
+) -> bool
+    requires { last ≡ last_of_list (attempts_of test.now.number test.now.rules entries.now) }
+    ensures { result ≡ is_repeated repeat.now
+        (length (attempts_of test.now.number test.now.rules entries.now)) last }
+{
+    let _times = repeat.times;
+    repeat.again(count_attempts(test, entries), last)
+}
+
+/// Counts the attempts of a test that have ended, up to the greatest number.
 pub fn count_attempts(test: &PlanTest, entries: &[Entry]) -> u32
-    requires { length entries.now < 2 ^ 32 }
-    ensures is { result ≡ length (attempts_of test.now.number test.now.rules entries.now) }
-    ensures bound { result ≤ length entries.now }
+    ensures { result ≡
+        min (length (attempts_of test.now.number test.now.rules entries.now)) (2 ^ 32 - 1) }
 {
     let mut count: u32 = 0;
     for entry in entries {
         if attempt(entry, test.number, &test.rules).is_some() {
-            count += 1;
+            count = count.saturating_add(1);
         }
     }
     count

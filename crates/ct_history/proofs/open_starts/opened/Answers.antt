@@ -1,4 +1,4 @@
-use Rattle.ct_history.proofs.open_starts.opened_test.Goals as goal
+use Rattle.ct_history.proofs.open_starts.opened.Goals as goal
 
 pub returns-then-is_ended : goal.returns-then-is_ended
 returns-then-is_ended c = rw (c.in-Start.is, ← c.is_ended.ensures, c.if-is_ended.true)
