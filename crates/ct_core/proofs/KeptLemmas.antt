@@ -1,63 +1,165 @@
 -- What a core keeps, with one entry more.
-use Rattle.std.proofs.Common.{◌≡◌, sym, subst, true, false, ℕ, ◌+◌, ◌-◌, ◌<◌, ◌≤◌, ◌^◌, List, [], ◌∷◌, ◌++◌, length, refl, arith, ap, ◌∙◌, length-append}
-use Rattle.std.specs.Prelude.{None, map}
+use Rattle.std.proofs.Common.{◌≡◌, ◌∙◌, sym, ap, subst, Bool, true, false, ℕ, ◌+◌, ◌-◌, ◌<◌, ◌≤◌, List, [], ◌∷◌, ◌++◌, length, refl, arith, length-append, inl, inr}
+use Rattle.std.specs.Prelude.{Option, Some, None, map, not, ◌&&◌, ◌||◌, ◌==◌, if◌then◌else◌}
+use Rattle.std.proofs.lemmas.Bool.{and_from, cases_Bool, false_from_ne_true}
+use Rattle.std.proofs.lemmas.Bool.Decides.{nat_tests}
+use Rattle.std.proofs.lemmas.List.{append-nil}
+use Rattle.ct_alloc.specs.declared.placement.Placement.{Placement}
 use Rattle.ct_verdict.specs.declared.attempt.Seen.{Seen}
 use Rattle.ct_verdict.specs.declared.verdict.Cause.{Cause}
 use Rattle.ct_history.specs.declared.plan.PlanTest.{PlanTest}
 use Rattle.ct_history.specs.declared.plan.PlanParts.{PlanParts}
 use Rattle.ct_history.specs.declared.history.Entry.{Entry}
 use Rattle.ct_history.specs.declared.history.Entry.TheVariants as Is
-use Rattle.ct_history.specs.Plan.{IsAscendingFrom}
-use Rattle.ct_history.specs.History.{Running, holds_start, is_busy_in, open_starts}
-use Rattle.ct_history.proofs.LegalLemmas.{legal-snoc}
+use Rattle.ct_history.specs.Plan.{IsAscendingFrom, test_at}
+use Rattle.ct_history.specs.History.{Running, attempts_of, has_stop, holds_start, is_busy_in, is_stop, open_starts}
+use Rattle.ct_history.specs.Rules.{may_start, may_start_at, settle_cause_at, settle_cause_of_test}
+use Rattle.ct_history.specs.Legal.{is_allowed, is_legal, is_next_attempt, is_stop_due, same_cause, settles, starts}
+use Rattle.ct_history.proofs.LegalLemmas.{allowed-snoc, failing_not_due, legal_allowed, legal_from, legal_not_due, legal_with_stop, same_cause_refl, start_not_due, stop_failed, stop-snoc}
 use Rattle.ct_history.proofs.OpenLemmas.{one_less_held, open_starts-snoc}
-use Rattle.ct_core.specs.declared.choice.Choice.TheVariants as Does
-use Rattle.ct_core.specs.Choice.{choice_of}
-use Rattle.ct_core.specs.CoreInside.{IsKept}
-use Rattle.ct_core.proofs.ChoiceLemmas.{start_allowed, settle_allowed, end_allowed}
+use Rattle.ct_core.specs.Choice.{attempt_after}
+use Rattle.ct_core.specs.Core.{with_due_stop}
+use Rattle.ct_core.specs.CoreInside.{IsKept, stop_places}
+
+true_is_false : true ≡ false → ⊥
+true_is_false is = cc
+
+or_falses : (b : Bool) → (b || (false || false)) ≡ b
+or_falses true = refl
+or_falses false = refl
+
+or_stop : (b : Bool) → (b || (true || false)) ≡ true
+or_stop true = refl
+or_stop false = refl
+
+-- the start of the looked up test, as its next attempt, is what 'may start' allows
+starts_found : (plan : PlanParts) (es : List Entry) (o : Option PlanTest) (p : Option Placement) (a : ℕ) → may_start_at plan es p o ≡ true → a ≡ attempt_after es o → starts plan es a p o ≡ true
+starts_found plan es None p a may next = may
+starts_found plan es (Some t) p a may next = and_from (may_start plan t p es) (is_next_attempt t a es) may (eq_test a (length (attempts_of t.number t.rules es) + 1) next)
+  where
+    eq_test : (m n : ℕ) → m ≡ n → (m == n) ≡ true
+    eq_test m n is = grind (arith, nat_tests)
+
+settles_found : (plan : PlanParts) (es : List Entry) (o : Option PlanTest) (c : Cause) → settle_cause_at plan es o ≡ Some c → settles plan es c o ≡ true
+settles_found plan es None c is = cc
+settles_found plan es (Some t) c is = ap (λ (x : Option Cause). same_cause c x) is ∙ same_cause_refl c
+
+module _ (plan : PlanParts) (es : List Entry) (legal : is_legal plan es ≡ true) where
+  pub start_allowed : (n a w : ℕ) (p : Option Placement) → is_busy_in w es ≡ false → may_start_at plan es p (test_at plan.tests n) ≡ true → a ≡ attempt_after es (test_at plan.tests n) → is_allowed plan es (Is.Start n a w p) ≡ true
+  start_allowed n a w p free may next =
+      and_from (not (is_stop_due plan es) && starts plan es a p (test_at plan.tests n)) (not (is_busy_in w es))
+      (and_from (not (is_stop_due plan es)) (starts plan es a p (test_at plan.tests n)) (legal_not_due plan es legal) (starts_found plan es (test_at plan.tests n) p a may next))
+      (ap not free)
+
+  pub settle_allowed : (n : ℕ) (c : Cause) → settle_cause_of_test plan es n ≡ Some c → is_allowed plan es (Is.Settle n c) ≡ true
+  settle_allowed n c is = and_from (not (is_stop_due plan es)) (settles plan es c (test_at plan.tests n)) (legal_not_due plan es legal) (settles_found plan es (test_at plan.tests n) c is)
+
+  pub end_allowed : (t a w : ℕ) (s : Seen) → holds_start t a w es ≡ true → is_allowed plan es (Is.End t a w s) ≡ true
+  end_allowed t a w s holds = and_from (not (is_stop_due plan es)) (holds_start t a w es) (legal_not_due plan es legal) holds
+
+-- an entry with the Stop that it makes due: the history is legal, and as many places are needed as before
+pub record IsFinalStep (plan : PlanParts) (es : List Entry) (e : Entry) (more : List Entry) : Type 0 where
+  pub legal : is_legal plan more ≡ true
+  pub opens : length (open_starts more) ≡ length (open_starts (es ++ e ∷ []))
+  pub places : length more + stop_places more ≡ length es + 1 + stop_places es
+
+module _ (plan : PlanParts) (ascends : IsAscendingFrom 1 (map (λ (t : PlanTest). t.number) plan.tests)) (es : List Entry) (legal : is_legal plan es ≡ true) where
+  -- a due Stop is the first
+  pub due_first : (e : Entry) → is_stop_due plan (es ++ e ∷ []) ≡ true → has_stop es ≡ false
+  due_first e due =
+      false_from_ne_true (has_stop es)
+      (λ stop. true_is_false (sym due ∙ failing_not_due plan es e (stop_failed plan ascends es (legal_allowed plan es legal) stop)))
+
+  with_stop : (e : Entry) → is_stop e ≡ false → is_allowed plan es e ≡ true → is_stop_due plan (es ++ e ∷ []) ≡ true → IsFinalStep plan es e ((es ++ e ∷ []) ++ Is.Stop ∷ [])
+  with_stop e plain allowed due =
+      let xs = es ++ e ∷ [] in
+      let none : has_stop xs ≡ false = stop-snoc es e ∙ ap (λ (b : Bool). b || (is_stop e || false)) (due_first e due) ∙ ap (λ (b : Bool). b || false) plain in
+      let now : stop_places (xs ++ Is.Stop ∷ []) ≡ 0 = ap (λ (b : Bool). if b then 0 else 1) (stop-snoc xs Is.Stop ∙ or_stop (has_stop xs)) in
+      let before : stop_places es ≡ 1 = ap (λ (b : Bool). if b then 0 else 1) (due_first e due) in
+      record {
+        legal = legal_with_stop plan xs (allowed-snoc plan es e (legal_allowed plan es legal) allowed) due;
+        opens = ap (λ (rs : List Running). length rs) (open_starts-snoc xs Is.Stop refl ∙ append-nil (open_starts xs));
+        places = omega (arith, length-append xs (Is.Stop ∷ []), length-append es (e ∷ []), now, before);
+      }
+
+  without_stop : (e : Entry) → is_stop e ≡ false → is_allowed plan es e ≡ true → is_stop_due plan (es ++ e ∷ []) ≡ false → IsFinalStep plan es e (es ++ e ∷ [])
+  without_stop e plain allowed not_due =
+      let same : stop_places (es ++ e ∷ []) ≡ stop_places es = ap (λ (b : Bool). if b then 0 else 1) (stop-snoc es e ∙ ap (λ (b : Bool). has_stop es || (b || false)) plain ∙ or_falses (has_stop es)) in
+      record {
+        legal = legal_from plan (es ++ e ∷ []) (allowed-snoc plan es e (legal_allowed plan es legal) allowed) not_due;
+        opens = refl;
+        places = omega (arith, length-append es (e ∷ []), same);
+      }
+
+  pub final_step : (e : Entry) → is_stop e ≡ false → is_allowed plan es e ≡ true → IsFinalStep plan es e (with_due_stop plan (es ++ e ∷ []))
+  final_step e plain allowed =
+      let xs = es ++ e ∷ [] in
+      elim (cases_Bool (is_stop_due plan xs)) [
+        | inl due ↦ subst (λ (ys : List Entry). IsFinalStep plan es e ys) (sym (ap (λ (b : Bool). if b then xs ++ Is.Stop ∷ [] else xs) due)) (with_stop e plain allowed due)
+        | inr not_due ↦ subst (λ (ys : List Entry). IsFinalStep plan es e ys) (sym (ap (λ (b : Bool). if b then xs ++ Is.Stop ∷ [] else xs) not_due)) (without_stop e plain allowed not_due)
+      ]
+
+module _ (plan : PlanParts) (ascends : IsAscendingFrom 1 (map (λ (t : PlanTest). t.number) plan.tests)) (es : List Entry) (room count : ℕ) (kept : IsKept plan es room count) (more : List Entry) (room' : ℕ) where
+  -- the places for an End and the Stop behind it are there
+  pub end_room : (t a w : ℕ) (s : Seen) → holds_start t a w es ≡ true → (length es < room) × (is_stop_due plan (es ++ Is.End t a w s ∷ []) ≡ true → length es + 1 < room)
+  end_room t a w s holds =
+      let less = one_less_held es t a w w s holds in
+      let open_one : 0 < count = omega (arith, less, kept.counted) in
+      let reserved = kept.reserved open_one in (
+        omega (arith, open_one, reserved),
+        λ due.
+            let one : stop_places es ≡ 1 = ap (λ (b : Bool). if b then 0 else 1) (due_first plan ascends es kept.legal (Is.End t a w s) due) in
+            omega (arith, open_one, reserved, one),
+      )
+
+  pub kept-end : (t a w : ℕ) (s : Seen) → holds_start t a w es ≡ true → room ≤ room' → more ≡ with_due_stop plan (es ++ Is.End t a w s ∷ []) → IsKept plan more room' (count - 1)
+  kept-end t a w s holds le is =
+      let less = one_less_held es t a w w s holds in
+      let open_one : 0 < count = omega (arith, less, kept.counted) in
+      let reserved = kept.reserved open_one in
+      let counted = kept.counted in
+      let step = subst (λ (ys : List Entry). IsFinalStep plan es (Is.End t a w s) ys) (sym is) (final_step plan ascends es kept.legal (Is.End t a w s) refl (end_allowed plan es kept.legal t a w s holds)) in
+      let places = step.places in
+      let opens = step.opens in
+      record {
+        legal = step.legal;
+        counted = omega (arith, less, counted, opens);
+        reserved = λ more_open. omega (arith, reserved, places, le, open_one);
+      }
+
+  pub kept-settle : (t : ℕ) (c : Cause) → settle_cause_of_test plan es t ≡ Some c → length es + (count + 2) ≤ room' → more ≡ with_due_stop plan (es ++ Is.Settle t c ∷ []) → IsKept plan more room' count
+  kept-settle t c may le is =
+      let settle = Is.Settle t c in
+      let counted = kept.counted in
+      let step = subst (λ (ys : List Entry). IsFinalStep plan es settle ys) (sym is) (final_step plan ascends es kept.legal settle refl (settle_allowed plan es kept.legal t c may)) in
+      let places = step.places in
+      let opens : length (open_starts more) ≡ length (open_starts es) = step.opens ∙ ap (λ (rs : List Running). length rs) (open_starts-snoc es settle refl ∙ append-nil (open_starts es)) in
+      let most : stop_places es ≤ 1 = most_one (has_stop es) in
+      record {
+        legal = step.legal;
+        counted = omega (arith, counted, opens);
+        reserved = λ more_open. omega (arith, places, le, most);
+      }
+    where
+      most_one : (b : Bool) → (if b then 0 else 1) ≤ 1
+      most_one true = omega arith
+      most_one false = omega arith
 
 module _ (plan : PlanParts) (es : List Entry) (room count : ℕ) (kept : IsKept plan es room count) (more : List Entry) (room' : ℕ) where
-  pub kept-end : (t a w : ℕ) (s : Seen) → holds_start t a w es ≡ true → room ≤ room' → more ≡ es ++ Is.End t a w s ∷ [] → IsKept plan more room' (count - 1)
-  kept-end t a w s holds le is =
-      let less : length (open_starts (es ++ Is.End t a w s ∷ [])) + 1 ≤ length (open_starts es) = one_less_held es t a w w s holds in
-      let counted : length (open_starts es) ≤ count = kept.counted in
-      let reserved : length es + count ≤ room = kept.reserved in
-      let few : length es + count < 2 ^ 32 - 2 = kept.few in
-      let longer : length (es ++ Is.End t a w s ∷ []) ≡ length es + 1 = length-append es (Is.End t a w s ∷ []) in
-      subst (λ (xs : List Entry). IsKept plan xs room' (count - 1)) (sym is) (record {
-        legal = legal-snoc plan es (Is.End t a w s) kept.goes_on kept.legal (end_allowed plan es (holds_start t a w es) kept.goes_on holds);
-        counted = omega arith;
-        reserved = omega arith;
-        few = omega arith;
-        goes_on = kept.goes_on;
-      })
-
-  pub kept-start : (t a w : ℕ) → is_busy_in w es ≡ false → choice_of plan es ≡ Does.Start t a → length es + count < 2 ^ 32 - 6 → length es + (count + 2) ≤ room' → more ≡ es ++ Is.Start t a w None ∷ [] → IsKept plan more room' (count + 1)
-  kept-start t a w free chosen small le is =
+  pub kept-start : (t a w : ℕ) → is_busy_in w es ≡ false → may_start_at plan es None (test_at plan.tests t) ≡ true → a ≡ attempt_after es (test_at plan.tests t) → length es + (count + 3) ≤ room' → more ≡ es ++ Is.Start t a w None ∷ [] → IsKept plan more room' (count + 1)
+  kept-start t a w free may next le is =
       let start = Is.Start t a w None in
       let opens : length (open_starts (es ++ start ∷ [])) ≡ length (open_starts es) + 1 =
       ap (λ (rs : List Running). length rs) (open_starts-snoc es start refl) ∙ length-append (open_starts es) (record { test = t; attempt = a; worker = w; placement = None } ∷ []) in
-      let counted : length (open_starts es) ≤ count = kept.counted in
+      let counted = kept.counted in
       let longer : length (es ++ start ∷ []) ≡ length es + 1 = length-append es (start ∷ []) in
+      let most : stop_places (es ++ start ∷ []) ≤ 1 = most_one (has_stop (es ++ start ∷ [])) in
       subst (λ (xs : List Entry). IsKept plan xs room' (count + 1)) (sym is) (record {
-        legal = legal-snoc plan es start kept.goes_on kept.legal (start_allowed plan es t a w kept.goes_on free chosen);
-        counted = omega arith;
-        reserved = omega arith;
-        few = omega arith;
-        goes_on = kept.goes_on;
+        legal = legal_from plan (es ++ start ∷ []) (allowed-snoc plan es start (legal_allowed plan es kept.legal) (start_allowed plan es kept.legal t a w None free may next)) (start_not_due plan es t a w None);
+        counted = omega (arith, opens, counted);
+        reserved = λ more_open. omega (arith, longer, le, most);
       })
-
-  pub kept-settle : (t : ℕ) (c : Cause) → IsAscendingFrom 1 (map (λ (x : PlanTest). x.number) plan.tests) → choice_of plan es ≡ Does.Settle t c → length es + count < 2 ^ 32 - 6 → length es + (count + 1) ≤ room' → more ≡ es ++ Is.Settle t c ∷ [] → IsKept plan more room' count
-  kept-settle t c ascends chosen small le is =
-      let settle = Is.Settle t c in
-      let opens : length (open_starts (es ++ settle ∷ [])) ≡ length (open_starts es) =
-      ap (λ (rs : List Running). length rs) (open_starts-snoc es settle refl) ∙ (length-append (open_starts es) [] ∙ omega arith) in
-      let counted : length (open_starts es) ≤ count = kept.counted in
-      let longer : length (es ++ settle ∷ []) ≡ length es + 1 = length-append es (settle ∷ []) in
-      subst (λ (xs : List Entry). IsKept plan xs room' count) (sym is) (record {
-        legal = legal-snoc plan es settle kept.goes_on kept.legal (settle_allowed plan es t c kept.goes_on ascends chosen);
-        counted = omega arith;
-        reserved = omega arith;
-        few = omega arith;
-        goes_on = kept.goes_on;
-      })
+    where
+      most_one : (b : Bool) → (if b then 0 else 1) ≤ 1
+      most_one true = omega arith
+      most_one false = omega arith

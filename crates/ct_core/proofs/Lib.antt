@@ -1,3 +1,4 @@
 pub mod ChoiceLemmas
 pub mod FindLemmas
 pub mod KeptLemmas
+pub mod CallerLemmas

@@ -1,47 +1,66 @@
 -- What each call of the core does to its history. This project's own.
-use Rattle.std.specs.Prelude.{◌≡◌, ℕ, true, false, [], ◌∷◌, ◌++◌, None}
+use Rattle.std.specs.Prelude.{◌≡◌, ℕ, true, false, List, [], ◌∷◌, ◌++◌, if◌then◌else◌}
 use Rattle.ct_verdict.specs.declared.verdict.Cause.{Cause}
+use Rattle.ct_history.specs.declared.plan.PlanParts.{PlanParts}
 use Rattle.ct_history.specs.declared.history.Entry.{Entry}
-use Rattle.ct_history.specs.declared.history.Entry.TheVariants.{Settle}
-use Rattle.ct_core.specs.declared.choice.Choice.{Choice}
-use Rattle.ct_core.specs.declared.choice.Choice.TheVariants as Does
+use Rattle.ct_history.specs.declared.history.Entry.TheVariants.{Settle, Stop}
+use Rattle.ct_history.specs.Plan.{test_at}
+use Rattle.ct_history.specs.Verdicts.{are_all_final}
+use Rattle.ct_history.specs.Rules.{is_idle}
+use Rattle.ct_history.specs.Legal.{is_stop_due}
 use Rattle.ct_core.specs.declared.ticket.Ticket.{Ticket}
 use Rattle.ct_core.specs.declared.scheduler.Next.{Next}
 use Rattle.ct_core.specs.declared.scheduler.Next.TheVariants.{Start, Settled, Wait, Done, Aborted, NoMemory}
-use Rattle.ct_core.specs.Choice.{choice_of}
+use Rattle.ct_core.specs.Choice.{IsFirstToStart, IsLeastToSettle, IsStuck, NoneSettles, attempt_after}
 use Rattle.ct_core.specs.Ticket.{start_of}
 use Rattle.ct_core.specs.CoreValue.{CoreValue}
+
+-- the entries, with a Stop behind them where one is due
+abbrev pub with_due_stop : PlanParts → List Entry → List Entry
+with_due_stop plan entries = if is_stop_due plan entries then entries ++ Stop ∷ [] else entries
 
 -- the core with one entry more
 abbrev pub with_entry : CoreValue → Entry → CoreValue
 with_entry core entry = record core { entries = core.entries ++ entry ∷ [] }
 
--- the chosen test starts: the ticket is for its next attempt, by this worker, and its Start is appended
-pub record StartsChosen (old : CoreValue) (worker : ℕ) (ticket : Ticket) (new : CoreValue) : Type 0 where
+-- the core with one entry more, and with a Stop directly behind it where that entry makes one due
+abbrev pub with_final : CoreValue → Entry → CoreValue
+with_final core entry = record core { entries = with_due_stop core.plan (core.entries ++ entry ∷ []) }
+
+-- the first test in the queue that may start does: the ticket is for its next attempt, by this worker
+pub record StartsFirst (old : CoreValue) (worker : ℕ) (ticket : Ticket) (new : CoreValue) : Type 0 where
   pub goes_on : old.aborted ≡ false
-  pub chosen : choice_of old.plan old.entries ≡ Does.Start ticket.test ticket.attempt
+  pub unsettled : NoneSettles old.plan old.entries
+  pub first : IsFirstToStart old.plan old.entries ticket.test ticket.placement
+  pub attempt : ticket.attempt ≡ attempt_after old.entries (test_at old.plan.tests ticket.test)
   pub by : ticket.worker ≡ worker
-  pub unplaced : ticket.placement ≡ None
   pub appended : new ≡ with_entry old (start_of ticket)
 
--- the chosen test is settled: its Settle is appended
-pub record SettlesChosen (old : CoreValue) (test : ℕ) (new : CoreValue) : Type 0 where
+-- the least test that may be settled is
+pub record SettlesLeast (old : CoreValue) (test : ℕ) (new : CoreValue) : Type 0 where
   pub cause : Cause
   pub goes_on : old.aborted ≡ false
-  pub chosen : choice_of old.plan old.entries ≡ Does.Settle test cause
-  pub appended : new ≡ with_entry old (Settle test cause)
+  pub least : IsLeastToSettle old.plan old.entries test cause
+  pub appended : new ≡ with_final old (Settle test cause)
 
--- this was chosen, and nothing is appended
-pub record Rests (choice : Choice) (old new : CoreValue) : Type 0 where
+-- nothing can be done before an attempt ends, and some attempt is open
+pub record Waits (old new : CoreValue) : Type 0 where
   pub goes_on : old.aborted ≡ false
-  pub chosen : choice_of old.plan old.entries ≡ choice
+  pub stuck : IsStuck old.plan old.entries
+  pub busy : is_idle old.entries ≡ false
+  pub kept : new ≡ old
+
+-- every test is final
+pub record IsDone (old new : CoreValue) : Type 0 where
+  pub goes_on : old.aborted ≡ false
+  pub final : are_all_final old.plan old.entries ≡ true
   pub kept : new ≡ old
 
 -- what an answer of `next` says; want of memory alone is free
 abbrev pub IsNext : CoreValue → ℕ → Next → CoreValue → Type 0
-IsNext old worker (Start ticket) new = StartsChosen old worker ticket new
-IsNext old worker (Settled test) new = SettlesChosen old test new
-IsNext old worker Wait new = Rests Does.Wait old new
-IsNext old worker Done new = Rests Does.Done old new
+IsNext old worker (Start ticket) new = StartsFirst old worker ticket new
+IsNext old worker (Settled test) new = SettlesLeast old test new
+IsNext old worker Wait new = Waits old new
+IsNext old worker Done new = IsDone old new
 IsNext old worker Aborted new = (old.aborted ≡ true) × (new ≡ old)
 IsNext old worker NoMemory new = new ≡ old

@@ -1,12 +1,14 @@
 -- What a gate was asked, what it tells, and how it answers. This project's own.
 use Rattle.std.specs.Prelude.{◌≡◌, ℕ, ◌≤◌, pos, Bool, true, false, ◌&&◌, List, [], ◌∷◌, ◌++◌, find, Option, unwrap_or, IfSome, ◌==◌, if◌then◌else◌}
-use Rattle.ct_base.specs.Outside.{Rose}
+use Rattle.ct_base.specs.Outside.{Adds, Becomes, Rose}
 use Rattle.ct_verdict.specs.declared.attempt.How.{How}
 use Rattle.ct_verdict.specs.declared.attempt.How.TheVariants.{Exited, Signalled, TimedOut, NotStarted, Lacks, NoMemory}
 use Rattle.ct_core.specs.declared.gate.Asked.{Asked}
 use Rattle.ct_core.specs.declared.gate.Ended.{Ended}
+use Rattle.ct_core.specs.declared.gate.Request.{Request}
 use Rattle.ct_core.specs.declared.gate.Told.{Told}
 
+-- the attempt ended since memory was wanting
 abbrev pub is_no_memory : How → Bool
 is_no_memory (Exited code) = false
 is_no_memory Signalled = false
@@ -15,6 +17,7 @@ is_no_memory NotStarted = false
 is_no_memory (Lacks place) = false
 is_no_memory NoMemory = true
 
+-- the attempt could not be started
 abbrev pub is_not_started : How → Bool
 is_not_started (Exited code) = false
 is_not_started Signalled = false
@@ -30,6 +33,14 @@ untold test attempt = record { test = test; attempt = attempt; heard = []; ended
 -- what a world tells of an attempt: its first entry of that test and attempt
 abbrev pub told : List Told → ℕ → ℕ → Told
 told world test attempt = unwrap_or (find (λ (t : Told). t.test == test && t.attempt == attempt) world) (untold test attempt)
+
+-- what a gate tells: what each attempt comes to, the attempts and the requests that were run so far, where it tells
+-- these, and how many could not be started
+pub record GateTell : Type 0 where
+  pub world : Option (List Told)
+  pub asked : Option (List Asked)
+  pub sent : Option (List Request)
+  pub faults : ℕ
 
 -- what a call that ended so is recorded as: nothing where memory was wanting
 abbrev pub recorded : {A : Type 0} → How → A → List A
@@ -47,7 +58,17 @@ IsTold world test attempt ended = is_no_memory ended.how ≡ false → IfSome wo
 abbrev pub HearsTold : Option (List Told) → ℕ → ℕ → How → (List ℕ → Type 0) → (List ℕ → Type 0) → Type 0
 HearsTold world test attempt how before now = is_no_memory how ≡ false → IfSome world (λ w. (text : List ℕ) → before text → now (text ++ (told w test attempt).heard))
 
--- the count of faults never falls, and an attempt that was not started raised it
+-- the count of faults never falls, it rose where the attempt was not started, and it stays where it was
 pub record HasStartCause (before now : ℕ) (how : How) : Type 0 where
   pub later : before ≤ now
   pub failed : is_not_started how ≡ true → Rose before now
+  pub unfailed : is_not_started how ≡ false → now ≡ before
+
+-- a request was run: the answer and what the ear heard are told, and the call is recorded, unless memory was wanting
+pub record RunsRequest (request : Request) (before now : GateTell) (heard_before heard_now : List ℕ → Type 0) (ended : Ended) : Type 0 where
+  pub told : IsTold before.world request.test request.attempt ended
+  pub heard : HearsTold before.world request.test request.attempt ended.how heard_before heard_now
+  pub asked : Becomes before.asked now.asked (Adds (recorded ended.how (asked_for request.test request.attempt)))
+  pub sent : Becomes before.sent now.sent (Adds (recorded ended.how request))
+  pub world : now.world ≡ before.world
+  pub cause : HasStartCause before.faults now.faults ended.how

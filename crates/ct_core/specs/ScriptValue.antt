@@ -1,10 +1,10 @@
 -- What a gate that follows a script is to its callers. This project's own.
-use Rattle.std.specs.Prelude.{◌≡◌, ℕ, ◌+◌, ◌-◌, ◌^◌, min, List, [], ◌∷◌, ◌++◌, if◌then◌else◌}
+use Rattle.std.specs.Prelude.{◌≡◌, ℕ, ◌+◌, ◌-◌, ◌^◌, min, List, Some, [], ◌∷◌, ◌++◌, if◌then◌else◌}
 use Rattle.ct_verdict.specs.declared.attempt.How.{How}
 use Rattle.ct_core.specs.declared.gate.Asked.{Asked}
 use Rattle.ct_core.specs.declared.gate.Request.{Request}
 use Rattle.ct_core.specs.declared.gate.Told.{Told}
-use Rattle.ct_core.specs.Gate.{asked_for, is_not_started}
+use Rattle.ct_core.specs.Gate.{GateTell, asked_for, is_not_started}
 
 -- its world, what it was asked and sent so far, and how many attempts were not started
 pub record ScriptValue : Type 0 where
@@ -12,6 +12,10 @@ pub record ScriptValue : Type 0 where
   pub asked : List Asked
   pub sent : List Request
   pub faults : ℕ
+
+-- what a gate that follows a script tells: all
+abbrev pub told_of_script : ScriptValue → GateTell
+told_of_script gate = record { world = Some gate.world; asked = Some gate.asked; sent = Some gate.sent; faults = gate.faults }
 
 -- the request was recorded, and nothing else changed
 abbrev pub Records : ScriptValue → Request → ScriptValue → Type 0

@@ -7,15 +7,19 @@ use Rattle.ct_history.specs.declared.history.Entry.TheVariants.{Start, End}
 use Rattle.ct_history.specs.History.{holds_start}
 use Rattle.ct_core.specs.declared.ticket.Ticket.{Ticket}
 
+-- the number of the test
 abbrev pub test_of : Ticket → ℕ
 test_of ticket = ticket.test
 
+-- the number of the attempt, from 1
 abbrev pub attempt_of : Ticket → ℕ
 attempt_of ticket = ticket.attempt
 
+-- the worker that began the attempt
 abbrev pub worker_of : Ticket → ℕ
 worker_of ticket = ticket.worker
 
+-- where the needs of the attempt are met, if it has any
 abbrev pub placement_of : Ticket → Option Placement
 placement_of ticket = ticket.placement
 

@@ -1,16 +1,17 @@
-ghost use Rattle.std.specs.Prelude.{◌≡◌, ◌<◌, ◌+◌, ◌^◌, ◌-◌, find, length, is_some, None};
+ghost use Rattle.std.specs.Prelude.{◌≡◌, ◌+◌, find, is_some, false, true, MatchOption, None};
 ghost use Rattle.std.specs.Option.{option_copied};
-ghost use Rattle.ct_core.specs.Choice.{attempt_after, choice_of, first_settled, first_startable, may_start_test, settle_choice, settled_choice, start_choice};
-ghost use Rattle.ct_history.specs.Plan.{test_at as planned_test};
-ghost use Rattle.ct_history.specs.Rules.{settle_cause as cause_in};
+ghost use Rattle.ct_core.specs.Choice.{IsChoice, IsLeastToSettle, NoneSettles, attempt_after};
+ghost use Rattle.ct_history.specs.Plan.{IsSound, test_at as planned_test};
+ghost use Rattle.ct_history.specs.Rules.{may_start as may_start_in, may_start_at, settle_cause as cause_in};
+ghost use Rattle.ct_history.specs.Verdicts.{are_all_final as all_final_in};
 
 use ct_history::{
     Entry, PlanParts, PlanTest, are_all_final, count_attempts, may_start, settle_cause, test_at,
 };
 use ct_verdict::Cause;
 
-/// What a run does next, by what its history says. No call hands one out; clauses speak of it.
-pub enum Choice {
+/// What a run does next, by what its history says.
+pub(crate) enum Choice {
     /// Every test is final.
     Done,
     /// This test gets its verdict without an attempt.
@@ -23,25 +24,29 @@ pub enum Choice {
 
 /// Chooses the first that holds: all is done, a test may be settled, a test may start.
 pub(crate) fn choose(plan: &PlanParts, entries: &[Entry]) -> Choice
-    requires none { plan.now.resources ≡ None }
-    requires few { length entries.now < 2 ^ 32 - 2 }
-    ensures { result ≡ choice_of plan.now entries.now }
+    requires sound { IsSound plan.now }
+    requires unresourced { plan.now.resources ≡ None }
+    ensures { IsChoice plan.now entries.now result }
 {
     if are_all_final(plan, entries) {
         return Choice::Done;
     }
     match choose_settled(plan, entries) {
-        Some(choice) => choice,
+        Some((test, cause)) => Choice::Settle { test, cause },
         None => choose_start(plan, entries),
     }
 }
 
-fn choose_settled(plan: &PlanParts, entries: &[Entry]) -> Option<Choice>
-    requires { length entries.now < 2 ^ 32 }
-    ensures { result ≡ settled_choice plan.now entries.now (first_settled plan.now entries.now) }
+fn choose_settled(plan: &PlanParts, entries: &[Entry]) -> Option<(u32, Cause)>
+    requires { IsSound plan.now }
+    ensures { MatchOption result (NoneSettles plan.now entries.now)
+        (λ found. IsLeastToSettle plan.now entries.now found.0 found.1) }
 {
     match find_settled(plan, plan.tests.as_slice(), entries) {
-        Some(test) => settle(test.number, settle_cause(plan, test, entries)),
+        Some(test) => match settle_cause(plan, test, entries) {
+            Some(cause) => Some((test.number, cause)),
+            None => None,
+        },
         None => None,
     }
 }
@@ -51,7 +56,6 @@ fn find_settled<'a>(
     tests: &'a [PlanTest],
     entries: &[Entry],
 ) -> Option<&'a PlanTest>
-    requires { length entries.now < 2 ^ 32 }
     ensures { option_copied result ≡ find (λ t. is_some (cause_in plan.now t entries.now)) tests.now }
 {
     for test in tests {
@@ -63,25 +67,17 @@ fn find_settled<'a>(
 }
 
 fn may_settle(plan: &PlanParts, test: &PlanTest, entries: &[Entry]) -> bool
-    requires { length entries.now < 2 ^ 32 }
     ensures { result ≡ is_some (cause_in plan.now test.now entries.now) }
 {
     settle_cause(plan, test, entries).is_some()
 }
 
-fn settle(test: u32, cause: Option<Cause>) -> Option<Choice>
-    ensures { result ≡ settle_choice test cause }
-{
-    match cause {
-        Some(cause) => Some(Choice::Settle { test, cause }),
-        None => None,
-    }
-}
-
 fn choose_start(plan: &PlanParts, entries: &[Entry]) -> Choice
-    requires none { plan.now.resources ≡ None }
-    requires few { length entries.now < 2 ^ 32 - 2 }
-    ensures { result ≡ start_choice plan.now entries.now (first_startable plan.now entries.now) }
+    requires sound { IsSound plan.now }
+    requires unresourced { plan.now.resources ≡ None }
+    requires unfinished { all_final_in plan.now entries.now ≡ false }
+    requires unsettled { NoneSettles plan.now entries.now }
+    ensures { IsChoice plan.now entries.now result }
 {
     match find_startable(plan, entries) {
         Some(test) => Choice::Start {
@@ -93,9 +89,9 @@ fn choose_start(plan: &PlanParts, entries: &[Entry]) -> Choice
 }
 
 fn find_startable(plan: &PlanParts, entries: &[Entry]) -> Option<u32>
-    requires none { plan.now.resources ≡ None }
-    requires few { length entries.now < 2 ^ 32 }
-    ensures { result ≡ first_startable plan.now entries.now }
+    requires { plan.now.resources ≡ None }
+    ensures { result ≡ find
+        (λ n. may_start_at plan.now entries.now None (planned_test plan.now.tests n)) plan.now.queue }
 {
     plan.queue
         .as_slice()
@@ -105,9 +101,8 @@ fn find_startable(plan: &PlanParts, entries: &[Entry]) -> Option<u32>
 }
 
 fn can_start(plan: &PlanParts, number: u32, entries: &[Entry]) -> bool
-    requires none { plan.now.resources ≡ None }
-    requires few { length entries.now < 2 ^ 32 }
-    ensures { result ≡ may_start_test plan.now entries.now (planned_test plan.now.tests number) }
+    requires { plan.now.resources ≡ None }
+    ensures { result ≡ may_start_at plan.now entries.now None (planned_test plan.now.tests number) }
 {
     match test_at(plan.tests.as_slice(), number) {
         Some(test) => may_start(plan, test, entries),
@@ -116,11 +111,19 @@ fn can_start(plan: &PlanParts, number: u32, entries: &[Entry]) -> bool
 }
 
 fn next_attempt(plan: &PlanParts, number: u32, entries: &[Entry]) -> u32
-    requires { length entries.now < 2 ^ 32 - 2 }
+    requires { may_start_at plan.now entries.now None (planned_test plan.now.tests number) ≡ true }
     ensures { result ≡ attempt_after entries.now (planned_test plan.now.tests number) }
 {
     match test_at(plan.tests.as_slice(), number) {
-        Some(test) => count_attempts(test, entries) + 1,
+        Some(test) => attempt_of(plan, test, entries),
         None => 1,
     }
+}
+
+fn attempt_of(plan: &PlanParts, test: &PlanTest, entries: &[Entry]) -> u32
+    requires { may_start_in plan.now test.now None entries.now ≡ true }
+    ensures { result ≡ attempt_after entries.now (Some test.now) }
+{
+    let _times = plan.repeat.times;
+    count_attempts(test, entries) + 1
 }

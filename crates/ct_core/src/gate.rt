@@ -1,10 +1,6 @@
-ghost use Rattle.std.specs.Prelude.{◌≡◌, IfOk, List, Option, ℕ};
-ghost use Rattle.ct_base.specs.Outside.{Adds, Becomes};
-ghost use Rattle.ct_core.specs.Gate.{HasStartCause, HearsTold, IsTold, asked_for, is_no_memory, recorded};
+ghost use Rattle.std.specs.Prelude.{◌≡◌, IfOk};
+ghost use Rattle.ct_core.specs.Gate.{GateTell, RunsRequest, is_no_memory};
 ghost use Rattle.ct_core.specs.Ticket.{attempt_of, test_of};
-ghost use Rattle.ct_core.specs.declared.gate.Asked.{Asked};
-ghost use Rattle.ct_core.specs.declared.gate.Request.{Request};
-ghost use Rattle.ct_core.specs.declared.gate.Told.{Told};
 
 use crate::Ticket;
 use ct_base::{Blob, Ear, List, Name, NoMemory, Pair};
@@ -109,17 +105,10 @@ pub struct Asked {
 
 /// What runs the programs of tests.
 ///
-/// `world` is what each attempt comes to, where the gate tells that. `asked` and `sent` are the
-/// attempts and the requests that were run so far, where it tells them. `faults` counts the starts
-/// and waits that failed, and never falls.
+/// `tells` is what each attempt comes to, and the attempts and the requests that were run so far,
+/// where the gate tells these; and how many starts and waits failed, which never falls.
 pub trait Gate {
-    ghost world: { Self → Option (List Told) };
-
-    ghost asked: { Self → Option (List Asked) };
-
-    ghost sent: { Self → Option (List Request) };
-
-    ghost faults: { Self → ℕ };
+    ghost tells: { Self → GateTell };
 
     /// Runs the program of a request, and lets the ear hear its output. It may wait for the program.
     fn run<E: Ear>(
@@ -131,15 +120,5 @@ pub trait Gate {
     ) -> Ended
         requires test { request.now.test ≡ test_of ticket.now }
         requires attempt { request.now.attempt ≡ attempt_of ticket.now }
-
-        // The answer and what is heard are told, or memory was wanting.
-        ensures told { IsTold (world self.old) request.now.test request.now.attempt result }
-        ensures heard { HearsTold (world self.old) request.now.test request.now.attempt result.how (E.stands_for ear.old) (E.stands_for ear.new) }
-
-        // The call is recorded, unless memory was wanting.
-        ensures asked { Becomes (asked self.old) (asked self.new) (Adds (recorded result.how (asked_for request.now.test request.now.attempt))) }
-        ensures sent { Becomes (sent self.old) (sent self.new) (Adds (recorded result.how request.now)) }
-
-        ensures world { world self.new ≡ world self.old }
-        ensures cause { HasStartCause (faults self.old) (faults self.new) result.how };
+        ensures { RunsRequest request.now (tells self.old) (tells self.new) (E.stands_for ear.old) (E.stands_for ear.new) result };
 }

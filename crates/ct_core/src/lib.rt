@@ -11,7 +11,6 @@ mod scheduler;
 mod script;
 mod ticket;
 
-pub use choice::Choice;
 pub use gate::{Asked, Ended, Gate, Request, Told, copy_names, copy_pairs, lacks_memory};
 pub use scheduler::{Core, Next};
 pub use script::ScriptGate;

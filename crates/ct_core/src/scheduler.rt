@@ -1,15 +1,14 @@
-ghost use Rattle.std.specs.Prelude.{◌≡◌, Bool, true, false, [], Some, None, IfOk, IfErr, length, vec_len, vec_capacity, ◌<◌, ◌≤◌, ◌^◌, ◌∷◌, ◌++◌};
+ghost use Rattle.std.specs.Prelude.{◌≡◌, Bool, true, false, [], Some, None, IfOk, IfErr, length, vec_len, vec_capacity, ◌+◌, ◌<◌, ◌≤◌, ◌^◌, ◌∷◌, ◌++◌};
+ghost use Rattle.ct_core.specs.Core.{with_due_stop};
+ghost use Rattle.ct_history.specs.Legal.{is_stop_due as is_due};
 ghost use Rattle.ct_history.specs.declared.plan.PlanParts.{PlanParts};
 
 use crate::Ticket;
 use crate::choice::{Choice, choose};
-use ct_history::{Entry, History, Plan, PlanParts, verdict_of};
+use ct_history::{Entry, History, Plan, PlanParts, is_stop_due, verdict_of};
 use ct_verdict::{Cause, Seen, Verdict};
 use std::alloc::Global;
 use std::marker::Model;
-
-/// Entries are counted in 32 bits: a start leaves room for itself and its end.
-const MOST_ENTRIES: usize = 4_294_967_290;
 
 /// What a worker has to do next.
 pub enum Next {
@@ -52,21 +51,17 @@ impl Model for Core {
 }
 
 impl Core {
-    ghost use Rattle.ct_core.specs.Choice.{choice_of};
-    ghost use Rattle.ct_core.specs.declared.choice.Choice.TheVariants as Does;
-    ghost use Rattle.ct_core.specs.Core.{IsNext, with_entry};
+    ghost use Rattle.ct_core.specs.Choice.{IsChoice, IsFirstToStart, IsLeastToSettle, NoneSettles, attempt_after};
+    ghost use Rattle.ct_core.specs.Core.{IsNext, with_final};
     ghost use Rattle.ct_core.specs.CoreValue.{CoreValue};
     ghost use Rattle.ct_core.specs.Ticket.{end_of, holds_ticket, test_of};
     ghost use Rattle.ct_history.specs.History.{is_busy_in};
-    ghost use Rattle.ct_history.specs.Legal.{is_legal};
-    ghost use Rattle.ct_history.specs.Plan.{IsSound};
+    ghost use Rattle.ct_history.specs.Legal.{StaysWithin, is_legal};
+    ghost use Rattle.ct_history.specs.Plan.{IsSound, test_at};
     ghost use Rattle.ct_history.specs.Verdicts.{verdict_of_test};
 
     /// Opens a run of the plan, with the empty history. It takes no memory yet.
-    ///
-    /// A plan that stops at the first failure is not run yet.
     pub fn open(alloc: Global, plan: Plan) -> Result<Core, Plan>
-        requires { plan.stop_on_failure ≡ false }
         ensures ok { IfOk result (λ core. core ≡ record { plan = plan; entries = []; aborted = false }) }
         ensures err { IfErr result (λ back. back ≡ plan) }
     {
@@ -87,11 +82,11 @@ impl Core {
         &self.plan
     }
 
-    /// Lends the history, which is legal for the plan.
+    /// Lends the history, which is legal and has stayed within what the plan declares.
     pub fn history(&self) -> &History
         ensures is { result.now.entries.items ≡ self.now.entries }
-        ensures few { length self.now.entries < 2 ^ 32 }
         ensures legal { is_legal self.now.plan self.now.entries ≡ true }
+        ensures within { StaysWithin self.now.plan self.now.entries }
     {
         &self.history
     }
@@ -99,7 +94,8 @@ impl Core {
     /// Says what this worker has to do next, and appends what that makes of the history.
     ///
     /// The first that holds: the run was given up; every test is final; a test may be settled, and
-    /// the least is; a test may start, and the first in the queue does; wait for an end.
+    /// the least is; a test may start, and the first in the queue does; wait for an end. So some
+    /// attempt is open after `Wait`.
     pub fn next(&mut self, worker: u32) -> Next
         requires { is_busy_in worker self.old.entries ≡ false }
         ensures { IsNext self.old worker result self.new }
@@ -117,10 +113,11 @@ impl Core {
 
     /// Ends the attempt of a ticket, and gives the test's verdict where it is now final.
     ///
-    /// It takes no memory: `next` made the room.
+    /// Where that is the first verdict that makes the run fail, and the plan stops at one, a Stop
+    /// stands directly behind the end. It takes no memory: `next` made the room.
     pub fn finish(&mut self, ticket: Ticket, seen: Seen) -> Option<Verdict>
         requires { holds_ticket ticket self.old.entries ≡ true }
-        ensures appended { self.new ≡ with_entry self.old (end_of ticket seen) }
+        ensures appended { self.new ≡ with_final self.old (end_of ticket seen) }
         ensures verdict { result ≡ verdict_of_test self.old.plan self.new.entries (test_of ticket) }
     {
         let Ticket {
@@ -135,7 +132,7 @@ impl Core {
             worker,
             seen,
         };
-        append_reserved(&mut self.history.entries, end);
+        append_final(self.plan.parts(), &mut self.history.entries, end);
         self.open_count -= 1;
         verdict_of(self.plan.parts(), self.history.entries.as_slice(), test)
     }
@@ -152,13 +149,14 @@ impl Core {
         ensures plan { result.0 ≡ self.plan }
         ensures history { result.1.entries.items ≡ self.entries }
         ensures legal { is_legal self.plan self.entries ≡ true }
+        ensures within { StaysWithin self.plan self.entries }
     {
         let Core { plan, history, .. } = self;
         (plan, history)
     }
 
     fn chosen(&self) -> Choice
-        ensures is { result ≡ choice_of self.now.plan self.now.entries }
+        ensures is { IsChoice self.now.plan self.now.entries result }
         ensures sound { IsSound self.now.plan }
     {
         choose(self.plan.parts(), self.history.entries.as_slice())
@@ -167,13 +165,12 @@ impl Core {
     fn start(&mut self, test: u32, attempt: u32, worker: u32) -> Next
         requires goes_on { self.old.aborted ≡ false }
         requires free { is_busy_in worker self.old.entries ≡ false }
-        requires chosen { choice_of self.old.plan self.old.entries ≡ Does.Start test attempt }
+        requires unsettled { NoneSettles self.old.plan self.old.entries }
+        requires first { IsFirstToStart self.old.plan self.old.entries test None }
+        requires next { attempt ≡ attempt_after self.old.entries (test_at self.old.plan.tests test) }
         ensures { IsNext self.old worker result self.new }
     {
-        if self.history.entries.len() + self.open_count >= MOST_ENTRIES {
-            return Next::NoMemory;
-        }
-        match self.history.entries.reserve(self.open_count + 2) {
+        match self.history.entries.reserve(self.open_count + 3) {
             Ok(()) => {}
             Err(_) => return Next::NoMemory,
         }
@@ -196,24 +193,40 @@ impl Core {
     fn settle(&mut self, test: u32, cause: Cause) -> Next
         requires sound { IsSound self.old.plan }
         requires goes_on { self.old.aborted ≡ false }
-        requires chosen { choice_of self.old.plan self.old.entries ≡ Does.Settle test cause }
+        requires least { IsLeastToSettle self.old.plan self.old.entries test cause }
         ensures { IsNext self.old 0 result self.new }
     {
-        if self.history.entries.len() + self.open_count >= MOST_ENTRIES {
-            return Next::NoMemory;
-        }
-        match self.history.entries.reserve(self.open_count + 1) {
+        match self.history.entries.reserve(self.open_count + 2) {
             Ok(()) => {}
             Err(_) => return Next::NoMemory,
         }
-        append_reserved(&mut self.history.entries, Entry::Settle { test, cause });
+        append_final(
+            self.plan.parts(),
+            &mut self.history.entries,
+            Entry::Settle { test, cause },
+        );
         Next::Settled(test)
+    }
+}
+
+/// Appends an entry, and a Stop behind it where that entry makes one due.
+fn append_final(plan: &PlanParts, entries: &mut Vec<Entry>, entry: Entry)
+    requires room { vec_len entries.old < vec_capacity entries.old }
+    requires stop_room { is_due plan.now (entries.old.items ++ entry ∷ []) ≡ true →
+        vec_len entries.old + 1 < vec_capacity entries.old }
+    ensures items { entries.new.items ≡ with_due_stop plan.now (entries.old.items ++ entry ∷ []) }
+    ensures room { vec_capacity entries.old ≤ vec_capacity entries.new }
+{
+    append_reserved(entries, entry);
+    if is_stop_due(plan, entries.as_slice()) {
+        append_reserved(entries, Entry::Stop);
     }
 }
 
 fn append_reserved(entries: &mut Vec<Entry>, entry: Entry)
     requires { vec_len entries.old < vec_capacity entries.old }
     ensures items { entries.new.items ≡ entries.old.items ++ entry ∷ [] }
+    ensures len { vec_len entries.new ≡ vec_len entries.old + 1 }
     ensures room { vec_capacity entries.old ≤ vec_capacity entries.new }
 {
     let pushed = entries.push(entry);

@@ -1,9 +1,7 @@
-ghost use Rattle.std.specs.Prelude.{◌≡◌, [], Some, find, ◌==◌, ◌&&◌, OnOk, OnErr};
+ghost use Rattle.std.specs.Prelude.{◌≡◌, [], find, ◌==◌, ◌&&◌, OnOk, OnErr};
 ghost use Rattle.std.specs.Option.{option_copied};
-ghost use Rattle.ct_core.specs.declared.gate.Asked.{Asked};
-ghost use Rattle.ct_core.specs.declared.gate.Request.{Request};
-ghost use Rattle.ct_core.specs.declared.gate.Told.{Told};
 ghost use Rattle.ct_core.specs.Gate.{HasStartCause, told};
+ghost use Rattle.ct_core.specs.ScriptValue.{told_of_script};
 
 use crate::{Asked, Ended, Gate, Request, Ticket, Told, lacks_memory};
 use ct_base::{Ear, List, Name, NoMemory, Pair};
@@ -126,13 +124,7 @@ impl ScriptGate {
 }
 
 impl Gate for ScriptGate {
-    ghost world = { λ g. Some g.world };
-
-    ghost asked = { λ g. Some g.asked };
-
-    ghost sent = { λ g. Some g.sent };
-
-    ghost faults = { λ g. g.faults };
+    ghost tells = { told_of_script };
 
     fn run<E: Ear>(
         &mut self,

@@ -1,9 +1,16 @@
-use Rattle.std.proofs.Common.{ap, subst, ℕ}
+use Rattle.std.proofs.Common.{rules, ap, subst, ℕ}
 use Rattle.ct_core.specs.Gate.{HasStartCause}
 use Rattle.ct_core.specs.ScriptValue.{ScriptValue}
 use Rattle.ct_core.proofs.script.ScriptGateGate.run.Goals as goal
 
-pub returns-in-Ok-clause-cause : goal.returns-in-Ok-clause-cause
-returns-in-Ok-clause-cause g c =
+pub returns-in-Ok : goal.returns-in-Ok
+returns-in-Ok g c =
     let same = ap (λ (s : ScriptValue). s.faults) c.in-Ok.ensures.ok in
-    subst (λ (n : ℕ). HasStartCause n c.count.new.self.faults c.told_end-ended.result.how) same c.count.ensures.cause
+    record {
+      told = search rules;
+      heard = search rules;
+      asked = search rules;
+      sent = search rules;
+      world = search rules;
+      cause = subst (λ (n : ℕ). HasStartCause n c.count.new.self.faults c.told_end-ended.result.how) same c.count.ensures.cause;
+    }
