@@ -1,9 +1,11 @@
 -- What was put in a row: pieces that are added, and beginnings of pieces, one behind the other.
-use Rattle.std.proofs.Common.{◌≡◌, ◌∙◌, sym, ap, ℕ, ◌+◌, ◌<◌, List, [], ◌∷◌, ◌++◌, length, get_or, take, drop, Option, refl, append_assoc}
+use Rattle.std.proofs.Common.{rules, ◌≡◌, ◌∙◌, sym, ap, ℕ, ◌+◌, ◌<◌, List, [], ◌∷◌, ◌++◌, length, get_or, take, drop, Option, refl, append_assoc}
 use Rattle.std.specs.Prelude.{Some, None, Result, Ok, Err, OnErr}
 use Rattle.std.proofs.lemmas.List.{append-nil, take_more, take-append-drop}
 use Rattle.std.proofs.lemmas.Grind.{flat_map-append}
-use Rattle.ct_base.specs.Outside.{Becomes, Adds, AddsPrefix}
+use Rattle.ct_base.specs.declared.sink.SinkFault.{SinkFault}
+use Rattle.ct_base.specs.declared.sink.SinkFault.TheVariants as Sinks
+use Rattle.ct_base.specs.Outside.{Adds, AddsPrefix, Becomes, Puts, SinkTell}
 use Rattle.ct_report.specs.Report.{text_of}
 
 -- a piece and then one more are both in a row
@@ -52,6 +54,22 @@ pub prefix_of_adds : {A : Type 0} (old new : Option (List A)) (a b : List A) →
 prefix_of_adds None new a b put = tt
 prefix_of_adds (Some before) None a b put = absurd put
 prefix_of_adds (Some before) (Some now) a b put = record { kept = a; lost = b; parts = refl; is = put }
+
+-- whole pieces were put and no call failed, and then a put of one more failed
+pub puts_fails : (old mid new : SinkTell) (front piece rest : List ℕ) (fault : SinkFault) → Becomes old.written mid.written (Adds front) → mid.faults ≡ old.faults → Puts piece mid new (Err fault) → Puts (front ++ piece ++ rest) old new (Err fault)
+puts_fails old mid new front piece rest fault put same last = record {
+  ok = tt;
+  err = prefix_of_more old.written new.written (front ++ piece) rest (adds_then_prefix old.written mid.written new.written front piece put last.err);
+  cause = rw (sym same) last.cause;
+}
+
+-- nothing was put since memory was wanting
+pub puts_none : (sink : SinkTell) (text : List ℕ) → Puts text sink sink (Err Sinks.NoMemory)
+puts_none sink text = record {
+  ok = tt;
+  err = prefix_of_none sink.written text;
+  cause = search rules;
+}
 
 -- lines are those in front of one, that one, and those behind it
 pub text_of-split : (lines : List (List ℕ)) (at : ℕ) (other : List ℕ) → at < length lines → text_of lines ≡ text_of (take at lines) ++ get_or lines at other ++ text_of (drop (at + 1) lines)

@@ -16,9 +16,13 @@ use Rattle.ct_history.specs.Verdicts.{verdict_in, verdict_of_test, are_all_final
 abbrev pub text_of : List (List ℕ) → List ℕ
 text_of lines = flat_map (λ line. line) lines
 
+-- the byte of the digit 0
+abbrev pub zero_digit : ℕ
+zero_digit = 48
+
 -- two digits
 abbrev pub two_digits : ℕ → List ℕ
-two_digits n = (48 + n / 10) ∷ (48 + n % 10) ∷ []
+two_digits n = (zero_digit + n / 10) ∷ (zero_digit + n % 10) ∷ []
 
 -- microseconds as seconds with two digits of hundredths, rounded down
 abbrev pub seconds_text : ℕ → List ℕ
@@ -50,11 +54,12 @@ verdict_text tests Skipped = codes "***Skipped"
 verdict_text tests (NotRun cause) = codes "***Not Run (" ++ cause_text tests cause ++ codes ")"
 verdict_text tests Disabled = []
 
--- a verdict in the lists of the summary
+-- the word of a test that did not run in the lists of the summary
 abbrev pub cause_word : Cause → List ℕ
 cause_word Stopped = codes "Stopped"
 cause_word _ = codes "Not Run"
 
+-- the word of a verdict in the lists of the summary
 abbrev pub verdict_word : Verdict → List ℕ
 verdict_word Passed = []
 verdict_word Failed = codes "Failed"
@@ -84,6 +89,7 @@ abbrev pub verdict_line : PlanParts → List Entry → ℕ → PlanTest → Verd
 verdict_line plan entries place t verdict =
     decimal place ++ codes "/" ++ decimal (length (enabled plan.tests)) ++ codes " Test #" ++ decimal t.number ++ codes ": " ++ t.name ++ codes " ... " ++ verdict_text plan.tests verdict ++ codes " " ++ seconds_text (micros_of t.number entries) ++ codes " sec\n"
 
+-- the line of a test with this verdict; a test that is not final has none
 abbrev pub line_with : PlanParts → List Entry → ℕ → PlanTest → Option Verdict → List ℕ
 line_with plan entries place t None = []
 line_with plan entries place t (Some verdict) = verdict_line plan entries place t verdict
@@ -116,6 +122,7 @@ abbrev pub counts_line : PlanParts → List Entry → List ℕ
 counts_line plan entries =
     decimal (percent (good_count plan entries) (length (enabled plan.tests))) ++ codes "% tests passed, " ++ decimal (length (failing_tests plan entries)) ++ codes " tests failed out of " ++ decimal (length (enabled plan.tests)) ++ codes "\n"
 
+-- the word of a test in the lists of the summary, by its verdict where it has one
 abbrev pub word_of : Option Verdict → List ℕ
 word_of None = []
 word_of (Some verdict) = verdict_word verdict
@@ -146,6 +153,7 @@ lines_with plan entries place None verdict = []
 lines_with plan entries place (Some t) None = []
 lines_with plan entries place (Some t) (Some verdict) = verdict_line plan entries place t verdict ∷ []
 
+-- the line of the test that an entry may have made final, where it is now
 abbrev pub lines_of_test : PlanParts → List Entry → ℕ → Option ℕ → List (List ℕ)
 lines_of_test plan entries place None = []
 lines_of_test plan entries place (Some number) = lines_with plan entries place (test_at plan.tests number) (verdict_of_test plan entries number)
@@ -170,5 +178,6 @@ body_lines plan entries (t ∷ ts) = test_lines plan entries ++ (if are_all_fina
 abbrev pub report_lines : PlanParts → List Entry → List (List ℕ)
 report_lines plan entries = header_line plan ∷ body_lines plan entries plan.tests
 
+-- the bytes of that report
 abbrev pub report_text : PlanParts → List Entry → List ℕ
 report_text plan entries = text_of (report_lines plan entries)

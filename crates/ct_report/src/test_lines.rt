@@ -21,7 +21,6 @@ pub(crate) fn test_line(
     place: u32,
     number: u32,
 ) -> Result<Blob, NoMemory>
-    requires { length entries.now < 2 ^ 32 }
     ensures { IfOk result (λ text. text ≡ test_line plan.now entries.now place (planned_test plan.now.tests number)) }
 {
     match test_at(plan.tests.as_slice(), number) {
@@ -37,7 +36,6 @@ fn line_with(
     place: u32,
     test: &PlanTest,
 ) -> Result<Blob, NoMemory>
-    requires { length entries.now < 2 ^ 32 }
     ensures { IfOk result (λ text. text ≡ test_line plan.now entries.now place (Some test.now)) }
 {
     match verdict(&plan.repeat, test, entries) {

@@ -16,7 +16,6 @@ pub(crate) fn summary_lines(
     plan: &PlanParts,
     entries: &[Entry],
 ) -> Result<List<Blob>, NoMemory>
-    requires { length entries.now < 2 ^ 32 }
     ensures { IfOk result (λ lines. lines ≡ summary_lines plan.now entries.now) }
 {
     let mut lines = List::new(alloc);
@@ -27,7 +26,6 @@ pub(crate) fn summary_lines(
 }
 
 fn counts_line(alloc: Global, plan: &PlanParts, entries: &[Entry]) -> Result<Blob, NoMemory>
-    requires { length entries.now < 2 ^ 32 }
     ensures { IfOk result (λ text. text ≡ counts_line plan.now entries.now) }
 {
     let all = count_enabled(plan.tests.as_slice());
@@ -49,7 +47,6 @@ pub(crate) fn count_enabled(tests: &[PlanTest]) -> usize
 }
 
 fn count_good(plan: &PlanParts, entries: &[Entry]) -> usize
-    requires { length entries.now < 2 ^ 32 }
     ensures { result ≡ good_count plan.now entries.now }
 {
     let mut good = 0;
@@ -62,7 +59,6 @@ fn count_good(plan: &PlanParts, entries: &[Entry]) -> usize
 }
 
 fn is_good(plan: &PlanParts, test: &PlanTest, entries: &[Entry]) -> bool
-    requires { length entries.now < 2 ^ 32 }
     ensures { result ≡ is_good_in (verdict_in plan.now.repeat test.now entries.now) }
 {
     matches!(
@@ -72,7 +68,6 @@ fn is_good(plan: &PlanParts, test: &PlanTest, entries: &[Entry]) -> bool
 }
 
 fn count_failing(plan: &PlanParts, entries: &[Entry]) -> usize
-    requires { length entries.now < 2 ^ 32 }
     ensures { result ≡ length (failing_tests plan.now entries.now) }
 {
     let mut failing = 0;
@@ -85,7 +80,6 @@ fn count_failing(plan: &PlanParts, entries: &[Entry]) -> usize
 }
 
 fn is_failing(plan: &PlanParts, test: &PlanTest, entries: &[Entry]) -> bool
-    requires { length entries.now < 2 ^ 32 }
     ensures { result ≡ is_failing_in (verdict_in plan.now.repeat test.now entries.now) }
 {
     match verdict(&plan.repeat, test, entries) {
@@ -110,7 +104,6 @@ fn push_failed(
     entries: &[Entry],
     lines: &mut List<Blob>,
 ) -> Result<(), NoMemory>
-    requires { length entries.now < 2 ^ 32 }
     ensures { OnOk result (lines.new ≡ lines.old ++ failed_lines plan.now entries.now (failing_tests plan.now entries.now)) }
 {
     if count_failing(plan, entries) == 0 {
@@ -129,7 +122,6 @@ fn push_listed(
     entries: &[Entry],
     lines: &mut List<Blob>,
 ) -> Result<(), NoMemory>
-    requires { length entries.now < 2 ^ 32 }
     ensures { OnOk result (lines.new ≡ lines.old ++ map (listed_line plan.now entries.now) (failing_tests plan.now entries.now)) }
 {
     for test in plan.tests.as_slice() {
@@ -146,7 +138,6 @@ fn listed_line(
     test: &PlanTest,
     entries: &[Entry],
 ) -> Result<Blob, NoMemory>
-    requires { length entries.now < 2 ^ 32 }
     ensures { IfOk result (λ text. text ≡ listed_line plan.now entries.now test.now) }
 {
     let mut text = Blob::of(alloc, b"\t")?;
