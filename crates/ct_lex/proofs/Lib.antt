@@ -1,5 +1,12 @@
 pub mod Reading
 pub mod StepLemmas
 pub mod OneReading
+pub mod FrontLemmas
+pub mod BracketLemmas
+pub mod TextLemmas
+pub mod ArgumentLemmas
+pub mod ArgumentsLemmas
+pub mod CommandLemmas
+pub mod RestLemmas
 pub mod RoundTrip
 pub mod CallerLemmas

@@ -1,10 +1,10 @@
 -- A text has one reading: one list of calls, and then its end or one first fault.
 use Rattle.std.proofs.Common.{◌≡◌, ℕ, zero, suc, ◌+◌, ◌<◌, Bool, true, false, cond, ◌==◌, List, [], ◌∷◌, length, take, drop, Option, Some, None, Result, Ok, Err, IfOk, refl, sym, ap, ◌∙◌, subst, arith, length-drop}
-use Rattle.ct_lex.specs.Bytes.{stands}
+use Rattle.ct_lex.specs.Bytes.{stands, lower}
 use Rattle.ct_lex.specs.Text.{arguments_from}
-use Rattle.ct_lex.specs.Command.{CommandRead, named, lower, word_len, command_by, command, paren_at, start_from}
+use Rattle.ct_lex.specs.Command.{CommandRead, named, word_len, command_by, command, paren_at, start_from}
 use Rattle.ct_lex.specs.Place.{Place, behind_command, call_at, next_by, next_of, line_behind}
-use Rattle.ct_lex.specs.Reads.{Ending, ReadsFrom, reading_by, reading_within, reading, HasOneReading, Answers, ReadsOn}
+use Rattle.ct_lex.specs.Reads.{Ending, ReadsFrom, reading_by, reading_within, reading, HasOneReading, AnswersNext, ReadsOn}
 use Rattle.ct_lex.specs.declared.call.Arg.{Arg}
 use Rattle.ct_lex.specs.declared.call.Call.{Call}
 use Rattle.ct_lex.specs.declared.fault.LexFault.{LexFault}
@@ -26,7 +26,7 @@ same_call : (r : Result (Option (Call × Place)) LexFault) (a b : Call) (p q : P
 unfolding call_in
 same_call r a b p q e f = ap (λ x. call_in a x) (sym e ∙ f)
 
-same_place : (r : Result (Option (Call × Place)) LexFault) (a b : Call) (p q : Place) → r ≡ Ok (Some (a, p)) → r ≡ Ok (Some (b, q)) → p ≡ q
+pub same_place : (r : Result (Option (Call × Place)) LexFault) (a b : Call) (p q : Place) → r ≡ Ok (Some (a, p)) → r ≡ Ok (Some (b, q)) → p ≡ q
 unfolding place_in
 same_place r a b p q e f = ap (λ x. place_in p x) (sym e ∙ f)
 
@@ -139,7 +139,7 @@ fault-step old fault e =
     (ap (λ (r : List Call × Ending). r.0) step, ap (λ (r : List Call × Ending). r.1) step)
 
 -- what a call of `next` answers is the next of what is read
-pub reads_on : (old new : Place) (answer : Result (Option Call) LexFault) → Answers old answer new → ReadsOn old answer new
+pub reads_on : (old new : Place) (answer : Result (Option Call) LexFault) → AnswersNext old answer new → ReadsOn old answer new
 reads_on old new (Ok (Some call)) e =
     let P : Result (Option (Call × Place)) LexFault → List Call × Ending = λ next. reading_by next reading in
     let step : reading old ≡ (call ∷ (reading new).0, (reading new).1) = reading-step old ∙ ap P e in

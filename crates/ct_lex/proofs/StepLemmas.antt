@@ -2,12 +2,13 @@
 use Rattle.std.proofs.Common.{◌≡◌, ℕ, zero, suc, ◌+◌, ◌-◌, ◌<◌, ◌≤◌, Bool, false, not, ◌&&◌, ◌==◌, List, [], ◌∷◌, ◌++◌, length, get_or, drop, Option, Some, None, Result, Ok, Err, refl, sym, ap, ◌∙◌, arith, add_assoc, add_comm, add-zero, add-one, append_assoc, length-drop}
 use Rattle.std.proofs.lemmas.List.{get_or-drop, drop-drop}
 use Rattle.std.proofs.lemmas.Bool.Decides.{nat_tests}
-use Rattle.ct_lex.specs.Joined.{joined}
+use Rattle.ct_lex.specs.Argument.{with_piece, ends_text}
+use Rattle.ct_lex.specs.Joined.{joined_parts}
 use Rattle.ct_lex.specs.declared.parts.Parts.{Parts}
 use Rattle.ct_lex.proofs.Reading.{parts_behind, args_behind}
 use Rattle.ct_lex.specs.Bracket.{gap_at}
-use Rattle.ct_lex.specs.Unit.{unit_at, with_piece}
-use Rattle.ct_lex.specs.Text.{moved, piece_before, text_from, ends_text, argument, argument_before, arguments_from}
+use Rattle.ct_lex.specs.Unit.{unit_at}
+use Rattle.ct_lex.specs.Text.{moved, piece_before, text_from, argument, argument_before, arguments_from}
 use Rattle.ct_lex.specs.Command.{shifted, start_from}
 use Rattle.ct_lex.specs.declared.call.Arg.{Arg}
 use Rattle.ct_lex.specs.declared.call.ArgKind.{ArgKind}
@@ -58,16 +59,16 @@ text_from-step kind (byte ∷ rest) piece (suc k) positive goes_on unit =
     let less : suc k - 1 ≡ k = omega arith in
     rw (goes_on, unit, less) (ap (λ r. piece_before piece r) (text_from-skip kind (suc k) (byte ∷ rest)))
 
-pub parts_behind-step : (old new : Parts) (at n : ℕ) (piece : Part) (read : Result (List Part × ℕ) Stop) → ((more : List Part) → joined new more ≡ joined old (with_piece piece more)) → parts_behind new (at + n) read ≡ parts_behind old at (piece_before piece (moved n read))
+pub parts_behind-step : (old new : Parts) (at n : ℕ) (piece : Part) (read : Result (List Part × ℕ) Stop) → ((more : List Part) → joined_parts new more ≡ joined_parts old (with_piece piece more)) → parts_behind new (at + n) read ≡ parts_behind old at (piece_before piece (moved n read))
 parts_behind-step old new at n piece (Err stop) grows = refl
 parts_behind-step old new at n piece (Ok x) grows =
-    let P : ℕ → Result (List Part × ℕ) Stop = λ k. Ok (joined new x.0, k) in
+    let P : ℕ → Result (List Part × ℕ) Stop = λ k. Ok (joined_parts new x.0, k) in
     let Q : List Part → Result (List Part × ℕ) Stop = λ parts. Ok (parts, (x.1 + n) + at) in
     let e : x.1 + (at + n) ≡ (x.1 + n) + at = omega arith in
     ap P e ∙ ap Q (grows x.0)
 
 -- one turn of the loop over the units of a text
-pub text_turn : (kind : ArgKind) (text : List ℕ) (at n : ℕ) (old new : Parts) (piece : Part) (whole : Result (List Part × ℕ) Stop) → at < length text → ends_text kind (get_or text at 0) ≡ false → unit_at kind (drop at text) ≡ Ok (piece, n) → 0 < n → n ≤ length (drop at text) → ((more : List Part) → joined new more ≡ joined old (with_piece piece more)) → parts_behind old at (text_from kind 0 (drop at text)) ≡ whole → (at + n ≤ length text) × (parts_behind new (at + n) (text_from kind 0 (drop (at + n) text)) ≡ whole)
+pub text_turn : (kind : ArgKind) (text : List ℕ) (at n : ℕ) (old new : Parts) (piece : Part) (whole : Result (List Part × ℕ) Stop) → at < length text → ends_text kind (get_or text at 0) ≡ false → unit_at kind (drop at text) ≡ Ok (piece, n) → 0 < n → n ≤ length (drop at text) → ((more : List Part) → joined_parts new more ≡ joined_parts old (with_piece piece more)) → parts_behind old at (text_from kind 0 (drop at text)) ≡ whole → (at + n ≤ length text) × (parts_behind new (at + n) (text_from kind 0 (drop (at + n) text)) ≡ whole)
 text_turn kind text at n old new piece whole inside goes_on unit positive fits grows kept =
     let first : ends_text kind (get_or (drop at text) 0 0) ≡ false = ap (λ byte. ends_text kind byte) (get_or-drop at text 0 0 ∙ ap (λ i. get_or text i 0) (add-zero at)) ∙ goes_on in (
       omega (arith, length-drop at text),

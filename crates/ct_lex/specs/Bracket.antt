@@ -1,22 +1,22 @@
 -- Brackets and comments (cmake-language(7), Bracket Argument, Comments).
 use Rattle.std.specs.Prelude.{ℕ, ◌+◌, ◌*◌, Bool, not, ◌&&◌, ◌==◌, if◌then◌else◌, List, [], ◌∷◌, drop, Option, Some, None, option_map, Result, Ok}
 use Rattle.std.specs.List.{prefix_len}
-use Rattle.ct_lex.specs.Bytes.{stands, is_gap}
+use Rattle.ct_lex.specs.Bytes.{char, stands, is_gap}
 use Rattle.ct_lex.specs.Stop.{refused}
 use Rattle.ct_lex.specs.declared.stop.Stop.{Stop}
 use Rattle.ct_lex.specs.declared.stop.Cause.TheVariants.{OpenBracket}
 
 -- how many `=` a text begins with
 abbrev pub equals : List ℕ → ℕ
-equals text = prefix_len (λ byte. byte == 61) text
+equals text = prefix_len (λ byte. byte == char "=") text
 
 -- n, where the text begins with `[`, n times `=`, and `[`
 abbrev pub opening : List ℕ → Option ℕ
-opening text = if stands 91 0 text && stands 91 (equals (drop 1 text) + 1) text then Some (equals (drop 1 text)) else None
+opening text = if stands (char "[") 0 text && stands (char "[") (equals (drop 1 text) + 1) text then Some (equals (drop 1 text)) else None
 
 -- the text begins with `]`, n times `=`, and `]`
 abbrev pub closes : ℕ → List ℕ → Bool
-closes n text = stands 93 0 text && equals (drop 1 text) == n && stands 93 (n + 1) text
+closes n text = stands (char "]") 0 text && equals (drop 1 text) == n && stands (char "]") (n + 1) text
 
 -- how many bytes stand in front of the first closing of n, where there is one
 abbrev pub closing : ℕ → List ℕ → Option ℕ
@@ -29,22 +29,23 @@ bracket_len n inside = inside + 2 * (n + 2)
 
 -- how many bytes a text has in front of its first line feed
 abbrev pub line_len : List ℕ → ℕ
-line_len text = prefix_len (λ byte. not (byte == 10)) text
+line_len text = prefix_len (λ byte. not (byte == char "\n")) text
 
--- how many bytes the comment has that begins with the text's first byte, a `#`: with a bracket behind it, up to the
--- closing; otherwise up to the end of the line
+-- how many bytes the bracket comment has of n times `=`, by where its closing stands
 abbrev pub bracket_comment : List ℕ → ℕ → Option ℕ → Result ℕ Stop
 bracket_comment text n None = refused OpenBracket text
 bracket_comment text n (Some inside) = Ok (bracket_len n inside + 1)
 
+-- how many bytes the comment has, by the bracket that opens behind its `#`: up to the closing, or to the end of the line
 abbrev pub comment_by : List ℕ → Option ℕ → Result ℕ Stop
 comment_by text None = Ok (line_len (drop 1 text) + 1)
 comment_by text (Some n) = bracket_comment text n (closing n (drop (n + 3) text))
 
+-- how many bytes the comment has that begins with the text's first byte, a `#`
 abbrev pub comment : List ℕ → Result ℕ Stop
 comment text = comment_by text (opening (drop 1 text))
 
 -- how many bytes of a blank, a line feed or a comment stand at the front of a text: 0 where something else does
 abbrev pub gap_at : List ℕ → Result ℕ Stop
 gap_at [] = Ok 0
-gap_at (byte ∷ rest) = if is_gap byte then Ok 1 else (if byte == 35 then comment (byte ∷ rest) else Ok 0)
+gap_at (byte ∷ rest) = if is_gap byte then Ok 1 else (if byte == char "#" then comment (byte ∷ rest) else Ok 0)

@@ -1,8 +1,7 @@
 -- Commands (cmake-language(7), Command Invocations).
-use Rattle.std.specs.Prelude.{ℕ, zero, suc, ◌+◌, ◌-◌, Bool, not, ◌&&◌, ◌==◌, if◌then◌else◌, List, [], ◌∷◌, length, map, take, drop, Option, Some, None, option_map, Result, Ok, Err}
+use Rattle.std.specs.Prelude.{ℕ, zero, suc, ◌+◌, ◌-◌, Bool, not, ◌&&◌, ◌==◌, if◌then◌else◌, List, [], ◌∷◌, length, take, drop, Option, Some, None, option_map, Result, Ok, Err}
 use Rattle.std.specs.List.{prefix_len}
-use Rattle.std.specs.Char.{to_ascii_lowercase}
-use Rattle.ct_lex.specs.Bytes.{is_space, is_word, begins_word, stands}
+use Rattle.ct_lex.specs.Bytes.{char, is_space, is_word, begins_word, stands, lower}
 use Rattle.ct_lex.specs.Stop.{◌>>=◌, refused}
 use Rattle.ct_lex.specs.Bracket.{gap_at}
 use Rattle.ct_lex.specs.Text.{arguments_from}
@@ -19,14 +18,11 @@ word_len text = prefix_len is_word text
 abbrev pub paren_at : List ℕ → ℕ
 paren_at text = word_len text + prefix_len is_space (drop (word_len text) text)
 
--- a command's name without regard to case: in lower case
-abbrev pub lower : List ℕ → List ℕ
-lower name = map to_ascii_lowercase name
-
 -- a command as it is read: its name, its arguments, and how many bytes it takes
 abbrev pub CommandRead : Type 0
 CommandRead = List ℕ × List Arg × ℕ
 
+-- the command of that name, by what was read of its arguments, with so many bytes in front of them
 abbrev pub named : List ℕ → ℕ → Result (List Arg × ℕ) Stop → Result CommandRead Stop
 named name front read = read >>= λ x. Ok (name, x.0, x.1 + front)
 
@@ -34,15 +30,20 @@ named name front read = read >>= λ x. Ok (name, x.0, x.1 + front)
 abbrev pub command_by : List ℕ → List ℕ → ℕ → Result CommandRead Stop
 command_by text name paren =
     if paren == length text then Err Ended
-    else (if stands 40 paren text then named name (paren + 1) (arguments_from 0 (drop (paren + 1) text))
+    else (if stands (char "(") paren text then named name (paren + 1) (arguments_from 0 (drop (paren + 1) text))
     else refused BadChar (drop paren text))
 
 -- the command at the front of the text, up to its `)`
 abbrev pub command : List ℕ → Result CommandRead Stop
 command text = command_by text (lower (take (word_len text) text)) (paren_at text)
 
+-- moves the place of the next command by so many bytes
 abbrev pub shifted : ℕ → Result (Option ℕ) Stop → Result (Option ℕ) Stop
 shifted n read = read >>= λ start. Ok (option_map (λ k. k + n) start)
+
+-- whether what stands behind a gap stands behind a command on its line still: a line feed alone ends that
+abbrev pub stays_behind : Bool → ℕ → Bool
+stays_behind behind first = behind && not (first == char "\n")
 
 -- How many bytes of blanks, line feeds and comments stand in front of the next command, or none at the end of the
 -- text. Behind a command no other one begins before the next line feed outside a comment. The first `skip` bytes
@@ -54,4 +55,4 @@ start_from behind zero (byte ∷ rest) =
     gap_at (byte ∷ rest) >>= λ gap.
     if gap == 0
     then (if not behind && begins_word byte then Ok (Some 0) else refused BadChar (byte ∷ rest))
-    else shifted 1 (start_from (behind && not (byte == 10)) (gap - 1) rest)
+    else shifted 1 (start_from (stays_behind behind byte) (gap - 1) rest)

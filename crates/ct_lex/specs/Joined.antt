@@ -1,9 +1,9 @@
 -- The parts that a reader of units has so far.
 use Rattle.std.specs.Prelude.{List, ◌++◌}
-use Rattle.ct_lex.specs.Unit.{with_bytes}
+use Rattle.ct_lex.specs.Argument.{with_bytes}
 use Rattle.ct_lex.specs.declared.call.Part.{Part}
 use Rattle.ct_lex.specs.declared.parts.Parts.{Parts}
 
 -- all the parts of an argument: the ones so far, and those of what is still to be read
-abbrev pub joined : Parts → List Part → List Part
-joined parts more = parts.whole ++ with_bytes parts.bytes.items more
+abbrev pub joined_parts : Parts → List Part → List Part
+joined_parts parts more = parts.whole ++ with_bytes parts.bytes.items more

@@ -1,12 +1,16 @@
--- The definitions that contracts cite, in reading order.
+-- The definitions that contracts cite, in reading order: what a test file is.
 pub mod Bytes
+pub mod Argument
+pub mod Grammar
+pub mod Written
+pub mod Place
+pub mod Reads
+pub mod Files
+-- How the reader finds it, byte by byte: what its own functions' contracts cite, and where a refusal stands.
 pub mod Stop
 pub mod Bracket
 pub mod Unit
-pub mod Seen
-pub mod Joined
 pub mod Text
 pub mod Command
-pub mod Place
-pub mod Reads
-pub mod Written
+pub mod Seen
+pub mod Joined

@@ -1,6 +1,7 @@
 -- Where a lexer stands in a text, and what comes next there.
-use Rattle.std.specs.Prelude.{ℕ, ◌+◌, ◌-◌, Bool, true, false, List, length, take, drop, if◌then◌else◌, ◌&&◌, Option, Some, None, Result, Ok, Err}
-use Rattle.ct_lex.specs.Bytes.{feeds, stands}
+use Rattle.std.specs.Prelude.{ℕ, ◌+◌, ◌-◌, Bool, true, false, List, [], ◌∷◌, length, take, drop, if◌then◌else◌, ◌==◌, Option, Some, None, Result, Ok, Err}
+use Rattle.std.specs.List.{starts_with}
+use Rattle.ct_lex.specs.Bytes.{feeds}
 use Rattle.ct_lex.specs.Command.{CommandRead, command, start_from}
 use Rattle.ct_lex.specs.declared.call.Call.{Call}
 use Rattle.ct_lex.specs.declared.stop.Cause.{Cause}
@@ -16,9 +17,13 @@ pub record Place : Type 0 where
   pub line : ℕ
   pub behind : Bool
 
+-- the byte order mark of UTF-8
+abbrev pub byte_order_mark : List ℕ
+byte_order_mark = 0xEF ∷ 0xBB ∷ 0xBF ∷ []
+
 -- a text without the byte order mark of UTF-8 that it may begin with
 abbrev pub unmarked : List ℕ → List ℕ
-unmarked text = if stands 239 0 text && stands 187 1 text && stands 191 2 text then drop 3 text else text
+unmarked text = if starts_with ◌==◌ text byte_order_mark then drop 3 text else text
 
 -- where a text begins
 abbrev pub beginning : List ℕ → Place
@@ -28,6 +33,7 @@ beginning text = record { rest = unmarked text; line = 1; behind = false }
 abbrev pub line_behind : Place → ℕ → ℕ
 line_behind place n = place.line + feeds (take n place.rest)
 
+-- the fault of a cause on a line
 abbrev pub fault_of : Cause → ℕ → LexFault
 fault_of OpenString line = fault.OpenString line
 fault_of OpenBracket line = fault.OpenBracket line
@@ -51,6 +57,7 @@ call_at place n (Err stop) = Err (fault_at place n stop)
 call_at place n (Ok read) =
     Ok (Some (record { name = read.0; args = read.1; line = line_behind place n }, behind_command place (n + read.2)))
 
+-- what comes next from a place on, by where the next command stands
 abbrev pub next_by : Place → Result (Option ℕ) Stop → Result (Option (Call × Place)) LexFault
 next_by place (Err stop) = Err (fault_at place 0 stop)
 next_by place (Ok None) = Ok None

@@ -10,13 +10,13 @@ abbrev pub Ending : Type 0
 Ending = Option LexFault
 
 -- nothing more is read from a place on, for this ending
-abbrev pub Ends : Place → Ending → Type 0
-Ends place None = next_of place ≡ Ok None
-Ends place (Some fault) = next_of place ≡ Err fault
+abbrev pub EndsAt : Place → Ending → Type 0
+EndsAt place None = next_of place ≡ Ok None
+EndsAt place (Some fault) = next_of place ≡ Err fault
 
 -- from a place on these calls are read one by one, and then this ending comes
 abbrev pub ReadsFrom : Place → List Call → Ending → Type 0
-ReadsFrom place [] ending = Ends place ending
+ReadsFrom place [] ending = EndsAt place ending
 ReadsFrom place (call ∷ calls) ending =
     (after : Place) × (next_of place ≡ Ok (Some (call, after))) × ReadsFrom after calls ending
 
@@ -49,11 +49,11 @@ pub record HasOneReading (place : Place) : Type 0 where
   pub only : (calls : List Call) (ending : Ending) → ReadsFrom place calls ending → (calls ≡ (reading place).0) × (ending ≡ (reading place).1)
 
 -- what a call of `next` answers at a place, and where the lexer stands behind it: an answer that is no command leaves it
-abbrev pub Answers : Place → Result (Option Call) LexFault → Place → Type 0
-Answers old (Ok (Some call)) new = next_of old ≡ Ok (Some (call, new))
-Answers old (Ok None) new = (next_of old ≡ Ok None) × (new ≡ old)
-Answers old (Err NoMemory) new = new ≡ old
-Answers old (Err fault) new = (next_of old ≡ Err fault) × (new ≡ old)
+abbrev pub AnswersNext : Place → Result (Option Call) LexFault → Place → Type 0
+AnswersNext old (Ok (Some call)) new = next_of old ≡ Ok (Some (call, new))
+AnswersNext old (Ok None) new = (next_of old ≡ Ok None) × (new ≡ old)
+AnswersNext old (Err NoMemory) new = new ≡ old
+AnswersNext old (Err fault) new = (next_of old ≡ Err fault) × (new ≡ old)
 
 -- the same in the words of the whole reading
 abbrev pub ReadsOn : Place → Result (Option Call) LexFault → Place → Type 0

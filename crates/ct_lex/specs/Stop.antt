@@ -6,8 +6,8 @@ use Rattle.ct_lex.specs.declared.stop.Stop.TheVariants.{At}
 use Rattle.ct_lex.specs.declared.stop.Halt.{Halt}
 use Rattle.ct_lex.specs.declared.stop.Halt.TheVariants.{Memory, Text}
 
--- goes on with what was read, or passes on why nothing was
 infixl 10 ◌>>=◌
+-- goes on with what was read, or passes on why nothing was
 abbrev pub ◌>>=◌ : {A B : Type 0} → Result A Stop → (A → Result B Stop) → Result B Stop
 (Ok x) >>= f = f x
 (Err stop) >>= f = Err stop
@@ -22,6 +22,6 @@ Halts Memory read = ⊤
 Halts (Text stop) read = read ≡ Err stop
 
 -- what a reader returned is what the definition gives, unless memory was wanting
-abbrev pub Gives : {A : Type 0} → Result A Halt → Result A Stop → Type 0
-Gives (Ok x) read = read ≡ Ok x
-Gives (Err halt) read = Halts halt read
+abbrev pub GivesRead : {A : Type 0} → Result A Halt → Result A Stop → Type 0
+GivesRead (Ok x) read = read ≡ Ok x
+GivesRead (Err halt) read = Halts halt read

@@ -1,9 +1,10 @@
 -- Arguments (cmake-language(7), Command Arguments).
-use Rattle.std.specs.Prelude.{ℕ, true, false, zero, suc, ◌+◌, ◌-◌, Bool, ◌||◌, ◌&&◌, ◌==◌, if◌then◌else◌, List, [], ◌∷◌, take, drop, Option, Some, None, Result, Ok, Err}
-use Rattle.ct_lex.specs.Bytes.{is_gap, stands}
+use Rattle.std.specs.Prelude.{◌≡◌, ◌⊎◌, ℕ, true, false, zero, suc, ◌+◌, ◌-◌, Bool, ◌||◌, ◌==◌, if◌then◌else◌, List, [], ◌∷◌, take, drop, Option, Some, None, Result, Ok, Err}
+use Rattle.ct_lex.specs.Argument.{with_piece, with_bytes, ends_text, without_feed}
+use Rattle.ct_lex.specs.Bytes.{char, is_gap, stands}
 use Rattle.ct_lex.specs.Stop.{◌>>=◌, refused}
 use Rattle.ct_lex.specs.Bracket.{opening, closing, gap_at, bracket_len}
-use Rattle.ct_lex.specs.Unit.{unit_at, with_piece, with_bytes}
+use Rattle.ct_lex.specs.Unit.{unit_at}
 use Rattle.ct_lex.specs.declared.call.ArgKind.{ArgKind}
 use Rattle.ct_lex.specs.declared.call.ArgKind.TheVariants.{Bracket, Quoted, Unquoted}
 use Rattle.ct_lex.specs.declared.call.Arg.{Arg}
@@ -12,16 +13,11 @@ use Rattle.ct_lex.specs.declared.stop.Stop.{Stop}
 use Rattle.ct_lex.specs.declared.stop.Stop.TheVariants.{Ended, At}
 use Rattle.ct_lex.specs.declared.stop.Cause.TheVariants.{OpenBracket, OpenString, BadChar}
 
--- the byte that ends the text of an argument: of a quoted one the `"`; of an unquoted one a blank, a line feed, `(`, `)`, `#` or `"`
-abbrev pub ends_text : ArgKind → ℕ → Bool
-ends_text Quoted byte = byte == 34
-ends_text Unquoted byte = is_gap byte || byte == 40 || byte == 41 || byte == 35 || byte == 34
-ends_text Bracket byte = false
-
 -- moves the end of what was read by so many bytes
 abbrev pub moved : {A : Type 0} → ℕ → Result (A × ℕ) Stop → Result (A × ℕ) Stop
 moved n read = read >>= λ x. Ok (x.0, x.1 + n)
 
+-- puts what was read at the front in front of the parts that were read behind it
 abbrev pub piece_before : Part → Result (List Part × ℕ) Stop → Result (List Part × ℕ) Stop
 piece_before piece read = read >>= λ x. Ok (with_piece piece x.0, x.1)
 
@@ -33,12 +29,6 @@ text_from kind (suc skip) (byte ∷ rest) = moved 1 (text_from kind skip rest)
 text_from kind zero (byte ∷ rest) =
     if ends_text kind byte then Ok ([], 0)
     else (unit_at kind (byte ∷ rest) >>= λ unit. piece_before unit.0 (moved 1 (text_from kind (unit.1 - 1) rest)))
-
--- what is inside a bracket, without a line feed, or a carriage return and line feed, at its front
-abbrev pub without_feed : List ℕ → List ℕ
-without_feed text =
-    if stands 10 0 text then drop 1 text
-    else (if stands 13 0 text && stands 10 1 text then drop 2 text else text)
 
 -- a bracket argument at the front of the text, with n times `=`
 abbrev pub bracket_by : List ℕ → ℕ → Option ℕ → Result (Arg × ℕ) Stop
@@ -59,10 +49,11 @@ unquoted_by read = read >>= λ x. Ok (record { kind = Unquoted; parts = x.0 }, x
 -- an argument that is no bracket, at the front of the text: none begins with `(`
 abbrev pub plain_argument : List ℕ → Result (Arg × ℕ) Stop
 plain_argument text =
-    if stands 40 0 text then refused BadChar text
-    else (if stands 34 0 text then quoted_by text (text_from Quoted 0 (drop 1 text))
+    if stands (char "(") 0 text then refused BadChar text
+    else (if stands (char "\"") 0 text then quoted_by text (text_from Quoted 0 (drop 1 text))
     else unquoted_by (text_from Unquoted 0 text))
 
+-- an argument at the front of the text, by the bracket that opens there
 abbrev pub argument_by : List ℕ → Option ℕ → Result (Arg × ℕ) Stop
 argument_by text None = plain_argument text
 argument_by text (Some n) = bracket_by text n (closing n (drop (n + 2) text))
@@ -70,7 +61,11 @@ argument_by text (Some n) = bracket_by text n (closing n (drop (n + 2) text))
 -- what may stand directly behind an argument: a blank, a line feed, `)`, a comment, or the end of the text
 abbrev pub may_follow : List ℕ → Bool
 may_follow [] = true
-may_follow (byte ∷ rest) = is_gap byte || byte == 41 || byte == 35
+may_follow (byte ∷ rest) = is_gap byte || byte == char ")" || byte == char "#"
+
+-- no gap stands at the front: the text is at its end, or a `)` stands there, or what begins an argument or a fault
+abbrev pub HasNoGap : List ℕ → Type 0
+HasNoGap text = (text ≡ []) ⊎ (stands (char ")") 0 text ≡ true) ⊎ (may_follow text ≡ false)
 
 -- no argument touches another one
 abbrev pub apart : List ℕ → Arg × ℕ → Result (Arg × ℕ) Stop
@@ -80,6 +75,7 @@ apart text arg = if may_follow (drop arg.1 text) then Ok arg else refused BadCha
 abbrev pub argument : List ℕ → Result (Arg × ℕ) Stop
 argument text = argument_by text (opening text) >>= λ arg. apart text arg
 
+-- puts an argument in front of those that were read behind it
 abbrev pub argument_before : Arg → Result (List Arg × ℕ) Stop → Result (List Arg × ℕ) Stop
 argument_before arg read = read >>= λ x. Ok (arg ∷ x.0, x.1)
 
@@ -89,7 +85,7 @@ abbrev pub arguments_from : ℕ → List ℕ → Result (List Arg × ℕ) Stop
 arguments_from skip [] = Err Ended
 arguments_from (suc skip) (byte ∷ rest) = moved 1 (arguments_from skip rest)
 arguments_from zero (byte ∷ rest) =
-    if byte == 41 then Ok ([], 1)
+    if byte == char ")" then Ok ([], 1)
     else (gap_at (byte ∷ rest) >>= λ gap.
     if gap == 0
     then (argument (byte ∷ rest) >>= λ arg. argument_before arg.0 (moved 1 (arguments_from (arg.1 - 1) rest)))

@@ -1,7 +1,7 @@
 ghost use Rattle.std.specs.Prelude.{◌≡◌, ◌≤◌, ◌<◌, ◌+◌, [], drop, length, slice_index, false, IfOk, OnOk};
-ghost use Rattle.ct_lex.specs.Stop.{Gives};
-ghost use Rattle.ct_lex.specs.Text.{ends_text, text_from, without_feed, bracket_by, quoted_by, unquoted_by, plain_argument, argument_by, may_follow, argument, arguments_from};
-ghost use Rattle.ct_lex.specs.Unit.{with_bytes};
+ghost use Rattle.ct_lex.specs.Argument.{ends_text, without_feed, with_bytes};
+ghost use Rattle.ct_lex.specs.Stop.{GivesRead};
+ghost use Rattle.ct_lex.specs.Text.{text_from, bracket_by, quoted_by, unquoted_by, plain_argument, argument_by, may_follow, argument, arguments_from};
 
 use crate::bracket::{closing, gap_at, opening};
 use crate::bytes::{is_gap, stands};
@@ -27,7 +27,7 @@ fn ends_text(kind: ArgKind, byte: u8) -> bool
 
 /// Reads the text of a quoted or unquoted argument, up to the byte that ends it.
 fn text_of(alloc: Global, kind: ArgKind, text: &[u8]) -> Result<(List<Part>, usize), Halt>
-    ensures value { Gives result (text_from kind 0 text.now) }
+    ensures value { GivesRead result (text_from kind 0 text.now) }
     ensures within { IfOk result (λ x. x.1 < length text.now) }
     ensures some { IfOk result (λ x. ends_text kind (slice_index text.now 0) ≡ false → 0 < x.1) }
 {
@@ -71,7 +71,7 @@ fn plain_parts(alloc: Global, text: &[u8]) -> Result<List<Part>, NoMemory>
 /// Reads the bracket argument that a text begins with, with that many `=`.
 fn bracket_argument(alloc: Global, n: usize, text: &[u8]) -> Result<(Arg, usize), Halt>
     requires { n + 2 ≤ length text.now }
-    ensures value { Gives result (argument_by text.now (Some n)) }
+    ensures value { GivesRead result (argument_by text.now (Some n)) }
     ensures within { IfOk result (λ x. (0 < x.1) × (x.1 ≤ length text.now)) }
 {
     let inner = &text[n + 2..];
@@ -91,7 +91,7 @@ fn bracket_argument(alloc: Global, n: usize, text: &[u8]) -> Result<(Arg, usize)
 /// Reads the quoted argument whose `"` a text begins with.
 fn quoted_argument(alloc: Global, text: &[u8]) -> Result<(Arg, usize), Halt>
     requires { 0 < length text.now }
-    ensures value { Gives result (quoted_by text.now (text_from ArgKind.Quoted 0 (drop 1 text.now))) }
+    ensures value { GivesRead result (quoted_by text.now (text_from ArgKind.Quoted 0 (drop 1 text.now))) }
     ensures within { IfOk result (λ x. (0 < x.1) × (x.1 ≤ length text.now)) }
 {
     match text_of(alloc, ArgKind::Quoted, &text[1..]) {
@@ -110,7 +110,7 @@ fn quoted_argument(alloc: Global, text: &[u8]) -> Result<(Arg, usize), Halt>
 /// Reads the argument that a text begins with, where that is no bracket argument.
 fn plain_argument(alloc: Global, text: &[u8]) -> Result<(Arg, usize), Halt>
     requires { may_follow text.now ≡ false }
-    ensures value { Gives result (plain_argument text.now) }
+    ensures value { GivesRead result (plain_argument text.now) }
     ensures within { IfOk result (λ x. (0 < x.1) × (x.1 ≤ length text.now)) }
 {
     if stands(text, 0, b'(') {
@@ -142,7 +142,7 @@ fn may_follow(text: &[u8]) -> bool
 /// Reads the argument that a text begins with, and counts its bytes. Another one must not touch it.
 fn argument(alloc: Global, text: &[u8]) -> Result<(Arg, usize), Halt>
     requires { may_follow text.now ≡ false }
-    ensures value { Gives result (argument text.now) }
+    ensures value { GivesRead result (argument text.now) }
     ensures within { IfOk result (λ x. (0 < x.1) × (x.1 ≤ length text.now)) }
 {
     let (arg, taken) = match opening(text) {
@@ -158,7 +158,7 @@ fn argument(alloc: Global, text: &[u8]) -> Result<(Arg, usize), Halt>
 
 /// Reads the arguments of a command behind its `(`, and counts their bytes with the `)`.
 pub fn arguments(alloc: Global, text: &[u8]) -> Result<(List<Arg>, usize), Halt>
-    ensures value { Gives result (arguments_from 0 text.now) }
+    ensures value { GivesRead result (arguments_from 0 text.now) }
     ensures within { IfOk result (λ x. x.1 ≤ length text.now) }
 {
     let mut args = List::new(alloc);

@@ -1,6 +1,5 @@
-ghost use Rattle.std.specs.Prelude.{◌≡◌, ◌≤◌, ◌<◌, ◌+◌, ◌*◌, length, IfSome, IfOk, IsTrue, [], ◌⊎◌, true, false};
-ghost use Rattle.ct_lex.specs.Bytes.{stands};
-ghost use Rattle.ct_lex.specs.Text.{may_follow};
+ghost use Rattle.std.specs.Prelude.{◌≡◌, ◌≤◌, ◌<◌, ◌+◌, ◌*◌, length, IfSome, IfOk, IsTrue};
+ghost use Rattle.ct_lex.specs.Text.{HasNoGap};
 ghost use Rattle.ct_lex.specs.Bracket.{equals, opening, closes, closing, line_len, bracket_len, comment, gap_at};
 
 use crate::bytes::{is_gap, stands};
@@ -79,7 +78,7 @@ fn comment(text: &[u8]) -> Result<usize, Stop>
 pub fn gap_at(text: &[u8]) -> Result<usize, Stop>
     ensures value { result ≡ gap_at text.now }
     ensures within { IfOk result (λ taken. taken ≤ length text.now) }
-    ensures none { result ≡ Ok 0 → (text.now ≡ []) ⊎ (stands 41 0 text.now ≡ true) ⊎ (may_follow text.now ≡ false) }
+    ensures none { result ≡ Ok 0 → HasNoGap text.now }
 {
     let Some(first) = text.first() else {
         return Ok(0);

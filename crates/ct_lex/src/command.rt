@@ -1,8 +1,8 @@
-ghost use Rattle.std.specs.Prelude.{◌≡◌, ◌≤◌, ◌<◌, ◌+◌, length, IfOk, IfSome, drop, ◌&&◌, not, ◌==◌};
+ghost use Rattle.std.specs.Prelude.{◌≡◌, ◌≤◌, ◌<◌, ◌+◌, length, IfOk, IfSome};
 ghost use Rattle.std.specs.List.{prefix_len};
-ghost use Rattle.ct_lex.specs.Bytes.{is_space};
-ghost use Rattle.ct_lex.specs.Stop.{Gives};
-ghost use Rattle.ct_lex.specs.Command.{word_len, paren_at, lower, command, start_from};
+ghost use Rattle.ct_lex.specs.Bytes.{is_space, lower};
+ghost use Rattle.ct_lex.specs.Stop.{GivesRead};
+ghost use Rattle.ct_lex.specs.Command.{word_len, paren_at, command, stays_behind, start_from};
 
 use crate::argument::arguments;
 use crate::bracket::gap_at;
@@ -50,7 +50,7 @@ fn lower(alloc: Global, word: &[u8]) -> Result<Name, NoMemory>
 
 /// Reads the command that a text begins with: its name, its arguments, and how many bytes it takes.
 pub fn command(alloc: Global, text: &[u8]) -> Result<(Name, List<Arg>, usize), Halt>
-    ensures value { Gives result (command text.now) }
+    ensures value { GivesRead result (command text.now) }
     ensures within { IfOk result (λ x. (0 < x.2) × (x.2 ≤ length text.now)) }
 {
     let paren = paren_at(text);
@@ -67,7 +67,7 @@ pub fn command(alloc: Global, text: &[u8]) -> Result<(Name, List<Arg>, usize), H
 
 /// Tells whether what follows a gap stands behind a command on its line still. Only a line feed ends that.
 fn stays_behind(behind: bool, first: u8) -> bool
-    ensures { result ≡ (behind && not (first == 10)) }
+    ensures { result ≡ stays_behind behind first }
 {
     behind && first != b'\n'
 }

@@ -2,7 +2,7 @@ ghost use Rattle.std.specs.Prelude.{◌≡◌, ◌≤◌, ◌<◌, ◌+◌, ◌^
 ghost use Rattle.ct_lex.specs.Bytes.{feeds};
 ghost use Rattle.ct_lex.specs.Place.{unmarked, fault_of};
 
-use crate::bytes::{feeds, stands};
+use crate::bytes::feeds;
 use crate::call::Call;
 use crate::command::{command, start};
 use crate::fault::LexFault;
@@ -31,8 +31,9 @@ impl<'a> Model for Lexer<'a> {
 
 impl<'a> Lexer<'a> {
     ghost use Rattle.ct_lex.specs.Place.{beginning, line_behind, fault_at};
-    ghost use Rattle.ct_lex.specs.Reads.{Answers, HasOneReading, ReadsOn};
+    ghost use Rattle.ct_lex.specs.Reads.{AnswersNext, HasOneReading, ReadsOn};
     ghost use Rattle.ct_lex.specs.Written.{ReadsWritten};
+    ghost use Rattle.ct_lex.specs.Files.{ReadsFiles, WritesOn};
 
     /// Begins at the front of a text, which it borrows.
     pub fn new(text: &'a [u8]) -> Lexer<'a>
@@ -40,6 +41,8 @@ impl<'a> Lexer<'a> {
         ensures place { result ≡ beginning text.now }
         // A text has one list of calls, and then its end or one first fault.
         ensures one { HasOneReading (beginning text.now) }
+        // What is read is what the grammar writes, which is apart from how it is read.
+        ensures grammar { ReadsFiles text.now }
         // Commands that are written as CMake writes them are read again.
         ensures again { ReadsWritten text.now }
     {
@@ -57,9 +60,11 @@ impl<'a> Lexer<'a> {
     /// Source: CMake manual, cmake-language(7), Syntax. Which forms are left out, and that a bracket comment may
     /// stand beside a command on its line, is this project's choice.
     pub fn next(&mut self, alloc: Global) -> Result<Option<Call>, LexFault>
-        ensures answer { Answers self.old result self.new }
+        ensures answer { AnswersNext self.old result self.new }
         // The same in the words of the whole reading.
         ensures reading { ReadsOn self.old result self.new }
+        // The same in the words of the grammar: a text that is refused is no list of commands.
+        ensures grammar { WritesOn self.old result self.new }
         // Behind a command less of the text is left.
         ensures shrinks { IfOk result (λ found. IsSome found → length self.new.rest < length self.old.rest) }
     {
@@ -68,7 +73,7 @@ impl<'a> Lexer<'a> {
 
     /// Reads the next command, and steps behind it.
     fn advance(&mut self, alloc: Global) -> Result<Option<Call>, LexFault>
-        ensures answer { Answers self.old result self.new }
+        ensures answer { AnswersNext self.old result self.new }
         ensures shrinks { IfOk result (λ found. IsSome found → length self.new.rest < length self.old.rest) }
     {
         let text = self.rest;
@@ -121,7 +126,7 @@ fn unmarked(text: &[u8]) -> &[u8]
     ensures value { result.now ≡ unmarked text.now }
     ensures within { length result.now ≤ length text.now }
 {
-    if stands(text, 0, 0xEF) && stands(text, 1, 0xBB) && stands(text, 2, 0xBF) {
+    if text.starts_with(b"\xEF\xBB\xBF") {
         &text[3..]
     } else {
         text

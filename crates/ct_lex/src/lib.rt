@@ -2,7 +2,7 @@
 //!
 //! Hands up: `Lexer`, which gives each `Call` with its arguments, or the first `LexFault`.
 //! Stands on: ct_base for names and lists.
-//! Read first: `specs/Place.antt`, then `lexer.rt`.
+//! Read first: `specs/Grammar.antt`, then `lexer.rt`.
 #![tactic(auto)]
 
 mod argument;
@@ -14,8 +14,6 @@ mod fault;
 mod lexer;
 mod parts;
 mod stop;
-#[cfg(test)]
-mod tests;
 mod unit;
 
 pub use call::{Arg, ArgKind, Call, Part};

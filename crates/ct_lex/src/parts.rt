@@ -14,11 +14,11 @@ pub struct Parts {
 }
 
 impl Parts {
-    ghost use Rattle.ct_lex.specs.Unit.{with_piece};
-    ghost use Rattle.ct_lex.specs.Joined.{joined};
+    ghost use Rattle.ct_lex.specs.Argument.{with_piece};
+    ghost use Rattle.ct_lex.specs.Joined.{joined_parts};
 
     pub fn new(alloc: Global) -> Parts
-        ensures { (more : List Part) → joined result more ≡ more }
+        ensures { (more : List Part) → joined_parts result more ≡ more }
     {
         Parts {
             whole: List::new(alloc),
@@ -28,7 +28,7 @@ impl Parts {
 
     /// Puts a unit behind the others.
     pub fn add(&mut self, alloc: Global, unit: Unit<'_>) -> Result<(), NoMemory>
-        ensures { OnOk result ((more : List Part) → joined self.new more ≡ joined self.old (with_piece (piece_of unit.entry) more)) }
+        ensures { OnOk result ((more : List Part) → joined_parts self.new more ≡ joined_parts self.old (with_piece (piece_of unit.entry) more)) }
     {
         match unit {
             Unit::Byte(byte) => self.bytes.push(byte)?,
@@ -44,7 +44,7 @@ impl Parts {
 
     /// Makes the bytes a whole part, if there are any.
     fn flush(&mut self, alloc: Global) -> Result<(), NoMemory>
-        ensures whole { OnOk result (self.new.whole ≡ joined self.old []) }
+        ensures whole { OnOk result (self.new.whole ≡ joined_parts self.old []) }
         ensures empty { OnOk result (self.new.bytes.items ≡ []) }
     {
         if !self.bytes.is_empty() {
@@ -57,7 +57,7 @@ impl Parts {
 
     /// The parts, with the bytes behind them as the last one.
     pub fn finish(mut self, alloc: Global) -> Result<List<Part>, NoMemory>
-        ensures { IfOk result (λ parts. parts ≡ joined self []) }
+        ensures { IfOk result (λ parts. parts ≡ joined_parts self []) }
     {
         self.flush(alloc)?;
         let Parts { whole, bytes: _ } = self;

@@ -1,5 +1,6 @@
 ghost use Rattle.std.specs.Prelude.{◌≡◌, ◌≤◌, ◌<◌, ◌+◌, length, IfOk, OnOk, option_map};
-ghost use Rattle.ct_lex.specs.Unit.{escaped, joined_line, escape_at, name_len, reference_at, begins_env, begins_cache, dollar_at, unit_at};
+ghost use Rattle.ct_lex.specs.Argument.{escaped, joined_line, begins_reference};
+ghost use Rattle.ct_lex.specs.Unit.{escape_at, name_len, reference_at, dollar_at, unit_at};
 ghost use Rattle.ct_lex.specs.Seen.{piece_of, seen};
 
 use crate::bytes::{is_name, stands};
@@ -84,23 +85,11 @@ fn reference_at(text: &[u8]) -> Result<(Unit<'_>, usize), Stop>
     }
 }
 
-/// Tells whether `ENV{` stands behind the `$` that a text begins with.
-fn begins_env(text: &[u8]) -> bool
-    ensures { result ≡ begins_env text.now }
+/// Tells whether a reference begins with the `$` that stands in front of a text, also one of those that are refused.
+fn begins_reference(text: &[u8]) -> bool
+    ensures { result ≡ begins_reference text.now }
 {
-    stands(text, 1, b'E') && stands(text, 2, b'N') && stands(text, 3, b'V') && stands(text, 4, b'{')
-}
-
-/// Tells whether `CACHE{` stands behind the `$` that a text begins with.
-fn begins_cache(text: &[u8]) -> bool
-    ensures { result ≡ begins_cache text.now }
-{
-    stands(text, 1, b'C')
-        && stands(text, 2, b'A')
-        && stands(text, 3, b'C')
-        && stands(text, 4, b'H')
-        && stands(text, 5, b'E')
-        && stands(text, 6, b'{')
+    text.starts_with(b"{") || text.starts_with(b"ENV{") || text.starts_with(b"CACHE{")
 }
 
 /// Reads what stands at the front of a text that begins with `$`, and counts its bytes.
@@ -109,9 +98,10 @@ fn dollar_at(text: &[u8]) -> Result<(Unit<'_>, usize), Stop>
     ensures value { seen result ≡ dollar_at text.now }
     ensures within { IfOk result (λ x. (0 < x.1) × (x.1 ≤ length text.now)) }
 {
-    if stands(text, 1, b'{') {
+    let behind = &text[1..];
+    if behind.starts_with(b"{") {
         reference_at(text)
-    } else if begins_env(text) || begins_cache(text) {
+    } else if begins_reference(behind) {
         Err(Stop::at(Cause::BadReference, text))
     } else {
         Ok((Unit::Byte(b'$'), 1))

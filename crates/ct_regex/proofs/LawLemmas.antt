@@ -8,7 +8,7 @@ use Rattle.ct_regex.specs.Tree.{Tree, never, one, same, choice, sequence_of, cho
 use Rattle.ct_regex.specs.Ends.{ends, behind, place_if, has_place, hits, hits_up_to}
 use Rattle.ct_regex.specs.Signs.{atom, signs}
 use Rattle.ct_regex.specs.Reading.{Group, read, reading, all_parts, opened_at, with_atom}
-use Rattle.ct_regex.specs.Laws.{is_plain, are_plain, HasPart}
+use Rattle.ct_regex.specs.Laws.{stands_for_itself, are_plain, HasPart}
 use Rattle.ct_regex.proofs.AmongLemmas.{Among, among_flat, among_from}
 use Rattle.ct_regex.proofs.HitLemmas.{hits_from, hits_to}
 
@@ -57,35 +57,28 @@ and_both : (a b : Bool) → (a && b) ≡ true → (a ≡ true) × (b ≡ true)
 and_both true b h = (refl, h)
 and_both false b h = absurd (let no : false ≡ true = h in cc)
 
+or_none : (a b : Bool) → (a || b) ≡ false → (a ≡ false) × (b ≡ false)
+or_none true b h = absurd (let no : true ≡ false = h in cc)
+or_none false b h = (refl, h)
+
 not_false : (b : Bool) → not b ≡ true → b ≡ false
 not_false true h = absurd (let no : false ≡ true = h in cc)
 not_false false h = refl
 
-pub plain_is : (place byte : ℕ) (rest : List ℕ) → is_plain byte ≡ true → signs place (byte ∷ rest) ≡ atom (one (same byte)) ∷ signs (place + 1) rest
+pub plain_is : (place byte : ℕ) (rest : List ℕ) → stands_for_itself byte ≡ true → signs place (byte ∷ rest) ≡ atom (one (same byte)) ∷ signs (place + 1) rest
 plain_is place byte rest h =
-    let a = and_both _ _ h in
-    let b = and_both _ _ a.1 in
-    let c = and_both _ _ b.1 in
-    let d = and_both _ _ c.1 in
-    let e = and_both _ _ d.1 in
-    let f = and_both _ _ e.1 in
-    let g = and_both _ _ f.1 in
-    let i = and_both _ _ g.1 in
-    let j = and_both _ _ i.1 in
-    let k = and_both _ _ j.1 in
-    rw (
-      not_false (byte == 91) a.0,
-      not_false (byte == 92) b.0,
-      not_false (byte == 94) c.0,
-      not_false (byte == 36) d.0,
-      not_false (byte == 46) e.0,
-      not_false (byte == 40) f.0,
-      not_false (byte == 41) g.0,
-      not_false (byte == 124) i.0,
-      not_false (byte == 42) j.0,
-      not_false (byte == 43) k.0,
-      not_false (byte == 63) k.1,
-    ) refl
+    let a = or_none (byte == 91) _ (not_false _ h) in
+    let b = or_none (byte == 92) _ a.1 in
+    let c = or_none (byte == 94) _ b.1 in
+    let d = or_none (byte == 36) _ c.1 in
+    let e = or_none (byte == 46) _ d.1 in
+    let f = or_none (byte == 40) _ e.1 in
+    let g = or_none (byte == 41) _ f.1 in
+    let i = or_none (byte == 124) _ g.1 in
+    let j = or_none (byte == 42) _ i.1 in
+    let k = or_none (byte == 43) _ j.1 in
+    let l = or_none (byte == 63) _ k.1 in
+    rw (a.0, b.0, c.0, d.0, e.0, f.0, g.0, i.0, j.0, k.0, l.0) refl
 
 plain_read : (bytes : List ℕ) (place : ℕ) (group : Group) → group.branches ≡ [] → are_plain bytes ≡ true →
     read (record { inner = group; outer = [] }) (signs place bytes) ≡ Ok (choice (sequence_of (all_parts group ++ parts_of bytes)) never)
@@ -93,7 +86,7 @@ plain_read [] place group e h =
     ap (λ bs. Ok (choice_of (bs ++ sequence_of (all_parts group) ∷ []))) e
     ∙ ap (λ ps. Ok (choice (sequence_of ps) never)) (sym (append-nil (all_parts group)))
 plain_read (byte ∷ bytes) place group e h =
-    let both = and_both (is_plain byte) (list_all is_plain bytes) h in
+    let both = and_both (stands_for_itself byte) (list_all stands_for_itself bytes) h in
     ap (read (record { inner = group; outer = [] })) (plain_is place byte bytes both.0)
     ∙ plain_read bytes (place + 1) (with_atom (one (same byte)) group) e both.1
     ∙ ap (λ ps. Ok (choice (sequence_of ps) never)) (append_assoc (all_parts group) (one (same byte) ∷ []) (parts_of bytes))

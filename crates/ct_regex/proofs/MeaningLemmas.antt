@@ -2,7 +2,7 @@
 use Rattle.std.proofs.Common.{◌≡◌, ℕ, ◌+◌, ◌<◌, List, ◌∷◌, map, drop, get_or, length, Vec, Box, Global, sym, ap, ◌∙◌}
 use Rattle.std.proofs.lemmas.List.{drop_more}
 use Rattle.ct_regex.specs.Tree.{Tree, start, end, one, sequence_of, choice_of, repeat}
-use Rattle.ct_regex.specs.Meaning.{meaning, node_meaning, test_of}
+use Rattle.ct_regex.specs.Meaning.{meaning, node_meaning, byte_test}
 use Rattle.ct_regex.specs.declared.tree.ByteTest.{ByteTest}
 use Rattle.ct_regex.specs.declared.tree.Quantifier.{Quantifier}
 use Rattle.ct_regex.specs.declared.tree.Node.{Node, Node-F, fold-roll-Node}
@@ -14,7 +14,7 @@ meaning-Start = ap meaning (sym rolls-Start) ∙ fold-roll-Node Tree node_meanin
 pub meaning-End : meaning End ≡ end
 meaning-End = ap meaning (sym rolls-End) ∙ fold-roll-Node Tree node_meaning Node-F.End
 
-pub meaning-One : (test : ByteTest) → meaning (One test) ≡ one (test_of test)
+pub meaning-One : (test : ByteTest) → meaning (One test) ≡ one (byte_test test)
 meaning-One test = ap meaning (sym (rolls-One test)) ∙ fold-roll-Node Tree node_meaning (Node-F.One test)
 
 pub meaning-Sequence : (parts : Vec Node Global) → meaning (Sequence parts) ≡ sequence_of (map meaning parts.items)

@@ -6,14 +6,14 @@ use Rattle.ct_regex.specs.declared.fault.RegexFault.{RegexFault}
 use Rattle.ct_regex.specs.declared.fault.RegexFault.TheVariants.{TooLarge, NoMemory}
 
 -- the fault is the one that the definition says; want of memory is free
-abbrev pub IsFaultOf : {Y : Type 0} → Result Y RegexFault → RegexFault → Type 0
-IsFaultOf says NoMemory = Unit {0}
-IsFaultOf says why = says ≡ Err why
+abbrev pub SaysFault : {Y : Type 0} → Result Y RegexFault → RegexFault → Type 0
+SaysFault says NoMemory = Unit {0}
+SaysFault says why = says ≡ Err why
 
 -- the answer, seen by the view, is what the definition says
 abbrev pub Gives : {X Y : Type 0} → (X → Y) → Result X RegexFault → Result Y RegexFault → Type 0
 Gives view (Ok x) says = says ≡ Ok (view x)
-Gives view (Err why) says = IsFaultOf says why
+Gives view (Err why) says = SaysFault says why
 
 -- what a text gives that is written as the tree: that tree, or it is too large
 abbrev pub IsReadAs : {X : Type 0} → (X → Tree) → Tree → Result X RegexFault → Type 0
@@ -27,7 +27,7 @@ abbrev pub IsFaultAt : List Sign → RegexFault → Type 0
 IsFaultAt there NoMemory = Unit {0}
 IsFaultAt there why = there ≡ fault why ∷ []
 
--- the sign at a place, seen by the view, and the place behind it
+-- the sign stands at a place of the text, and behind it the signs go on from a place further on
 pub record IsSignAt (text : List ℕ) (place : ℕ) (sign : Sign) (behind : ℕ) : Type 0 where
   pub grows : place < behind
   pub within : behind ≤ length text

@@ -1,41 +1,43 @@
 -- How a pattern is written, apart from how it is read.
 -- Source: CMake manual, string(REGEX), Regex Specification.
 use Rattle.std.specs.Prelude.{◌≡◌, ◌⊎◌, ◌≤◌, ℕ, ◌==◌, Bool, true, false, List, [], ◌∷◌, ◌++◌}
+use Rattle.ct_regex.specs.Bytes.{caret, dollar, dot, open_group, close_group, upright, star, plus, question, escaping_byte, open_set, close_set, dash}
 use Rattle.ct_regex.specs.Tree.{any, same, inside, outside, Tree, start, end, one, repeat, sequence_of, choice_of}
 use Rattle.ct_regex.specs.Signs.{begins_negated, is_range}
 use Rattle.ct_regex.specs.Reading.{may_repeat}
-use Rattle.ct_regex.specs.Laws.{is_plain}
+use Rattle.ct_regex.specs.Laws.{stands_for_itself}
 use Rattle.ct_regex.specs.declared.tree.Span.{Span}
 use Rattle.ct_regex.specs.declared.tree.Quantifier.{Quantifier}
 use Rattle.ct_regex.specs.declared.tree.Quantifier.TheVariants.{ZeroOrOne, ZeroOrMore, OneOrMore}
 
 -- only the first item of a set may begin with `]`
 abbrev pub MayBegin : Bool → ℕ → Type 0
-MayBegin first byte = (first ≡ true) ⊎ ((byte == 93) ≡ false)
+MayBegin first byte = (first ≡ true) ⊎ ((byte == close_set) ≡ false)
 
 -- The items of a set and its `]`. An item is a range wherever it can be, and the first item of a set may
 -- begin with a `]`.
 pub data IsItems : Bool → List ℕ → List Span → Type 0 where
-  closes : IsItems false (93 ∷ []) []
-  range : {first : Bool} {text : List ℕ} {items : List Span} (low high : ℕ) → MayBegin first low → (high == 93) ≡ false → low ≤ high →
-      IsItems false text items → IsItems first (low ∷ 45 ∷ high ∷ text) (record { low = low; high = high } ∷ items)
+  closes : IsItems false (close_set ∷ []) []
+  range : {first : Bool} {text : List ℕ} {items : List Span} (low high : ℕ) → MayBegin first low → (high == close_set) ≡ false → low ≤ high →
+      IsItems false text items → IsItems first (low ∷ dash ∷ high ∷ text) (record { low = low; high = high } ∷ items)
   byte : {first : Bool} {text : List ℕ} {items : List Span} (low : ℕ) → MayBegin first low → is_range text ≡ false →
       IsItems false text items → IsItems first (low ∷ text) (record { low = low; high = low } ∷ items)
 
 -- an atom that is no group: `^`, `$`, `.`, a byte without special meaning, `\c`, `[..]`, `[^..]`
 pub data IsOne : List ℕ → Tree → Type 0 where
-  at_start : IsOne (94 ∷ []) start
-  at_end : IsOne (36 ∷ []) end
-  any_byte : IsOne (46 ∷ []) (one any)
-  plain : (byte : ℕ) → is_plain byte ≡ true → IsOne (byte ∷ []) (one (same byte))
-  escaped : (byte : ℕ) → IsOne (92 ∷ byte ∷ []) (one (same byte))
-  of_set : {text : List ℕ} {items : List Span} → begins_negated text ≡ false → IsItems true text items → IsOne (91 ∷ text) (one (inside items))
-  of_negated : {text : List ℕ} {items : List Span} → IsItems true text items → IsOne (91 ∷ 94 ∷ text) (one (outside items))
+  at_start : IsOne (caret ∷ []) start
+  at_end : IsOne (dollar ∷ []) end
+  any_byte : IsOne (dot ∷ []) (one any)
+  plain : (byte : ℕ) → stands_for_itself byte ≡ true → IsOne (byte ∷ []) (one (same byte))
+  escaped : (byte : ℕ) → IsOne (escaping_byte ∷ byte ∷ []) (one (same byte))
+  of_set : {text : List ℕ} {items : List Span} → begins_negated text ≡ false → IsItems true text items → IsOne (open_set ∷ text) (one (inside items))
+  of_negated : {text : List ℕ} {items : List Span} → IsItems true text items → IsOne (open_set ∷ caret ∷ text) (one (outside items))
 
+-- the byte by which a quantifier is written
 abbrev pub byte_of : Quantifier → ℕ
-byte_of ZeroOrOne = 63
-byte_of ZeroOrMore = 42
-byte_of OneOrMore = 43
+byte_of ZeroOrOne = question
+byte_of ZeroOrMore = star
+byte_of OneOrMore = plus
 
 mutual
   -- a whole pattern, or the inside of a group: branches with a bar between any two
@@ -47,7 +49,7 @@ mutual
   pub data IsBranches : List ℕ → List Tree → Type 0 where
     no_branch : IsBranches [] []
     and_branch : {front text : List ℕ} {trees parts : List Tree} → IsBranches front trees → IsBranch text parts →
-        IsBranches (front ++ (text ++ 124 ∷ [])) (trees ++ sequence_of parts ∷ [])
+        IsBranches (front ++ (text ++ upright ∷ [])) (trees ++ sequence_of parts ∷ [])
 
   -- parts, one directly behind the other
   pub data IsBranch : List ℕ → List Tree → Type 0 where
@@ -61,6 +63,7 @@ mutual
     often : {text : List ℕ} {tree : Tree} (quantifier : Quantifier) → IsAtom text tree → may_repeat quantifier tree ≡ true →
         IsPart (text ++ byte_of quantifier ∷ []) (repeat quantifier tree)
 
+  -- one atom: a group has its brackets
   pub data IsAtom : List ℕ → Tree → Type 0 where
     alone : {text : List ℕ} {tree : Tree} → IsOne text tree → IsAtom text tree
-    group : {text : List ℕ} {tree : Tree} → IsPattern text tree → IsAtom (40 ∷ text ++ 41 ∷ []) tree
+    group : {text : List ℕ} {tree : Tree} → IsPattern text tree → IsAtom (open_group ∷ text ++ close_group ∷ []) tree

@@ -1,19 +1,19 @@
 -- What the laws of patterns speak of.
-use Rattle.std.specs.Prelude.{◌≡◌, ℕ, ◌==◌, Bool, ◌&&◌, not, List, ◌++◌, Result, Ok, Err}
+use Rattle.std.specs.Prelude.{◌≡◌, ℕ, ◌==◌, Bool, not, List, ◌++◌, Result, Ok, Err}
 use Rattle.ct_regex.specs.Tree.{Tree}
 use Rattle.ct_regex.specs.Ends.{hits}
 use Rattle.ct_regex.specs.declared.fault.RegexFault.{RegexFault}
 use Rattle.ct_regex.specs.declared.fault.RegexFault.TheVariants.{TooLarge}
-use Rattle.std.specs.List.{list_all}
+use Rattle.std.specs.List.{list_all, list_any}
+use Rattle.ct_regex.specs.Bytes.{special}
 
--- bytes of special meaning outside a set: ^ $ . [ \ ( ) | * + ?
-abbrev pub is_plain : ℕ → Bool
-is_plain byte =
-    not (byte == 91) && (not (byte == 92) && (not (byte == 94) && (not (byte == 36) && (not (byte == 46) && (not (byte == 40)
-    && (not (byte == 41) && (not (byte == 124) && (not (byte == 42) && (not (byte == 43) && not (byte == 63))))))))))
+-- whether a byte stands for itself outside a set
+abbrev pub stands_for_itself : ℕ → Bool
+stands_for_itself byte = not (list_any (λ other. byte == other) special)
 
+-- whether each of the bytes stands for itself
 abbrev pub are_plain : List ℕ → Bool
-are_plain bytes = list_all is_plain bytes
+are_plain bytes = list_all stands_for_itself bytes
 
 -- the text has the bytes somewhere, one directly behind the other
 pub record HasPart (bytes text : List ℕ) : Type 0 where

@@ -1,4 +1,5 @@
 -- The definitions that contracts cite, in reading order.
+pub mod Bytes
 pub mod Tree
 pub mod Ends
 pub mod Signs

@@ -35,10 +35,12 @@ begins ZeroOrOne enters comes = enters
 begins ZeroOrMore enters comes = enters || comes
 begins OneOrMore enters comes = enters || comes
 
+-- the first mark; where there is none, no match has come
 abbrev pub first_mark : List Bool → Bool
 first_mark [] = false
 first_mark (mark ∷ marks) = mark
 
+-- the marks behind the first one
 abbrev pub other_marks : List Bool → List Bool
 other_marks [] = []
 other_marks (mark ∷ marks) = marks

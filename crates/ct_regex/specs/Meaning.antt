@@ -13,21 +13,23 @@ use Rattle.ct_regex.specs.declared.tree.Node.{Node}
 use Rattle.ct_regex.specs.declared.tree.Node.TheOpen.{Node-F}
 use Rattle.ct_regex.specs.declared.tree.Node.TheFolds.{fold-Node}
 
-abbrev pub test_of : ByteTest → Test
-test_of Any = any
-test_of (Same byte) = same byte
-test_of (Inside spans) = inside spans.items
-test_of (Outside spans) = outside spans.items
+-- which bytes a test of the code takes
+abbrev pub byte_test : ByteTest → Test
+byte_test Any = any
+byte_test (Same byte) = same byte
+byte_test (Inside spans) = inside spans.items
+byte_test (Outside spans) = outside spans.items
 
 -- one node, with the meaning of each child in its place
 abbrev pub node_meaning : Node-F Tree → Tree
 node_meaning Node-F.Start = start
 node_meaning Node-F.End = end
-node_meaning (Node-F.One test) = one (test_of test)
+node_meaning (Node-F.One test) = one (byte_test test)
 node_meaning (Node-F.Sequence parts) = sequence_of parts.items
 node_meaning (Node-F.Choice branches) = choice_of branches.items
 node_meaning (Node-F.Repeat quantifier inner) = repeat quantifier inner.value
 
+-- the tree of a node
 abbrev pub meaning : Node → Tree
 meaning = fold-Node Tree node_meaning
 
@@ -39,6 +41,7 @@ sign_of place sign_type.TheVariants.Closes = closes place
 sign_of place sign_type.TheVariants.Bar = bar
 sign_of place (sign_type.TheVariants.Often quantifier) = often quantifier place
 
+-- the last part of a branch of the code
 abbrev pub last_of : last_type.Last → Last
 last_of last_type.TheVariants.Nothing = no_part
 last_of (last_type.TheVariants.Bare node) = bare (meaning node)

@@ -35,37 +35,39 @@ pub record Group : Type 0 where
   pub parts : List Tree
   pub last : Last
 
+-- the group that opens at a place
 abbrev pub opened_at : ℕ → Group
 opened_at place = record { place = place; branches = []; parts = []; last = no_part }
 
+-- the last part, where there is one
 abbrev pub last_parts : Last → List Tree
 last_parts no_part = []
 last_parts (bare tree) = tree ∷ []
 last_parts (quantified tree) = tree ∷ []
 
--- all parts of its last branch
+-- all parts of the last branch of a group
 abbrev pub all_parts : Group → List Tree
 all_parts group = group.parts ++ last_parts group.last
 
--- with one more atom behind the others
+-- the group with one more atom behind the others
 abbrev pub with_atom : Tree → Group → Group
 with_atom tree group = record { place = group.place; branches = group.branches; parts = all_parts group; last = bare tree }
 
--- with its last branch ended
+-- the group with its last branch ended
 abbrev pub with_branch : Group → Group
 with_branch group = record { place = group.place; branches = group.branches ++ sequence_of (all_parts group) ∷ []; parts = []; last = no_part }
 
--- what it says once it is closed
+-- the tree of a group that is closed
 abbrev pub closed : Group → Tree
 closed group = choice_of (group.branches ++ sequence_of (all_parts group) ∷ [])
 
--- `*` and `+` repeat only what cannot be empty
+-- whether the quantifier may repeat the tree: `*` and `+` repeat only what cannot be empty
 abbrev pub may_repeat : Quantifier → Tree → Bool
 may_repeat ZeroOrOne tree = true
 may_repeat ZeroOrMore tree = not (can_be_empty tree)
 may_repeat OneOrMore tree = not (can_be_empty tree)
 
--- a quantifier at a place, behind the last part of a group
+-- the group behind a quantifier at a place, which repeats the last part, or the fault
 abbrev pub with_quantifier : Quantifier → ℕ → Group → Last → Result Group RegexFault
 with_quantifier quantifier place group no_part = Err (NothingToRepeat place)
 with_quantifier quantifier place group (quantified tree) = Err (NestedRepeat place)
@@ -77,16 +79,17 @@ pub record Groups : Type 0 where
   pub inner : Group
   pub outer : List Group
 
+-- the answer, changed where it is no fault
 abbrev pub map_ok : {X Y : Type 0} → (X → Y) → Result X RegexFault → Result Y RegexFault
 map_ok f (Ok x) = Ok (f x)
 map_ok f (Err e) = Err e
 
--- a group that opens inside: at most 200 are open at once
+-- the groups behind a `(`, or the fault: at most 200 are open at once
 abbrev pub with_group : ℕ → Groups → Result Groups RegexFault
 with_group place groups =
     if nat_lt (length groups.outer) 200 then Ok (record { inner = opened_at place; outer = groups.inner ∷ groups.outer }) else Err (TooLarge place)
 
--- the innermost group closes, and is an atom of the one around it
+-- the groups behind a `)`: the innermost one is an atom of the one around it, or the fault
 abbrev pub with_close : ℕ → Group → List Group → Result Groups RegexFault
 with_close place group [] = Err (StrayClose place)
 with_close place group (around ∷ outer) = Ok (record { inner = with_atom (closed group) around; outer = outer })
@@ -101,11 +104,12 @@ with_sign groups (often quantifier place) =
     map_ok (λ group. record { inner = group; outer = groups.outer }) (with_quantifier quantifier place groups.inner groups.inner.last)
 with_sign groups (fault why) = Err why
 
--- at the end: every group is closed
+-- the tree at the end of the text, or the fault where a group is still open
 abbrev pub at_end : Group → List Group → Result Tree RegexFault
 at_end group [] = Ok (closed group)
 at_end group (around ∷ outer) = Err (OpenGroup group.place)
 
+-- what comes of the answer, or its fault
 abbrev pub and_then : {X Y : Type 0} → Result X RegexFault → (X → Result Y RegexFault) → Result Y RegexFault
 and_then (Ok x) f = f x
 and_then (Err e) f = Err e

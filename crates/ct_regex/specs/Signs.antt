@@ -1,5 +1,6 @@
 -- The signs of a pattern, from the left: CMake manual, string(REGEX), Regex Specification.
 use Rattle.std.specs.Prelude.{ℕ, zero, suc, ◌+◌, ◌==◌, nat_lt, Bool, true, false, ◌&&◌, not, List, [], ◌∷◌, ◌++◌, if◌then◌else◌}
+use Rattle.ct_regex.specs.Bytes.{caret, dollar, dot, open_group, close_group, upright, star, plus, question, escaping_byte, open_set, close_set, dash}
 use Rattle.ct_regex.specs.Tree.{Test, any, same, inside, outside, Tree, start, end, one}
 use Rattle.ct_regex.specs.declared.tree.Span.{Span}
 use Rattle.ct_regex.specs.declared.tree.Quantifier.{Quantifier}
@@ -19,29 +20,29 @@ pub data Sign : Type 0 where
 -- the sign that a byte is by itself: ^ $ . ( ) | * + ? and else the byte
 abbrev pub plain_sign : ℕ → ℕ → Sign
 plain_sign place byte =
-    if byte == 94 then atom start
-    else if byte == 36 then atom end
-    else if byte == 46 then atom (one any)
-    else if byte == 40 then opens place
-    else if byte == 41 then closes place
-    else if byte == 124 then bar
-    else if byte == 42 then often ZeroOrMore place
-    else if byte == 43 then often OneOrMore place
-    else if byte == 63 then often ZeroOrOne place
+    if byte == caret then atom start
+    else if byte == dollar then atom end
+    else if byte == dot then atom (one any)
+    else if byte == open_group then opens place
+    else if byte == close_group then closes place
+    else if byte == upright then bar
+    else if byte == star then often ZeroOrMore place
+    else if byte == plus then often OneOrMore place
+    else if byte == question then often ZeroOrOne place
     else atom (one (same byte))
 
 -- whether the text begins with ^
 abbrev pub begins_negated : List ℕ → Bool
 begins_negated [] = false
-begins_negated (byte ∷ rest) = byte == 94
+begins_negated (byte ∷ rest) = byte == caret
 
 -- whether behind the first byte of an item - and a byte other than ] follow
 abbrev pub is_range : List ℕ → Bool
 is_range [] = false
-is_range (dash ∷ []) = false
-is_range (dash ∷ high ∷ rest) = (dash == 45) && not (high == 93)
+is_range (byte ∷ []) = false
+is_range (byte ∷ high ∷ rest) = (byte == dash) && not (high == close_set)
 
--- the second byte
+-- the second byte, where there is one
 abbrev pub second : List ℕ → ℕ
 second [] = 0
 second (byte ∷ []) = 0
@@ -51,10 +52,12 @@ second (byte ∷ next ∷ rest) = next
 abbrev pub item_high : ℕ → List ℕ → ℕ
 item_high low rest = if is_range rest then second rest else low
 
+-- whether no item is there yet
 abbrev pub is_none : List Span → Bool
 is_none [] = true
 is_none (span ∷ spans) = false
 
+-- the set of these items, or of the bytes outside them
 abbrev pub set_of : Bool → List Span → Test
 set_of negated spans = if negated then outside spans else inside spans
 
@@ -63,8 +66,8 @@ abbrev mutual
   pub signs : ℕ → List ℕ → List Sign
   signs place [] = []
   signs place (byte ∷ rest) =
-      if byte == 91 then set_signs place (begins_negated rest) (if begins_negated rest then 1 else 0) (place + 1) [] rest
-      else if byte == 92 then escaped place rest
+      if byte == open_set then set_signs place (begins_negated rest) (if begins_negated rest then 1 else 0) (place + 1) [] rest
+      else if byte == escaping_byte then escaped place rest
       else plain_sign place byte ∷ signs (place + 1) rest
 
   -- behind the backslash at a place: a byte that stands for itself
@@ -78,6 +81,6 @@ abbrev mutual
   set_signs opened negated skip place items [] = fault (OpenSet opened) ∷ []
   set_signs opened negated (suc skip) place items (byte ∷ rest) = set_signs opened negated skip (place + 1) items rest
   set_signs opened negated zero place items (byte ∷ rest) =
-      if (byte == 93) && not (is_none items) then atom (one (set_of negated items)) ∷ signs (place + 1) rest
+      if (byte == close_set) && not (is_none items) then atom (one (set_of negated items)) ∷ signs (place + 1) rest
       else if nat_lt (item_high byte rest) byte then fault (BadRange place) ∷ []
       else set_signs opened negated (if is_range rest then 2 else 0) (place + 1) (items ++ record { low = byte; high = item_high byte rest } ∷ []) rest

@@ -11,6 +11,8 @@ pub data Test : Type 0 where
   inside : List Span → Test
   outside : List Span → Test
 
+-- a pattern: the empty text, no text at all, `^`, `$`, one byte, one part behind the other, one of
+-- two parts, and a part that is repeated
 pub data Tree : Type 0 where
   empty : Tree
   never : Tree

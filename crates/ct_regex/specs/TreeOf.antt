@@ -4,5 +4,5 @@ use Rattle.ct_regex.specs.Meaning.{meaning}
 use Rattle.ct_regex.specs.declared.pattern.Regex.{Regex}
 
 -- the tree of a pattern
-abbrev pub tree_of : Regex → Tree
-tree_of regex = meaning regex.root
+abbrev pub regex_tree : Regex → Tree
+regex_tree regex = meaning regex.root

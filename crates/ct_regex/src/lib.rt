@@ -17,6 +17,3 @@ mod tree;
 
 pub use fault::RegexFault;
 pub use pattern::Regex;
-
-#[cfg(test)]
-mod tests;

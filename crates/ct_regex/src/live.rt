@@ -1,6 +1,6 @@
 ghost use Rattle.std.specs.Prelude.{◌≡◌, ◌≤◌, [], ◌∷◌, ◌++◌, IfOk, IsTrue, length, map};
 ghost use Rattle.ct_regex.specs.Tree.{takes, has_byte, sequence_of, choice_of};
-ghost use Rattle.ct_regex.specs.Meaning.{meaning, test_of};
+ghost use Rattle.ct_regex.specs.Meaning.{meaning, byte_test};
 ghost use Rattle.ct_regex.specs.Ends.{hits};
 ghost use Rattle.ct_regex.specs.Live.{is_sound, spot_at as spot_of, first_mark as first_of, other_marks as others_of, passes, begins, leaves as tree_leaves, marks_behind as tree_marks_behind, next_marks};
 
@@ -9,7 +9,7 @@ use ct_base::NoMemory;
 use std::alloc::Global;
 
 /// What `^` and `$` ask of a place.
-#[derive(Clone, Copy, Debug, PartialEq, Eq)]
+#[derive(Clone, Copy)]
 pub struct Spot {
     pub is_first: bool,
     pub is_last: bool,
@@ -254,7 +254,7 @@ fn with_mark(mut marks: Vec<bool>, mark: bool) -> Result<Vec<bool>, NoMemory>
 }
 
 fn is_taken(test: &ByteTest, byte: u8) -> bool
-    ensures { result ≡ takes (test_of test.now) byte }
+    ensures { result ≡ takes (byte_test test.now) byte }
 {
     match test {
         ByteTest::Any => true,

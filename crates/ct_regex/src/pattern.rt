@@ -15,10 +15,10 @@ use std::alloc::Global;
 /// How many bytes a pattern may have. This project's choice.
 const MOST_BYTES: usize = 65_536;
 
-/// A pattern of CMake. In contracts `tree_of` is its tree.
+/// A pattern of CMake. In contracts `regex_tree` is its tree.
 ///
 /// Source: CMake manual, string(REGEX), Regex Specification.
-#[derive(Debug, Drop)]
+#[derive(Drop)]
 pub struct Regex {
     root: Node,
     // `*` and `+` repeat only what cannot be empty.
@@ -28,7 +28,7 @@ pub struct Regex {
 impl Regex {
     ghost use Rattle.std.specs.Prelude.{◌≡◌, IfOk};
     ghost use Rattle.ct_regex.specs.Tree.{Tree};
-    ghost use Rattle.ct_regex.specs.TreeOf.{tree_of};
+    ghost use Rattle.ct_regex.specs.TreeOf.{regex_tree};
     ghost use Rattle.ct_regex.specs.Ends.{hits};
     ghost use Rattle.ct_regex.specs.Reading.{reading};
     ghost use Rattle.ct_regex.specs.Gives.{Gives, IsReadAs};
@@ -39,10 +39,10 @@ impl Regex {
     /// Source: CMake manual, string(REGEX), Regex Specification. The faults and the limits are this
     /// project's choice.
     pub fn parse(alloc: Global, text: &[u8]) -> Result<Regex, RegexFault>
-        ensures exact { Gives tree_of result (reading text.now) }
+        ensures exact { Gives regex_tree result (reading text.now) }
         // The grammar that the tree is written by, apart from how it is read.
-        ensures written { IfOk result (λ regex. IsPattern text.now (tree_of regex)) }
-        ensures read { (tree : Tree) → IsPattern text.now tree → IsReadAs tree_of tree result }
+        ensures written { IfOk result (λ regex. IsPattern text.now (regex_tree regex)) }
+        ensures read { (tree : Tree) → IsPattern text.now tree → IsReadAs regex_tree tree result }
     {
         if text.len() > MOST_BYTES {
             return Err(RegexFault::TooLarge(65_536));
@@ -55,7 +55,7 @@ impl Regex {
     ///
     /// Source: CMake manual, string(REGEX), Regex Specification.
     pub fn hit(&self, alloc: Global, text: &[u8]) -> Result<bool, NoMemory>
-        ensures { IfOk result (λ found. found ≡ hits (tree_of self.now) text.now) }
+        ensures { IfOk result (λ found. found ≡ hits (regex_tree self.now) text.now) }
     {
         has_match(alloc, &self.root, text)
     }

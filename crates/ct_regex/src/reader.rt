@@ -14,7 +14,7 @@ use std::alloc::Global;
 const MOST_GROUPS: usize = 200;
 
 /// The last part of a branch.
-#[derive(Debug, Drop)]
+#[derive(Drop)]
 pub enum Last {
     Nothing,
     /// One without a quantifier.
@@ -23,7 +23,7 @@ pub enum Last {
 }
 
 /// A group that is open, or the whole pattern.
-#[derive(Debug, Drop)]
+#[derive(Drop)]
 pub struct Level {
     /// Where its `(` stands.
     pub place: u32,
@@ -35,7 +35,7 @@ pub struct Level {
 }
 
 /// What is read of a pattern so far.
-#[derive(Debug, Drop)]
+#[derive(Drop)]
 pub struct Reader {
     /// The innermost open group.
     pub level: Level,
@@ -270,7 +270,8 @@ fn can_be_empty(node: &Node) -> bool
         Node::One(_) => false,
         Node::Sequence(parts) => all_can_be_empty(parts),
         Node::Choice(branches) => any_can_be_empty(branches),
-        Node::Repeat(quantifier, _) => *quantifier != Quantifier::OneOrMore,
+        Node::Repeat(Quantifier::OneOrMore, _) => false,
+        Node::Repeat(_, _) => true,
     }
 }
 

@@ -1,7 +1,8 @@
 ghost use Rattle.std.specs.Prelude.{◌≡◌, ℕ, ◌+◌, ◌<◌, ◌≤◌, ◌^◌, ◌==◌, [], ◌∷◌, ◌++◌, drop, length, slice_index, IfOk, if◌then◌else◌, ◌&&◌, not};
+ghost use Rattle.ct_regex.specs.Bytes.{open_set, close_set};
 ghost use Rattle.ct_regex.specs.Signs.{begins_negated, is_range as is_range_in, item_high, set_of, is_none, atom};
 ghost use Rattle.ct_regex.specs.Tree.{one};
-ghost use Rattle.ct_regex.specs.Meaning.{test_of};
+ghost use Rattle.ct_regex.specs.Meaning.{byte_test};
 ghost use Rattle.ct_regex.specs.Gives.{ReadsSign};
 
 use crate::RegexFault;
@@ -15,10 +16,10 @@ pub(crate) fn set_at(
     text: &[u8],
     opened: usize,
 ) -> Result<(ByteTest, usize), RegexFault>
-    requires opens { slice_index text.now opened ≡ 91 }
+    requires opens { slice_index text.now opened ≡ open_set }
     requires within { opened < length text.now }
     requires few { length text.now ≤ 65536 }
-    ensures { ReadsSign (λ test. atom (one (test_of test))) text.now opened result }
+    ensures { ReadsSign (λ test. atom (one (byte_test test))) text.now opened result }
 {
     let negated = is_negated(&text[opened + 1..]);
     let mut at = opened + first_item(negated);
@@ -50,7 +51,7 @@ fn first_item(negated: bool) -> usize
 
 /// Tells whether the byte is the `]` that ends the set: it is not the first byte.
 fn ends_set(byte: u8, items: &[Span]) -> bool
-    ensures { result ≡ ((byte == 93) && not (is_none items.now)) }
+    ensures { result ≡ ((byte == close_set) && not (is_none items.now)) }
 {
     byte == b']' && !items.is_empty()
 }
@@ -96,7 +97,7 @@ fn with_item(mut items: Vec<Span>, item: Span) -> Result<Vec<Span>, NoMemory>
 }
 
 fn of_items(negated: bool, items: Vec<Span>) -> ByteTest
-    ensures { test_of result ≡ set_of negated items.items }
+    ensures { byte_test result ≡ set_of negated items.items }
 {
     if negated {
         ByteTest::Outside(items)

@@ -11,7 +11,7 @@ use std::alloc::Global;
 /// One sign of a pattern.
 ///
 /// Source: CMake manual, string(REGEX), Regex Specification.
-#[derive(Debug, Drop)]
+#[derive(Drop)]
 pub enum Sign {
     /// `^`, `$`, or what takes one byte.
     Atom(Node),

@@ -1,7 +1,7 @@
 /// How often an atom is taken.
 ///
 /// Source: CMake manual, string(REGEX), Regex Specification.
-#[derive(Clone, Copy, Debug, PartialEq, Eq)]
+#[derive(Clone, Copy)]
 pub enum Quantifier {
     /// `?`: none or one.
     ZeroOrOne,
@@ -12,7 +12,7 @@ pub enum Quantifier {
 }
 
 /// The bytes from `low` to `high`, both included.
-#[derive(Clone, Copy, Debug, PartialEq, Eq)]
+#[derive(Clone, Copy)]
 pub struct Span {
     pub low: u8,
     pub high: u8,
@@ -21,7 +21,7 @@ pub struct Span {
 /// Which bytes an atom of one byte takes.
 ///
 /// Source: CMake manual, string(REGEX), Regex Specification.
-#[derive(Debug, Drop)]
+#[derive(Drop)]
 pub enum ByteTest {
     /// `.`: any byte.
     Any,
@@ -34,7 +34,7 @@ pub enum ByteTest {
 }
 
 /// A pattern as a tree. A group that only brackets is no node of its own.
-#[derive(Debug, Drop)]
+#[derive(Drop)]
 pub enum Node {
     /// `^`: the beginning of the text.
     Start,

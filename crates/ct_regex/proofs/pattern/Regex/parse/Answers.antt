@@ -1,6 +1,6 @@
 use Rattle.std.proofs.Common.{rules, Ok}
 use Rattle.ct_regex.specs.Meaning.{meaning}
-use Rattle.ct_regex.specs.TreeOf.{tree_of}
+use Rattle.ct_regex.specs.TreeOf.{regex_tree}
 use Rattle.ct_regex.proofs.WrittenLemmas.{reading_written}
 use Rattle.ct_regex.proofs.ReadBackLemmas.{read_as}
 use Rattle.ct_regex.proofs.SoundLemmas.{pattern_sound}
@@ -16,7 +16,7 @@ pub returns-then-text-gt-MOST_BYTES-clause-read : goal.returns-then-text-gt-MOST
 returns-then-text-gt-MOST_BYTES-clause-read c = λ tree p. tt
 
 pub returns-in_err-root-clause-read : goal.returns-in_err-root-clause-read
-returns-in_err-root-clause-read c = λ tree p. read_as tree_of c.args.text.now tree c.from_residual.result (search rules) p
+returns-in_err-root-clause-read c = λ tree p. read_as regex_tree c.args.text.now tree c.from_residual.result (search rules) p
 
 pub returns-clause-read : goal.returns-clause-read
 returns-clause-read c = λ tree p. read_as meaning c.args.text.now tree (Ok c.in_ok-root.root) c.in_ok-root.ensures p
