@@ -1,132 +1,125 @@
--- The answer of a call, once its outcome is told.
-use Rattle.std.proofs.Common.{◌≡◌, ◌∙◌, sym, ap, subst, true, false, ℕ, ◌<◌, List, [], ◌∷◌, length, get_or, refl, arith, inl, inr}
-use Rattle.std.specs.Prelude.{Option, Some, None, IsSomeAnd, ◌⊎◌, slice_set}
-use Rattle.std.proofs.lemmas.List.{append-nil}
+-- The answer of a call, once its end is told.
+use Rattle.std.proofs.Common.{◌≡◌, ◌∙◌, sym, ap, subst, true, ℕ, ◌<◌, List, [], ◌∷◌, length, get_or, refl, arith, inl, inr}
+use Rattle.std.specs.Prelude.{Option, Some, None, IsSomeAnd, Result, Ok, Err, map, slice_set}
+use Rattle.ct_base.specs.declared.defs.Pair.{Pair}
 use Rattle.ct_base.specs.declared.defs.TestDef.{TestDef}
-use Rattle.ct_base.specs.Outside.{Adds, AddsPrefix, Becomes, Rose}
+use Rattle.ct_base.specs.declared.sink.SinkFault.TheVariants as Sinks
+use Rattle.ct_base.specs.Outside.{FilesTell, Puts, SinkTell}
 use Rattle.ct_history.specs.declared.plan.PlanParts.{PlanParts}
 use Rattle.ct_history.specs.declared.history.Entry.{Entry}
-use Rattle.ct_report.specs.Report.{report_text}
-use Rattle.ct_report.proofs.PutLemmas.{prefix_of_adds}
+use Rattle.ct_core.specs.Gate.{GateTell}
 use Rattle.ct_app.specs.declared.outcome.Outcome.{Outcome}
 use Rattle.ct_app.specs.declared.outcome.Outcome.TheVariants.{Completed, Usage, Refused, FilesFault, OutputFault, Memory}
-use Rattle.ct_app.specs.declared.outcome.Refusal.{Refusal}
-use Rattle.ct_app.specs.Answers.{AddsTwo, Answers, HasRunWith, IsFilesFault, IsRefusal, IsRun, IsUnrun, IsUsage, MayTell, Sides, WroteMemory, WroteSome}
-use Rattle.ct_app.specs.Ends.{Ends, Told, Tells}
-use Rattle.ct_app.specs.First.{first_gate}
-use Rattle.ct_app.specs.Outcome.{exit_status, fault_line}
-use Rattle.ct_app.specs.Steps.{Gated}
+use Rattle.ct_app.specs.Answers.{Answers, HasRunWith, IsCutOff, IsGivenUp, IsReadFault, IsRefusal, IsReported, IsRun, IsShort, IsUnrun, IsUsage, PutsOrFails, ThenLine, Tries, sides}
+use Rattle.ct_app.specs.Ends.{Ends, PlanEnds, TellsEnd, Told}
+use Rattle.ct_app.specs.Gates.{AreAsked, are_below}
+use Rattle.ct_app.specs.Outcome.{fault_line, fault_status, status_of}
+use Rattle.ct_app.proofs.GateLemmas.{asked_first}
 
-true_is_false : true ≡ false → ⊥
-true_is_false is = cc
-
--- the values of a call with other written bytes and faults of the sink
-abbrev told_sides : Sides → Option (List ℕ) → ℕ → Sides
-told_sides s w f = record s { written_now = w; sink_now = f }
-
--- what holds of each plan and history that are there
+-- what holds of a plan and a history that are there
 run_map : (plan : Option PlanParts) (history : Option (List Entry)) (P Q : PlanParts → List Entry → Type 0) → ((p : PlanParts) (es : List Entry) → P p es → Q p es) → IsSomeAnd plan (λ p. IsSomeAnd history (λ es. P p es)) → IsSomeAnd plan (λ p. IsSomeAnd history (λ es. Q p es))
 run_map None history P Q each some = some
 run_map (Some p) None P Q each some = some
 run_map (Some p) (Some es) P Q each some = each p es some
 
-still_unrun : (s : Sides) (w : Option (List ℕ)) (f : ℕ) → IsUnrun s → IsUnrun (told_sides s w f)
-still_unrun s w f unrun = record { no_plan = unrun.no_plan; no_history = unrun.no_history; unasked = unrun.unasked }
+run_none : (plan : Option PlanParts) (history : Option (List Entry)) (P : PlanParts → List Entry → Type 0) → ((p : PlanParts) (es : List Entry) → P p es → ⊥) → IsSomeAnd plan (λ p. IsSomeAnd history (λ es. P p es)) → ⊥
+run_none None history P never some = some
+run_none (Some p) None P never some = some
+run_none (Some p) (Some es) P never some = never p es some
 
-still_run : (s : Sides) (w : Option (List ℕ)) (f : ℕ) (defs : List TestDef) (p : PlanParts) (es : List Entry) → IsRun s defs p es → IsRun (told_sides s w f) defs p es
-still_run s w f defs p es run = record { no_words = run.no_words; read = run.read; ran = run.ran }
+tried : (text : List ℕ) (before now : SinkTell) → PutsOrFails text before now → Tries text before now
+tried text before now (inl put) = (Ok tt, put)
+tried text before now (inr put) = (Err Sinks.Failed, put)
 
--- a beginning of a first text and then of a second
-two_prefixes : (before mid after : Option (List ℕ)) (a b : List ℕ) → Becomes before mid (AddsPrefix a) → Becomes mid after (AddsPrefix b) → Becomes before after (AddsTwo a b)
-two_prefixes None mid after a b one other = tt
-two_prefixes (Some before) None after a b one other = absurd one
-two_prefixes (Some before) (Some mid) None a b one other = absurd other
-two_prefixes (Some before) (Some mid) (Some after) a b one other = record { middle = mid; one = one; other = other }
+-- a call before its end is told, of which one gate is looked at, and behind that, of which all are
+module _ (words : List (List ℕ)) (env : List Pair) (files files_now : FilesTell) (gate gate_now gates gates_now : List GateTell) (sink mid now : SinkTell) (plan : Option PlanParts) (history : Option (List Entry)) (widen : (defs : List TestDef) (es : List Entry) → are_below 1 es ≡ true → AreAsked env defs 0 gate gate_now es → AreAsked env defs 0 gates gates_now es) (same : gate_now ≡ gate → gates_now ≡ gates) where
+  unrun_late : IsUnrun (sides words env files files_now gate gate_now sink mid plan history) → IsUnrun (sides words env files files_now gates gates_now sink now plan history)
+  unrun_late unrun = record { no_plan = unrun.no_plan; no_history = unrun.no_history; unasked = same unrun.unasked }
 
-whole_is_prefix : (before after : Option (List ℕ)) (a : List ℕ) → Becomes before after (Adds a) → Becomes before after (AddsPrefix a)
-whole_is_prefix before after a put = subst (λ (t : List ℕ). Becomes before after (AddsPrefix t)) (append-nil a) (prefix_of_adds before after a [] put)
+  run_late : (defs : List TestDef) (p : PlanParts) (es : List Entry) → IsRun (sides words env files files_now gate gate_now sink mid plan history) defs p es → IsRun (sides words env files files_now gates gates_now sink now plan history) defs p es
+  run_late defs p es run =
+      let below = ap (λ (q : PlanParts). are_below q.level es) (sym run.ran.planned) ∙ run.ran.workers in
+      record {
+        no_words = run.no_words;
+        read = run.read;
+        ran = record {
+          planned = run.ran.planned;
+          legal = run.ran.legal;
+          within = run.ran.within;
+          closed = run.ran.closed;
+          workers = run.ran.workers;
+          asked = widen defs es below run.ran.asked;
+          in_order = run.ran.in_order;
+        };
+      }
 
--- a silent outcome leaves all as it was
-silent_same : (s : Sides) (w : Option (List ℕ)) (f : ℕ) → w ≡ s.written_now → f ≡ s.sink_now → s ≡ told_sides s w f
-silent_same s w f unwritten unfailed = ap (λ (x : Option (List ℕ)). told_sides s x s.sink_now) (sym unwritten) ∙ ap (λ (n : ℕ). told_sides s w n) (sym unfailed)
+  ran_late : (P Q : PlanParts → List Entry → Type 0) → ((p : PlanParts) (es : List Entry) → P p es → Q p es) → HasRunWith (sides words env files files_now gate gate_now sink mid plan history) P → HasRunWith (sides words env files files_now gates gates_now sink now plan history) Q
+  ran_late P Q each run =
+      run_map plan history (λ p es. ((defs : List TestDef) × IsRun (sides words env files files_now gate gate_now sink mid plan history) defs p es) × P p es) (λ p es. ((defs : List TestDef) × IsRun (sides words env files files_now gates gates_now sink now plan history) defs p es) × Q p es)
+      (λ p es was. ((was.0.0, run_late was.0.0 p es was.0.1), each p es was.1)) run
 
--- some outcome's line, or a beginning of it, behind nothing
-line_or_part : (s : Sides) (w : Option (List ℕ)) (f : ℕ) (o : Outcome) → s.written_now ≡ s.written_before → s.sink_now ≡ s.sink_before → Becomes s.written_now w (Adds (fault_line o)) ⊎ (Rose s.sink_now f × Becomes s.written_now w (AddsPrefix (fault_line o))) → Becomes s.written_before w (Adds (fault_line o)) ⊎ (Rose s.sink_before f × Becomes s.written_before w (AddsPrefix (fault_line o)))
-line_or_part s w f o unwritten unfailed (inl line) = inl (subst (λ (x : Option (List ℕ)). Becomes x w (Adds (fault_line o))) unwritten line)
-line_or_part s w f o unwritten unfailed (inr part) = inr (subst (λ (n : ℕ). Rose n f) unfailed part.0, subst (λ (x : Option (List ℕ)). Becomes x w (AddsPrefix (fault_line o))) unwritten part.1)
+  none_ran : (P : PlanParts → List Entry → Type 0) → ((p : PlanParts) (es : List Entry) → P p es → ⊥) → HasRunWith (sides words env files files_now gate gate_now sink mid plan history) P → ⊥
+  none_ran P never run = run_none plan history (λ p es. ((defs : List TestDef) × IsRun (sides words env files files_now gate gate_now sink mid plan history) defs p es) × P p es) (λ p es was. never p es was.1) run
 
--- memory was wanting for the line of an outcome without a run
-memory_unrun : (s : Sides) (w : Option (List ℕ)) (f : ℕ) (o : Outcome) → IsUnrun s → MayTell (told_sides s w f) o → s.written_now ≡ s.written_before → Becomes s.written_now w (AddsPrefix (fault_line o)) → Answers (told_sides s w f) Memory 5
-memory_unrun s w f o unrun may unwritten part =
-    (inl (still_unrun s w f unrun, (o, may, subst (λ (x : Option (List ℕ)). Becomes x w (AddsPrefix (fault_line o))) unwritten part)), refl)
+  at : (o outcome : Outcome) (status : ℕ) → outcome ≡ o → status ≡ fault_status outcome → Answers (sides words env files files_now gates gates_now sink now plan history) o (fault_status o) → Answers (sides words env files files_now gates gates_now sink now plan history) outcome status
+  at o outcome status is status_is answer =
+      subst (λ (n : ℕ). Answers (sides words env files files_now gates gates_now sink now plan history) outcome n) (sym status_is) (subst (λ (x : Outcome). Answers (sides words env files files_now gates gates_now sink now plan history) x (fault_status x)) (sym is) answer)
 
-still_usage : (s : Sides) (w : Option (List ℕ)) (f word : ℕ) → IsUsage s word → IsUsage (told_sides s w f) word
-still_usage s w f word usage = record { some_words = usage.some_words; first = usage.first; unrun = still_unrun s w f usage.unrun }
+  -- an outcome whose line is put behind nothing
+  line_told : (o outcome : Outcome) (status : ℕ) → mid ≡ sink → Told o outcome mid now → status ≡ fault_status outcome → (PutsOrFails (fault_line o) sink now → Answers (sides words env files files_now gates gates_now sink now plan history) o (fault_status o)) → (Puts (fault_line o) sink now (Err Sinks.NoMemory) → IsShort (sides words env files files_now gates gates_now sink now plan history) o) → Answers (sides words env files files_now gates gates_now sink now plan history) outcome status
+  line_told o outcome status unput (inl (is, puts)) status_is answers short = at o outcome status is status_is (answers (subst (λ (t : SinkTell). PutsOrFails (fault_line o) t now) unput puts))
+  line_told o outcome status unput (inr (is, puts)) status_is answers short = at Memory outcome status is status_is (inl (o, short (subst (λ (t : SinkTell). Puts (fault_line o) t now (Err Sinks.NoMemory)) unput puts)), refl)
 
-still_refusal : (s : Sides) (w : Option (List ℕ)) (f : ℕ) (refusal : Refusal) → IsRefusal s refusal → IsRefusal (told_sides s w f) refusal
-still_refusal s w f refusal refused = record { no_words = refused.no_words; read = refused.read; unrun = still_unrun s w f refused.unrun }
+  memory_tried : (outcome : Outcome) → Told Memory outcome mid now → (outcome ≡ Memory) × Tries (fault_line Memory) mid now
+  memory_tried outcome (inl (is, puts)) = (is, tried (fault_line Memory) mid now puts)
+  memory_tried outcome (inr (is, puts)) = (is, (Err Sinks.NoMemory, puts))
 
-still_files_fault : (s : Sides) (w : Option (List ℕ)) (f : ℕ) (path : List ℕ) → IsFilesFault s path → IsFilesFault (told_sides s w f) path
-still_files_fault s w f path fault = record { no_words = fault.no_words; rose = fault.rose; asked = fault.asked; last = fault.last; unrun = still_unrun s w f fault.unrun }
+  pub told_answer : (ended : Result ℕ Outcome) (outcome : Outcome) (status : ℕ) → Ends (sides words env files files_now gate gate_now sink mid plan history) ended → TellsEnd ended outcome status mid now → Answers (sides words env files files_now gates gates_now sink now plan history) outcome status
+  told_answer (Ok st) outcome status (inl (run, stay)) (is, status_is, unput) =
+      let reports = ran_late (λ p es. PlanEnds p es sink mid (Ok st)) (λ p es. IsReported p es sink now × (st ≡ status_of p es)) (λ p es was. (subst (λ (t : SinkTell). IsReported p es sink t) (sym unput) was.0, was.1)) run in
+      subst (λ (n : ℕ). Answers (sides words env files files_now gates gates_now sink now plan history) outcome n) (sym status_is) (subst (λ (x : Outcome). Answers (sides words env files files_now gates gates_now sink now plan history) x st) (sym is) (reports, stay))
+  told_answer (Ok st) outcome status (inr (never, unput)) told = absurd never
+  told_answer (Err Completed) outcome status (inl (run, stay)) told = absurd (none_ran (λ p es. PlanEnds p es sink mid (Err Completed)) (λ p es none. none) run)
+  told_answer (Err Completed) outcome status (inr (never, unput)) told = absurd never
+  told_answer (Err (Usage word kind)) outcome status (inl (run, stay)) told = absurd (none_ran (λ p es. PlanEnds p es sink mid (Err (Usage word kind))) (λ p es none. none) run)
+  told_answer (Err (Usage word kind)) outcome status (inr (usage, unput)) told =
+      let late_usage : IsUsage (sides words env files files_now gates gates_now sink now plan history) word = record { some_words = usage.some_words; first = usage.first; files = usage.files; unrun = unrun_late usage.unrun } in
+      line_told (Usage word kind) outcome status unput told.0 told.1 (λ puts. (late_usage, puts, refl)) (λ puts. (late_usage, puts))
+  told_answer (Err (Refused refusal)) outcome status (inl (run, stay)) told = absurd (none_ran (λ p es. PlanEnds p es sink mid (Err (Refused refusal))) (λ p es none. none) run)
+  told_answer (Err (Refused refusal)) outcome status (inr (refused, unput)) told =
+      let late_refusal : IsRefusal (sides words env files files_now gates gates_now sink now plan history) refusal = record { no_words = refused.no_words; read = refused.read; files = refused.files; unrun = unrun_late refused.unrun } in
+      line_told (Refused refusal) outcome status unput told.0 told.1 (λ puts. (late_refusal, puts, refl)) (λ puts. (late_refusal, puts))
+  told_answer (Err (FilesFault path)) outcome status (inl (run, stay)) told = absurd (none_ran (λ p es. PlanEnds p es sink mid (Err (FilesFault path))) (λ p es none. none) run)
+  told_answer (Err (FilesFault path)) outcome status (inr (fault, unput)) told =
+      let late_fault : IsReadFault (sides words env files files_now gates gates_now sink now plan history) path = record { no_words = fault.no_words; named = fault.named; failed = fault.failed; kept = fault.kept; unrun = unrun_late fault.unrun } in
+      line_told (FilesFault path) outcome status unput told.0 told.1 (λ puts. (inl (late_fault, puts), refl)) (λ puts. (late_fault, puts))
+  told_answer (Err OutputFault) outcome status (inl (run, stay)) told =
+      let cut = ran_late (λ p es. PlanEnds p es sink mid (Err OutputFault)) (λ p es. IsCutOff p es sink now) (λ p es was. subst (λ (t : SinkTell). IsCutOff p es sink t) (sym told.0.1) was) run in
+      at OutputFault outcome status told.0.0 told.1 (cut, stay, refl)
+  told_answer (Err OutputFault) outcome status (inr (never, unput)) told = absurd never
+  told_answer (Err Memory) outcome status (inl (run, stay)) told =
+      let tries = memory_tried outcome told.0 in
+      let given_up = ran_late (λ p es. PlanEnds p es sink mid (Err Memory)) (λ p es. ThenLine (λ middle. IsGivenUp p es sink middle) (λ middle. Tries (fault_line Memory) middle now)) (λ p es was. record { middle = mid; first = was; line = tries.1 }) run in
+      at Memory outcome status tries.0 told.1 (inr (given_up, stay), refl)
+  told_answer (Err Memory) outcome status (inr (unrun, unput)) told =
+      let tries = memory_tried outcome told.0 in
+      at Memory outcome status tries.0 told.1 (inl (Memory, (unrun_late unrun.0, unrun.1, subst (λ (t : SinkTell). Tries (fault_line Memory) t now) unput tries.1)), refl)
 
--- the line of want of memory, behind a run
-memory_run : (s : Sides) (w : Option (List ℕ)) (f : ℕ) → HasRunWith s (λ defs plan entries. WroteSome s plan entries) → Becomes s.written_now w (AddsPrefix (fault_line Memory)) → Answers (told_sides s w f) Memory 5
-memory_run s w f run part =
-    let both = run_map s.plan s.history (λ p es. (defs : List TestDef) × IsRun s defs p es × WroteSome s p es) (λ p es. (defs : List TestDef) × IsRun (told_sides s w f) defs p es × WroteMemory (told_sides s w f) p es)
-    (λ p es was. (was.0, still_run s w f was.0 p es was.1, two_prefixes s.written_before s.written_now w (report_text p es) (fault_line Memory) was.2 part)) run in
-    (inr both, refl)
+-- what all gates tell, from what the first does
+module _ {G : Type 0} (tells : G → GateTell) (gates : List G) (gate new : G) (some : 0 < length gates) (is : gate ≡ get_or gates 0 gate) where
+  pub widened : (env : List Pair) (defs : List TestDef) (es : List Entry) → are_below 1 es ≡ true → AreAsked env defs 0 (tells gate ∷ []) (tells new ∷ []) es → AreAsked env defs 0 (map tells gates) (map tells (slice_set gates 0 new)) es
+  widened env defs es below asked = by gates some is
+    where
+      by : (gs : List G) → 0 < length gs → gate ≡ get_or gs 0 gate → AreAsked env defs 0 (map tells gs) (map tells (slice_set gs 0 new)) es
+      by [] none is = absurd (omega arith)
+      by (g ∷ gs) some is = asked_first env defs (tells g) (tells new) (map tells gs) es below (subst (λ (x : G). AreAsked env defs 0 (tells x ∷ []) (tells new ∷ []) es) is asked)
 
-memory_part : (s : Sides) (w : Option (List ℕ)) (f : ℕ) (result : Outcome) → Told Memory result s.written_now w s.sink_now f → (result ≡ Memory) × Becomes s.written_now w (AddsPrefix (fault_line Memory))
-memory_part s w f result (inl (same, inl line)) = (same, whole_is_prefix s.written_now w (fault_line Memory) line)
-memory_part s w f result (inl (same, inr part)) = (same, part.1)
-memory_part s w f result (inr (same, part)) = (same, part)
+  pub unchanged : (tells new ∷ []) ≡ (tells gate ∷ []) → map tells (slice_set gates 0 new) ≡ map tells gates
+  unchanged same = by gates some is
+    where
+      first : tells new ≡ tells gate
+      first = cc
 
-memory_ends : (s : Sides) (w : Option (List ℕ)) (f : ℕ) → (IsUnrun s × (s.written_now ≡ s.written_before)) ⊎ HasRunWith s (λ defs plan entries. WroteSome s plan entries) → Becomes s.written_now w (AddsPrefix (fault_line Memory)) → Answers (told_sides s w f) Memory 5
-memory_ends s w f (inl (unrun, unwritten)) part = memory_unrun s w f Memory unrun (still_unrun s w f unrun) unwritten part
-memory_ends s w f (inr run) part = memory_run s w f run part
-
--- the answer at the outcome that was told
-at : (s : Sides) (w : Option (List ℕ)) (f status : ℕ) (outcome result : Outcome) → result ≡ outcome → Answers (told_sides s w f) outcome (exit_status outcome status) → Answers (told_sides s w f) result (exit_status result status)
-at s w f status outcome result is answer = subst (λ (o : Outcome). Answers (told_sides s w f) o (exit_status o status)) (sym is) answer
-
-pub told_answer : (s : Sides) (status : ℕ) (outcome result : Outcome) (w : Option (List ℕ)) (f : ℕ) → Ends s status outcome → Tells outcome result s.written_now w s.sink_now f → Answers (told_sides s w f) result (exit_status result status)
-told_answer s status Completed result w f ends (inl silent) =
-    at s w f status Completed result silent.same (subst (λ (t : Sides). Answers t Completed status) (silent_same s w f silent.unwritten silent.unfailed) ends)
-told_answer s status Completed result w f ends (inr (loud, told)) = absurd (true_is_false loud)
-told_answer s status (Usage word kind) result w f ends (inl silent) = absurd (true_is_false (sym silent.silent))
-told_answer s status (Usage word kind) result w f (usage, unwritten, unfailed) (inr (loud, inl (same, line))) =
-    at s w f status (Usage word kind) result same (still_usage s w f word usage, line_or_part s w f (Usage word kind) unwritten unfailed line, refl)
-told_answer s status (Usage word kind) result w f (usage, unwritten, unfailed) (inr (loud, inr (same, part))) =
-    at s w f status Memory result same (memory_unrun s w f (Usage word kind) usage.unrun (still_usage s w f word usage) unwritten part)
-told_answer s status (Refused refusal) result w f ends (inl silent) = absurd (true_is_false (sym silent.silent))
-told_answer s status (Refused refusal) result w f (refused, unwritten, unfailed) (inr (loud, inl (same, line))) =
-    at s w f status (Refused refusal) result same (still_refusal s w f refusal refused, line_or_part s w f (Refused refusal) unwritten unfailed line, refl)
-told_answer s status (Refused refusal) result w f (refused, unwritten, unfailed) (inr (loud, inr (same, part))) =
-    at s w f status Memory result same (memory_unrun s w f (Refused refusal) refused.unrun (still_refusal s w f refusal refused) unwritten part)
-told_answer s status (FilesFault path) result w f ends (inl silent) = absurd (true_is_false (sym silent.silent))
-told_answer s status (FilesFault path) result w f (fault, unwritten, unfailed) (inr (loud, inl (same, line))) =
-    at s w f status (FilesFault path) result same (still_files_fault s w f path fault, line_or_part s w f (FilesFault path) unwritten unfailed line, refl)
-told_answer s status (FilesFault path) result w f (fault, unwritten, unfailed) (inr (loud, inr (same, part))) =
-    at s w f status Memory result same (memory_unrun s w f (FilesFault path) fault.unrun (still_files_fault s w f path fault) unwritten part)
-told_answer s status OutputFault result w f ends (inl silent) =
-    at s w f status OutputFault result silent.same (subst (λ (t : Sides). Answers t OutputFault 4) (silent_same s w f silent.unwritten silent.unfailed) (ends.0, ends.1, refl))
-told_answer s status OutputFault result w f ends (inr (loud, told)) = absurd (true_is_false loud)
-told_answer s status Memory result w f ends (inl silent) = absurd (true_is_false (sym silent.silent))
-told_answer s status Memory result w f ends (inr (loud, told)) =
-    let part = memory_part s w f result told in
-    at s w f status Memory result part.0 (memory_ends s w f ends part.1)
-
--- what the first gate tells, before and behind a write to it
-pub first_before : {G : Type 0} (tells : G → Gated) (gates : List G) (gate : G) → 0 < length gates → gate ≡ get_or gates 0 gate → first_gate tells gates ≡ tells gate
-first_before tells [] gate some is = absurd (omega arith)
-first_before tells (g ∷ gs) gate some is = ap tells (sym is)
-
-pub first_behind : {G : Type 0} (tells : G → Gated) (gates : List G) (gate : G) → 0 < length gates → first_gate tells (slice_set gates 0 gate) ≡ tells gate
-first_behind tells [] gate some = absurd (omega arith)
-first_behind tells (g ∷ gs) gate some = refl
-
--- the same answer, with what the first gate tells
-pub with_gates : (s : Sides) (before now : Gated) (outcome : Outcome) (status told : ℕ) → before ≡ s.gate_before → now ≡ s.gate_now → told ≡ status → Answers s outcome status → Answers (record s { gate_before = before; gate_now = now }) outcome told
-with_gates s before now outcome status told same_before same_now same answer =
-    let is : s ≡ record s { gate_before = before; gate_now = now } = ap (λ (x : Gated). let t : Sides = record s { gate_before = x } in t) (sym same_before) ∙ ap (λ (x : Gated). let t : Sides = record s { gate_before = before; gate_now = x } in t) (sym same_now) in
-    subst (λ (n : ℕ). Answers (record s { gate_before = before; gate_now = now }) outcome n) (sym same) (subst (λ (t : Sides). Answers t outcome status) is answer)
+      by : (gs : List G) → 0 < length gs → gate ≡ get_or gs 0 gate → map tells (slice_set gs 0 new) ≡ map tells gs
+      by [] none is = absurd (omega arith)
+      by (g ∷ gs) some is = ap (λ (t : GateTell). t ∷ map tells gs) (first ∙ ap tells is)

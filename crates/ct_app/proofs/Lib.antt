@@ -1,10 +1,11 @@
 pub mod PlainLemmas
 pub mod RunLemmas
 pub mod NextLemmas
+pub mod GateLemmas
 pub mod StepLemmas
-pub mod HasRunLemmas
 pub mod LineLemmas
-pub mod Progress
+pub mod PutLemmas
+pub mod AlongLemmas
 pub mod ReportLemmas
 pub mod EndLemmas
 pub mod AnswerLemmas

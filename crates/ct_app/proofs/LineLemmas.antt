@@ -1,11 +1,10 @@
--- The lines of a run of plain tests, with one test more.
+-- The lines of a history with one entry more: an End or a Settle that makes a test final brings its line, and no other entry does.
 use Rattle.std.proofs.Common.{◌≡◌, ◌∙◌, sym, ap, ℕ, ◌+◌, List, [], ◌∷◌, ◌++◌, length, refl, arith, append_assoc, length-append}
-use Rattle.std.specs.Prelude.{Option, Some, None, slice_get}
+use Rattle.std.specs.Prelude.{Option, Some, None, IsSome}
 use Rattle.std.proofs.lemmas.List.{append-nil}
-use Rattle.ct_base.specs.declared.defs.TestDef.{TestDef}
+use Rattle.ct_alloc.specs.declared.placement.Placement.{Placement}
 use Rattle.ct_verdict.specs.declared.attempt.Seen.{Seen}
 use Rattle.ct_verdict.specs.declared.verdict.Verdict.{Verdict}
-use Rattle.ct_verdict.specs.Verdict.{verdict_of}
 use Rattle.ct_history.specs.declared.plan.PlanTest.{PlanTest}
 use Rattle.ct_history.specs.declared.plan.PlanParts.{PlanParts}
 use Rattle.ct_history.specs.declared.history.Entry.{Entry}
@@ -13,10 +12,6 @@ use Rattle.ct_history.specs.declared.history.Entry.TheVariants.{Start, End}
 use Rattle.ct_history.specs.Plan.{test_at}
 use Rattle.ct_history.specs.Verdicts.{verdict_at, verdict_in, verdict_of_test}
 use Rattle.ct_report.specs.Report.{finished_by, line_with, lines_behind, lines_of_test, lines_with, test_line, test_lines, text_of}
-use Rattle.ct_app.specs.Plain.{once, plain_rules, plain_test, plain_tests, plan_of}
-use Rattle.ct_app.specs.Run.{run_entries}
-use Rattle.ct_app.proofs.PlainLemmas.{test_at-plain_tests}
-use Rattle.ct_app.proofs.RunLemmas.{run_entries-snoc, verdict_within}
 
 lines_behind-snoc : (plan : PlanParts) (finals : ℕ) (front es : List Entry) (e : Entry) → lines_behind plan finals front (es ++ e ∷ []) ≡ lines_behind plan finals front es ++ lines_of_test plan ((front ++ es) ++ e ∷ []) (finals + length (lines_behind plan finals front es) + 1) (finished_by e)
 lines_behind-snoc plan finals front [] e =
@@ -37,56 +32,45 @@ lines_behind-snoc plan finals front (x ∷ xs) e =
     count : (ls ms : List (List ℕ)) → finals + length ls + length ms + 1 ≡ finals + length (ls ++ ms) + 1
     count ls ms = omega (arith, length-append ls ms)
 
--- the lines of a history with one entry more
-test_lines-snoc : (plan : PlanParts) (es : List Entry) (e : Entry) → test_lines plan (es ++ e ∷ []) ≡ test_lines plan es ++ lines_of_test plan (es ++ e ∷ []) (length (test_lines plan es) + 1) (finished_by e)
+-- one entry more
+pub test_lines-snoc : (plan : PlanParts) (es : List Entry) (e : Entry) → test_lines plan (es ++ e ∷ []) ≡ test_lines plan es ++ lines_of_test plan (es ++ e ∷ []) (length (test_lines plan es) + 1) (finished_by e)
 test_lines-snoc plan es e =
     lines_behind-snoc plan 0 [] es e ∙ ap (λ (k : ℕ). test_lines plan es ++ lines_of_test plan (es ++ e ∷ []) k (finished_by e)) count
   where
     count : 0 + length (test_lines plan es) + 1 ≡ length (test_lines plan es) + 1
     count = omega arith
 
--- the next test's verdict and its line
-module _ (dir : List ℕ) (defs : List TestDef) (ss : List Seen) (seen : Seen) (m : ℕ) (def : TestDef) (is : m ≡ 1 + length ss) (there : slice_get defs (length ss) ≡ Some def) where
-  pub next_verdict : verdict_in once (plain_test m def) (run_entries 1 (ss ++ seen ∷ [])) ≡ Some (verdict_of plain_rules seen)
-  next_verdict = verdict_within m (length ss) def (ss ++ seen ∷ []) seen is (last ss)
-    where
-      last : (xs : List Seen) → slice_get (xs ++ seen ∷ []) (length xs) ≡ Some seen
-      last [] = refl
-      last (x ∷ xs) = last xs
+line_by : (plan : PlanParts) (es : List Entry) (place : ℕ) (t : PlanTest) (v : Option Verdict) → IsSome v → lines_with plan es place (Some t) v ≡ line_with plan es place t v ∷ []
+line_by plan es place t None some = cc
+line_by plan es place t (Some v) some = refl
 
-  pub next_test : test_at (plain_tests 1 defs) m ≡ Some (plain_test m def)
-  next_test = test_at-plain_tests 1 defs m (length ss) def is there
+line_at : (plan : PlanParts) (es : List Entry) (place : ℕ) (o : Option PlanTest) → IsSome (verdict_at plan es o) → lines_with plan es place o (verdict_at plan es o) ≡ test_line plan es place o ∷ []
+line_at plan es place None some = cc
+line_at plan es place (Some t) some = line_by plan es place t (verdict_in plan.repeat t es) some
 
-  pub next_final : verdict_of_test (plan_of dir defs) (run_entries 1 (ss ++ seen ∷ [])) m ≡ Some (verdict_of plain_rules seen)
-  next_final = ap (λ (t : Option PlanTest). verdict_at (plan_of dir defs) (run_entries 1 (ss ++ seen ∷ [])) t) next_test ∙ next_verdict
+-- an attempt more whose test is final brings its line
+module _ (plan : PlanParts) (es : List Entry) (t a w : ℕ) (p : Option Placement) (seen : Seen) where
+  split : es ++ Start t a w p ∷ End t a w seen ∷ [] ≡ (es ++ Start t a w p ∷ []) ++ End t a w seen ∷ []
+  split = sym (append_assoc es (Start t a w p ∷ []) (End t a w seen ∷ []))
 
-  -- the lines gain that of the next test
-  pub next_line : length (test_lines (plan_of dir defs) (run_entries 1 ss)) ≡ length ss → test_lines (plan_of dir defs) (run_entries 1 (ss ++ seen ∷ [])) ≡ test_lines (plan_of dir defs) (run_entries 1 ss) ++ test_line (plan_of dir defs) (run_entries 1 (ss ++ seen ∷ [])) m (test_at (plain_tests 1 defs) m) ∷ []
-  next_line lined =
-      let plan = plan_of dir defs in
-      let es = run_entries 1 ss in
-      let start = Start m 1 0 None in
-      let end = End m 1 0 seen in
-      let longer = run_entries 1 (ss ++ seen ∷ []) in
-      let whole : longer ≡ (es ++ start ∷ []) ++ end ∷ [] = run_entries-snoc 1 ss seen m is ∙ sym (append_assoc es (start ∷ []) (end ∷ [])) in
-      let begun : test_lines plan (es ++ start ∷ []) ≡ test_lines plan es = test_lines-snoc plan es start ∙ append-nil (test_lines plan es) in
-      let place : length (test_lines plan es) + 1 ≡ m = omega (arith, is, lined) in
-      let verdict = verdict_of plain_rules seen in
-      ap (λ (xs : List Entry). test_lines plan xs) whole
-      ∙ test_lines-snoc plan (es ++ start ∷ []) end
-      ∙ ap (λ (ls : List (List ℕ)). ls ++ lines_of_test plan ((es ++ start ∷ []) ++ end ∷ []) (length ls + 1) (Some m)) begun
-      ∙ ap (λ (xs : List Entry). test_lines plan es ++ lines_of_test plan xs (length (test_lines plan es) + 1) (Some m)) (sym whole)
-      ∙ ap (λ (k : ℕ). test_lines plan es ++ lines_of_test plan longer k (Some m)) place
-      ∙ ap (λ (v : Option Verdict). test_lines plan es ++ lines_with plan longer m (test_at (plain_tests 1 defs) m) v) next_final
-      ∙ ap (λ (t : Option PlanTest). test_lines plan es ++ lines_with plan longer m t (Some verdict)) next_test
-      ∙ ap (λ (v : Option Verdict). test_lines plan es ++ line_with plan longer m (plain_test m def) v ∷ []) (sym next_verdict)
-      ∙ ap (λ (t : Option PlanTest). test_lines plan es ++ test_line plan longer m t ∷ []) (sym next_test)
+  pub lines_of_start : test_lines plan (es ++ Start t a w p ∷ []) ≡ test_lines plan es
+  lines_of_start = test_lines-snoc plan es (Start t a w p) ∙ append-nil (test_lines plan es)
 
--- the text of lines with one line more
-pub text_of-snoc : (lines : List (List ℕ)) (line : List ℕ) → text_of (lines ++ line ∷ []) ≡ text_of lines ++ line
-text_of-snoc [] line = append-nil line
-text_of-snoc (l ∷ ls) line = ap (λ (t : List ℕ). l ++ t) (text_of-snoc ls line) ∙ sym (append_assoc l (text_of ls) line)
+  pub lines_of_both : test_lines plan (es ++ Start t a w p ∷ End t a w seen ∷ []) ≡ test_lines plan es ++ lines_of_test plan (es ++ Start t a w p ∷ End t a w seen ∷ []) (length (test_lines plan es) + 1) (Some t)
+  lines_of_both =
+      ap (λ (xs : List Entry). test_lines plan xs) split
+      ∙ test_lines-snoc plan (es ++ Start t a w p ∷ []) (End t a w seen)
+      ∙ ap (λ (ls : List (List ℕ)). ls ++ lines_of_test plan ((es ++ Start t a w p ∷ []) ++ End t a w seen ∷ []) (length ls + 1) (Some t)) lines_of_start
+      ∙ ap (λ (xs : List Entry). test_lines plan es ++ lines_of_test plan xs (length (test_lines plan es) + 1) (Some t)) (sym split)
+
+  pub line_of_both : IsSome (verdict_of_test plan (es ++ Start t a w p ∷ End t a w seen ∷ []) t) → test_lines plan (es ++ Start t a w p ∷ End t a w seen ∷ []) ≡ test_lines plan es ++ test_line plan (es ++ Start t a w p ∷ End t a w seen ∷ []) (length (test_lines plan es) + 1) (test_at plan.tests t) ∷ []
+  line_of_both final =
+      lines_of_both ∙ ap (λ (ls : List (List ℕ)). test_lines plan es ++ ls) (line_at plan (es ++ Start t a w p ∷ End t a w seen ∷ []) (length (test_lines plan es) + 1) (test_at plan.tests t) final)
 
 pub text_of-append : (lines more : List (List ℕ)) → text_of (lines ++ more) ≡ text_of lines ++ text_of more
 text_of-append [] more = refl
 text_of-append (l ∷ ls) more = ap (λ (t : List ℕ). l ++ t) (text_of-append ls more) ∙ sym (append_assoc l (text_of ls) (text_of more))
+
+-- the text of lines with one line more
+pub text_of-snoc : (lines : List (List ℕ)) (line : List ℕ) → text_of (lines ++ line ∷ []) ≡ text_of lines ++ line
+text_of-snoc lines line = text_of-append lines (line ∷ []) ∙ ap (λ (t : List ℕ). text_of lines ++ t) (append-nil line)

@@ -73,5 +73,6 @@ sound dir defs = record {
   fixed = unfixed 1 defs;
   queue = subst (λ (ts : List PlanTest). IsPermutation (map (λ (t : PlanTest). t.number) (plain_tests 1 defs)) (map (λ (t : PlanTest). t.number) ts)) (sym (all_enabled 1 defs)) (IsPermutation-refl (map (λ (t : PlanTest). t.number) (plain_tests 1 defs)));
   times = omega arith;
-  resources = refl;
+  distinct = tt;
+  placeable = tt;
 }

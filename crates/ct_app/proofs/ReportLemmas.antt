@@ -1,117 +1,86 @@
--- The report of a run of plain tests, whole and in part.
-use Rattle.std.proofs.Common.{◌≡◌, ◌∙◌, sym, ap, subst, true, false, ℕ, List, [], ◌∷◌, ◌++◌, length, refl, arith}
-use Rattle.std.specs.Prelude.{Option, codes, ◌==◌, if◌then◌else◌}
+-- The report of a run: its header, its lines and its summary as one text, and how a run ended behind its header.
+use Rattle.std.proofs.Common.{◌≡◌, ◌∙◌, sym, ap, true, false, Bool, ℕ, List, [], ◌∷◌, ◌++◌, length, refl, arith, inl, inr}
+use Rattle.std.specs.Prelude.{Result, Ok, Err, codes, ◌==◌, if◌then◌else◌}
 use Rattle.std.proofs.lemmas.List.{append-nil}
+use Rattle.std.specs.List.{list_all}
 use Rattle.std.proofs.Common.{eqb-true}
-use Rattle.ct_base.specs.declared.defs.Pair.{Pair}
 use Rattle.ct_base.specs.declared.defs.TestDef.{TestDef}
-use Rattle.ct_base.specs.Outside.{Adds, AddsPrefix, Becomes}
-use Rattle.ct_verdict.specs.declared.attempt.Seen.{Seen}
+use Rattle.ct_base.specs.declared.sink.SinkFault.{SinkFault}
+use Rattle.ct_base.specs.declared.sink.SinkFault.TheVariants as Sinks
+use Rattle.ct_base.specs.Outside.{Puts, SinkTell}
 use Rattle.ct_history.specs.declared.plan.PlanTest.{PlanTest}
 use Rattle.ct_history.specs.declared.plan.PlanParts.{PlanParts}
 use Rattle.ct_history.specs.declared.history.Entry.{Entry}
-use Rattle.ct_history.specs.Verdicts.{are_all_final}
-use Rattle.ct_core.specs.CoreValue.{CoreValue}
+use Rattle.ct_history.specs.History.{open_starts}
+use Rattle.ct_history.specs.Legal.{IsComplete}
+use Rattle.ct_history.specs.Verdicts.{are_all_final, is_final_in}
 use Rattle.ct_report.specs.Report.{body_lines, header_line, report_text, summary_lines, test_lines, text_of}
-use Rattle.ct_report.proofs.PutLemmas.{adds_then_adds, adds_then_prefix, prefix_of_more}
-use Rattle.ct_app.specs.Plain.{plan_of}
-use Rattle.ct_app.specs.Run.{seens_in}
-use Rattle.ct_app.specs.Steps.{Gated, HasRun, IsReported, RunsWhole, had_memory, running}
+use Rattle.ct_app.specs.Plain.{plain_tests, plan_of}
+use Rattle.ct_app.specs.Run.{RunEnds}
 use Rattle.ct_app.proofs.LineLemmas.{text_of-append}
-use Rattle.ct_app.proofs.NextLemmas.{all_final}
-use Rattle.ct_app.proofs.Progress.{along_none}
-
--- a run that has only begun
-pub begun : (env : List Pair) (dir : List ℕ) (defs : List TestDef) (start : Gated) (core : CoreValue) (before : Option (List ℕ)) (faults : ℕ) → core ≡ running dir defs [] → HasRun env dir defs (seens_in core.entries) start start core
-begun env dir defs start core before faults is = (along_none env dir defs start core before faults is).run
-
--- no test at all
-module _ (dir : List ℕ) (core : CoreValue) (is : core ≡ running dir [] []) where
-  none_text : report_text core.plan core.entries ≡ header_line core.plan ++ codes "No tests were found!!!\n"
-  none_text = ap (λ (c : CoreValue). header_line c.plan ++ text_of (body_lines c.plan c.entries c.plan.tests)) is ∙ ap (λ (t : List ℕ). header_line (plan_of dir []) ++ t) (append-nil (codes "No tests were found!!!\n")) ∙ ap (λ (c : CoreValue). header_line c.plan ++ codes "No tests were found!!!\n") (sym is)
-
-  pub none_written : (before mid after : Option (List ℕ)) → Becomes before mid (Adds (header_line core.plan)) → Becomes mid after (Adds (codes "No tests were found!!!\n")) → Becomes before after (Adds (report_text core.plan core.entries))
-  none_written before mid after head line = subst (λ (t : List ℕ). Becomes before after (Adds t)) (sym none_text) (adds_then_adds before mid after (header_line core.plan) (codes "No tests were found!!!\n") head line)
-
-  pub none_torn : (before mid after : Option (List ℕ)) → Becomes before mid (Adds (header_line core.plan)) → Becomes mid after (AddsPrefix (codes "No tests were found!!!\n")) → Becomes before after (AddsPrefix (report_text core.plan core.entries))
-  none_torn before mid after head line = subst (λ (t : List ℕ). Becomes before after (AddsPrefix t)) (sym none_text) (adds_then_prefix before mid after (header_line core.plan) (codes "No tests were found!!!\n") head line)
+use Rattle.ct_app.proofs.PutLemmas.{puts_more, puts_same, puts_then}
 
 -- the header alone, or a beginning of it
-pub header_torn : (plan : PlanParts) (es : List Entry) (before after : Option (List ℕ)) → Becomes before after (AddsPrefix (header_line plan)) → Becomes before after (AddsPrefix (report_text plan es))
-header_torn plan es before after head = prefix_of_more before after (header_line plan) (text_of (body_lines plan es plan.tests)) head
+pub header_fails : (plan : PlanParts) (es : List Entry) (old new : SinkTell) (fault : SinkFault) → Puts (header_line plan) old new (Err fault) → Puts (report_text plan es) old new (Err fault)
+header_fails plan es old new fault head = puts_more old new (header_line plan) (text_of (body_lines plan es plan.tests)) fault head
 
--- some tests
-module _ {env : List Pair} {dir : List ℕ} {d : TestDef} {ds : List TestDef} {start now : Gated} {core : CoreValue} (run : HasRun env dir (d ∷ ds) (seens_in core.entries) start now core) where
-  rest : List (List ℕ)
-  rest = if are_all_final core.plan core.entries then summary_lines core.plan core.entries else []
-
-  some_text : report_text core.plan core.entries ≡ header_line core.plan ++ (text_of (test_lines core.plan core.entries) ++ text_of rest)
-  unfolding rest
-  some_text =
-      ap (λ (ts : List PlanTest). header_line core.plan ++ text_of (body_lines core.plan core.entries ts)) (ap (λ (c : CoreValue). c.plan.tests) run.at)
-      ∙ ap (λ (t : List ℕ). header_line core.plan ++ t) (text_of-append (test_lines core.plan core.entries) rest)
-
-  pub lines_torn : (before mid after : Option (List ℕ)) → Becomes before mid (Adds (header_line core.plan)) → Becomes mid after (AddsPrefix (text_of (test_lines core.plan core.entries))) → Becomes before after (AddsPrefix (report_text core.plan core.entries))
-  lines_torn before mid after head lines =
-      subst (λ (t : List ℕ). Becomes before after (AddsPrefix t)) (sym some_text)
-      (adds_then_prefix before mid after (header_line core.plan) (text_of (test_lines core.plan core.entries) ++ text_of rest) head (prefix_of_more mid after (text_of (test_lines core.plan core.entries)) (text_of rest) lines))
-
-  module _ (whole : length (seens_in core.entries) ≡ length (d ∷ ds)) where
-    final : are_all_final core.plan core.entries ≡ true
-    final = ap (λ (c : CoreValue). are_all_final c.plan c.entries) run.at ∙ all_final dir (d ∷ ds) (seens_in core.entries) whole
-
-    rest_is : text_of rest ≡ text_of (summary_lines core.plan core.entries)
-    unfolding rest
-    rest_is = ap (λ b. text_of (if b then summary_lines core.plan core.entries else [])) final
-
-    pub all_written : (before first mid after : Option (List ℕ)) → Becomes before first (Adds (header_line core.plan)) → Becomes first mid (Adds (text_of (test_lines core.plan core.entries))) → Becomes mid after (Adds (text_of (summary_lines core.plan core.entries))) → Becomes before after (Adds (report_text core.plan core.entries))
-    all_written before first mid after head lines end =
-        subst (λ (t : List ℕ). Becomes before after (Adds t)) (sym some_text)
-        (adds_then_adds before first after (header_line core.plan) (text_of (test_lines core.plan core.entries) ++ text_of rest) head
-        (adds_then_adds first mid after (text_of (test_lines core.plan core.entries)) (text_of rest) lines (subst (λ (t : List ℕ). Becomes mid after (Adds t)) (sym rest_is) end)))
-
-    pub summary_torn : (before first mid after : Option (List ℕ)) → Becomes before first (Adds (header_line core.plan)) → Becomes first mid (Adds (text_of (test_lines core.plan core.entries))) → Becomes mid after (AddsPrefix (text_of (summary_lines core.plan core.entries))) → Becomes before after (AddsPrefix (report_text core.plan core.entries))
-    summary_torn before first mid after head lines end =
-        subst (λ (t : List ℕ). Becomes before after (AddsPrefix t)) (sym some_text)
-        (adds_then_prefix before first after (header_line core.plan) (text_of (test_lines core.plan core.entries) ++ text_of rest) head
-        (adds_then_prefix first mid after (text_of (test_lines core.plan core.entries)) (text_of rest) lines (subst (λ (t : List ℕ). Becomes mid after (AddsPrefix t)) (sym rest_is) end)))
-
--- the plan of a run stays
-pub same_plan : (env : List Pair) (dir : List ℕ) (defs : List TestDef) (ss : List Seen) (start now : Gated) (old core : CoreValue) → old ≡ running dir defs [] → HasRun env dir defs ss start now core → old.plan ≡ core.plan
-same_plan env dir defs ss start now old core fresh run = ap (λ (c : CoreValue). c.plan) fresh ∙ sym (ap (λ (c : CoreValue). c.plan) run.at)
-
-empty_is : {A : Type 0} (xs : List A) → (length xs == 0) ≡ true → xs ≡ []
-empty_is [] is = refl
-empty_is (x ∷ xs) is = absurd (omega (arith, eqb-true (length (x ∷ xs)) 0 is))
-
--- a run without tests is whole
-pub none_reported : (dir : List ℕ) (defs : List TestDef) (core : CoreValue) → (length defs == 0) ≡ true → core ≡ running dir defs [] → (before mid after : Option (List ℕ)) → Becomes before mid (Adds (header_line core.plan)) → Becomes mid after (Adds (codes "No tests were found!!!\n")) → IsReported defs core.plan core.entries before after
-none_reported dir [] core empty is before mid after head line = record {
-  whole = ap (λ (c : CoreValue). length (seens_in c.entries)) is;
-  memory = ap (λ (c : CoreValue). had_memory (seens_in c.entries)) is;
-  written = none_written dir core is before mid after head line;
-}
-none_reported dir (d ∷ ds) core empty is before mid after head line = absurd (omega (arith, eqb-true (length (d ∷ ds)) 0 empty))
-
-pub none_torn_at : (dir : List ℕ) (defs : List TestDef) (core : CoreValue) → (length defs == 0) ≡ true → core ≡ running dir defs [] → (before mid after : Option (List ℕ)) → Becomes before mid (Adds (header_line core.plan)) → Becomes mid after (AddsPrefix (codes "No tests were found!!!\n")) → Becomes before after (AddsPrefix (report_text core.plan core.entries))
-none_torn_at dir [] core empty is before mid after head line = none_torn dir core is before mid after head line
-none_torn_at dir (d ∷ ds) core empty is before mid after head line = absurd (omega (arith, eqb-true (length (d ∷ ds)) 0 empty))
+-- an end behind the lines is one behind the header
+pub behind_header : (plan : PlanParts) (es : List Entry) (old mid new : SinkTell) (fault : SinkFault) → Puts (header_line plan) old mid (Ok tt) → RunEnds [] plan es mid new (Err fault) → RunEnds (header_line plan) plan es old new (Err fault)
+behind_header plan es old mid new Sinks.Failed head ends = ends
+behind_header plan es old mid new Sinks.NoMemory head (inl had) = inl had
+behind_header plan es old mid new Sinks.NoMemory head (inr lacks) = inr (record {
+  front = lacks.front;
+  last = lacks.last;
+  is = lacks.is;
+  lacks = lacks.lacks;
+  others = lacks.others;
+  put = puts_then old mid new (header_line plan) (text_of (test_lines plan lacks.front)) (Ok tt) head lacks.put;
+})
 
 full : (length {A = TestDef} [] == 0) ≡ false → ⊥
 full is = cc
 
-pub lines_torn_at : (env : List Pair) (dir : List ℕ) (defs : List TestDef) (start now : Gated) (core : CoreValue) → (length defs == 0) ≡ false → HasRun env dir defs (seens_in core.entries) start now core → (before mid after : Option (List ℕ)) → Becomes before mid (Adds (header_line core.plan)) → Becomes mid after (AddsPrefix (text_of (test_lines core.plan core.entries))) → Becomes before after (AddsPrefix (report_text core.plan core.entries))
-lines_torn_at env dir [] start now core some run before mid after head lines = absurd (full some)
-lines_torn_at env dir (d ∷ ds) start now core some run before mid after head lines = lines_torn run before mid after head lines
+module _ (plan : PlanParts) (es : List Entry) (defs : List TestDef) (planned : plan ≡ plan_of plan.dir defs) where
+  tests_are : plan.tests ≡ plain_tests 1 defs
+  tests_are = ap (λ (p : PlanParts). p.tests) planned
 
-pub summary_torn_at : (env : List Pair) (dir : List ℕ) (defs : List TestDef) (start now : Gated) (core : CoreValue) → (length defs == 0) ≡ false → HasRun env dir defs (seens_in core.entries) start now core → (before first mid after : Option (List ℕ)) → Becomes before first (Adds (header_line core.plan)) → RunsWhole defs core.plan core.entries first mid → Becomes mid after (AddsPrefix (text_of (summary_lines core.plan core.entries))) → Becomes before after (AddsPrefix (report_text core.plan core.entries))
-summary_torn_at env dir [] start now core some run before first mid after head lines end = absurd (full some)
-summary_torn_at env dir (d ∷ ds) start now core some run before first mid after head lines end = summary_torn run lines.whole before first mid after head lines.written end
+  -- no test at all
+  module _ (none : (length defs == 0) ≡ true) where
+    no_tests : (ds : List TestDef) → (length ds == 0) ≡ true → plain_tests 1 ds ≡ []
+    no_tests [] is = refl
+    no_tests (d ∷ ds) is = absurd (omega (arith, eqb-true (length (d ∷ ds)) 0 is))
 
-pub all_reported : (env : List Pair) (dir : List ℕ) (defs : List TestDef) (start now : Gated) (core : CoreValue) → (length defs == 0) ≡ false → HasRun env dir defs (seens_in core.entries) start now core → (before first mid after : Option (List ℕ)) → Becomes before first (Adds (header_line core.plan)) → RunsWhole defs core.plan core.entries first mid → Becomes mid after (Adds (text_of (summary_lines core.plan core.entries))) → IsReported defs core.plan core.entries before after
-all_reported env dir [] start now core some run before first mid after head lines end = absurd (full some)
-all_reported env dir (d ∷ ds) start now core some run before first mid after head lines end = record {
-  whole = lines.whole;
-  memory = lines.memory;
-  written = all_written run lines.whole before first mid after head lines.written end;
-}
+    none_text : report_text plan es ≡ header_line plan ++ codes "No tests were found!!!\n"
+    none_text =
+        ap (λ (ts : List PlanTest). header_line plan ++ text_of (body_lines plan es ts)) (tests_are ∙ no_tests defs none) ∙ ap (λ (t : List ℕ). header_line plan ++ t) (append-nil (codes "No tests were found!!!\n"))
+
+    pub none_puts : (old mid new : SinkTell) (result : Result (Unit {0}) SinkFault) → Puts (header_line plan) old mid (Ok tt) → Puts (codes "No tests were found!!!\n") mid new result → Puts (report_text plan es) old new result
+    none_puts old mid new result head line = puts_same old new _ _ result (sym none_text) (puts_then old mid new (header_line plan) (codes "No tests were found!!!\n") result head line)
+
+    pub none_complete : open_starts es ≡ [] → IsComplete plan es
+    none_complete closed = record {
+      final = ap (λ (ts : List PlanTest). list_all (λ (t : PlanTest). is_final_in plan.repeat t es) ts) (tests_are ∙ no_tests defs none);
+      closed = closed;
+    }
+
+  -- some tests
+  module _ (some : (length defs == 0) ≡ false) where
+    body_text : (ds : List TestDef) → (length ds == 0) ≡ false → text_of (body_lines plan es (plain_tests 1 ds)) ≡ text_of (test_lines plan es) ++ text_of (if are_all_final plan es then summary_lines plan es else [])
+    body_text [] is = absurd (full is)
+    body_text (d ∷ ds) is = text_of-append (test_lines plan es) (if are_all_final plan es then summary_lines plan es else [])
+
+    some_text : report_text plan es ≡ header_line plan ++ (text_of (test_lines plan es) ++ text_of (if are_all_final plan es then summary_lines plan es else []))
+    some_text =
+        ap (λ (ts : List PlanTest). header_line plan ++ text_of (body_lines plan es ts)) tests_are ∙ ap (λ (t : List ℕ). header_line plan ++ t) (body_text defs some)
+
+    -- the lines, not all of them
+    pub lines_fail : (old mid new : SinkTell) (fault : SinkFault) → Puts (header_line plan) old mid (Ok tt) → Puts (text_of (test_lines plan es)) mid new (Err fault) → Puts (report_text plan es) old new (Err fault)
+    lines_fail old mid new fault head lines =
+        puts_same old new _ _ (Err fault) (sym some_text) (puts_then old mid new (header_line plan) _ (Err fault) head (puts_more mid new (text_of (test_lines plan es)) _ fault lines))
+
+    -- all lines, and the summary or a part of it
+    pub summary_puts : (old first mid new : SinkTell) (result : Result (Unit {0}) SinkFault) → are_all_final plan es ≡ true → Puts (header_line plan) old first (Ok tt) → Puts (text_of (test_lines plan es)) first mid (Ok tt) → Puts (text_of (summary_lines plan es)) mid new result → Puts (report_text plan es) old new result
+    summary_puts old first mid new result final head lines end =
+        let rest : text_of (summary_lines plan es) ≡ text_of (if are_all_final plan es then summary_lines plan es else []) = ap (λ (b : Bool). text_of (if b then summary_lines plan es else [])) (sym final) in
+        puts_same old new _ _ result (sym some_text)
+        (puts_then old first new (header_line plan) _ result head (puts_then first mid new (text_of (test_lines plan es)) _ result lines (puts_same mid new _ _ result rest end)))

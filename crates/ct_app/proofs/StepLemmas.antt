@@ -1,146 +1,125 @@
--- One test more in a run of plain tests.
-use Rattle.std.proofs.Common.{◌≡◌, ◌∙◌, sym, ap, subst, true, false, ℕ, ◌+◌, ◌<◌, ◌≤◌, List, [], ◌∷◌, ◌++◌, length, refl, arith, inl, inr, append_assoc}
-use Rattle.std.specs.Prelude.{Option, Some, None, ◌==◌, ◌&&◌, ◌||◌, ◌⊎◌}
+-- A step of a run, in which an attempt starts and ends while nothing else is open.
+use Rattle.std.proofs.Common.{◌≡◌, ◌∙◌, sym, ap, subst, Bool, true, false, ℕ, ◌-◌, ◌<◌, List, [], ◌∷◌, ◌++◌, length, refl, arith, inl, inr, append_assoc, get_or}
+use Rattle.std.specs.Prelude.{Option, Some, None, IsSome, nat_lt, ◌==◌, ◌&&◌, ◌||◌, cond, slice_get}
 use Rattle.std.specs.List.{list_any, cons_option}
-use Rattle.std.proofs.Common.{◌-◌, get_or}
-use Rattle.std.specs.Prelude.{slice_get}
-use Rattle.std.proofs.lemmas.Option.{slice_get_read}
-use Rattle.std.proofs.lemmas.Bool.{cases_eq}
+use Rattle.std.proofs.lemmas.Bool.{cases_Bool}
 use Rattle.std.proofs.lemmas.Bool.Decides.{nat_tests}
+use Rattle.std.proofs.lemmas.List.Folds.{list_all-append, list_any-append}
+use Rattle.std.proofs.lemmas.Option.{slice_get_read, slice_get_within}
 use Rattle.ct_base.specs.declared.defs.Pair.{Pair}
 use Rattle.ct_base.specs.declared.defs.TestDef.{TestDef}
 use Rattle.ct_alloc.specs.declared.placement.Placement.{Placement}
 use Rattle.ct_verdict.specs.declared.attempt.Seen.{Seen}
-use Rattle.ct_verdict.specs.declared.verdict.Cause.{Cause}
+use Rattle.ct_history.specs.declared.plan.PlanParts.{PlanParts}
 use Rattle.ct_history.specs.declared.history.Entry.{Entry}
 use Rattle.ct_history.specs.declared.history.Entry.TheVariants as Is
-use Rattle.ct_history.specs.History.{Running, opened, open_starts, is_busy_in, holds_start}
-use Rattle.ct_history.proofs.OpenLemmas.{open_starts-snoc}
-use Rattle.ct_core.specs.declared.choice.Choice.{Choice}
-use Rattle.ct_core.specs.declared.choice.Choice.TheVariants.{Done, Settle, Start, Wait}
+use Rattle.ct_history.specs.History.{Running, is_end_of, opened, open_starts}
+use Rattle.ct_history.specs.Verdicts.{verdict_of_test}
+use Rattle.ct_core.specs.declared.scheduler.Next.TheVariants as Says
 use Rattle.ct_core.specs.declared.ticket.Ticket.{Ticket}
-use Rattle.ct_core.specs.Choice.{choice_of}
-use Rattle.ct_core.specs.Core.{Rests, SettlesChosen, StartsChosen, with_entry}
+use Rattle.ct_core.specs.Core.{StartsFirst, with_entry, with_final}
+use Rattle.ct_core.proofs.CallerLemmas.{with_final-off}
 use Rattle.ct_core.specs.CoreValue.{CoreValue}
+use Rattle.ct_core.specs.Gate.{GateTell}
 use Rattle.ct_core.specs.Ticket.{end_of, holds_ticket, start_of}
-use Rattle.ct_app.specs.Plain.{plan_of}
-use Rattle.ct_app.specs.Run.{run_entries}
-use Rattle.ct_app.specs.Steps.{Gated, RunsAttempt, RunsNext, running}
-use Rattle.ct_app.proofs.NextLemmas.{next_done, next_starts}
-use Rattle.ct_app.proofs.RunLemmas.{run_idle, run_entries-snoc}
+use Rattle.ct_app.specs.Attempt.{RanOnce, RunsAttempt, StaysAsked, run_of}
+use Rattle.ct_app.specs.Gates.{IsAsked, are_below, is_below}
+use Rattle.ct_app.specs.Run.{IsBetween}
+use Rattle.ct_app.proofs.GateLemmas.{asked_more}
+use Rattle.ct_app.proofs.NextLemmas.{StartsNext, plain_next}
 
--- what a start in such a run is: the next test's first attempt
-pub record IsStarted (defs : List TestDef) (ss : List Seen) (ticket : Ticket) (core : CoreValue) : Type 0 where
-  pub less : length ss < length defs
-  pub test : ticket.test ≡ 1 + length ss
-  pub attempt : ticket.attempt ≡ 1
-  pub holds : holds_ticket ticket core.entries ≡ true
+eq_same : (n : ℕ) → (n == n) ≡ true
+eq_same n = grind (arith, nat_tests)
 
--- what is chosen: the next start, or that all is done
-chosen : (dir : List ℕ) (defs : List TestDef) (ss : List Seen) → length ss ≤ length defs → (choice : Choice) → choice_of (plan_of dir defs) (run_entries 1 ss) ≡ choice → ((length ss < length defs) × (choice ≡ Start (1 + length ss) 1)) ⊎ ((length ss ≡ length defs) × (choice ≡ Done))
-chosen dir defs ss few choice is = elim (cases_eq (length ss) (length defs)) [
-  | inl whole ↦ inr (whole, sym is ∙ next_done dir defs ss whole)
-  | inr less ↦
-      let lt : length ss < length defs = omega (arith, less) in
-      inl (lt, sym is ∙ next_starts dir defs ss (1 + length ss) lt refl)
+no_option : (o : Option Running) (rest : List Running) → cons_option o rest ≡ [] → (o ≡ None) × (rest ≡ [])
+no_option None rest is = (refl, is)
+no_option (Some r) rest is = cc
+
+-- what is closed stays closed
+closed_stays : (e : Entry) (es more : List Entry) → opened e es ≡ None → opened e (es ++ more) ≡ None
+closed_stays (Is.Start t a w p) es more is = elim (cases_Bool (list_any (is_end_of t a) es)) [
+  | inl ended ↦ ap (λ (b : Bool). cond b None (Some (record { test = t; attempt = a; worker = w; placement = p }))) (list_any-append (is_end_of t a) es more ∙ ap (λ (b : Bool). b || list_any (is_end_of t a) more) ended)
+  | inr waits ↦
+      let run : Running = record { test = t; attempt = a; worker = w; placement = p } in
+      let no : Some run ≡ None = sym (ap (λ (b : Bool). cond b None (Some run)) waits) ∙ is in
+      cc
 ]
+closed_stays (Is.End t a w s) es more is = refl
+closed_stays (Is.Settle t c) es more is = refl
+closed_stays Is.Stop es more is = refl
 
-held_by_start : (n : ℕ) (rs : List Running) → rs ≡ record { test = n; attempt = 1; worker = 0; placement = None } ∷ [] → list_any (λ (r : Running). r.test == n && r.attempt == 1 && r.worker == 0) rs ≡ true
-held_by_start n rs is =
-    ap (λ (xs : List Running). list_any (λ (r : Running). r.test == n && r.attempt == 1 && r.worker == 0) xs) is ∙ found
-  where
-    found : ((n == n && 1 == 1 && 0 == 0) || false) ≡ true
-    found = grind (arith, nat_tests)
+-- where nothing is open, what is open behind it is what comes behind it opens
+pub open_starts-append : (es more : List Entry) → open_starts es ≡ [] → open_starts (es ++ more) ≡ open_starts more
+open_starts-append [] more closed = refl
+open_starts-append (e ∷ es) more closed =
+    let both = no_option (opened e es) (open_starts es) closed in
+    ap (λ (o : Option Running). cons_option o (open_starts (es ++ more))) (closed_stays e es more both.0) ∙ open_starts-append es more both.1
 
-module _ (dir : List ℕ) (defs : List TestDef) (ss : List Seen) (core : CoreValue) (is : core ≡ running dir defs ss) (few : length ss ≤ length defs) where
-  choice_here : (choice : Choice) → choice_of core.plan core.entries ≡ choice → ((length ss < length defs) × (choice ≡ Start (1 + length ss) 1)) ⊎ ((length ss ≡ length defs) × (choice ≡ Done))
-  choice_here choice here = chosen dir defs ss few choice (subst (λ (c : CoreValue). choice_of c.plan c.entries ≡ choice) is here)
+closed_both : (t a w : ℕ) (p : Option Placement) (s : Seen) → open_starts (Is.Start t a w p ∷ Is.End t a w s ∷ []) ≡ []
+closed_both t a w p s =
+    let run : Running = record { test = t; attempt = a; worker = w; placement = p } in
+    ap (λ (b : Bool). cons_option (cond ((b && a == a) || false) None (Some run)) []) (eq_same t) ∙ ap (λ (b : Bool). cons_option (cond (b || false) None (Some run)) []) (eq_same a)
 
-  pub free : is_busy_in 0 core.entries ≡ false
-  free =
-      let idle = ap (λ (c : CoreValue). open_starts c.entries) is ∙ run_idle 1 ss in
-      ap (λ (rs : List Running). list_any (λ (r : Running). r.worker == 0) rs) idle
+-- the next attempt of a run of plain tests
+module _ (defs : List TestDef) (old : CoreValue) (ticket : Ticket) (mid : CoreValue) (was : IsBetween defs old) (starts : StartsFirst old 0 ticket mid) where
+  pub next : StartsNext defs old ticket
+  next = plain_next old.plan.dir defs old was.planned was.in_order was.goes_on (Says.Start ticket) mid starts
 
-  pub done : (now : CoreValue) → Rests Done core now → length ss ≡ length defs
-  done now rests = elim (choice_here Done rests.chosen) [
-    | inl starts ↦ absurd (no (starts.1))
-    | inr whole ↦ whole.0
-  ]
+  pub within : ticket.test - 1 < length defs
+  within = slice_get_within defs (ticket.test - 1) next.def next.there
+
+  pub holds : holds_ticket ticket mid.entries ≡ true
+  holds =
+      let test = λ (r : Running). r.test == ticket.test && r.attempt == ticket.attempt && r.worker == ticket.worker in
+      ap (λ (c : CoreValue). holds_ticket ticket c.entries) starts.appended ∙ ap (λ (rs : List Running). list_any test rs) (open_starts-append old.entries (start_of ticket ∷ []) was.closed) ∙ itself
     where
-      no : Done ≡ Start (1 + length ss) 1 → ⊥
-      no is = cc
+      itself : ((ticket.test == ticket.test && ticket.attempt == ticket.attempt && ticket.worker == ticket.worker) || false) ≡ true
+      itself = grind (arith, nat_tests)
 
-  pub never_waits : (now : CoreValue) → Rests Wait core now → ⊥
-  never_waits now rests = elim (choice_here Wait rests.chosen) [
-    | inl starts ↦ no (starts.1)
-    | inr whole ↦ no_done (whole.1)
-  ]
-    where
-      no : Wait ≡ Start (1 + length ss) 1 → ⊥
-      no is = cc
+  module _ (seen : Seen) (now : CoreValue) (ends : now ≡ with_final mid (end_of ticket seen)) where
+    more : List Entry
+    more = old.entries ++ start_of ticket ∷ end_of ticket seen ∷ []
 
-      no_done : Wait ≡ Done → ⊥
-      no_done is = cc
+    grown : now ≡ record old { entries = old.entries ++ start_of ticket ∷ end_of ticket seen ∷ [] }
+    grown =
+        ends ∙ with_final-off mid (end_of ticket seen) (ap (λ (c : CoreValue). c.plan.stop_on_failure) starts.appended ∙ ap (λ (p : PlanParts). p.stop_on_failure) was.planned)
+        ∙ ap (λ (c : CoreValue). with_entry c (end_of ticket seen)) starts.appended ∙ ap (λ (es : List Entry). let c : CoreValue = record old { entries = es } in c) (append_assoc old.entries (start_of ticket ∷ []) (end_of ticket seen ∷ []))
 
-  pub never_settles : (test : ℕ) (now : CoreValue) → SettlesChosen core test now → ⊥
-  never_settles test now settles = elim (choice_here (Settle test settles.cause) settles.chosen) [
-    | inl starts ↦ no settles.cause (starts.1)
-    | inr whole ↦ no_done settles.cause (whole.1)
-  ]
-    where
-      no : (cause : Cause) → Settle test cause ≡ Start (1 + length ss) 1 → ⊥
-      no cause is = cc
+    below : are_below old.plan.level (old.entries ++ start_of ticket ∷ end_of ticket seen ∷ []) ≡ true
+    below =
+        let one : nat_lt ticket.worker old.plan.level ≡ true = ap (λ (w : ℕ). nat_lt w old.plan.level) starts.by ∙ ap (λ (p : PlanParts). nat_lt 0 p.level) was.planned in
+        list_all-append (is_below old.plan.level) old.entries (start_of ticket ∷ end_of ticket seen ∷ []) ∙ ap (λ (b : Bool). b && (nat_lt ticket.worker old.plan.level && (nat_lt ticket.worker old.plan.level && true))) was.workers ∙ ap (λ (b : Bool). b && (b && true)) one
 
-      no_done : (cause : Cause) → Settle test cause ≡ Done → ⊥
-      no_done cause is = cc
+    pub between_now : IsBetween defs now
+    between_now = subst (λ (c : CoreValue). IsBetween defs c) (sym grown) (record {
+      planned = was.planned;
+      goes_on = was.goes_on;
+      closed = open_starts-append old.entries (start_of ticket ∷ end_of ticket seen ∷ []) was.closed ∙ closed_both ticket.test ticket.attempt ticket.worker ticket.placement seen;
+      workers = below;
+      in_order = (next.ends seen).in_order;
+    })
 
-  pub never_aborted : core.aborted ≡ true → ⊥
-  never_aborted aborted = let goes_on = ap (λ (c : CoreValue). c.aborted) is in let no : true ≡ false = sym aborted ∙ goes_on in cc
-
-  pub started : (ticket : Ticket) (now : CoreValue) → StartsChosen core 0 ticket now → IsStarted defs ss ticket now
-  started ticket now starts = elim (choice_here (Start ticket.test ticket.attempt) starts.chosen) [
-    | inl next ↦
-        let test : ticket.test ≡ 1 + length ss = cc (next.1) in
-        let attempt : ticket.attempt ≡ 1 = cc (next.1) in
-        record { less = next.0; test = test; attempt = attempt; holds = holds attempt }
-    | inr whole ↦ absurd (no (whole.1))
-  ]
-    where
-      no : Start ticket.test ticket.attempt ≡ Done → ⊥
-      no is = cc
-
-      holds : ticket.attempt ≡ 1 → holds_ticket ticket now.entries ≡ true
-      holds attempt =
-          let start = Is.Start ticket.test 1 0 None in
-          let start_is : start_of ticket ≡ start = ap (λ (a : ℕ). Is.Start ticket.test a ticket.worker ticket.placement) attempt ∙ ap (λ (w : ℕ). Is.Start ticket.test 1 w ticket.placement) starts.by ∙ ap (λ (p : Option Placement). Is.Start ticket.test 1 0 p) starts.unplaced in
-          let entries : now.entries ≡ run_entries 1 ss ++ start ∷ [] = ap (λ (c : CoreValue). c.entries) starts.appended ∙ ap (λ (e : Entry). core.entries ++ e ∷ []) start_is ∙ ap (λ (c : CoreValue). c.entries ++ start ∷ []) is in
-          let open_is : open_starts now.entries ≡ record { test = ticket.test; attempt = 1; worker = 0; placement = None } ∷ [] = ap open_starts entries ∙ open_starts-snoc (run_entries 1 ss) start refl ∙ ap (λ (rs : List Running). rs ++ cons_option (opened start []) []) (run_idle 1 ss) in
-          let held = held_by_start ticket.test (open_starts now.entries) open_is in
-          subst (λ (a : ℕ). holds_start ticket.test a ticket.worker now.entries ≡ true) (sym attempt)
-          (subst (λ (w : ℕ). holds_start ticket.test 1 w now.entries ≡ true) (sym starts.by) held)
-
-  -- with its End the run is one test longer
-  pub ended : (ticket : Ticket) (mid now : CoreValue) (seen : Seen) → StartsChosen core 0 ticket mid → IsStarted defs ss ticket mid → now ≡ with_entry mid (end_of ticket seen) → now ≡ running dir defs (ss ++ seen ∷ [])
-  ended ticket mid now seen starts begun ends =
-      let start = Is.Start (1 + length ss) 1 0 None in
-      let end = Is.End (1 + length ss) 1 0 seen in
-      let start_is : start_of ticket ≡ start = ap (λ (t : ℕ). Is.Start t ticket.attempt ticket.worker ticket.placement) begun.test ∙ ap (λ (a : ℕ). Is.Start (1 + length ss) a ticket.worker ticket.placement) begun.attempt ∙ ap (λ (w : ℕ). Is.Start (1 + length ss) 1 w ticket.placement) starts.by ∙ ap (λ (p : Option Placement). Is.Start (1 + length ss) 1 0 p) starts.unplaced in
-      let end_is : end_of ticket seen ≡ end = ap (λ (t : ℕ). Is.End t ticket.attempt ticket.worker seen) begun.test ∙ ap (λ (a : ℕ). Is.End (1 + length ss) a ticket.worker seen) begun.attempt ∙ ap (λ (w : ℕ). Is.End (1 + length ss) 1 w seen) starts.by in
-      let mid_is : mid ≡ with_entry (running dir defs ss) start = starts.appended ∙ ap (λ (e : Entry). with_entry core e) start_is ∙ ap (λ (c : CoreValue). with_entry c start) is in
-      let longer : (run_entries 1 ss ++ start ∷ []) ++ end ∷ [] ≡ run_entries 1 (ss ++ seen ∷ []) = append_assoc (run_entries 1 ss) (start ∷ []) (end ∷ []) ∙ sym (run_entries-snoc 1 ss seen (1 + length ss) refl) in
-      ends ∙ ap (λ (e : Entry). with_entry mid e) end_is ∙ ap (λ (c : CoreValue). with_entry c end) mid_is ∙ ap (λ (es : List Entry). let c : CoreValue = record { plan = plan_of dir defs; entries = es; aborted = false } in c) longer
-
-  -- so the next test was run
-  pub next_run : (env : List Pair) (ticket : Ticket) (mid now : CoreValue) (number : ℕ) (def : TestDef) (seen : Seen) (old new : Gated) → StartsChosen core 0 ticket mid → number ≡ ticket.test → def ≡ get_or defs (number - 1) def → RunsAttempt env ticket.test def seen old new → now ≡ with_entry mid (end_of ticket seen) → RunsNext env dir defs ss number seen old new now
-  next_run env ticket mid now number def seen old new starts number_is read runs ends =
-      let begun = started ticket mid starts in
-      let place : number - 1 ≡ length ss = omega (arith, begun.test, number_is) in
-      let lt : number - 1 < length defs = omega (arith, begun.less, place) in
-      let there = slice_get_read defs (length defs) (number - 1) def refl lt read in
-      record {
-        def = def;
-        is_next = number_is ∙ begun.test;
-        is_there = subst (λ (i : ℕ). slice_get defs i ≡ Some def) place there;
-        runs = subst (λ (n : ℕ). RunsAttempt env n def seen old new) (sym number_is) runs;
-        at = ended ticket mid now seen starts begun ends;
+    module _ (number : ℕ) (is : number ≡ ticket.test) where
+      pub ran_now : RanOnce number seen old now
+      ran_now = record {
+        attempt = ticket.attempt;
+        placement = ticket.placement;
+        appended = grown
+            ∙ ap (λ (w : ℕ). let c : CoreValue = record old { entries = old.entries ++ Is.Start ticket.test ticket.attempt w ticket.placement ∷ Is.End ticket.test ticket.attempt w seen ∷ [] } in c) starts.by
+            ∙ ap (λ (t : ℕ). let c : CoreValue = record old { entries = old.entries ++ Is.Start t ticket.attempt 0 ticket.placement ∷ Is.End t ticket.attempt 0 seen ∷ [] } in c) (sym is);
       }
+
+      pub final_now : IsSome (verdict_of_test now.plan now.entries number)
+      final_now = subst (λ (c : CoreValue). IsSome (verdict_of_test c.plan c.entries number)) (sym grown) (subst (λ (n : ℕ). IsSome (verdict_of_test old.plan (old.entries ++ start_of ticket ∷ end_of ticket seen ∷ []) n)) (sym is) ((next.ends seen).final))
+
+      pub asked_now : (env : List Pair) (def : TestDef) (gate new : GateTell) → def ≡ get_or defs (number - 1) def → RunsAttempt env def (run_of ticket) seen gate new → StaysAsked env defs 0 gate new old.entries now.entries
+      asked_now env def gate new read runs start asked =
+          let place : number - 1 ≡ ticket.test - 1 = ap (λ (n : ℕ). n - 1) is in
+          let here : number - 1 < length defs = omega (arith, place, within) in
+          let there = slice_get_read defs (length defs) (number - 1) def refl here read in
+          let at = subst (λ (i : ℕ). slice_get defs i ≡ Some def) place there in
+          let of_first = subst (λ (w : ℕ). RunsAttempt env def (record { test = ticket.test; attempt = ticket.attempt; worker = w; placement = ticket.placement }) seen gate new) starts.by runs in
+          let free = ap (λ (rs : List Running). list_any (λ (r : Running). r.worker == 0) rs) was.closed in
+          let asks = asked_more env defs 0 start gate new old.entries ticket.test ticket.attempt ticket.placement seen def free at asked of_first in
+          let entries : now.entries ≡ old.entries ++ Is.Start ticket.test ticket.attempt 0 ticket.placement ∷ Is.End ticket.test ticket.attempt 0 seen ∷ [] = ap (λ (c : CoreValue). c.entries) grown ∙ ap (λ (w : ℕ). old.entries ++ Is.Start ticket.test ticket.attempt w ticket.placement ∷ Is.End ticket.test ticket.attempt w seen ∷ []) starts.by in
+          subst (λ (es : List Entry). IsAsked env defs 0 start new es) (sym entries) asks

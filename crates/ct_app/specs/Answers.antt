@@ -1,127 +1,187 @@
 -- What each outcome of a top call says: all that was read, run, asked, written. This project's own.
-use Rattle.std.specs.Prelude.{◌≡◌, ◌⊎◌, ℕ, ◌<◌, true, false, List, [], length, Option, None, Ok, Err, IfSome, IsSomeAnd, codes}
+use Rattle.std.specs.Prelude.{◌≡◌, ◌⊎◌, ℕ, ◌<◌, true, List, [], ◌∷◌, length, Option, Some, None, Result, Ok, Err, IfSome, IsSomeAnd, Contains, codes}
 use Rattle.ct_base.specs.declared.defs.Pair.{Pair}
 use Rattle.ct_base.specs.declared.defs.TestDef.{TestDef}
-use Rattle.ct_base.specs.Outside.{Adds, AddsPrefix, Becomes, Held, Rose}
+use Rattle.ct_base.specs.declared.sink.SinkFault.{SinkFault}
+use Rattle.ct_base.specs.declared.sink.SinkFault.TheVariants as Sinks
+use Rattle.ct_base.specs.Outside.{Becomes, FilesTell, Held, Puts, Rose, SameHeld, SinkTell}
 use Rattle.ct_testfile.specs.declared.fault.ReadFault.TheVariants as Read
 use Rattle.ct_testfile.specs.Tree.{test_file, tree_of}
 use Rattle.ct_history.specs.declared.plan.PlanParts.{PlanParts}
 use Rattle.ct_history.specs.declared.history.Entry.{Entry}
 use Rattle.ct_history.specs.History.{open_starts}
-use Rattle.ct_history.specs.Legal.{is_legal}
-use Rattle.ct_report.specs.Report.{report_text}
+use Rattle.ct_history.specs.Legal.{IsComplete, StaysWithin, is_legal}
+use Rattle.ct_core.specs.Gate.{GateTell}
+use Rattle.ct_report.specs.Report.{header_line, report_text}
 use Rattle.ct_app.specs.declared.outcome.Refusal.{Refusal}
 use Rattle.ct_app.specs.declared.outcome.Refusal.TheVariants.{TestFile}
 use Rattle.ct_app.specs.declared.outcome.Outcome.{Outcome}
 use Rattle.ct_app.specs.declared.outcome.Outcome.TheVariants.{Completed, Usage, Refused, FilesFault, OutputFault, Memory}
+use Rattle.ct_app.specs.Gates.{AreAsked, are_below, had_memory}
+use Rattle.ct_app.specs.InOrder.{RunsInOrder}
 use Rattle.ct_app.specs.Outcome.{fault_line, status_of}
 use Rattle.ct_app.specs.Plain.{plan_of}
-use Rattle.ct_app.specs.Run.{seens_in}
-use Rattle.ct_app.specs.Steps.{Gated, HasRun, IsReported}
+use Rattle.ct_app.specs.Run.{RunEnds}
 
 -- the folder of a run without options
 abbrev pub here : List ℕ
 here = codes "."
 
--- the values of a call, before it and behind it: words, environment, files, first gate, sink, plan and history
+-- the values of a call, before it and behind it; plan and history are those that it gives back
 pub record Sides : Type 0 where
   pub words : List (List ℕ)
   pub env : List Pair
-  pub held : Option Held
-  pub files_before : ℕ
-  pub files_now : ℕ
-  pub refused : Option (List ℕ)
-  pub gate_before : Gated
-  pub gate_now : Gated
-  pub sink_before : ℕ
-  pub sink_now : ℕ
-  pub written_before : Option (List ℕ)
-  pub written_now : Option (List ℕ)
+  pub files_before : FilesTell
+  pub files_now : FilesTell
+  pub gates_before : List GateTell
+  pub gates_now : List GateTell
+  pub sink_before : SinkTell
+  pub sink_now : SinkTell
   pub plan : Option PlanParts
   pub history : Option (List Entry)
 
--- nothing was run: there is no plan and no history, and the gate was not asked
+-- these values; the gates are those that are looked at
+abbrev pub sides : List (List ℕ) → List Pair → FilesTell → FilesTell → List GateTell → List GateTell → SinkTell → SinkTell → Option PlanParts → Option (List Entry) → Sides
+sides words env files_before files_now gates_before gates_now sink_before sink_now plan history = record {
+  words = words;
+  env = env;
+  files_before = files_before;
+  files_now = files_now;
+  gates_before = gates_before;
+  gates_now = gates_now;
+  sink_before = sink_before;
+  sink_now = sink_now;
+  plan = plan;
+  history = history;
+}
+
+-- no call on the files failed, and each path holds what it held
+pub record FilesStay (before now : FilesTell) : Type 0 where
+  pub kept : Becomes before.held now.held SameHeld
+  pub unrefused : now.refused ≡ before.refused
+  pub unfailed : now.faults ≡ before.faults
+
+-- the last call on the files that failed was one on this path, and their count rose
+pub record FilesFail (path : List ℕ) (before now : FilesTell) : Type 0 where
+  pub rose : Rose before.faults now.faults
+  pub last : IfSome now.refused (λ last. last ≡ Some path)
+
+-- the paths that reading names: the test file of the folder
+abbrev pub paths_read : List (List ℕ)
+paths_read = test_file here ∷ []
+
+-- the paths that a run of this plan writes: none yet
+abbrev pub paths_written : PlanParts → List (List ℕ)
+paths_written plan = []
+
+-- each path but these holds what it held
+abbrev pub SameHeldBut : List (List ℕ) → Held → Held → Type 0
+SameHeldBut paths before now = (path : List ℕ) → (Contains paths path → ⊥) → now path ≡ before path
+
+-- the whole text was put and no put failed, or one failed and a beginning of it was written
+abbrev pub PutsOrFails : List ℕ → SinkTell → SinkTell → Type 0
+PutsOrFails text before now = Puts text before now (Ok tt) ⊎ Puts text before now (Err Sinks.Failed)
+
+-- a text was put: the whole of it, or a beginning where a put failed or memory was wanting
+abbrev pub Tries : List ℕ → SinkTell → SinkTell → Type 0
+Tries text before now = (result : Result (Unit {0}) SinkFault) × Puts text before now result
+
+-- nothing was run: there is no plan and no history, and no gate was asked
 pub record IsUnrun (s : Sides) : Type 0 where
   pub no_plan : s.plan ≡ None
   pub no_history : s.history ≡ None
-  pub unasked : s.gate_now ≡ s.gate_before
+  pub unasked : s.gates_now ≡ s.gates_before
 
--- these tests ran one after the other, as far as the history goes, which is legal and leaves nothing open
-pub record IsRunOf (env : List Pair) (defs : List TestDef) (gate_before gate_now : Gated) (plan : PlanParts) (entries : List Entry) : Type 0 where
+-- these tests ran as far as the history goes: it is legal and leaves nothing open, at no moment was more given than is
+-- declared, and it says what the gates were asked and told
+pub record IsRunOf (env : List Pair) (defs : List TestDef) (gates_before gates_now : List GateTell) (plan : PlanParts) (entries : List Entry) : Type 0 where
   pub planned : plan ≡ plan_of here defs
-  pub run : HasRun env here defs (seens_in entries) gate_before gate_now (record { plan = plan; entries = entries; aborted = false })
   pub legal : is_legal plan entries ≡ true
+  pub within : StaysWithin plan entries
   pub closed : open_starts entries ≡ []
+  pub workers : are_below plan.level entries ≡ true
+  pub asked : AreAsked env defs 0 gates_before gates_now entries
+  pub in_order : RunsInOrder defs entries
 
--- the tests that were read were run
+-- the tests that were read ran
 pub record IsRun (s : Sides) (defs : List TestDef) (plan : PlanParts) (entries : List Entry) : Type 0 where
   pub no_words : s.words ≡ []
-  pub read : IfSome s.held (λ held. tree_of held here ≡ Ok defs)
-  pub ran : IsRunOf s.env defs s.gate_before s.gate_now plan entries
+  pub read : IfSome s.files_before.held (λ held. tree_of held here ≡ Ok defs)
+  pub ran : IsRunOf s.env defs s.gates_before s.gates_now plan entries
 
 -- plan and history are there, of a run of the tests that were read, and this holds of them
-abbrev pub HasRunWith : Sides → (List TestDef → PlanParts → List Entry → Type 0) → Type 0
-HasRunWith s P = IsSomeAnd s.plan (λ plan. IsSomeAnd s.history (λ entries. (defs : List TestDef) × IsRun s defs plan entries × P defs plan entries))
+abbrev pub HasRunWith : Sides → (PlanParts → List Entry → Type 0) → Type 0
+HasRunWith s P = IsSomeAnd s.plan (λ plan. IsSomeAnd s.history (λ entries. ((defs : List TestDef) × IsRun s defs plan entries) × P plan entries))
 
--- a beginning of the report was written
-abbrev pub WroteSome : Sides → PlanParts → List Entry → Type 0
-WroteSome s plan entries = Becomes s.written_before s.written_now (AddsPrefix (report_text plan entries))
+-- each test is final, no attempt wanted memory, and the whole report was put
+pub record IsReported (plan : PlanParts) (entries : List Entry) (before now : SinkTell) : Type 0 where
+  pub complete : IsComplete plan entries
+  pub memory : had_memory entries ≡ true
+  pub put : Puts (report_text plan entries) before now (Ok tt)
 
--- a beginning of one text, and behind it a beginning of another, were written
-pub record AddsTwo (first second before now : List ℕ) : Type 0 where
-  pub middle : List ℕ
-  pub one : AddsPrefix first before middle
-  pub other : AddsPrefix second middle now
+-- the sink failed at the report, and no attempt wanted memory
+pub record IsCutOff (plan : PlanParts) (entries : List Entry) (before now : SinkTell) : Type 0 where
+  pub memory : had_memory entries ≡ true
+  pub put : Puts (report_text plan entries) before now (Err Sinks.Failed)
 
--- the line of an outcome was written, or a beginning of it where the sink failed
-abbrev pub WroteLine : Sides → Outcome → Type 0
-WroteLine s outcome = Becomes s.written_before s.written_now (Adds (fault_line outcome)) ⊎ (Rose s.sink_before s.sink_now × Becomes s.written_before s.written_now (AddsPrefix (fault_line outcome)))
+-- a run was given up for want of memory: for its last attempt, or for a step or a text behind attempts that had it
+pub record IsGivenUp (plan : PlanParts) (entries : List Entry) (before now : SinkTell) : Type 0 where
+  pub why : RunEnds (header_line plan) plan entries before now (Err Sinks.NoMemory)
+  pub put : Puts (report_text plan entries) before now (Err Sinks.NoMemory)
+
+-- behind a report the line of an outcome was put
+pub record ThenLine (report : SinkTell → Type 0) (Line : SinkTell → Type 0) : Type 0 where
+  pub middle : SinkTell
+  pub first : report middle
+  pub line : Line middle
 
 -- the first word is refused
 pub record IsUsage (s : Sides) (word : ℕ) : Type 0 where
   pub some_words : 0 < length s.words
   pub first : word ≡ 1
+  pub files : FilesStay s.files_before s.files_now
   pub unrun : IsUnrun s
 
--- the test file is refused
+-- what the files hold is refused so
 abbrev pub IsRefusedBy : Option Held → Refusal → Type 0
 IsRefusedBy told (TestFile file line kind) = IfSome told (λ held. tree_of held here ≡ Err (Read.At file line kind))
 
+-- the test file was refused, and nothing was run
 pub record IsRefusal (s : Sides) (refusal : Refusal) : Type 0 where
   pub no_words : s.words ≡ []
-  pub read : IsRefusedBy s.held refusal
+  pub read : IsRefusedBy s.files_before.held refusal
+  pub files : FilesStay s.files_before s.files_now
   pub unrun : IsUnrun s
 
--- the files failed at this path
-pub record IsFilesFault (s : Sides) (path : List ℕ) : Type 0 where
+-- the files failed at a path that reading names
+pub record IsReadFault (s : Sides) (path : List ℕ) : Type 0 where
   pub no_words : s.words ≡ []
-  pub rose : Rose s.files_before s.files_now
-  pub asked : path ≡ test_file here
-  pub last : IfSome s.refused (λ last. last ≡ path)
+  pub named : Contains paths_read path
+  pub failed : FilesFail path s.files_before s.files_now
+  pub kept : Becomes s.files_before.held s.files_now.held SameHeld
   pub unrun : IsUnrun s
 
--- what a call would have told, had memory not been wanting for the line: its refusal or fault, or want of memory itself
-abbrev pub MayTell : Sides → Outcome → Type 0
-MayTell s Completed = ⊥
-MayTell s (Usage word kind) = IsUsage s word
-MayTell s (Refused refusal) = IsRefusal s refusal
-MayTell s (FilesFault path) = IsFilesFault s path
-MayTell s OutputFault = ⊥
-MayTell s Memory = IsUnrun s
+-- the files failed at a path that the run writes, behind the whole report of a complete history
+pub record IsWriteFault (s : Sides) (path : List ℕ) (plan : PlanParts) (entries : List Entry) : Type 0 where
+  pub named : Contains (paths_written plan) path
+  pub failed : FilesFail path s.files_before s.files_now
+  pub kept : Becomes s.files_before.held s.files_now.held (SameHeldBut (paths_written plan))
+  pub report : ThenLine (λ middle. IsReported plan entries s.sink_before middle) (λ middle. PutsOrFails (fault_line (FilesFault path)) middle s.sink_now)
 
--- nothing was run, and a beginning of the line of what came, or of want of memory, was written
-abbrev pub WroteUnrun : Sides → Type 0
-WroteUnrun s = (outcome : Outcome) × MayTell s outcome × Becomes s.written_before s.written_now (AddsPrefix (fault_line outcome))
-
--- a beginning of the report and then of the line of want of memory were written
-abbrev pub WroteMemory : Sides → PlanParts → List Entry → Type 0
-WroteMemory s plan entries = Becomes s.written_before s.written_now (AddsTwo (report_text plan entries) (fault_line Memory))
+-- memory was wanting where no plan was made: for anything before the line of this outcome, or for that line
+abbrev pub IsShort : Sides → Outcome → Type 0
+IsShort s Completed = ⊥
+IsShort s (Usage word kind) = IsUsage s word × Puts (fault_line (Usage word kind)) s.sink_before s.sink_now (Err Sinks.NoMemory)
+IsShort s (Refused refusal) = IsRefusal s refusal × Puts (fault_line (Refused refusal)) s.sink_before s.sink_now (Err Sinks.NoMemory)
+IsShort s (FilesFault path) = IsReadFault s path × Puts (fault_line (FilesFault path)) s.sink_before s.sink_now (Err Sinks.NoMemory)
+IsShort s OutputFault = ⊥
+IsShort s Memory = IsUnrun s × FilesStay s.files_before s.files_now × Tries (fault_line Memory) s.sink_before s.sink_now
 
 -- what each outcome says; want of memory alone is free
 abbrev pub Answers : Sides → Outcome → ℕ → Type 0
-Answers s Completed status = HasRunWith s (λ defs plan entries. IsReported defs plan entries s.written_before s.written_now × (status ≡ status_of plan entries))
-Answers s (Usage word kind) status = IsUsage s word × WroteLine s (Usage word kind) × (status ≡ 1)
-Answers s (Refused refusal) status = IsRefusal s refusal × WroteLine s (Refused refusal) × (status ≡ 2)
-Answers s (FilesFault path) status = IsFilesFault s path × WroteLine s (FilesFault path) × (status ≡ 3)
-Answers s OutputFault status = HasRunWith s (λ defs plan entries. WroteSome s plan entries) × Rose s.sink_before s.sink_now × (status ≡ 4)
-Answers s Memory status = ((IsUnrun s × WroteUnrun s) ⊎ HasRunWith s (λ defs plan entries. WroteMemory s plan entries)) × (status ≡ 5)
+Answers s Completed status = HasRunWith s (λ plan entries. IsReported plan entries s.sink_before s.sink_now × (status ≡ status_of plan entries)) × FilesStay s.files_before s.files_now
+Answers s (Usage word kind) status = IsUsage s word × PutsOrFails (fault_line (Usage word kind)) s.sink_before s.sink_now × (status ≡ 1)
+Answers s (Refused refusal) status = IsRefusal s refusal × PutsOrFails (fault_line (Refused refusal)) s.sink_before s.sink_now × (status ≡ 2)
+Answers s (FilesFault path) status = ((IsReadFault s path × PutsOrFails (fault_line (FilesFault path)) s.sink_before s.sink_now) ⊎ HasRunWith s (IsWriteFault s path)) × (status ≡ 3)
+Answers s OutputFault status = HasRunWith s (λ plan entries. IsCutOff plan entries s.sink_before s.sink_now) × FilesStay s.files_before s.files_now × (status ≡ 4)
+Answers s Memory status = (((outcome : Outcome) × IsShort s outcome) ⊎ (HasRunWith s (λ plan entries. ThenLine (λ middle. IsGivenUp plan entries s.sink_before middle) (λ middle. Tries (fault_line Memory) middle s.sink_now)) × FilesStay s.files_before s.files_now)) × (status ≡ 5)

@@ -1,90 +1,84 @@
 -- How a run ended, before its outcome is told. This project's own.
-use Rattle.std.specs.Prelude.{◌≡◌, ◌⊎◌, ℕ, ⊤, Bool, true, false, List, Option, Ok, IfSome, IsSomeAnd}
+use Rattle.std.specs.Prelude.{◌≡◌, ◌⊎◌, ℕ, ◌-◌, ◌^◌, ◌<◌, List, length, Contains, Option, Result, Ok, Err, IfSome, IsSomeAnd}
 use Rattle.ct_base.specs.declared.defs.Pair.{Pair}
 use Rattle.ct_base.specs.declared.defs.TestDef.{TestDef}
-use Rattle.ct_base.specs.Outside.{Adds, AddsPrefix, Becomes, Held, Rose}
-use Rattle.ct_testfile.specs.Tree.{test_file, tree_of}
+use Rattle.ct_base.specs.declared.sink.SinkFault.{SinkFault}
+use Rattle.ct_base.specs.declared.sink.SinkFault.TheVariants as Sinks
+use Rattle.ct_base.specs.Outside.{Becomes, FilesTell, Puts, SameHeld, SinkTell}
+use Rattle.ct_testfile.specs.Tree.{tree_of}
 use Rattle.ct_history.specs.declared.plan.PlanParts.{PlanParts}
 use Rattle.ct_history.specs.declared.history.Entry.{Entry}
-use Rattle.ct_report.specs.Report.{report_text}
+use Rattle.ct_history.specs.declared.history.History.{History}
+use Rattle.ct_core.specs.Gate.{GateTell}
 use Rattle.ct_app.specs.declared.outcome.Outcome.{Outcome}
 use Rattle.ct_app.specs.declared.outcome.Outcome.TheVariants.{Completed, Usage, Refused, FilesFault, OutputFault, Memory}
-use Rattle.ct_app.specs.Outcome.{fault_line, status_of}
-use Rattle.ct_app.specs.Steps.{Gated, IsReported}
-use Rattle.ct_app.specs.Answers.{HasRunWith, IsFilesFault, IsRefusal, IsRefusedBy, IsRunOf, IsUnrun, IsUsage, Sides, WroteSome, here}
+use Rattle.ct_app.specs.Answers.{FilesFail, FilesStay, HasRunWith, IsRefusedBy, paths_read, here, IsCutOff, IsGivenUp, IsReadFault, IsRefusal, IsReported, IsRunOf, IsUnrun, IsUsage, PutsOrFails, Sides}
+use Rattle.ct_app.specs.Outcome.{fault_line, fault_status, outcome_of_sink, status_of}
+use Rattle.ct_app.specs.Plain.{plan_of}
 
--- plan and history are there, of a run of these tests, and this holds of them
-abbrev pub RanWith : List Pair → List TestDef → Gated → Gated → Option PlanParts → Option (List Entry) → (PlanParts → List Entry → Type 0) → Type 0
-RanWith env defs old new plan history P = IsSomeAnd plan (λ p. IsSomeAnd history (λ es. IsRunOf env defs old new p es × P p es))
+-- the entries of a history
+abbrev pub history_entries : History → List Entry
+history_entries history = history.entries.items
 
--- how a run of these tests ended, by gate, written bytes, sink's faults, plan, history and status
-pub record Moved : Type 0 where
-  pub gate_before : Gated
-  pub gate_now : Gated
-  pub written_before : Option (List ℕ)
-  pub written_now : Option (List ℕ)
-  pub sink_before : ℕ
-  pub sink_now : ℕ
+-- how the run of a plan ended: with its status, or with a fault of the sink or want of memory
+abbrev pub PlanEnds : PlanParts → List Entry → SinkTell → SinkTell → Result ℕ Outcome → Type 0
+PlanEnds plan entries before now (Ok status) = IsReported plan entries before now × (status ≡ status_of plan entries)
+PlanEnds plan entries before now (Err Completed) = ⊥
+PlanEnds plan entries before now (Err (Usage word kind)) = ⊥
+PlanEnds plan entries before now (Err (Refused refusal)) = ⊥
+PlanEnds plan entries before now (Err (FilesFault path)) = ⊥
+PlanEnds plan entries before now (Err OutputFault) = IsCutOff plan entries before now
+PlanEnds plan entries before now (Err Memory) = IsGivenUp plan entries before now
 
-abbrev pub RunEnds : List Pair → List TestDef → Moved → Option PlanParts → Option (List Entry) → ℕ → Outcome → Type 0
-RunEnds env defs m plan history status Completed = RanWith env defs m.gate_before m.gate_now plan history (λ p es. IsReported defs p es m.written_before m.written_now × (status ≡ status_of p es))
-RunEnds env defs m plan history status (Usage word kind) = ⊥
-RunEnds env defs m plan history status (Refused refusal) = ⊥
-RunEnds env defs m plan history status (FilesFault path) = ⊥
-RunEnds env defs m plan history status OutputFault = RanWith env defs m.gate_before m.gate_now plan history (λ p es. Becomes m.written_before m.written_now (AddsPrefix (report_text p es))) × Rose m.sink_before m.sink_now
-RunEnds env defs m plan history status Memory = RanWith env defs m.gate_before m.gate_now plan history (λ p es. Becomes m.written_before m.written_now (AddsPrefix (report_text p es)))
+-- the status of a run that is complete, or the outcome of one that ended early
+abbrev pub ended_as : Result (Unit {0}) SinkFault → PlanParts → List Entry → Result ℕ Outcome
+ended_as (Ok done) plan entries = Ok (status_of plan entries)
+ended_as (Err fault) plan entries = Err (outcome_of_sink fault)
 
--- the tests that the files' told content defines were run, and the run ended so
-abbrev pub TreeEnds : Option Held → List Pair → Moved → Option PlanParts → Option (List Entry) → ℕ → Outcome → Type 0
-TreeEnds told env m plan history status outcome = (defs : List TestDef) × IfSome told (λ held. tree_of held here ≡ Ok defs) × RunEnds env defs m plan history status outcome
+-- plan and history are there, of a run of these tests that ended so
+abbrev pub RanPlan : List Pair → List TestDef → List GateTell → List GateTell → Option PlanParts → Option (List Entry) → SinkTell → SinkTell → Result ℕ Outcome → Type 0
+RanPlan env defs gates_before gates_now plan history before now ended = IsSomeAnd plan (λ p. IsSomeAnd history (λ es. IsRunOf env defs gates_before gates_now p es × PlanEnds p es before now ended))
 
--- why no plan was made: the test file is refused, the files failed, or memory was wanting
-abbrev pub IsUnplanned : Option Held → ℕ → ℕ → Option (List ℕ) → Outcome → Type 0
-IsUnplanned told before now refused Completed = ⊥
-IsUnplanned told before now refused (Usage word kind) = ⊥
-IsUnplanned told before now refused (Refused refusal) = IsRefusedBy told refusal
-IsUnplanned told before now refused (FilesFault path) = Rose before now × (path ≡ test_file here) × IfSome refused (λ last. last ≡ path)
-IsUnplanned told before now refused OutputFault = ⊥
-IsUnplanned told before now refused Memory = ⊤
+-- the tests of the folder were read and planned, and the files stay
+pub record IsReadFolder (before now : FilesTell) (defs : List TestDef) (plan : PlanParts) : Type 0 where
+  pub read : IfSome before.held (λ held. tree_of held here ≡ Ok defs)
+  pub few : length defs < 2 ^ 32 - 1
+  pub planned : plan ≡ plan_of here defs
+  pub files : FilesStay before now
 
--- gate and sink are as they were
-pub record IsUnmoved (m : Moved) : Type 0 where
-  pub gate : m.gate_now ≡ m.gate_before
-  pub written : m.written_now ≡ m.written_before
-  pub sink : m.sink_now ≡ m.sink_before
+-- why they were not: the test file is refused, or the files failed at it, or memory was wanting
+abbrev pub IsUnread : FilesTell → FilesTell → Outcome → Type 0
+IsUnread before now Completed = ⊥
+IsUnread before now (Usage word kind) = ⊥
+IsUnread before now (Refused refusal) = IsRefusedBy before.held refusal × FilesStay before now
+IsUnread before now (FilesFault path) = Contains paths_read path × FilesFail path before now × Becomes before.held now.held SameHeld
+IsUnread before now OutputFault = ⊥
+IsUnread before now Memory = FilesStay before now
 
--- how a call ended, before its outcome is told
-abbrev pub Unwritten : Sides → Type 0
-Unwritten s = s.written_now ≡ s.written_before
+-- no plan was made, for this cause
+abbrev pub IsUnplanned : Sides → Result ℕ Outcome → Type 0
+IsUnplanned s (Ok status) = ⊥
+IsUnplanned s (Err Completed) = ⊥
+IsUnplanned s (Err (Usage word kind)) = IsUsage s word
+IsUnplanned s (Err (Refused refusal)) = IsRefusal s refusal
+IsUnplanned s (Err (FilesFault path)) = IsReadFault s path
+IsUnplanned s (Err OutputFault) = ⊥
+IsUnplanned s (Err Memory) = IsUnrun s × FilesStay s.files_before s.files_now
 
-abbrev pub Ends : Sides → ℕ → Outcome → Type 0
-Ends s status Completed = HasRunWith s (λ defs plan entries. IsReported defs plan entries s.written_before s.written_now × (status ≡ status_of plan entries))
-Ends s status (Usage word kind) = IsUsage s word × Unwritten s × (s.sink_now ≡ s.sink_before)
-Ends s status (Refused refusal) = IsRefusal s refusal × Unwritten s × (s.sink_now ≡ s.sink_before)
-Ends s status (FilesFault path) = IsFilesFault s path × Unwritten s × (s.sink_now ≡ s.sink_before)
-Ends s status OutputFault = HasRunWith s (λ defs plan entries. WroteSome s plan entries) × Rose s.sink_before s.sink_now
-Ends s status Memory = (IsUnrun s × Unwritten s) ⊎ HasRunWith s (λ defs plan entries. WroteSome s plan entries)
+-- how a call ended before its outcome is told: a plan was run and the files stay, or none was made and nothing was put
+abbrev pub Ends : Sides → Result ℕ Outcome → Type 0
+Ends s ended = (HasRunWith s (λ plan entries. PlanEnds plan entries s.sink_before s.sink_now ended) × FilesStay s.files_before s.files_now) ⊎ (IsUnplanned s ended × (s.sink_now ≡ s.sink_before))
 
--- nothing is said of the outcome: the report has said it, or the sink has failed
-abbrev pub is_silent : Outcome → Bool
-is_silent Completed = true
-is_silent (Usage word kind) = false
-is_silent (Refused refusal) = false
-is_silent (FilesFault path) = false
-is_silent OutputFault = true
-is_silent Memory = false
+-- the line of an outcome was put, or memory was wanting for it and that is told in its place
+abbrev pub Told : Outcome → Outcome → SinkTell → SinkTell → Type 0
+Told outcome told before now = ((told ≡ outcome) × PutsOrFails (fault_line outcome) before now) ⊎ ((told ≡ Memory) × Puts (fault_line outcome) before now (Err Sinks.NoMemory))
 
--- what telling an outcome makes of it: it stays, or memory was wanting for its line
-abbrev pub Told : Outcome → Outcome → Option (List ℕ) → Option (List ℕ) → ℕ → ℕ → Type 0
-Told outcome result before now faults_before faults =
-    ((result ≡ outcome) × (Becomes before now (Adds (fault_line outcome)) ⊎ (Rose faults_before faults × Becomes before now (AddsPrefix (fault_line outcome))))) ⊎ ((result ≡ Memory) × Becomes before now (AddsPrefix (fault_line outcome)))
+-- what becomes of an outcome: where the sink has failed nothing is put
+abbrev pub Tells : Outcome → Outcome → SinkTell → SinkTell → Type 0
+Tells OutputFault told before now = (told ≡ OutputFault) × (now ≡ before)
+Tells outcome told before now = Told outcome told before now
 
--- what becomes of an outcome and the sink in the end
-pub record IsSilent (outcome result : Outcome) (before now : Option (List ℕ)) (faults_before faults : ℕ) : Type 0 where
-  pub silent : is_silent outcome ≡ true
-  pub same : result ≡ outcome
-  pub unwritten : now ≡ before
-  pub unfailed : faults ≡ faults_before
-
-abbrev pub Tells : Outcome → Outcome → Option (List ℕ) → Option (List ℕ) → ℕ → ℕ → Type 0
-Tells outcome result before now faults_before faults = IsSilent outcome result before now faults_before faults ⊎ ((is_silent outcome ≡ false) × Told outcome result before now faults_before faults)
+-- the outcome and the status of a call, once its end is told
+abbrev pub TellsEnd : Result ℕ Outcome → Outcome → ℕ → SinkTell → SinkTell → Type 0
+TellsEnd (Ok status) outcome told before now = (outcome ≡ Completed) × (told ≡ status) × (now ≡ before)
+TellsEnd (Err fault) outcome told before now = Tells fault outcome before now × (told ≡ fault_status outcome)

@@ -1,10 +1,9 @@
 -- The definitions that contracts cite, in reading order.
 pub mod Plain
+pub mod InOrder
+pub mod Gates
+pub mod Attempt
 pub mod Run
-pub mod Steps
-pub mod Halt
 pub mod Outcome
 pub mod Answers
 pub mod Ends
-pub mod Ran
-pub mod First

@@ -1,5 +1,7 @@
 -- The outcome of a top call, its status and its line. Source: CMake manual, ctest(1), for 0 and 8; else this project's own.
 use Rattle.std.specs.Prelude.{ℕ, List, [], ◌++◌, codes, decimal, if◌then◌else◌}
+use Rattle.ct_base.specs.declared.sink.SinkFault.{SinkFault}
+use Rattle.ct_base.specs.declared.sink.SinkFault.TheVariants as Sinks
 use Rattle.ct_testfile.specs.declared.fault.ReadFault.{ReadFault}
 use Rattle.ct_testfile.specs.declared.fault.ReadFault.TheVariants as Read
 use Rattle.ct_testfile.specs.declared.fault.ReadKind.{ReadKind}
@@ -20,17 +22,25 @@ outcome_of (Read.At file line kind) = Refused (TestFile file line kind)
 outcome_of (Read.FilesFailed path) = FilesFault path
 outcome_of Read.NoMemory = Memory
 
+-- what a fault of the sink is to a run
+abbrev pub outcome_of_sink : SinkFault → Outcome
+outcome_of_sink Sinks.Failed = OutputFault
+outcome_of_sink Sinks.NoMemory = Memory
+
 -- the status of a completed run: 8 where some verdict is of the failing class
 abbrev pub status_of : PlanParts → List Entry → ℕ
 status_of plan entries = if has_failing plan entries then 8 else 0
 
+-- what is wrong with a word
 abbrev pub usage_text : UsageKind → List ℕ
 usage_text UnknownOption = codes "unknown option"
 
+-- what is wrong with a line of a test file
 abbrev pub kind_text : ReadKind → List ℕ
 kind_text BadChar = codes "unexpected byte"
 kind_text TooLong = codes "too much text"
 
+-- what is refused, and why
 abbrev pub refusal_text : Refusal → List ℕ
 refusal_text (TestFile file line kind) = file ++ codes ":" ++ decimal line ++ codes ": " ++ kind_text kind
 
@@ -47,11 +57,11 @@ outcome_text Memory = codes "out of memory"
 abbrev pub fault_line : Outcome → List ℕ
 fault_line outcome = codes "ctest: " ++ outcome_text outcome ++ codes "\n"
 
--- the exit status of an outcome, by that of a completed run
-abbrev pub exit_status : Outcome → ℕ → ℕ
-exit_status Completed completed = completed
-exit_status (Usage word kind) completed = 1
-exit_status (Refused refusal) completed = 2
-exit_status (FilesFault path) completed = 3
-exit_status OutputFault completed = 4
-exit_status Memory completed = 5
+-- the exit status of an outcome but Completed
+abbrev pub fault_status : Outcome → ℕ
+fault_status Completed = 0
+fault_status (Usage word kind) = 1
+fault_status (Refused refusal) = 2
+fault_status (FilesFault path) = 3
+fault_status OutputFault = 4
+fault_status Memory = 5

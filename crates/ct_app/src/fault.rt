@@ -1,46 +1,65 @@
-ghost use Rattle.std.specs.Prelude.{◌≡◌, ◌++◌, codes, decimal, IfOk, OnOk, OnErr};
-ghost use Rattle.ct_app.specs.Ends.{Tells, is_silent as is_silent_outcome};
-ghost use Rattle.ct_app.specs.Outcome.{fault_line, kind_text, outcome_text, refusal_text, usage_text};
-ghost use Rattle.ct_base.specs.Outside.{Adds, AddsPrefix, Becomes, HasCause};
+ghost use Rattle.std.specs.Prelude.{◌≡◌, ◌++◌, codes, decimal, IfOk};
+ghost use Rattle.ct_app.specs.Ends.{Tells, TellsEnd};
+ghost use Rattle.ct_app.specs.Outcome.{fault_line, fault_status, kind_text, outcome_text, refusal_text, usage_text};
+ghost use Rattle.ct_base.specs.Outside.{Puts};
 
-use crate::run::Halt;
 use crate::{Outcome, Refusal, UsageKind};
-use ct_base::{Blob, Name, NoMemory, Sink};
+use ct_base::{Blob, Name, NoMemory, Sink, SinkFault};
 use ct_testfile::ReadKind;
 use std::alloc::Global;
 
-/// Tells an outcome that the report has not told, and gives it back; where memory is wanting for
-/// its line, the outcome is that.
-pub(crate) fn tell<S: Sink>(alloc: Global, sink: &mut S, outcome: Outcome) -> Outcome
-    ensures { Tells outcome result (S.written sink.old) (S.written sink.new) (S.faults sink.old) (S.faults sink.new) }
+/// Tells why there is no status of a completed run, and gives outcome and status of the call.
+///
+/// Where the sink has failed nothing is put; where memory is wanting for the line, the outcome is
+/// that.
+pub(crate) fn tell<S: Sink>(
+    alloc: Global,
+    sink: &mut S,
+    ended: Result<u8, Outcome>,
+) -> (Outcome, u8)
+    ensures { TellsEnd ended result.0 result.1 (S.tells sink.old) (S.tells sink.new) }
 {
-    if is_silent(&outcome) {
+    match ended {
+        Ok(status) => (Outcome::Completed, status),
+        Err(outcome) => {
+            let told = tell_fault(alloc, sink, outcome);
+            let status = status(&told);
+            (told, status)
+        }
+    }
+}
+
+/// Puts the line of an outcome but Completed, and gives the outcome back, or want of memory.
+fn tell_fault<S: Sink>(alloc: Global, sink: &mut S, outcome: Outcome) -> Outcome
+    ensures { Tells outcome result (S.tells sink.old) (S.tells sink.new) }
+{
+    if let Outcome::OutputFault = outcome {
         return outcome;
     }
     match put_fault(alloc, sink, &outcome) {
         Ok(()) => outcome,
-        Err(Halt::Output) => outcome,
-        Err(Halt::Memory) => Outcome::Memory,
+        Err(SinkFault::Failed) => outcome,
+        Err(SinkFault::NoMemory) => Outcome::Memory,
     }
 }
 
-fn is_silent(outcome: &Outcome) -> bool
-    ensures { result ≡ is_silent_outcome outcome.now }
+/// The exit status of an outcome but Completed.
+fn status(outcome: &Outcome) -> u8
+    ensures { result ≡ fault_status outcome.now }
 {
     match outcome {
-        Outcome::Completed | Outcome::OutputFault => true,
-        Outcome::Usage { .. }
-        | Outcome::Refused(_)
-        | Outcome::FilesFault { .. }
-        | Outcome::Memory => false,
+        Outcome::Completed => 0,
+        Outcome::Usage { .. } => 1,
+        Outcome::Refused(_) => 2,
+        Outcome::FilesFault { .. } => 3,
+        Outcome::OutputFault => 4,
+        Outcome::Memory => 5,
     }
 }
 
 /// Puts the line of an outcome.
-fn put_fault<S: Sink>(alloc: Global, sink: &mut S, outcome: &Outcome) -> Result<(), Halt>
-    ensures ok { OnOk result (Becomes (S.written sink.old) (S.written sink.new) (Adds (fault_line outcome.now))) }
-    ensures err { OnErr result (Becomes (S.written sink.old) (S.written sink.new) (AddsPrefix (fault_line outcome.now))) }
-    ensures cause { HasCause Halt.Output (S.faults sink.old) (S.faults sink.new) result }
+fn put_fault<S: Sink>(alloc: Global, sink: &mut S, outcome: &Outcome) -> Result<(), SinkFault>
+    ensures { Puts (fault_line outcome.now) (S.tells sink.old) (S.tells sink.new) result }
 {
     let line = fault_line(alloc, outcome)?;
     sink.put(line.bytes())?;

@@ -2,19 +2,18 @@
 //!
 //! Hands up: `ctest_main`, which does all that the program does.
 //! Stands on: ct_base, ct_testfile, ct_verdict, ct_history, ct_core, ct_report.
-//! Read first: `specs/Plain.antt`, `specs/Run.antt`, `specs/Answers.antt`, then `top.rt`.
+//! Read first: `specs/Gates.antt`, `specs/Answers.antt`, then `top.rt`, and the four steps of a call:
+//! `words.rt`, `folder.rt`, `run.rt`, `attempt.rt`.
 #![tactic(auto)]
 
+mod attempt;
 mod fault;
+mod folder;
 mod outcome;
 mod plain;
 mod run;
-mod step;
 mod top;
-mod tree;
+mod words;
 
 pub use outcome::{Finished, Outcome, Refusal, UsageKind};
 pub use top::ctest_main;
-
-#[cfg(test)]
-mod tests;

@@ -1,7 +1,7 @@
 ghost use Rattle.ct_app.specs.declared.outcome.Outcome.TheVariants as Ends;
 ghost use Rattle.std.specs.Prelude.{◌≡◌};
 
-use ct_base::{Name, NoMemory};
+use ct_base::{Name, NoMemory, SinkFault};
 use ct_history::{History, Plan};
 use ct_testfile::{ReadFault, ReadKind};
 
@@ -75,6 +75,19 @@ impl From<ReadFault> for Outcome {
             }
             ReadFault::FilesFailed { path } => Outcome::FilesFault { path },
             ReadFault::NoMemory => Outcome::Memory,
+        }
+    }
+}
+
+impl From<SinkFault> for Outcome {
+    ghost use Rattle.ct_app.specs.Outcome.{outcome_of_sink};
+
+    ghost from_gives = { λ fault e. e ≡ outcome_of_sink fault };
+
+    fn from(fault: SinkFault) -> Outcome {
+        match fault {
+            SinkFault::Failed => Outcome::OutputFault,
+            SinkFault::NoMemory => Outcome::Memory,
         }
     }
 }

@@ -1,41 +1,92 @@
-use Rattle.std.proofs.Common.{◌∙◌, sym, subst}
-use Rattle.ct_base.specs.Outside.{Adds, AddsPrefix, Becomes}
-use Rattle.ct_history.specs.declared.plan.PlanParts.{PlanParts}
+use Rattle.std.proofs.Common.{rules, ◌≡◌, ◌∙◌, sym, ap, Err, Ok}
 use Rattle.ct_report.specs.Report.{header_line}
-use Rattle.ct_report.proofs.PutLemmas.{on_err}
-use Rattle.ct_app.proofs.ReportLemmas.{all_reported, begun, header_torn, lines_torn_at, none_reported, same_plan, summary_torn_at}
+use Rattle.ct_app.proofs.AlongLemmas.{asked_fresh, between_fresh, had_fresh, torn_ends}
+use Rattle.ct_app.proofs.PutLemmas.{puts_same}
+use Rattle.ct_app.proofs.ReportLemmas.{behind_header, header_fails, lines_fail, none_complete, none_puts, summary_puts}
 use Rattle.ct_app.proofs.run.run.Goals as goal
 
-pub returns-in_err-header-clause-run : goal.returns-in_err-header-clause-run
-returns-in_err-header-clause-run g c = begun c.args.env.now c.args.core.now.plan.dir c.args.defs.now _ c.args.core.now (g.S.Sink.written c.args.sink.now) (g.S.Sink.faults c.args.sink.now) c.requires.fresh
+pub returns-in_err-header-clause-between : goal.returns-in_err-header-clause-between
+returns-in_err-header-clause-between g c = between_fresh c.args.defs.now c.args.core.now c.requires.fresh
 
-pub returns-in_err-header-clause-err : goal.returns-in_err-header-clause-err
-returns-in_err-header-clause-err g c =
-    let head = subst (λ (p : PlanParts). Becomes (g.S.Sink.written c.args.sink.now) (g.S.Sink.written c.header.new.sink) (AddsPrefix (header_line p))) c.plan.ensures c.in_err-header.ensures.err in
-    on_err c.from_residual.result (header_torn c.args.core.now.plan c.args.core.now.entries (g.S.Sink.written c.args.sink.now) (g.S.Sink.written c.header.new.sink) head)
+pub returns-in_err-header-clause-asked : goal.returns-in_err-header-clause-asked
+returns-in_err-header-clause-asked g c = asked_fresh c.args.env.now c.args.defs.now c.args.core.now (g.G.Gate.tells c.args.gate.now) c.requires.fresh
 
-pub returns-then-is_empty-clause-ok : goal.returns-then-is_empty-clause-ok
-returns-then-is_empty-clause-ok g c =
-    let head = subst (λ (p : PlanParts). Becomes (g.S.Sink.written c.args.sink.now) (g.S.Sink.written c.header.new.sink) (Adds (header_line p))) c.plan.ensures c.in_ok-header.ensures.ok in
-    none_reported c.args.core.now.plan.dir c.args.defs.now c.args.core.now (sym c.is_empty.ensures ∙ c.if-is_empty.true) c.requires.fresh (g.S.Sink.written c.args.sink.now) (g.S.Sink.written c.header.new.sink) (g.S.Sink.written c.no_tests.new.sink) head c.in_ok-no_tests.ensures.ok
+pub returns-in_err-header-clause-puts : goal.returns-in_err-header-clause-puts
+returns-in_err-header-clause-puts g c =
+    let fault = c.in_err-header.field-0.0 in
+    let head = puts_same (g.S.Sink.tells c.args.sink.now) (g.S.Sink.tells c.header.new.sink) _ _ (Err fault) (ap header_line c.plan.ensures) c.in_err-header.ensures in
+    let gave : c.from_residual.result ≡ Err fault = search rules in
+    rw gave (header_fails c.args.core.now.plan c.args.core.now.entries (g.S.Sink.tells c.args.sink.now) (g.S.Sink.tells c.header.new.sink) fault head)
 
-pub returns-in_err-run_tests-clause-err : goal.returns-in_err-run_tests-clause-err
-returns-in_err-run_tests-clause-err g c =
-    let run = c.run_tests.ensures.run in
-    let same = c.plan.ensures ∙ same_plan c.args.env.now c.args.core.now.plan.dir c.args.defs.now _ _ _ c.args.core.now c.run_tests.new.core c.requires.fresh run in
-    let head = subst (λ (p : PlanParts). Becomes (g.S.Sink.written c.args.sink.now) (g.S.Sink.written c.header.new.sink) (Adds (header_line p))) same c.in_ok-header.ensures.ok in
-    on_err c.from_residual-in_err-run_tests.result (lines_torn_at c.args.env.now c.args.core.now.plan.dir c.args.defs.now _ _ c.run_tests.new.core (sym c.is_empty.ensures ∙ c.if-is_empty.false) run (g.S.Sink.written c.args.sink.now) (g.S.Sink.written c.header.new.sink) (g.S.Sink.written c.run_tests.new.sink) head c.in_err-run_tests.ensures.err)
+pub returns-in_err-header-clause-ends : goal.returns-in_err-header-clause-ends
+returns-in_err-header-clause-ends g c =
+    let fault = c.in_err-header.field-0.0 in
+    let gave : c.from_residual.result ≡ Err fault = search rules in
+    rw gave (torn_ends (header_line c.args.core.now.plan) c.args.core.now.plan c.args.core.now.entries (g.S.Sink.tells c.args.sink.now) (g.S.Sink.tells c.header.new.sink) fault (had_fresh c.args.defs.now c.args.core.now c.requires.fresh))
 
-pub returns-in_err-put_summary-clause-err : goal.returns-in_err-put_summary-clause-err
-returns-in_err-put_summary-clause-err g c =
-    let run = c.run_tests.ensures.run in
-    let same = c.plan.ensures ∙ same_plan c.args.env.now c.args.core.now.plan.dir c.args.defs.now _ _ _ c.args.core.now c.run_tests.new.core c.requires.fresh run in
-    let head = subst (λ (p : PlanParts). Becomes (g.S.Sink.written c.args.sink.now) (g.S.Sink.written c.header.new.sink) (Adds (header_line p))) same c.in_ok-header.ensures.ok in
-    on_err c.from_residual-in_err-put_summary.result (summary_torn_at c.args.env.now c.args.core.now.plan.dir c.args.defs.now _ _ c.run_tests.new.core (sym c.is_empty.ensures ∙ c.if-is_empty.false) run (g.S.Sink.written c.args.sink.now) (g.S.Sink.written c.header.new.sink) (g.S.Sink.written c.run_tests.new.sink) (g.S.Sink.written c.put_summary.new.sink) head c.in_ok-run_tests.ensures.ok c.in_err-put_summary.ensures.err)
+pub returns-in_err-no_tests-clause-between : goal.returns-in_err-no_tests-clause-between
+returns-in_err-no_tests-clause-between g c = between_fresh c.args.defs.now c.args.core.now c.requires.fresh
 
-pub returns-clause-ok : goal.returns-clause-ok
-returns-clause-ok g c =
-    let run = c.run_tests.ensures.run in
-    let same = c.plan.ensures ∙ same_plan c.args.env.now c.args.core.now.plan.dir c.args.defs.now _ _ _ c.args.core.now c.run_tests.new.core c.requires.fresh run in
-    let head = subst (λ (p : PlanParts). Becomes (g.S.Sink.written c.args.sink.now) (g.S.Sink.written c.header.new.sink) (Adds (header_line p))) same c.in_ok-header.ensures.ok in
-    all_reported c.args.env.now c.args.core.now.plan.dir c.args.defs.now _ _ c.run_tests.new.core (sym c.is_empty.ensures ∙ c.if-is_empty.false) run (g.S.Sink.written c.args.sink.now) (g.S.Sink.written c.header.new.sink) (g.S.Sink.written c.run_tests.new.sink) (g.S.Sink.written c.put_summary.new.sink) head c.in_ok-run_tests.ensures.ok c.in_ok-put_summary.ensures.ok
+pub returns-in_err-no_tests-clause-asked : goal.returns-in_err-no_tests-clause-asked
+returns-in_err-no_tests-clause-asked g c = asked_fresh c.args.env.now c.args.defs.now c.args.core.now (g.G.Gate.tells c.args.gate.now) c.requires.fresh
+
+pub returns-in_err-no_tests-clause-puts : goal.returns-in_err-no_tests-clause-puts
+returns-in_err-no_tests-clause-puts g c =
+    let fault = c.in_err-no_tests.field-0.0 in
+    let head = puts_same (g.S.Sink.tells c.args.sink.now) (g.S.Sink.tells c.header.new.sink) _ _ (Ok tt) (ap header_line c.plan.ensures) c.in_ok-header.ensures in
+    let gave : c.from_residual-in_err-no_tests.result ≡ Err fault = search rules in
+    rw gave (none_puts c.args.core.now.plan c.args.core.now.entries c.args.defs.now (between_fresh c.args.defs.now c.args.core.now c.requires.fresh).planned (sym c.is_empty.ensures ∙ c.if-is_empty.true) (g.S.Sink.tells c.args.sink.now) (g.S.Sink.tells c.header.new.sink) (g.S.Sink.tells c.no_tests.new.sink) (Err fault) head c.in_err-no_tests.ensures)
+
+pub returns-in_err-no_tests-clause-ends : goal.returns-in_err-no_tests-clause-ends
+returns-in_err-no_tests-clause-ends g c =
+    let fault = c.in_err-no_tests.field-0.0 in
+    let gave : c.from_residual-in_err-no_tests.result ≡ Err fault = search rules in
+    rw gave (torn_ends (header_line c.args.core.now.plan) c.args.core.now.plan c.args.core.now.entries (g.S.Sink.tells c.args.sink.now) (g.S.Sink.tells c.no_tests.new.sink) fault (had_fresh c.args.defs.now c.args.core.now c.requires.fresh))
+
+pub returns-then-is_empty-clause-between : goal.returns-then-is_empty-clause-between
+returns-then-is_empty-clause-between g c = between_fresh c.args.defs.now c.args.core.now c.requires.fresh
+
+pub returns-then-is_empty-clause-asked : goal.returns-then-is_empty-clause-asked
+returns-then-is_empty-clause-asked g c = asked_fresh c.args.env.now c.args.defs.now c.args.core.now (g.G.Gate.tells c.args.gate.now) c.requires.fresh
+
+pub returns-then-is_empty-clause-puts : goal.returns-then-is_empty-clause-puts
+returns-then-is_empty-clause-puts g c =
+    let head = puts_same (g.S.Sink.tells c.args.sink.now) (g.S.Sink.tells c.header.new.sink) _ _ (Ok tt) (ap header_line c.plan.ensures) c.in_ok-header.ensures in
+    none_puts c.args.core.now.plan c.args.core.now.entries c.args.defs.now (between_fresh c.args.defs.now c.args.core.now c.requires.fresh).planned (sym c.is_empty.ensures ∙ c.if-is_empty.true) (g.S.Sink.tells c.args.sink.now) (g.S.Sink.tells c.header.new.sink) (g.S.Sink.tells c.no_tests.new.sink) (Ok tt) head c.in_ok-no_tests.ensures
+
+pub returns-then-is_empty-clause-ends : goal.returns-then-is_empty-clause-ends
+returns-then-is_empty-clause-ends g c =
+    let begun = between_fresh c.args.defs.now c.args.core.now c.requires.fresh in
+    (none_complete c.args.core.now.plan c.args.core.now.entries c.args.defs.now begun.planned (sym c.is_empty.ensures ∙ c.if-is_empty.true) begun.closed, had_fresh c.args.defs.now c.args.core.now c.requires.fresh)
+
+pub returns-in_err-run_tests-clause-puts : goal.returns-in_err-run_tests-clause-puts
+returns-in_err-run_tests-clause-puts g c =
+    let fault = c.in_err-run_tests.field-0.0 in
+    let head = puts_same (g.S.Sink.tells c.args.sink.now) (g.S.Sink.tells c.header.new.sink) _ _ (Ok tt) (ap header_line (c.plan.ensures ∙ sym c.run_tests.ensures.plan)) c.in_ok-header.ensures in
+    let gave : c.from_residual-in_err-run_tests.result ≡ Err fault = search rules in
+    rw gave (lines_fail c.run_tests.new.core.plan c.run_tests.new.core.entries c.args.defs.now c.run_tests.ensures.between.planned (sym c.is_empty.ensures ∙ c.if-is_empty.false) (g.S.Sink.tells c.args.sink.now) (g.S.Sink.tells c.header.new.sink) (g.S.Sink.tells c.run_tests.new.sink) fault head c.in_err-run_tests.ensures.puts)
+
+pub returns-in_err-run_tests-clause-ends : goal.returns-in_err-run_tests-clause-ends
+returns-in_err-run_tests-clause-ends g c =
+    let fault = c.in_err-run_tests.field-0.0 in
+    let head = puts_same (g.S.Sink.tells c.args.sink.now) (g.S.Sink.tells c.header.new.sink) _ _ (Ok tt) (ap header_line (c.plan.ensures ∙ sym c.run_tests.ensures.plan)) c.in_ok-header.ensures in
+    let gave : c.from_residual-in_err-run_tests.result ≡ Err fault = search rules in
+    rw gave (behind_header c.run_tests.new.core.plan c.run_tests.new.core.entries (g.S.Sink.tells c.args.sink.now) (g.S.Sink.tells c.header.new.sink) (g.S.Sink.tells c.run_tests.new.sink) fault head c.in_err-run_tests.ensures.ends)
+
+pub returns-in_err-put_summary-clause-puts : goal.returns-in_err-put_summary-clause-puts
+returns-in_err-put_summary-clause-puts g c =
+    let fault = c.in_err-put_summary.field-0.0 in
+    let head = puts_same (g.S.Sink.tells c.args.sink.now) (g.S.Sink.tells c.header.new.sink) _ _ (Ok tt) (ap header_line (c.plan.ensures ∙ sym c.run_tests.ensures.plan)) c.in_ok-header.ensures in
+    let gave : c.from_residual-in_err-put_summary.result ≡ Err fault = search rules in
+    rw gave (summary_puts c.run_tests.new.core.plan c.run_tests.new.core.entries c.args.defs.now c.run_tests.ensures.between.planned (sym c.is_empty.ensures ∙ c.if-is_empty.false) (g.S.Sink.tells c.args.sink.now) (g.S.Sink.tells c.header.new.sink) (g.S.Sink.tells c.run_tests.new.sink) (g.S.Sink.tells c.put_summary.new.sink) (Err fault) c.in_ok-run_tests.ensures.ends.0.final head c.in_ok-run_tests.ensures.puts c.in_err-put_summary.ensures)
+
+pub returns-in_err-put_summary-clause-ends : goal.returns-in_err-put_summary-clause-ends
+returns-in_err-put_summary-clause-ends g c =
+    let fault = c.in_err-put_summary.field-0.0 in
+    let gave : c.from_residual-in_err-put_summary.result ≡ Err fault = search rules in
+    rw gave (torn_ends (header_line c.run_tests.new.core.plan) c.run_tests.new.core.plan c.run_tests.new.core.entries (g.S.Sink.tells c.args.sink.now) (g.S.Sink.tells c.put_summary.new.sink) fault c.in_ok-run_tests.ensures.ends.1)
+
+pub returns-clause-puts : goal.returns-clause-puts
+returns-clause-puts g c =
+    let head = puts_same (g.S.Sink.tells c.args.sink.now) (g.S.Sink.tells c.header.new.sink) _ _ (Ok tt) (ap header_line (c.plan.ensures ∙ sym c.run_tests.ensures.plan)) c.in_ok-header.ensures in
+    summary_puts c.run_tests.new.core.plan c.run_tests.new.core.entries c.args.defs.now c.run_tests.ensures.between.planned (sym c.is_empty.ensures ∙ c.if-is_empty.false) (g.S.Sink.tells c.args.sink.now) (g.S.Sink.tells c.header.new.sink) (g.S.Sink.tells c.run_tests.new.sink) (g.S.Sink.tells c.put_summary.new.sink) (Ok tt) c.in_ok-run_tests.ensures.ends.0.final head c.in_ok-run_tests.ensures.puts c.in_ok-put_summary.ensures

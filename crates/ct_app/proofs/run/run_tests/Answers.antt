@@ -1,37 +1,42 @@
-use Rattle.ct_report.proofs.PutLemmas.{on_err}
-use Rattle.ct_app.proofs.Progress.{along_none, known_at, more_at, refused_run, refused_text, runs_at, smaller_at, torn_at}
+use Rattle.std.proofs.Common.{rules, ◌≡◌, arith, Err}
+use Rattle.ct_base.specs.declared.sink.SinkFault.TheVariants as Sinks
+use Rattle.ct_app.proofs.AlongLemmas.{final_along, final_closer, final_puts, final_room, refused_ends, refused_puts}
 use Rattle.ct_app.proofs.run.run_tests.Goals as goal
 
-pub loop-test-init : goal.loop-test-init
-loop-test-init g c = along_none c.args.env.now c.args.core.now.plan.dir c.args.defs.now _ c.args.core.now (g.S.Sink.written c.args.sink.now) (g.S.Sink.faults c.args.sink.now) c.requires.fresh
+pub returns-in_err-test-clause-puts : goal.returns-in_err-test-clause-puts
+returns-in_err-test-clause-puts g c =
+    let gave : c.from_residual.result ≡ Err Sinks.NoMemory = search rules in
+    rw gave (refused_puts c.loop-test.invariant c.in_err-test.field-0.0 c.in_err-test.ensures.gives)
 
-pub returns-in_err-test-clause-run : goal.returns-in_err-test-clause-run
-returns-in_err-test-clause-run g c = refused_run c.loop-test.invariant c.in_err-test.ensures
+pub returns-in_err-test-clause-ends : goal.returns-in_err-test-clause-ends
+returns-in_err-test-clause-ends g c =
+    let gave : c.from_residual.result ≡ Err Sinks.NoMemory = search rules in
+    rw gave (refused_ends c.loop-test.invariant c.in_err-test.field-0.0 c.in_err-test.ensures.gives)
 
-pub returns-in_err-test-clause-err : goal.returns-in_err-test-clause-err
-returns-in_err-test-clause-err g c = on_err c.from_residual.result (refused_text c.loop-test.invariant c.in_err-test.ensures)
+pub put_line-requires-clause-few : goal.put_line-requires-clause-few
+put_line-requires-clause-few g c =
+    let step = rw c.in-Some.is at c.in_ok-test.ensures.gives in
+    let room = final_room c.loop-test.invariant step c.in_ok-test.ensures.between in
+    omega (arith, room, c.requires.few)
 
-pub put_line-requires : goal.put_line-requires
-put_line-requires g c =
-    let step = rw c.in-Some.is at c.in_ok-test.ensures in
-    known_at c.loop-test.invariant step.1
+pub returns-in_err-put_line-clause-puts : goal.returns-in_err-put_line-clause-puts
+returns-in_err-put_line-clause-puts g c =
+    let step = rw c.in-Some.is at c.in_ok-test.ensures.gives in
+    let gave : c.from_residual-in_err-put_line.result ≡ Err c.in_err-put_line.field-0.0 = search rules in
+    rw gave (final_puts c.loop-test.invariant step (g.S.Sink.tells c.put_line.new.sink) (Err c.in_err-put_line.field-0.0) c.in_err-put_line.ensures)
+
+pub overflow_add-lines : goal.overflow_add-lines
+overflow_add-lines g c =
+    let step = rw c.in-Some.is at c.in_ok-test.ensures.gives in
+    let room = final_room c.loop-test.invariant step c.in_ok-test.ensures.between in
+    omega (arith, room, c.requires.few)
 
 pub loop-test-smaller : goal.loop-test-smaller
 loop-test-smaller g c =
-    let step = rw c.in-Some.is at c.in_ok-test.ensures in
-    smaller_at c.loop-test.invariant step.1
+    let step = rw c.in-Some.is at c.in_ok-test.ensures.gives in
+    final_closer c.loop-test.invariant step c.in_ok-test.ensures.between
 
 pub loop-test-preserved : goal.loop-test-preserved
 loop-test-preserved g c =
-    let step = rw c.in-Some.is at c.in_ok-test.ensures in
-    more_at c.loop-test.invariant step.1 (g.S.Sink.written c.put_line.new.sink) (g.S.Sink.faults c.put_line.new.sink) step.2 c.in_ok-put_line.ensures.ok c.in_ok-put_line.ensures.cause.later
-
-pub returns-in_err-put_line-clause-run : goal.returns-in_err-put_line-clause-run
-returns-in_err-put_line-clause-run g c =
-    let step = rw c.in-Some.is at c.in_ok-test.ensures in
-    runs_at c.loop-test.invariant step.1
-
-pub returns-in_err-put_line-clause-err : goal.returns-in_err-put_line-clause-err
-returns-in_err-put_line-clause-err g c =
-    let step = rw c.in-Some.is at c.in_ok-test.ensures in
-    on_err c.from_residual-in_err-put_line.result (torn_at c.loop-test.invariant step.1 (g.S.Sink.written c.put_line.new.sink) c.in_err-put_line.ensures.err)
+    let step = rw c.in-Some.is at c.in_ok-test.ensures.gives in
+    final_along c.loop-test.invariant step (g.G.Gate.tells c.step.new.gate) (g.S.Sink.tells c.put_line.new.sink) c.in_ok-test.ensures.between c.in_ok-test.ensures.asked c.in_ok-put_line.ensures

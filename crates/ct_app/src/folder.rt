@@ -1,0 +1,129 @@
+ghost use Rattle.std.specs.Prelude.{◌≡◌, ◌<◌, ◌-◌, ◌^◌, [], ◌∷◌, IfOk, IfErr, length, option_map};
+ghost use Rattle.ct_app.specs.Answers.{here, sides};
+ghost use Rattle.ct_app.specs.Ends.{Ends, IsReadFolder, IsUnread, RanPlan, ended_as, history_entries};
+ghost use Rattle.ct_app.specs.Outcome.{status_of};
+ghost use Rattle.ct_app.specs.Plain.{plan_of};
+
+use crate::Outcome;
+use crate::plain::plan;
+use crate::run::run;
+use ct_base::{Files, List, Name, Pair, Sink, SinkFault, TestDef};
+use ct_core::{Core, Gate};
+use ct_history::{History, Plan, has_failing};
+use ct_testfile::read_tree;
+use std::alloc::Global;
+
+/// What a call came to, before its outcome is told.
+#[derive(Drop)]
+pub(crate) struct Ran {
+    /// The status of a run that is completed, or why there is none.
+    pub(crate) ended: Result<u8, Outcome>,
+    /// The plan of the run, where one was made.
+    pub(crate) plan: Option<Plan>,
+    /// What happened in the run, where a plan was made.
+    pub(crate) history: Option<History>,
+}
+
+/// The tests that the folder defines, and the plan of their run.
+#[derive(Drop)]
+struct Folder {
+    tests: List<TestDef>,
+    plan: Plan,
+}
+
+/// Reads the tests of the folder `.` and runs them.
+pub(crate) fn run_folder<F: Files, G: Gate, S: Sink>(
+    alloc: Global,
+    env: &[Pair],
+    files: &mut F,
+    gate: &mut G,
+    sink: &mut S,
+) -> Ran
+    ensures { Ends (sides [] env.now (F.tells files.old) (F.tells files.new) (G.tells gate.old ∷ []) (G.tells gate.new ∷ []) (S.tells sink.old) (S.tells sink.new) result.plan (option_map history_entries result.history)) result.ended }
+{
+    match read_folder(alloc, files) {
+        Ok(Folder { tests, plan }) => run_plan(alloc, plan, env, tests.as_slice(), gate, sink),
+        Err(outcome) => unplanned(outcome),
+    }
+}
+
+/// What a call came to that made no plan.
+pub(crate) fn unplanned(outcome: Outcome) -> Ran
+    ensures { result ≡ record { ended = Err outcome; plan = None; history = None } }
+{
+    Ran {
+        ended: Err(outcome),
+        plan: None,
+        history: None,
+    }
+}
+
+/// Reads the tests of the folder `.` and plans them.
+fn read_folder<F: Files>(alloc: Global, files: &mut F) -> Result<Folder, Outcome>
+    ensures ok { IfOk result (λ folder. IsReadFolder (F.tells files.old) (F.tells files.new) folder.tests folder.plan) }
+    ensures err { IfErr result (IsUnread (F.tells files.old) (F.tells files.new)) }
+{
+    let dir = Name::of(alloc, b".")?;
+    let config = Name::of(alloc, b"")?;
+    let tests = read_tree(alloc, files, &dir, &config)?;
+    let plan = plan(alloc, dir, tests.as_slice())?;
+    Ok(Folder { tests, plan })
+}
+
+/// Runs the plan of these tests.
+fn run_plan<G: Gate, S: Sink>(
+    alloc: Global,
+    plan: Plan,
+    env: &[Pair],
+    defs: &[TestDef],
+    gate: &mut G,
+    sink: &mut S,
+) -> Ran
+    requires planned { plan ≡ plan_of here defs.now }
+    requires few { length defs.now < 2 ^ 32 - 1 }
+    ensures { RanPlan env.now defs.now (G.tells gate.old ∷ []) (G.tells gate.new ∷ []) result.plan (option_map history_entries result.history) (S.tells sink.old) (S.tells sink.new) result.ended }
+{
+    match Core::open(alloc, plan) {
+        Ok(mut core) => {
+            let run = run(alloc, &mut core, env, defs, gate, sink);
+            let ended = ended(run, &core);
+            let (plan, history) = core.into_parts();
+            Ran {
+                ended,
+                plan: Some(plan),
+                history: Some(history),
+            }
+        }
+        Err(plan) => Ran {
+            ended: Err(Outcome::Memory),
+            plan: Some(plan),
+            history: Some(History {
+                entries: Vec::new(alloc),
+            }),
+        },
+    }
+}
+
+/// The status of a run that is completed, or the outcome of one that is not.
+fn ended(run: Result<(), SinkFault>, core: &Core) -> Result<u8, Outcome>
+    ensures { result ≡ ended_as run core.now.plan core.now.entries }
+{
+    match run {
+        Ok(()) => Ok(status(core)),
+        Err(fault) => Err(Outcome::from(fault)),
+    }
+}
+
+/// The status of a run that is completed: 8 where some test failed.
+///
+/// Source: CMake manual, ctest(1), Description.
+fn status(core: &Core) -> u8
+    ensures { result ≡ status_of core.now.plan core.now.entries }
+{
+    let entries = core.history().entries.as_slice();
+    if has_failing(core.plan().parts(), entries) {
+        8
+    } else {
+        0
+    }
+}
