@@ -1,1 +1,4 @@
 pub mod Start
+pub mod Machine
+pub mod Process
+pub mod Transfer

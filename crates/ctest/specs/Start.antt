@@ -1,5 +1,14 @@
--- How the program begins, and how it ends where it cannot begin. This project's own.
-use Rattle.std.specs.Prelude.{ℕ}
+-- How the program begins, runs and ends. This project's own.
+use Rattle.std.specs.Prelude.{ℕ, List, map, drop, replicate, None, Result, Ok, Err, option_map, string_bytes}
+use Rattle.std.specs.declared.string.String.{String}
+use Rattle.ct_base.specs.declared.defs.Pair.{Pair}
+use Rattle.ct_app.specs.Answers.{Answers, sides}
+use Rattle.ct_app.specs.Ends.{history_entries}
+use Rattle.ct_app.specs.declared.outcome.Finished.{Finished}
+use Rattle.ctest.specs.Machine.{files_tell, gate_tell, gates_tell, sink_tell}
+use Rattle.ctest.specs.declared.process_gate.ProcessGate.{ProcessGate}
+use Rattle.ctest.specs.declared.real_files.RealFiles.{RealFiles}
+use Rattle.ctest.specs.declared.real_sink.RealSink.{RealSink}
 use Rattle.ctest.specs.declared.start.BeginFault.{BeginFault}
 use Rattle.ctest.specs.declared.start.BeginFault.TheVariants.{Failed, NoMemory}
 
@@ -7,7 +16,28 @@ use Rattle.ctest.specs.declared.start.BeginFault.TheVariants.{Failed, NoMemory}
 abbrev pub gate_count : ℕ
 gate_count = 256
 
+-- the words behind the program's name
+abbrev pub words_in : {A : Type 0} → List (String A) → List (List ℕ)
+words_in args = map string_bytes (drop 1 args)
+
+-- the variables, each with its name and its value, in their order
+abbrev pub pairs_in : {A : Type 0} → List (String A × String A) → List Pair
+pairs_in vars = map (λ var. record { name = string_bytes var.0; value = string_bytes var.1 }) vars
+
+-- what a run of these words and variables came to, on a machine that tells nothing, and of which no call had failed
+abbrev pub RunsOnMachine : {R W : Type 0} → List (List ℕ) → List Pair → Finished (RealFiles R) (ProcessGate R) (RealSink W) → Type 0
+RunsOnMachine words env finished = Answers (sides words env
+    (files_tell 0) (files_tell finished.files.faults)
+    (replicate gate_count (gate_tell 0)) (gates_tell finished.gates.items)
+    (sink_tell None 0) (sink_tell None finished.sink.faults)
+    finished.plan (option_map history_entries finished.history)) finished.outcome finished.status
+
 -- the exit status of a run that could not begin
 abbrev pub status_of_fault : BeginFault → ℕ
 status_of_fault Failed = 6
 status_of_fault NoMemory = 5
+
+-- the exit status of the program: that of its run, or of what kept the run from beginning
+abbrev pub status_of_run : {F G S : Type 0} → Result (Finished F G S) BeginFault → ℕ
+status_of_run (Ok finished) = finished.status
+status_of_run (Err fault) = status_of_fault fault

@@ -1,18 +1,20 @@
-ghost use Rattle.std.specs.Prelude.{◌≡◌, ◌↔◌, ◌∷◌, ◌++◌, None, Some, IfOk, OnOk, false, true};
-ghost use Rattle.std.specs.Process.{SameDir, SameProgramAndArgs, clears_env, command_args, command_dir, command_program};
-ghost use Rattle.std.specs.IoError.{error_kind};
-ghost use Rattle.std.specs.declared.io.ErrorKind.TheVariants as ErrorKind;
+ghost use Rattle.std.specs.Prelude.{◌≡◌, ◌/◌, ◌-◌, ◌^◌, ◌∷◌, ◌++◌, min, None, Some, IfErr, IfOk, IsErrAnd, Ok, OnErr, OnOk, false};
+ghost use Rattle.std.specs.Process.{SameDir, SameProgramAndArgs, command_args, command_dir, command_program, exit_code};
+ghost use Rattle.std.specs.Duration.{as_nanos};
 ghost use Rattle.ct_core.specs.Gate.{HasStartCause, is_not_started};
+ghost use Rattle.ctest.specs.Machine.{gate_tell};
+ghost use Rattle.ctest.specs.Process.{HasEnv, IsFaultOf, how_of_code, how_of_run};
 ghost use Rattle.ctest.specs.declared.process_gate.StartFault.TheVariants as StartCause;
 
+use crate::text::text_of;
 use ct_base::{Ear, Name, NoMemory, Pair};
 use ct_core::{Ended, Gate, Request, Ticket};
 use ct_verdict::How;
 use std::alloc::{AllocError, Global};
 use std::io;
-use std::process::{Command, Stdio};
+use std::process::{Command, ExitStatus, Stdio};
 use std::rt::{Clock, Processes};
-use std::time::Instant;
+use std::time::{Duration, Instant};
 
 /// Why a program was not run to its end.
 #[derive(Clone, Copy, Debug, PartialEq, Eq)]
@@ -40,7 +42,7 @@ impl From<AllocError> for StartFault {
 }
 
 impl From<io::Error> for StartFault {
-    ghost from_gives = { λ e fault. (fault ≡ StartCause.NoMemory) ↔ (error_kind e ≡ ErrorKind.OutOfMemory) };
+    ghost from_gives = { IsFaultOf };
 
     fn from(e: io::Error) -> StartFault {
         if e.kind() == io::ErrorKind::OutOfMemory {
@@ -73,9 +75,8 @@ impl<R> ProcessGate<R> {
     /// Counts a start or a wait that failed, and tells how the attempt ended.
     fn count(&mut self, outcome: Result<How, StartFault>) -> How
         requires { IfOk outcome (λ how. is_not_started how ≡ false) }
+        ensures how { result ≡ how_of_run outcome }
         ensures cause { HasStartCause self.old.faults self.new.faults result }
-        ensures ok { IfOk outcome (λ how. result ≡ how) }
-        ensures kept { IfOk outcome (λ _. self.new.faults ≡ self.old.faults) }
     {
         match outcome {
             Ok(how) => how,
@@ -95,22 +96,16 @@ impl<R: Processes + Clock> ProcessGate<R> {
     {
         let began = Instant::now(&self.rt);
         let outcome = run_program(&self.rt, alloc, request);
-        let micros = micros_since(&self.rt, began);
+        let passed = began.and_then(|began| began.elapsed(&self.rt));
         Ended {
             how: self.count(outcome),
-            micros,
+            micros: micros_of(passed),
         }
     }
 }
 
 impl<R: Processes + Clock> Gate for ProcessGate<R> {
-    ghost world = { λ _. None };
-
-    ghost asked = { λ _. None };
-
-    ghost sent = { λ _. None };
-
-    ghost faults = { λ gate. gate.faults };
+    ghost tells = { λ gate. gate_tell gate.faults };
 
     fn run<E: Ear>(
         &mut self,
@@ -128,8 +123,15 @@ fn run_program<R: Processes>(rt: &R, alloc: Global, request: &Request) -> Result
     ensures { IfOk result (λ how. is_not_started how ≡ false) }
 {
     let mut command = command_of(alloc, request)?;
-    let status = command.spawn(rt)?.wait()?;
-    Ok(match status.code() {
+    how_of(command.spawn(rt)?.wait())
+}
+
+/// How the program ended, as the wait for it tells.
+fn how_of(waited: io::Result<ExitStatus>) -> Result<How, StartFault>
+    ensures ok { IfOk waited (λ status. result ≡ Ok (how_of_code (exit_code status))) }
+    ensures err { IfErr waited (λ e. IsErrAnd result (IsFaultOf e)) }
+{
+    Ok(match waited?.code() {
         Some(code) => How::Exited(code),
         None => How::Signalled,
     })
@@ -142,17 +144,17 @@ fn run_program<R: Processes>(rt: &R, alloc: Global, request: &Request) -> Result
 fn command_of(alloc: Global, request: &Request) -> Result<Command, StartFault>
     ensures call { IfOk result (λ command. command_program command ∷ command_args command ≡ request.now.command) }
     ensures dir { IfOk result (λ command. command_dir command ≡ Some request.now.dir) }
-    ensures clears { IfOk result (λ command. clears_env command ≡ true) }
+    ensures env { IfOk result (λ command. HasEnv request.now.env command) }
 {
     let Some((program, args)) = request.command.as_slice().split_first() else {
         return Err(StartFault::Failed);
     };
-    let mut command = Command::new(alloc, text_of(program)?)?;
+    let mut command = Command::new(alloc, word_of(program)?)?;
     command.stdin(Stdio::null());
     command.stdout(Stdio::null());
     command.stderr(Stdio::null());
     add_arguments(&mut command, args)?;
-    command.current_dir(text_of(&request.dir)?)?;
+    command.current_dir(word_of(&request.dir)?)?;
     set_environment(&mut command, request.env.as_slice())?;
     Ok(command)
 }
@@ -162,38 +164,38 @@ fn add_arguments(command: &mut Command, args: &[Name]) -> Result<(), StartFault>
     ensures program { OnOk result (command_program command.new ≡ command_program command.old) }
 {
     for arg in args {
-        command.arg(text_of(arg)?)?;
+        command.arg(word_of(arg)?)?;
     }
     Ok(())
 }
 
 /// Gives the program these variables alone; of several of one name the last counts.
 fn set_environment(command: &mut Command, env: &[Pair]) -> Result<(), StartFault>
+    ensures env { OnOk result (HasEnv env.now command.new) }
     ensures call { OnOk result (SameProgramAndArgs command.old command.new) }
     ensures dir { OnOk result (SameDir command.old command.new) }
-    ensures clears { OnOk result (clears_env command.new ≡ true) }
 {
     command.env_clear();
     for pair in env {
-        command.env(text_of(&pair.name)?, text_of(&pair.value)?)?;
+        command.env(word_of(&pair.name)?, word_of(&pair.value)?)?;
     }
     Ok(())
 }
 
-/// The name as text, which the system's calls take.
-fn text_of(name: &Name) -> Result<&str, StartFault>
-    ensures { IfOk result (λ text. text.now ≡ name.entry.now) }
+/// The word as text; one that is not UTF-8 is a start that failed.
+fn word_of(word: &Name) -> Result<&str, StartFault>
+    ensures { IfOk result (λ text. text.now ≡ word.entry.now) }
 {
-    std::str::from_utf8(name.bytes()).map_err(|_| StartFault::Failed)
+    text_of(word).ok_or(StartFault::Failed)
 }
 
-/// The microseconds since then, and 0 where the clock could not be read.
-fn micros_since<R: Clock>(rt: &R, began: io::Result<Instant>) -> u64 {
-    match began {
-        Ok(began) => match began.elapsed(rt) {
-            Ok(passed) => u64::try_from(passed.as_micros()).unwrap_or(u64::MAX),
-            Err(_) => 0,
-        },
+/// The whole microseconds that passed, at most the greatest u64, and 0 where the clock failed.
+fn micros_of(passed: io::Result<Duration>) -> u64
+    ensures ok { IfOk passed (λ time. result ≡ min (as_nanos time / 1000) (2 ^ 64 - 1)) }
+    ensures failed { OnErr passed (result ≡ 0) }
+{
+    match passed {
+        Ok(time) => u64::try_from(time.as_micros()).unwrap_or(u64::MAX),
         Err(_) => 0,
     }
 }
@@ -253,7 +255,7 @@ mod tests {
     fn takes_the_time_of_an_attempt(rt: HostRuntime) -> Result<(), Fail> {
         let mut gate = ProcessGate::new(rt);
         let ended = gate.attempt(rt.alloc(), &request(rt.alloc(), b"sleep 0.1")?);
-        assert!(rt; ended.micros >= 100_000);
+        assert!(rt; ended.micros >= 100_000 && ended.micros < 50_000_000);
         Ok(())
     }
 }

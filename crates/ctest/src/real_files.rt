@@ -1,11 +1,16 @@
-ghost use Rattle.std.specs.Prelude.{◌≡◌, ◌+◌, ◌≤◌, IfOk, IfSome, OnOk, length, None};
+ghost use Rattle.std.specs.Prelude.{◌≡◌, ◌≢◌, ◌+◌, ◌≤◌, Err, IfErr, IfOk, IfSome, None, Ok, OnErr, OnOk, Some, length};
+ghost use Rattle.std.specs.IoError.{error_kind};
+ghost use Rattle.std.specs.declared.io.ErrorKind.TheVariants as ErrorKind;
+ghost use Rattle.ctest.specs.Machine.{files_tell};
 ghost use Rattle.ct_base.specs.Outside.{HasCause};
 ghost use Rattle.ct_base.specs.declared.files.FilesFault.TheVariants as FilesCause;
 
+use crate::text::text_of;
+use crate::transfer::{read_up_to, write_whole};
 use ct_base::{Blob, Files, FilesFault, Name};
 use std::alloc::Global;
-use std::io::{ErrorKind, Read, Write};
-use std::{fs, rt};
+use std::io::ErrorKind;
+use std::{fs, io, rt};
 
 /// The files of the machine, which a path names as text.
 ///
@@ -40,11 +45,7 @@ impl<R> RealFiles<R> {
 }
 
 impl<R: rt::Files> Files for RealFiles<R> {
-    ghost held = { λ _. None };
-
-    ghost faults = { λ files. files.faults };
-
-    ghost refused = { λ _. None };
+    ghost tells = { λ files. files_tell files.faults };
 
     fn read(&mut self, alloc: Global, path: &Name, most: u64) -> Result<Option<Blob>, FilesFault> {
         let got = read_file(&self.rt, alloc, path, most);
@@ -71,74 +72,52 @@ fn read_file<R: rt::Files>(
 ) -> Result<Option<Blob>, FilesFault>
     ensures bound { IfOk result (λ got. IfSome got (λ bytes. length bytes ≤ most + 1)) }
 {
-    match fs::open(rt, text_of(path)?) {
-        Ok(mut file) => Ok(Some(read_up_to(alloc, &mut file, most)?)),
-        Err(e) if e.kind() == ErrorKind::NotFound => Ok(None),
-        Err(_) => Err(FilesFault::Failed),
-    }
-}
-
-/// Reads to the end, or one byte more than `most`. It takes memory only for what has been read.
-fn read_up_to<F: Read>(alloc: Global, file: &mut F, most: u64) -> Result<Blob, FilesFault>
-    ensures bound { IfOk result (λ bytes. length bytes ≤ most + 1) }
-{
-    let mut bytes = Blob::new(alloc);
-    for _ in 0..u64::MAX {
-        let so_far = bytes.bytes().len() as u64;
-        if so_far > most || !read_piece(file, &mut bytes, most - so_far)? {
-            return Ok(bytes);
-        }
-    }
-    Err(FilesFault::Failed)
-}
-
-/// Reads one piece, of at most one byte more than `most`, and tells whether there was one.
-fn read_piece<F: Read>(file: &mut F, bytes: &mut Blob, most: u64) -> Result<bool, FilesFault>
-    ensures bound { IfOk result (λ _. length bytes.new ≤ length bytes.old + most + 1) }
-{
-    let mut room = [0u8; 8192];
-    let wanted = if most < 8191 { most as usize + 1 } else { 8192 };
-    match file.read(&mut room[..wanted]) {
-        Ok(got) => {
-            bytes.append(&room[..got])?;
-            Ok(got > 0)
-        }
-        Err(_) => Err(FilesFault::Failed),
+    match present(fs::open(rt, path_of(path)?))? {
+        Some(mut file) => Ok(Some(read_up_to(alloc, &mut file, most)?)),
+        None => Ok(None),
     }
 }
 
 fn is_there<R: rt::Files>(rt: &R, path: &Name) -> Result<bool, FilesFault> {
-    fs::exists(rt, text_of(path)?).map_err(|_| FilesFault::Failed)
+    answer(fs::exists(rt, path_of(path)?))
 }
 
 /// Makes the folders above the path that are missing, and then the file.
 fn write_file<R: rt::Files>(rt: &R, path: &Name, bytes: &[u8]) -> Result<(), FilesFault> {
-    let path = text_of(path)?;
+    let path = path_of(path)?;
     if let Some((above, _)) = path.rsplit_once('/') {
-        fs::create_dir_all(rt, above).map_err(|_| FilesFault::Failed)?;
+        answer(fs::create_dir_all(rt, above))?;
     }
-    let mut file = fs::create(rt, path).map_err(|_| FilesFault::Failed)?;
-    write_whole(&mut file, bytes)
+    let mut file = answer(fs::create(rt, path))?;
+    answer(write_whole(&mut file, bytes))
 }
 
-/// Writes piece by piece until nothing is left.
-fn write_whole<F: Write>(file: &mut F, bytes: &[u8]) -> Result<(), FilesFault> {
-    let mut left = bytes;
-    for _ in 0..u64::MAX {
-        if left.is_empty() {
-            return Ok(());
-        }
-        match file.write(left) {
-            Ok(0) | Err(_) => return Err(FilesFault::Failed),
-            Ok(taken) => left = &left[taken..],
-        }
-    }
-    Err(FilesFault::Failed)
+/// The path as text; one that is not UTF-8 is a fault.
+fn path_of(path: &Name) -> Result<&str, FilesFault>
+    ensures { IfOk result (λ text. text.now ≡ path.entry.now) }
+{
+    text_of(path).ok_or(FilesFault::Failed)
 }
 
-/// The path as text, which the system's calls take.
-fn text_of(path: &Name) -> Result<&str, FilesFault> {
-    std::str::from_utf8(path.bytes()).map_err(|_| FilesFault::Failed)
+/// What the system gave. Each of its errors is a fault.
+fn answer<T>(outcome: io::Result<T>) -> Result<T, FilesFault>
+    ensures ok { IfOk outcome (λ got. result ≡ Ok got) }
+    ensures failed { OnErr outcome (result ≡ Err FilesCause.Failed) }
+{
+    outcome.map_err(|_| FilesFault::Failed)
+}
+
+/// What the system opened, and `None` where it does not find the path. Its other errors are faults.
+fn present<T>(opened: io::Result<T>) -> Result<Option<T>, FilesFault>
+    ensures ok { IfOk opened (λ file. result ≡ Ok (Some file)) }
+    ensures absent { IfErr opened (λ e. error_kind e ≡ ErrorKind.NotFound → result ≡ Ok None) }
+    ensures failed { IfErr opened (λ e. error_kind e ≢ ErrorKind.NotFound → result ≡ Err FilesCause.Failed) }
+{
+    match opened {
+        Ok(file) => Ok(Some(file)),
+        Err(e) if e.kind() == ErrorKind::NotFound => Ok(None),
+        Err(_) => Err(FilesFault::Failed),
+    }
 }
 
 #[cfg(test)]
@@ -193,12 +172,24 @@ mod tests {
         for path in [b"/".as_slice(), b"\xff", b"a\0b"] {
             let path = Name::of(rt.alloc(), path)?;
             assert!(rt; files.read(rt.alloc(), &path, 9).is_err(), "at {path:?}");
+        }
+        for path in [
+            b"/".as_slice(),
+            b"\xff",
+            b"a\0b",
+            b"/dev/full",
+            b"/dev/null/a",
+        ] {
+            let path = Name::of(rt.alloc(), path)?;
             assert!(rt;
                 files.write(rt.alloc(), &path, b"x").is_err(),
                 "at {path:?}"
             );
         }
-        assert_eq!(rt; files.faults, 6);
+        assert_eq!(rt; files.faults, 8);
+        let path = Name::of(rt.alloc(), b"a\0b")?;
+        assert!(rt; files.exists(rt.alloc(), &path).is_err());
+        assert_eq!(rt; files.faults, 9);
         Ok(())
     }
 }

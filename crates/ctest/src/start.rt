@@ -1,18 +1,21 @@
-ghost use Rattle.std.specs.Prelude.{◌≡◌, ◌↔◌, ◌<◌, ◌^◌, ◌-◌, IfErr, IfOk, vec_len};
+ghost use Rattle.std.specs.Prelude.{◌≡◌, ◌↔◌, ◌<◌, ◌≤◌, ◌^◌, ◌-◌, IfOk, IsErrOf, length, replicate, vec_len};
 ghost use Rattle.std.specs.IoError.{error_kind};
+ghost use Rattle.std.specs.Process.{exit_status};
 ghost use Rattle.std.specs.declared.env.VarError.TheVariants as VarCause;
 ghost use Rattle.std.specs.declared.io.ErrorKind.TheVariants as ErrorKind;
 ghost use Rattle.ctest.specs.declared.start.BeginFault.TheVariants as BeginCause;
-ghost use Rattle.ctest.specs.Start.{gate_count, status_of_fault};
+ghost use Rattle.ctest.specs.Machine.{gate_tell, gates_tell};
+ghost use Rattle.ctest.specs.Start.{RunsOnMachine, gate_count, pairs_in, status_of_fault, status_of_run, words_in};
 
 use crate::process_gate::ProcessGate;
 use crate::real_files::RealFiles;
 use crate::real_sink::RealSink;
-use ct_app::ctest_main;
+use ct_app::{Finished, ctest_main};
 use ct_base::{Name, NoMemory, Pair};
-use std::alloc::AllocFailed;
+use std::alloc::{AllocError, AllocFailed, Global};
 use std::env::VarError;
-use std::rt::Env;
+use std::io::Stdout;
+use std::process::ExitCode;
 use std::{env, io};
 
 /// How many programs of tests can run at once.
@@ -56,6 +59,14 @@ impl From<NoMemory> for BeginFault {
     }
 }
 
+impl From<AllocError> for BeginFault {
+    ghost from_gives = { λ _ fault. fault ≡ BeginCause.NoMemory };
+
+    fn from(_e: AllocError) -> BeginFault {
+        BeginFault::NoMemory
+    }
+}
+
 impl<T: Drop> From<AllocFailed<T>> for BeginFault {
     ghost from_gives = { λ _ fault. fault ≡ BeginCause.NoMemory };
 
@@ -88,68 +99,91 @@ impl From<VarError> for BeginFault {
     }
 }
 
-/// Runs the tests of the folder that the process is in, and tells the exit status.
+/// What a run on the machine gives back.
+pub type Run = Finished<RealFiles<HostRuntime>, ProcessGate<HostRuntime>, RealSink<Stdout>>;
+
+/// Runs the tests of the folder that the process is in, with its words and its environment.
 ///
 /// Where it cannot begin, it writes nothing.
-pub fn run(rt: HostRuntime) -> u8 {
-    match begin(rt) {
-        Ok(status) => status,
-        Err(fault) => fault.status(),
-    }
+pub fn begin(rt: HostRuntime) -> Result<Run, BeginFault> {
+    let args: Vec<String> = env::args(&rt)?.collect(rt.alloc())?;
+    let vars: Vec<(String, String)> = env::vars(&rt)?.collect(rt.alloc())?;
+    run(rt, args.as_slice(), vars.as_slice())
 }
 
-/// Hands the words, the environment and the machine to the top call, and tells its status.
+/// Hands the words, the variables and the machine to the top call.
 //
 // It takes the runtime of the host: a call that may send its gates to threads gets no proof yet
 // where a bound alone says that they can be sent.
-fn begin(rt: HostRuntime) -> Result<u8, BeginFault> {
-    let words = words_of(&rt)?;
-    let env = environment_of(&rt)?;
-    let gates = gates_of(&rt)?;
-    let finished = ctest_main(
+fn run(rt: HostRuntime, args: &[String], vars: &[(String, String)]) -> Result<Run, BeginFault>
+    ensures { IfOk result (λ run. RunsOnMachine (words_in args.now) (pairs_in vars.now) run) }
+{
+    let words = words_of(rt.alloc(), args)?;
+    let env = pairs_of(rt.alloc(), vars)?;
+    let gates = gates_of(rt.alloc(), rt)?;
+    Ok(ctest_main(
         rt.alloc(),
         words.as_slice(),
         env.as_slice(),
         RealFiles::new(rt),
         gates,
-        RealSink::new(rt),
-    );
-    Ok(finished.status)
+        RealSink::new(rt.stdout()),
+    ))
 }
 
-/// The words that the program was called with, without its own name.
-fn words_of<R: Env + AllocGlobal>(rt: &R) -> Result<Vec<Name>, BeginFault>
-    ensures few { IfOk result (λ words. vec_len words < 2 ^ 32 - 1) }
+/// The exit status of the program.
+///
+/// Source: this project's choice where the run could not begin.
+pub fn exit_code<F: Drop, G: Drop, S: Drop>(
+    begun: Result<Finished<F, G, S>, BeginFault>,
+) -> ExitCode
+    ensures { exit_status result ≡ status_of_run begun }
 {
-    let mut words = Vec::new(rt.alloc());
-    for word in env::args(rt)?.skip(1) {
-        if words.len() >= MOST_WORDS {
-            return Err(BeginFault::Failed);
-        }
-        words.push(Name::of(rt.alloc(), word.as_bytes())?)?;
-    }
-    Ok(words)
+    ExitCode::from(match begun {
+        Ok(finished) => finished.status,
+        Err(fault) => fault.status(),
+    })
 }
 
-/// The environment of the program, in its order.
-fn environment_of<R: Env + AllocGlobal>(rt: &R) -> Result<Vec<Pair>, BeginFault> {
-    let mut pairs = Vec::new(rt.alloc());
-    for (name, value) in env::vars(rt)? {
-        let name = Name::of(rt.alloc(), name.as_bytes())?;
-        let value = Name::of(rt.alloc(), value.as_bytes())?;
-        pairs.push(Pair { name, value })?;
+/// The words behind the program's own name.
+fn words_of(alloc: Global, args: &[String]) -> Result<Vec<Name>, BeginFault>
+    ensures words { IfOk result (λ words. words.items ≡ words_in args.now) }
+    ensures few { IfOk result (λ words. vec_len words < 2 ^ 32 - 1) }
+    ensures many { IsErrOf result BeginCause.Failed → 2 ^ 32 ≤ length args.now }
+{
+    let words = args.get(1..).unwrap_or(&[]);
+    if words.len() > MOST_WORDS {
+        return Err(BeginFault::Failed);
+    }
+    let mut names = Vec::new(alloc);
+    for word in words {
+        names.push(Name::of(alloc, word.as_bytes())?)?;
+    }
+    Ok(names)
+}
+
+/// The variables of the environment, in its order.
+fn pairs_of(alloc: Global, vars: &[(String, String)]) -> Result<Vec<Pair>, NoMemory>
+    ensures { IfOk result (λ pairs. pairs.items ≡ pairs_in vars.now) }
+{
+    let mut pairs = Vec::new(alloc);
+    for (name, value) in vars {
+        pairs.push(Pair {
+            name: Name::of(alloc, name.as_bytes())?,
+            value: Name::of(alloc, value.as_bytes())?,
+        })?;
     }
     Ok(pairs)
 }
 
 /// The gates through which tests may run, none of which has failed.
-fn gates_of<R: AllocGlobal + Copy>(rt: &R) -> Result<Vec<ProcessGate<R>>, BeginFault>
+fn gates_of<R: Copy + Drop>(alloc: Global, rt: R) -> Result<Vec<ProcessGate<R>>, NoMemory>
     ensures count { IfOk result (λ gates. vec_len gates ≡ gate_count) }
-    ensures memory { IfErr result (λ fault. fault ≡ BeginCause.NoMemory) }
+    ensures unfailed { IfOk result (λ gates. gates_tell gates.items ≡ replicate gate_count (gate_tell 0)) }
 {
-    let mut gates = Vec::new(rt.alloc());
+    let mut gates = Vec::new(alloc);
     for _ in 0..GATES {
-        gates.push(ProcessGate::new(*rt))?;
+        gates.push(ProcessGate::new(rt))?;
     }
     Ok(gates)
 }

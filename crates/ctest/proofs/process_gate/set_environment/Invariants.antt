@@ -1,7 +1,11 @@
-use Rattle.std.proofs.Common.{◌≡◌, true}
-use Rattle.std.specs.Process.{SameDir, SameProgramAndArgs, clears_env}
+use Rattle.std.proofs.Common.{take}
+use Rattle.std.specs.Process.{SameDir, SameProgramAndArgs}
+use Rattle.ctest.specs.Process.{HasEnv}
 use Rattle.ctest.proofs.process_gate.set_environment.Given as goal
 
 abbrev pub invariant-loop-pair : goal.invariant-loop-pair
-invariant-loop-pair l =
-    SameProgramAndArgs l.fn.command l.command × (SameDir l.fn.command l.command × (clears_env l.command ≡ true))
+invariant-loop-pair l = record {
+  env : HasEnv (take l.pair-index l.env) l.command;
+  call : SameProgramAndArgs l.fn.command l.command;
+  dir : SameDir l.fn.command l.command;
+}

@@ -1,5 +1,6 @@
-use Rattle.std.proofs.Common.{◌<◌, ◌^◌, ◌-◌, vec_len}
+use Rattle.std.proofs.Common.{◌≡◌, map, take}
+use Rattle.std.specs.Prelude.{string_bytes}
 use Rattle.ctest.proofs.start.words_of.Given as goal
 
 abbrev pub invariant-loop-word : goal.invariant-loop-word
-invariant-loop-word g l = vec_len l.words < 2 ^ 32 - 1
+invariant-loop-word l = l.names.items ≡ map string_bytes (take l.word-index l.words)

@@ -1,0 +1,33 @@
+-- How a program that ran is answered, and with which variables it is started. This project's own.
+use Rattle.std.specs.Prelude.{◌≡◌, ◌↔◌, ℕ, List, ℤ, Option, Some, None, Result, Ok, Err, option_map, true}
+use Rattle.std.specs.IoError.{error_kind}
+use Rattle.std.specs.declared.io.Error.{Error}
+use Rattle.std.specs.declared.io.ErrorKind.TheVariants as ErrorKind
+use Rattle.std.specs.Process.{clears_env, command_var}
+use Rattle.std.specs.declared.process.command.Command.{Command}
+use Rattle.ct_base.specs.declared.defs.Pair.{Pair}
+use Rattle.ct_base.specs.Memory.{held_by}
+use Rattle.ct_verdict.specs.declared.attempt.How.{How}
+use Rattle.ct_verdict.specs.declared.attempt.How.TheVariants as Ends
+use Rattle.ctest.specs.declared.process_gate.StartFault.{StartFault}
+use Rattle.ctest.specs.declared.process_gate.StartFault.TheVariants as Fault
+
+-- a program that has an exit code exited with it, and any other was ended by a signal
+abbrev pub how_of_code : Option ℤ → How
+how_of_code (Some code) = Ends.Exited code
+how_of_code None = Ends.Signalled
+
+-- what an error of the system comes to: want of memory exactly where it says so
+abbrev pub IsFaultOf : Error → StartFault → Type 0
+IsFaultOf e fault = (fault ≡ Fault.NoMemory) ↔ (error_kind e ≡ ErrorKind.OutOfMemory)
+
+-- a program that ran is answered as it ended; one that did not was not started, or memory was wanting
+abbrev pub how_of_run : Result How StartFault → How
+how_of_run (Ok how) = how
+how_of_run (Err Fault.Failed) = Ends.NotStarted
+how_of_run (Err Fault.NoMemory) = Ends.NoMemory
+
+-- a program is given these variables and no others; of several of one name the last counts
+pub record HasEnv {A : Type 0} (pairs : List Pair) (command : Command A) : Type 0 where
+  pub alone : clears_env command ≡ true
+  pub values : (name : List ℕ) → command_var command name ≡ option_map Some (held_by pairs name)

@@ -1,0 +1,2 @@
+add_test(marks "./marks")
+add_test(once "./once")

@@ -1,0 +1,3 @@
+add_test(segfault "./dies" "SEGV")
+add_test(killed "./dies" "KILL")
+add_test(passes "/bin/true")

@@ -1,0 +1,2 @@
+add_test(writes "./writes")
+add_test(reads "./reads")
