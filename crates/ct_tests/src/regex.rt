@@ -1,0 +1,229 @@
+//! Patterns of CMake: what is refused, and what hits.
+
+use ct_regex::{Regex, RegexFault};
+use std::alloc::{AllocError, Global};
+use std::process::Abort;
+use std::test::Fail;
+
+/// A pattern and its first fault from the left: a row a line, with a space between the cells.
+const FAULTS: &str = "\
+a**  Err(NestedRepeat(2))
+(a  Err(OpenGroup(0))
+)  Err(StrayClose(0))
+[z-a]  Err(BadRange(1))
+[a  Err(OpenSet(0))
+*  Err(NothingToRepeat(0))
+a\\  Err(EndsInBackslash(1))
+(a*)*  Err(EmptyRepeat(4))
+^*  Err(EmptyRepeat(1))
+a|*  Err(NothingToRepeat(2))
+(+a)  Err(NothingToRepeat(1))
+(*  Err(NothingToRepeat(1))
+a+?  Err(NestedRepeat(2))
+(a)?*  Err(NestedRepeat(4))
+a**(  Err(NestedRepeat(2))
+$+  Err(EmptyRepeat(1))
+()*  Err(EmptyRepeat(2))
+(a|)+  Err(EmptyRepeat(4))
+(^a?)*  Err(EmptyRepeat(5))
+((a?)b*)+  Err(EmptyRepeat(8))
+(a*)*)  Err(EmptyRepeat(4))
+(a)b)  Err(StrayClose(4))
+)(  Err(StrayClose(0))
+((a)  Err(OpenGroup(0))
+(a(b  Err(OpenGroup(2))
+[]  Err(OpenSet(0))
+ab[^  Err(OpenSet(2))
+[^]  Err(OpenSet(0))
+[a-c-a  Err(OpenSet(0))
+[b-a  Err(BadRange(1))
+x[^b-a]*)  Err(BadRange(3))
+\\  Err(EndsInBackslash(0))
+(\\  Err(EndsInBackslash(1))
+";
+
+/// A pattern, a text, and whether it hits the text.
+const HITS: &str = "\
+[]a]+$ x]a Ok(true)
+[]a]+$ ab Ok(false)
+(a*b?)?c c Ok(true)
+  Ok(true)
+ abc Ok(true)
+a  Ok(false)
+abc xxabcx Ok(true)
+abc ab Ok(false)
+abc acb Ok(false)
+.  Ok(false)
+a.c ac Ok(false)
+^.$ \u{e9} Ok(false)
+^..$ \u{e9} Ok(true)
+^a ab Ok(true)
+^a ba Ok(false)
+a$ ba Ok(true)
+a$ ab Ok(false)
+^$  Ok(true)
+^$ a Ok(false)
+a^b a^b Ok(false)
+a$b a$b Ok(false)
+^^a$$ a Ok(true)
+^a|b$ ax Ok(true)
+^a|b$ xb Ok(true)
+^a|b$ xax Ok(false)
+(^a|b)c xac Ok(false)
+(^a|b)c xbc Ok(true)
+a(b|$) xa Ok(true)
+a(b|$) ax Ok(false)
+^?a ba Ok(true)
+a* bbb Ok(true)
+^a*$ aaa Ok(true)
+^a*$ aab Ok(false)
+^a+$  Ok(false)
+^a+$ aaaa Ok(true)
+^a?$  Ok(true)
+^a?$ aa Ok(false)
+^ab*c$ ac Ok(true)
+^ab*c$ abbbc Ok(true)
+^ab+c$ ac Ok(false)
+^(ab)*$ abab Ok(true)
+^(ab)*$ aba Ok(false)
+^(ab|c)+$ cabc Ok(true)
+a| x Ok(true)
+^(|a)b$ b Ok(true)
+^(a|)?b$ b Ok(true)
+^(a*b?)?c$ aabc Ok(true)
+^((a|b)(c|d))+$ acbd Ok(true)
+^((a|b)(c|d))+$ abcd Ok(false)
+^(aa|aaa)*$ aaaaa Ok(true)
+^(aa|aaa)*$ a Ok(false)
+^(a|ab)(c|bcd)$ abcd Ok(true)
+^(a+)+b$ aaab Ok(true)
+[abc] xcx Ok(true)
+[abc] xyz Ok(false)
+[a-c] b Ok(true)
+[a-c] - Ok(false)
+[^a-c] abc Ok(false)
+[^a-c] abcd Ok(true)
+a[^b] a Ok(false)
+[^]] ] Ok(false)
+[^]a] b Ok(true)
+[]a] ] Ok(true)
+[a^] ^ Ok(true)
+[^^] ^ Ok(false)
+[a-] - Ok(true)
+[a-] b Ok(false)
+[-a] - Ok(true)
+[a-b-c] - Ok(true)
+[]-a] _ Ok(true)
+[+--] , Ok(true)
+[\\] \\ Ok(true)
+[\\n] n Ok(true)
+[.*] x Ok(false)
+[$] a Ok(false)
+a{2} a{2} Ok(true)
+a{2} aa Ok(false)
+^]$ ] Ok(true)
+^a-b$ a-b Ok(true)
+\\. a Ok(false)
+\\\\ \\ Ok(true)
+^a\\*$ a* Ok(true)
+\\^a b^a Ok(true)
+(a+)* b Ok(true)
+(ab*)* b Ok(true)
+(a*)? b Ok(true)
+() b Ok(true)
+[]-] - Ok(true)
+a{}-] a{}-] Ok(true)
+";
+
+/// Whether the pattern hits the text, or why it is refused.
+fn comes_to(alloc: Global, pattern: &[u8], text: &[u8]) -> Result<bool, RegexFault> {
+    let regex = Regex::parse(alloc, pattern)?;
+    Ok(regex.hit(alloc, text)?)
+}
+
+/// Compares each row with what its pattern comes to.
+fn check(rt: &impl Abort, alloc: Global, rows: &str) -> Result<(), Fail> {
+    for row in rows.lines() {
+        let mut cells = row.split(' ');
+        let pattern = cells.next().unwrap_or("");
+        let text = cells.next().unwrap_or("");
+        let found = comes_to(alloc, pattern.as_bytes(), text.as_bytes());
+        let told = format!(in alloc; "{found:?}")?;
+        assert_eq!(rt; Some(told.as_str()), cells.next(), "{row}");
+    }
+    Ok(())
+}
+
+#[test]
+fn finds_the_first_fault_from_the_left(rt: HostRuntime) -> Result<(), Fail> {
+    check(&rt, rt.alloc(), FAULTS)
+}
+
+#[test]
+fn hits_where_a_match_exists(rt: HostRuntime) -> Result<(), Fail> {
+    check(&rt, rt.alloc(), HITS)
+}
+
+#[test]
+fn takes_bytes_that_are_no_text(rt: HostRuntime) {
+    for (pattern, text, hits) in [
+        (b"^.$".as_slice(), b"\xff".as_slice(), true),
+        (b"[\xfe-\xff]", b"\xff", true),
+        (b"[^\xff]", b"\xff", false),
+        (b".", b"\n", true),
+        (b"a.c", b"a\nc", true),
+        (b"\\n", b"\n", false),
+    ] {
+        let found = comes_to(rt.alloc(), pattern, text);
+        assert_eq!(rt; found, Ok(hits), "{pattern:?} on {text:?}");
+    }
+}
+
+/// So many times the byte, and then the tail.
+fn run_of(alloc: Global, byte: u8, count: usize, tail: &[u8]) -> Result<Vec<u8>, AllocError> {
+    let mut bytes = vec![in alloc; byte; count]?;
+    bytes.extend_from_slice(tail)?;
+    Ok(bytes)
+}
+
+/// A byte, how often it stands, what follows, and what that pattern comes to on the text `x`.
+const LONG: [(u8, usize, &[u8], Result<bool, RegexFault>); 5] = [
+    (b'|', 65_536, b"", Ok(true)),
+    (b'a', 65_536, b"", Ok(false)),
+    (b'|', 65_536, b"|", Err(RegexFault::TooLarge(65_536))),
+    (b'(', 200, b"", Err(RegexFault::OpenGroup(199))),
+    (b'(', 200, b"(", Err(RegexFault::TooLarge(200))),
+];
+
+#[test]
+fn keeps_to_its_limits(rt: HostRuntime) -> Result<(), Fail> {
+    for (byte, count, tail, want) in &LONG {
+        let pattern = run_of(rt.alloc(), *byte, *count, tail)?;
+        let found = comes_to(rt.alloc(), &pattern, b"x");
+        assert_eq!(rt; &found, want, "{count} times {byte}");
+    }
+    Ok(())
+}
+
+/// So many groups, one in the other, each of which may be repeated.
+fn nested(alloc: Global, depth: usize) -> Result<Vec<u8>, AllocError> {
+    let mut pattern = run_of(alloc, b'(', depth, b"a")?;
+    for _ in 0..depth {
+        pattern.extend_from_slice(b"+)")?;
+    }
+    Ok(pattern)
+}
+
+#[test]
+fn takes_no_more_than_a_moment(rt: HostRuntime) -> Result<(), Fail> {
+    let text = run_of(rt.alloc(), b'a', 300, b"")?;
+    let deep = nested(rt.alloc(), 200)?;
+    for (pattern, want) in [
+        (b"(a|a)*b".as_slice(), false),
+        (b"^(a|a)*$", true),
+        (deep.as_slice(), true),
+    ] {
+        assert_eq!(rt; comes_to(rt.alloc(), pattern, &text), Ok(want));
+    }
+    Ok(())
+}
