@@ -2,4 +2,5 @@
 pub mod Outside
 pub mod Path
 pub mod Entries
+pub mod Seconds
 pub mod Memory

@@ -18,6 +18,7 @@ mod mem_sink;
 mod memory;
 mod name;
 mod path;
+mod seconds;
 mod sink;
 
 pub use blob::Blob;
@@ -32,4 +33,5 @@ pub use mem_sink::{CalmSink, MemSink};
 pub use memory::NoMemory;
 pub use name::Name;
 pub use path::join_path;
+pub use seconds::{first_place, is_numeral, micros, number};
 pub use sink::{Sink, SinkFault};
