@@ -6,6 +6,7 @@ pub mod BracketLemmas
 pub mod TextLemmas
 pub mod ArgumentLemmas
 pub mod ArgumentsLemmas
+pub mod ArgsLemmas
 pub mod CommandLemmas
 pub mod RestLemmas
 pub mod RoundTrip

@@ -1,8 +1,7 @@
--- What the loops of the readers keep: what is read so far, put in front of what is still to be read.
-use Rattle.std.proofs.Common.{ℕ, ◌+◌, List, ◌++◌, Result, Ok}
+-- What the loop over the units of a text keeps: what is read so far, put in front of what is still to be read.
+use Rattle.std.proofs.Common.{ℕ, ◌+◌, List, Result, Ok}
 use Rattle.ct_lex.specs.Stop.{◌>>=◌}
 use Rattle.ct_lex.specs.Joined.{joined_parts}
-use Rattle.ct_lex.specs.declared.call.Arg.{Arg}
 use Rattle.ct_lex.specs.declared.call.Part.{Part}
 use Rattle.ct_lex.specs.declared.parts.Parts.{Parts}
 use Rattle.ct_lex.specs.declared.stop.Stop.{Stop}
@@ -10,7 +9,3 @@ use Rattle.ct_lex.specs.declared.stop.Stop.{Stop}
 -- the parts of a text whose first bytes are read, by what is read of the others
 abbrev pub parts_behind : Parts → ℕ → Result (List Part × ℕ) Stop → Result (List Part × ℕ) Stop
 parts_behind parts at read = read >>= λ x. Ok (joined_parts parts x.0, x.1 + at)
-
--- the arguments in a text whose first bytes are read, by those in the others
-abbrev pub args_behind : List Arg → ℕ → Result (List Arg × ℕ) Stop → Result (List Arg × ℕ) Stop
-args_behind args at read = read >>= λ x. Ok (args ++ x.0, x.1 + at)

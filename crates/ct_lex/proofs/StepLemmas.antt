@@ -1,12 +1,13 @@
 -- What is read behind the thing at the front of a text: a definition that skips bytes reads what is left behind them.
-use Rattle.std.proofs.Common.{◌≡◌, ℕ, zero, suc, ◌+◌, ◌-◌, ◌<◌, ◌≤◌, Bool, false, not, ◌&&◌, ◌==◌, List, [], ◌∷◌, ◌++◌, length, get_or, drop, Option, Some, None, Result, Ok, Err, refl, sym, ap, ◌∙◌, arith, add_assoc, add_comm, add-zero, add-one, append_assoc, length-drop}
+use Rattle.std.proofs.Common.{◌≡◌, ℕ, zero, suc, ◌+◌, ◌-◌, ◌<◌, ◌≤◌, Bool, false, not, ◌&&◌, ◌==◌, List, [], ◌∷◌, length, get_or, drop, Option, Some, None, Result, Ok, Err, refl, sym, ap, ◌∙◌, arith, add_assoc, add_comm, add-zero, add-one, length-drop}
 use Rattle.std.proofs.lemmas.List.{get_or-drop, drop-drop}
 use Rattle.std.proofs.lemmas.Bool.Decides.{nat_tests}
 use Rattle.ct_lex.specs.Argument.{with_piece, ends_text}
 use Rattle.ct_lex.specs.Joined.{joined_parts}
 use Rattle.ct_lex.specs.declared.parts.Parts.{Parts}
-use Rattle.ct_lex.proofs.Reading.{parts_behind, args_behind}
+use Rattle.ct_lex.proofs.Reading.{parts_behind}
 use Rattle.ct_lex.specs.Bracket.{gap_at}
+use Rattle.ct_lex.specs.Extent.{bytes_read}
 use Rattle.ct_lex.specs.Unit.{unit_at}
 use Rattle.ct_lex.specs.Text.{moved, piece_before, text_from, argument, argument_before, arguments_from}
 use Rattle.ct_lex.specs.Command.{shifted, start_from}
@@ -78,6 +79,24 @@ text_turn kind text at n old new piece whole inside goes_on unit positive fits g
           ∙ kept,
     )
 
+bytes_read-piece : (piece : Part) (at n : ℕ) (read : Result (List Part × ℕ) Stop) → bytes_read (moved (at + n) read) ≡ bytes_read (moved at (piece_before piece (moved n read)))
+bytes_read-piece piece at n (Err stop) = refl
+bytes_read-piece piece at n (Ok x) =
+    let P : ℕ → Result ℕ Stop = λ k. Ok k in
+    let e : x.1 + (at + n) ≡ (x.1 + n) + at = omega arith in
+    ap P e
+
+-- one turn of the loop that counts the bytes of a text
+pub count_turn : (kind : ArgKind) (text : List ℕ) (at n : ℕ) (piece : Part) (whole : Result ℕ Stop) → at < length text → ends_text kind (get_or text at 0) ≡ false → unit_at kind (drop at text) ≡ Ok (piece, n) → 0 < n → n ≤ length (drop at text) → bytes_read (moved at (text_from kind 0 (drop at text))) ≡ whole → (at + n ≤ length text) × (bytes_read (moved (at + n) (text_from kind 0 (drop (at + n) text))) ≡ whole)
+count_turn kind text at n piece whole inside goes_on unit positive fits kept =
+    let first : ends_text kind (get_or (drop at text) 0 0) ≡ false = ap (λ byte. ends_text kind byte) (get_or-drop at text 0 0 ∙ ap (λ i. get_or text i 0) (add-zero at)) ∙ goes_on in (
+      omega (arith, length-drop at text),
+      bytes_read-piece piece at n _
+          ∙ ap (λ rest. bytes_read (moved at (piece_before piece (moved n (text_from kind 0 rest))))) (sym (drop-drop n at text))
+          ∙ ap (λ r. bytes_read (moved at r)) (sym (text_from-step kind (drop at text) piece n positive first unit))
+          ∙ kept,
+    )
+
 -- a gap at the front of the arguments, and those behind it
 pub arguments_from-gap : (text : List ℕ) (n : ℕ) → 0 < n → n ≤ length text → (get_or text 0 0 == 41) ≡ false → gap_at text ≡ Ok n → arguments_from 0 text ≡ moved n (arguments_from 0 (drop n text))
 arguments_from-gap [] n positive fits goes_on gap = absurd (omega arith)
@@ -95,40 +114,49 @@ arguments_from-argument (byte ∷ rest) arg (suc k) positive fits goes_on gap re
     let less : suc k - 1 ≡ k = omega arith in
     rw (goes_on, gap, read, less) (ap (λ r. argument_before arg r) (arguments_from-skip (suc k) (byte ∷ rest)))
 
-pub args_behind-gap : (args : List Arg) (at n : ℕ) (read : Result (List Arg × ℕ) Stop) → args_behind args (at + n) read ≡ args_behind args at (moved n read)
-args_behind-gap args at n (Err stop) = refl
-args_behind-gap args at n (Ok x) =
-    let P : ℕ → Result (List Arg × ℕ) Stop = λ k. Ok (args ++ x.0, k) in
-    let e : x.1 + (at + n) ≡ (x.1 + n) + at = omega arith in
+pub first-byte : (text : List ℕ) (at : ℕ) → (get_or text at 0 == 41) ≡ false → (get_or (drop at text) 0 0 == 41) ≡ false
+first-byte text at goes_on = ap (λ byte. byte == 41) (get_or-drop at text 0 0 ∙ ap (λ i. get_or text i 0) (add-zero at)) ∙ goes_on
+
+-- what is read from a place on, and from behind a gap there
+pub gap_passed : (text : List ℕ) (at n : ℕ) → (get_or (drop at text) 0 0 == 41) ≡ false → gap_at (drop at text) ≡ Ok n → 0 < n → n ≤ length (drop at text) → moved (at + n) (arguments_from 0 (drop (at + n) text)) ≡ moved at (arguments_from 0 (drop at text))
+gap_passed text at n first gap positive fits =
+    ap (λ k. moved k (arguments_from 0 (drop (at + n) text))) (add_comm at n)
+    ∙ sym (moved-moved at n _)
+    ∙ ap (λ rest. moved at (moved n (arguments_from 0 rest))) (sym (drop-drop n at text))
+    ∙ ap (λ r. moved at r) (sym (arguments_from-gap (drop at text) n positive fits first gap))
+
+-- the same behind an argument
+pub argument_before-moved : (arg : Arg) (at n : ℕ) (read : Result (List Arg × ℕ) Stop) → moved at (argument_before arg (moved n read)) ≡ argument_before arg (moved (at + n) read)
+argument_before-moved arg at n (Err stop) = refl
+argument_before-moved arg at n (Ok x) =
+    let P : ℕ → Result (List Arg × ℕ) Stop = λ k. Ok (arg ∷ x.0, k) in
+    let e : (x.1 + n) + at ≡ x.1 + (at + n) = omega arith in
     ap P e
 
-pub args_behind-argument : (args : List Arg) (arg : Arg) (at n : ℕ) (read : Result (List Arg × ℕ) Stop) → args_behind (args ++ arg ∷ []) (at + n) read ≡ args_behind args at (argument_before arg (moved n read))
-args_behind-argument args arg at n (Err stop) = refl
-args_behind-argument args arg at n (Ok x) =
-    let P : ℕ → Result (List Arg × ℕ) Stop = λ k. Ok ((args ++ arg ∷ []) ++ x.0, k) in
-    let Q : List Arg → Result (List Arg × ℕ) Stop = λ all. Ok (all, (x.1 + n) + at) in
-    let e : x.1 + (at + n) ≡ (x.1 + n) + at = omega arith in
-    ap P e ∙ ap Q (append_assoc args (arg ∷ []) x.0)
+pub argument_passed : (text : List ℕ) (arg : Arg) (at n : ℕ) → (get_or (drop at text) 0 0 == 41) ≡ false → gap_at (drop at text) ≡ Ok 0 → argument (drop at text) ≡ Ok (arg, n) → 0 < n → n ≤ length (drop at text) → moved at (arguments_from 0 (drop at text)) ≡ argument_before arg (moved (at + n) (arguments_from 0 (drop (at + n) text)))
+argument_passed text arg at n first gap read positive fits =
+    ap (λ r. moved at r) (arguments_from-argument (drop at text) arg n positive fits first gap read)
+    ∙ argument_before-moved arg at n _
+    ∙ ap (λ rest. argument_before arg (moved (at + n) (arguments_from 0 rest))) (drop-drop n at text)
 
-pub gap_turn : (text : List ℕ) (at n : ℕ) (args : List Arg) (whole : Result (List Arg × ℕ) Stop) → at < length text → (get_or text at 0 == 41) ≡ false → gap_at (drop at text) ≡ Ok n → 0 < n → n ≤ length (drop at text) → args_behind args at (arguments_from 0 (drop at text)) ≡ whole → (at + n ≤ length text) × (args_behind args (at + n) (arguments_from 0 (drop (at + n) text)) ≡ whole)
-gap_turn text at n args whole inside goes_on gap positive fits kept =
-    let first : (get_or (drop at text) 0 0 == 41) ≡ false = ap (λ byte. byte == 41) (get_or-drop at text 0 0 ∙ ap (λ i. get_or text i 0) (add-zero at)) ∙ goes_on in (
-      omega (arith, length-drop at text),
-      args_behind-gap args at n _
-          ∙ ap (λ rest. args_behind args at (moved n (arguments_from 0 rest))) (sym (drop-drop n at text))
-          ∙ ap (λ r. args_behind args at r) (sym (arguments_from-gap (drop at text) n positive fits first gap))
-          ∙ kept,
-    )
+-- one turn of the loop over gaps and arguments that counts their bytes
+pub gap_turn : (text : List ℕ) (at n : ℕ) (whole : Result ℕ Stop) → at < length text → (get_or text at 0 == 41) ≡ false → gap_at (drop at text) ≡ Ok n → 0 < n → n ≤ length (drop at text) → bytes_read (moved at (arguments_from 0 (drop at text))) ≡ whole → (at + n ≤ length text) × (bytes_read (moved (at + n) (arguments_from 0 (drop (at + n) text))) ≡ whole)
+gap_turn text at n whole inside goes_on gap positive fits kept = (
+  omega (arith, length-drop at text),
+  ap (λ r. bytes_read r) (gap_passed text at n (first-byte text at goes_on) gap positive fits) ∙ kept,
+)
 
-pub argument_turn : (text : List ℕ) (at n : ℕ) (args : List Arg) (arg : Arg) (whole : Result (List Arg × ℕ) Stop) → at < length text → (get_or text at 0 == 41) ≡ false → gap_at (drop at text) ≡ Ok 0 → argument (drop at text) ≡ Ok (arg, n) → 0 < n → n ≤ length (drop at text) → args_behind args at (arguments_from 0 (drop at text)) ≡ whole → (at + n ≤ length text) × (args_behind (args ++ arg ∷ []) (at + n) (arguments_from 0 (drop (at + n) text)) ≡ whole)
-argument_turn text at n args arg whole inside goes_on gap read positive fits kept =
-    let first : (get_or (drop at text) 0 0 == 41) ≡ false = ap (λ byte. byte == 41) (get_or-drop at text 0 0 ∙ ap (λ i. get_or text i 0) (add-zero at)) ∙ goes_on in (
-      omega (arith, length-drop at text),
-      args_behind-argument args arg at n _
-          ∙ ap (λ rest. args_behind args at (argument_before arg (moved n (arguments_from 0 rest)))) (sym (drop-drop n at text))
-          ∙ ap (λ r. args_behind args at r) (sym (arguments_from-argument (drop at text) arg n positive fits first gap read))
-          ∙ kept,
-    )
+bytes_read-before : (arg : Arg) (read : Result (List Arg × ℕ) Stop) → bytes_read (argument_before arg read) ≡ bytes_read read
+bytes_read-before arg (Err stop) = refl
+bytes_read-before arg (Ok x) = refl
+
+pub argument_turn : (text : List ℕ) (at n : ℕ) (arg : Arg) (whole : Result ℕ Stop) → at < length text → (get_or text at 0 == 41) ≡ false → gap_at (drop at text) ≡ Ok 0 → argument (drop at text) ≡ Ok (arg, n) → 0 < n → n ≤ length (drop at text) → bytes_read (moved at (arguments_from 0 (drop at text))) ≡ whole → (at + n ≤ length text) × (bytes_read (moved (at + n) (arguments_from 0 (drop (at + n) text))) ≡ whole)
+argument_turn text at n arg whole inside goes_on gap read positive fits kept = (
+  omega (arith, length-drop at text),
+  sym (bytes_read-before arg _)
+      ∙ ap (λ r. bytes_read r) (sym (argument_passed text arg at n (first-byte text at goes_on) gap read positive fits))
+      ∙ kept,
+)
 
 -- a gap in front of a command, and what stands behind it
 pub start_from-step : (behind : Bool) (text : List ℕ) (n : ℕ) → 0 < n → n ≤ length text → gap_at text ≡ Ok n → start_from behind 0 text ≡ shifted n (start_from (behind && not (get_or text 0 0 == 10)) 0 (drop n text))

@@ -11,6 +11,8 @@ pub mod Stop
 pub mod Bracket
 pub mod Unit
 pub mod Text
+pub mod Extent
+pub mod Args
 pub mod Command
 pub mod Seen
 pub mod Joined

@@ -1,3 +1,4 @@
+use crate::args::Args;
 use ct_base::{List, Name};
 
 /// A piece of an argument's text.
@@ -37,7 +38,7 @@ pub struct Arg {
 pub struct Call {
     /// In lower case, since the names of commands do not depend on case.
     pub name: Name,
-    pub args: List<Arg>,
+    pub args: Args,
     /// The line of the name's first byte, from 1.
     pub line: u32,
 }

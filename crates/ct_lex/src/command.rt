@@ -4,12 +4,11 @@ ghost use Rattle.ct_lex.specs.Bytes.{is_space, lower};
 ghost use Rattle.ct_lex.specs.Stop.{GivesRead};
 ghost use Rattle.ct_lex.specs.Command.{word_len, paren_at, command, stays_behind, start_from};
 
-use crate::argument::arguments;
+use crate::args::Args;
 use crate::bracket::gap_at;
 use crate::bytes::{begins_word, is_space, is_word, stands};
-use crate::call::Arg;
 use crate::stop::{Cause, Halt, Stop};
-use ct_base::{List, Name, NoMemory};
+use ct_base::{Name, NoMemory};
 use std::alloc::Global;
 
 /// Counts the bytes of the identifier that a text begins with.
@@ -49,7 +48,7 @@ fn lower(alloc: Global, word: &[u8]) -> Result<Name, NoMemory>
 }
 
 /// Reads the command that a text begins with: its name, its arguments, and how many bytes it takes.
-pub fn command(alloc: Global, text: &[u8]) -> Result<(Name, List<Arg>, usize), Halt>
+pub fn command(alloc: Global, text: &[u8]) -> Result<(Name, Args, usize), Halt>
     ensures value { GivesRead result (command text.now) }
     ensures within { IfOk result (λ x. (0 < x.2) × (x.2 ≤ length text.now)) }
 {
@@ -60,7 +59,7 @@ pub fn command(alloc: Global, text: &[u8]) -> Result<(Name, List<Arg>, usize), H
     if !stands(text, paren, b'(') {
         return Err(Halt::Text(Stop::at(Cause::BadChar, &text[paren..])));
     }
-    let (args, taken) = arguments(alloc, &text[paren + 1..])?;
+    let (args, taken) = Args::read(alloc, &text[paren + 1..])?;
     let name = lower(alloc, &text[..word_len(text)])?;
     Ok((name, args, taken + paren + 1))
 }

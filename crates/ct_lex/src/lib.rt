@@ -1,21 +1,25 @@
 //! Reads the commands of a test file, one by one.
 //!
-//! Hands up: `Lexer`, which gives each `Call` with its arguments, or the first `LexFault`.
+//! Hands up: `Lexer`, which gives each `Call` or the first `LexFault`, and `ArgReader`, which makes
+//! the arguments of a call one by one.
 //! Stands on: ct_base for names and lists.
 //! Read first: `specs/Grammar.antt`, then `lexer.rt`.
 #![tactic(auto)]
 
+mod args;
 mod argument;
 mod bracket;
 mod bytes;
 mod call;
 mod command;
+mod extent;
 mod fault;
 mod lexer;
 mod parts;
 mod stop;
 mod unit;
 
+pub use args::{ArgReader, Args};
 pub use call::{Arg, ArgKind, Call, Part};
 pub use fault::LexFault;
 pub use lexer::Lexer;

@@ -5,6 +5,7 @@ use crate::call::Part;
 use crate::unit::Unit;
 use ct_base::{List, Name, NoMemory};
 use std::alloc::Global;
+use std::mem;
 
 /// The parts of an argument so far: those that are whole, and the bytes behind them.
 #[derive(Drop)]
@@ -48,9 +49,8 @@ impl Parts {
         ensures empty { OnOk result (self.new.bytes.items ≡ []) }
     {
         if !self.bytes.is_empty() {
-            self.whole
-                .push(Part::Bytes(Name::of(alloc, self.bytes.as_slice())?))?;
-            self.bytes.clear();
+            let bytes = mem::replace(&mut self.bytes, Vec::new(alloc));
+            self.whole.push(Part::Bytes(Name::from_vec(bytes)))?;
         }
         Ok(())
     }

@@ -1,7 +1,7 @@
 use Rattle.std.proofs.Common.{◌≡◌, ◌≤◌, ◌-◌, length, drop}
 use Rattle.ct_lex.specs.Text.{text_from}
 use Rattle.ct_lex.proofs.Reading.{parts_behind}
-use Rattle.ct_lex.proofs.argument.text_of.Given as goal
+use Rattle.ct_lex.proofs.argument.parts_of.Given as goal
 
 abbrev pub invariant-loop-at : goal.invariant-loop-at
 invariant-loop-at l =

@@ -1,0 +1,116 @@
+-- The arguments of a command as they are kept: their text alone is read as they are, and the first of them is read
+-- first.
+use Rattle.std.proofs.Common.{◌≡◌, ◌∙◌, ℕ, suc, ◌+◌, ◌*◌, ◌<◌, ◌≤◌, Bool, true, false, ◌==◌, ◌||◌, List, [], ◌∷◌, ◌++◌, length, take, drop, get_or, Result, Ok, Err, refl, sym, ap, subst, arith, append_assoc, length-append, length-drop}
+use Rattle.std.specs.Result.{is_ok}
+use Rattle.std.proofs.lemmas.Bool.{true≢false, or_parts}
+use Rattle.std.proofs.lemmas.Bool.Decides.{nat_tests}
+use Rattle.std.proofs.lemmas.List.{take_at}
+use Rattle.ct_lex.specs.Args.{arguments_in, BeginsArguments}
+use Rattle.ct_lex.specs.Bracket.{gap_at}
+use Rattle.ct_lex.specs.Extent.{arg_in, bytes_read, list_read, extent_len, IsExtent}
+use Rattle.ct_lex.specs.Text.{moved, argument, argument_before, arguments_from, may_follow, plain_argument, text_from, unquoted_by}
+use Rattle.ct_lex.specs.Argument.{ends_text}
+use Rattle.ct_lex.specs.Bytes.{is_gap, stands}
+use Rattle.ct_lex.specs.declared.call.Arg.{Arg}
+use Rattle.ct_lex.specs.declared.call.ArgKind.TheVariants.{Unquoted}
+use Rattle.ct_lex.specs.declared.call.Part.{Part}
+use Rattle.ct_lex.specs.declared.extent.Extent.{Extent}
+use Rattle.ct_lex.specs.declared.stop.Stop.{Stop}
+use Rattle.ct_lex.proofs.FrontLemmas.{stands-front}
+use Rattle.ct_lex.proofs.StepLemmas.{first-byte, gap_passed, argument_passed, argument_turn}
+use Rattle.ct_lex.proofs.ArgumentsLemmas.{arguments-is, arguments-read}
+
+-- what is read of arguments is read of their own text alone
+pub arguments-cut : (text : List ℕ) (args : List Arg) (n : ℕ) → arguments_from 0 text ≡ Ok (args, n) → arguments_from 0 (take n text) ≡ Ok (args, n)
+arguments-cut text args n e =
+    let read = arguments-is (suc (length text)) false text args n (omega arith) (λ (no_way : false ≡ true). cc) e in
+    let again : arguments_from 0 (read.front ++ 41 ∷ []) ≡ Ok (args, length read.front + 1) = (arguments-read read.written []).reads in
+    let size : length (read.front ++ 41 ∷ []) ≡ n = length-append read.front (41 ∷ []) ∙ read.size in
+    let split : text ≡ (read.front ++ 41 ∷ []) ++ read.back = read.split ∙ sym (append_assoc read.front (41 ∷ []) read.back) in
+    let cut : take n text ≡ read.front ++ 41 ∷ [] = ap (λ t. take n t) split ∙ take_at (read.front ++ 41 ∷ []) read.back n size in
+    let P : ℕ → Result (List Arg × ℕ) Stop = λ k. Ok (args, k) in
+    ap (λ t. arguments_from 0 t) cut ∙ again ∙ ap P read.size
+
+pub bytes_read-ok : {A : Type 0} (n : ℕ) (read : Result (List A × ℕ) Stop) → bytes_read read ≡ Ok n → read ≡ Ok (list_read read, n)
+bytes_read-ok n (Err stop) e = cc
+bytes_read-ok {A} n (Ok x) e =
+    let same : x.1 ≡ n = cc in
+    let P : ℕ → Result (List A × ℕ) Stop = λ k. Ok (x.0, k) in
+    ap P same
+
+-- a copy of the text of arguments
+pub record IsKept (text copy : List ℕ) (n : ℕ) : Type 0 where
+  pub begins : BeginsArguments copy
+  pub same : arguments_from 0 text ≡ Ok (arguments_in copy, n)
+
+pub arguments-kept : (text copy : List ℕ) (n : ℕ) → bytes_read (arguments_from 0 text) ≡ Ok n → copy ≡ take n text → IsKept text copy n
+arguments-kept text copy n e cut =
+    let read = bytes_read-ok n (arguments_from 0 text) e in
+    let again : arguments_from 0 copy ≡ Ok (arguments_in text, n) = ap (λ t. arguments_from 0 t) cut ∙ arguments-cut text (arguments_in text) n read in
+    let args : arguments_in copy ≡ arguments_in text = ap (λ r. list_read r) again in
+    let P : List Arg → Result (List Arg × ℕ) Stop = λ a. Ok (a, n) in
+    record { begins = ap (λ r. is_ok r) again; same = read ∙ ap P (sym args) }
+
+-- where a gap stands no `)` does
+pub gap-no-close : (text : List ℕ) (n : ℕ) → 0 < n → gap_at text ≡ Ok n → (get_or text 0 0 == 41) ≡ false
+gap-no-close [] n some gap = refl
+gap-no-close (byte ∷ rest) n some gap = by_close (byte == 41) refl
+  where
+    by_close : (test : Bool) → (byte == 41) ≡ test → (byte == 41) ≡ false
+    by_close false t = t
+    by_close true t =
+        let close : byte ≡ 41 = grind (arith, nat_tests) in
+        let none : gap_at (byte ∷ rest) ≡ Ok 0 = ap (λ b. gap_at (b ∷ rest)) close in
+        let no : 0 ≡ n = cc in
+        absurd (omega arith)
+
+-- one turn of the loop over the gaps in front of an argument
+pub front_turn : (text : List ℕ) (at n : ℕ) → at < length text → gap_at (drop at text) ≡ Ok n → 0 < n → n ≤ length (drop at text) → moved at (arguments_from 0 (drop at text)) ≡ arguments_from 0 text → (at + n ≤ length text) × (moved (at + n) (arguments_from 0 (drop (at + n) text)) ≡ arguments_from 0 text)
+front_turn text at n inside gap some fits kept =
+    (omega (arith, length-drop at text), gap_passed text at n (gap-no-close (drop at text) n some gap) gap some fits ∙ kept)
+
+-- an argument behind the gaps at the front
+pub extent_found : (text : List ℕ) (extent : Extent) (arg : Arg) (at n : ℕ) → (get_or text at 0 == 41) ≡ false → gap_at (drop at text) ≡ Ok 0 → IsExtent (drop at text) extent (argument (drop at text)) → arg ≡ arg_in extent (drop at text) → n ≡ extent_len extent → at < length text → moved at (arguments_from 0 (drop at text)) ≡ arguments_from 0 text → (at + n ≤ length text) × (arguments_from 0 text ≡ argument_before arg (moved (at + n) (arguments_from 0 (drop (at + n) text))))
+extent_found text extent arg at n goes gap read same size inside kept =
+    let P : Arg → Result (Arg × ℕ) Stop = λ a. Ok (a, extent_len extent) in
+    let Q : ℕ → Result (Arg × ℕ) Stop = λ k. Ok (arg, k) in
+    let found : argument (drop at text) ≡ Ok (arg, n) = read.reads ∙ ap P (sym same) ∙ ap Q (sym size) in
+    let some : 0 < n = subst (λ (k : ℕ). 0 < k) (sym size) read.some in
+    let fits : n ≤ length (drop at text) = subst (λ (k : ℕ). k ≤ length (drop at text)) (sym size) read.within in
+    (omega (arith, length-drop at text), sym kept ∙ argument_passed text arg at n (first-byte text at goes) gap found some fits)
+
+-- one turn of the loop that counts the bytes of arguments
+pub extent_turn : (text : List ℕ) (extent : Extent) (at n : ℕ) (whole : Result ℕ Stop) → at < length text → (get_or text at 0 == 41) ≡ false → gap_at (drop at text) ≡ Ok 0 → IsExtent (drop at text) extent (argument (drop at text)) → n ≡ extent_len extent → bytes_read (moved at (arguments_from 0 (drop at text))) ≡ whole → (at + n ≤ length text) × (bytes_read (moved (at + n) (arguments_from 0 (drop (at + n) text))) ≡ whole)
+extent_turn text extent at n whole inside goes gap read size kept =
+    let Q : ℕ → Result (Arg × ℕ) Stop = λ k. Ok (arg_in extent (drop at text), k) in
+    let found : argument (drop at text) ≡ Ok (arg_in extent (drop at text), n) = read.reads ∙ ap Q (sym size) in
+    let some : 0 < n = subst (λ (k : ℕ). 0 < k) (sym size) read.some in
+    let fits : n ≤ length (drop at text) = subst (λ (k : ℕ). k ≤ length (drop at text)) (sym size) read.within in
+    argument_turn text at n (arg_in extent (drop at text)) whole inside goes gap found some fits kept
+
+or_none : (gap left close hash quote : Bool) → (gap || close || hash) ≡ false → left ≡ false → quote ≡ false → (gap || left || close || hash || quote) ≡ false
+or_none gap left close hash quote a b c =
+    let hash_so = or_parts (gap || close) hash a in
+    let close_so = or_parts gap close hash_so.0 in
+    rw (close_so.0, close_so.1, hash_so.1, b, c) refl
+
+-- an unquoted argument has some text
+pub unquoted-goes : (text : List ℕ) → may_follow text ≡ false → stands 40 0 text ≡ false → stands 34 0 text ≡ false → ends_text Unquoted (get_or text 0 0) ≡ false
+unquoted-goes [] goes paren quote = absurd (true≢false goes)
+unquoted-goes (byte ∷ rest) goes paren quote =
+    or_none (is_gap byte) (byte == 40) (byte == 41) (byte == 35) (byte == 34) goes (sym (stands-front 40 byte rest) ∙ paren) (sym (stands-front 34 byte rest) ∙ quote)
+
+-- an unquoted argument
+pub unquoted-extent : (text : List ℕ) (n : ℕ) → stands 40 0 text ≡ false → stands 34 0 text ≡ false → bytes_read (text_from Unquoted 0 text) ≡ Ok n → 0 < n → n < length text → IsExtent text (record { kind = Unquoted; opening = 0; inside = n }) (plain_argument text)
+unquoted-extent text n paren quote e some fits =
+    let read : text_from Unquoted 0 text ≡ Ok (list_read (text_from Unquoted 0 text), n) = bytes_read-ok n (text_from Unquoted 0 text) e in
+    let parts : List Part = list_read (text_from Unquoted 0 text) in
+    let plain : plain_argument text ≡ unquoted_by (text_from Unquoted 0 text) = rw (paren, quote) refl in
+    let size : n ≡ n + 2 * 0 = omega arith in
+    let Q : ℕ → Result (Arg × ℕ) Stop = λ k. Ok (record { kind = Unquoted; parts = parts }, k) in
+    record {
+      reads = plain ∙ ap (λ r. unquoted_by r) read ∙ ap Q size;
+      whole = ap (λ r. is_ok r) read;
+      some = omega arith;
+      within = omega arith;
+    }

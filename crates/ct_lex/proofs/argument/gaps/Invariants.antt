@@ -1,0 +1,10 @@
+use Rattle.std.proofs.Common.{◌≡◌, ◌≤◌, ◌-◌, length, drop}
+use Rattle.ct_lex.specs.Text.{arguments_from, moved}
+use Rattle.ct_lex.proofs.argument.gaps.Given as goal
+
+abbrev pub invariant-loop-at : goal.invariant-loop-at
+invariant-loop-at l =
+    (l.at ≤ length l.text) × (moved l.at (arguments_from 0 (drop l.at l.text)) ≡ arguments_from 0 l.text)
+
+abbrev pub decreases-loop-at : goal.decreases-loop-at
+decreases-loop-at l = length l.text - l.at

@@ -1,0 +1,97 @@
+ghost use Rattle.std.specs.Prelude.{◌≡◌, ◌≤◌, length, IfOk};
+ghost use Rattle.ct_lex.specs.Args.{TakesFirst};
+ghost use Rattle.ct_lex.specs.Stop.{GivesRead};
+ghost use Rattle.ct_lex.specs.Text.{arguments_from};
+
+use crate::argument::{arguments_len, first_argument};
+use crate::call::Arg;
+use crate::stop::Halt;
+use ct_base::NoMemory;
+use std::alloc::Global;
+use std::marker::Model;
+
+/// The arguments of a command, in order. Contracts see the list of them.
+///
+/// They are kept as they are written, which takes a byte for each byte of the text, and are made one
+/// by one.
+#[derive(Debug, Drop)]
+pub struct Args {
+    /// What stands behind the `(` of the command, with the `)`.
+    text: Vec<u8>,
+}
+
+impl Model for Args {
+    ghost use Rattle.std.specs.Prelude.{List};
+    ghost use Rattle.ct_lex.specs.declared.call.Arg.{Arg};
+    ghost use Rattle.ct_lex.specs.Args.{arguments_in, BeginsArguments};
+
+    ghost Value = { List Arg };
+
+    ghost view = { λ a. arguments_in a.text.items };
+
+    ghost invariant = { λ a. BeginsArguments a.text.items };
+}
+
+impl Args {
+    /// Reads the arguments of a command behind its `(`, and counts their bytes with the `)`.
+    pub(crate) fn read(alloc: Global, text: &[u8]) -> Result<(Args, usize), Halt>
+        ensures value { GivesRead result (arguments_from 0 text.now) }
+        ensures within { IfOk result (λ x. x.1 ≤ length text.now) }
+    {
+        let taken = arguments_len(text)?;
+        let args = Args {
+            text: copy(alloc, &text[..taken])?,
+        };
+        Ok((args, taken))
+    }
+
+    /// Begins to make the arguments, from the first one on.
+    pub fn reader(&self) -> ArgReader<'_>
+        ensures { result ≡ self.now }
+    {
+        ArgReader {
+            rest: self.text.as_slice(),
+        }
+    }
+}
+
+/// Makes the arguments of a command one by one. Contracts see the list of those that are left.
+#[derive(Debug, Drop)]
+pub struct ArgReader<'a> {
+    rest: &'a [u8],
+}
+
+impl<'a> Model for ArgReader<'a> {
+    ghost use Rattle.std.specs.Prelude.{List};
+    ghost use Rattle.ct_lex.specs.declared.call.Arg.{Arg};
+    ghost use Rattle.ct_lex.specs.Args.{arguments_in, BeginsArguments};
+
+    ghost Value = { List Arg };
+
+    ghost view = { λ r. arguments_in r.rest.now };
+
+    ghost invariant = { λ r. BeginsArguments r.rest.now };
+}
+
+impl<'a> ArgReader<'a> {
+    /// Makes the next argument: `None` exactly behind the last one.
+    ///
+    /// An `Err` changes nothing.
+    pub fn next(&mut self, alloc: Global) -> Result<Option<Arg>, NoMemory>
+        ensures { TakesFirst self.old result self.new }
+    {
+        match first_argument(alloc, self.rest)? {
+            None => Ok(None),
+            Some((arg, taken)) => {
+                self.rest = &self.rest[taken..];
+                Ok(Some(arg))
+            }
+        }
+    }
+}
+
+fn copy(alloc: Global, text: &[u8]) -> Result<Vec<u8>, NoMemory>
+    ensures { IfOk result (λ copy. copy.items ≡ text.now) }
+{
+    Ok(Vec::from_slice(alloc, text)?)
+}
