@@ -7,5 +7,9 @@ pub mod LawLemmas
 pub mod GrammarLemmas
 pub mod WrittenLemmas
 pub mod ReadBackLemmas
+pub mod Live
 pub mod LiveLemmas
+pub mod MemoryLemmas
+pub mod WalkLemmas
+pub mod ScanLemmas
 pub mod SoundLemmas

@@ -1,13 +1,12 @@
 -- The marks say where a match has come to.
-use Rattle.std.proofs.Common.{◌≡◌, ◌≤◌, ◌<◌, ◌⊎◌, ◌||◌, ◌&&◌, ◌==◌, ℕ, zero, suc, ◌+◌, Bool, true, false, not, List, [], ◌++◌, length, get_or, inl, inr, ⊎_elim, refl, sym, ◌∙◌, ap, subst, append-nil, append_assoc, slice_get, arith}
+use Rattle.std.proofs.Common.{◌≡◌, ◌≤◌, ◌<◌, ◌⊎◌, ◌||◌, ◌&&◌, ◌==◌, ℕ, zero, suc, ◌+◌, Bool, true, false, not, List, [], ◌++◌, length, get_or, inl, inr, ⊎_elim, refl, sym, ◌∙◌, ap, subst, append_assoc, slice_get, arith}
 use Rattle.std.proofs.lemmas.Option.{slice_get-get_or, slice_get_past}
 use Rattle.ct_regex.specs.Tree.{Test, takes, Tree, empty, never, start, end, one, sequence, choice, repeat}
 use Rattle.ct_regex.specs.declared.tree.Quantifier.TheVariants.{ZeroOrOne, ZeroOrMore, OneOrMore}
-use Rattle.ct_regex.specs.Ends.{ends, behind, place_if, rounds, hits}
-use Rattle.ct_regex.proofs.HitLemmas.{hits_from, hits_to}
+use Rattle.ct_regex.specs.Ends.{ends, behind, place_if, rounds}
 use Rattle.ct_regex.specs.Reading.{can_be_empty}
-use Rattle.ct_regex.specs.declared.live.Spot.{Spot}
-use Rattle.ct_regex.specs.Live.{spot_at, is_sound, first_mark, marks_behind, leaves, next_marks}
+use Rattle.ct_regex.specs.Sound.{is_sound}
+use Rattle.ct_regex.proofs.Live.{Spot, spot_at, first_mark, marks_behind, leaves, next_marks}
 use Rattle.ct_regex.proofs.AmongLemmas.{Among, among_left, among_right, among_split, among_flat, among_from}
 use Rattle.ct_regex.proofs.PathLemmas.{Path, rounds_path, path_rounds}
 
@@ -32,19 +31,19 @@ Right text (repeat ZeroOrOne tree) from place marks = Right text tree from place
 Right text (repeat ZeroOrMore tree) from place marks = Right text tree (Within text tree from) place marks
 Right text (repeat OneOrMore tree) from place marks = Right text tree (Within text tree from) place marks
 
-or_from : (a b : Bool) → (a || b) ≡ true → (a ≡ true) ⊎ (b ≡ true)
+pub or_from : (a b : Bool) → (a || b) ≡ true → (a ≡ true) ⊎ (b ≡ true)
 or_from true b h = inl refl
 or_from false b h = inr h
 
-or_one : (a b : Bool) → a ≡ true → (a || b) ≡ true
+pub or_one : (a b : Bool) → a ≡ true → (a || b) ≡ true
 or_one true b h = refl
 or_one false b h = absurd (let no : false ≡ true = h in cc)
 
-or_other : (a b : Bool) → b ≡ true → (a || b) ≡ true
+pub or_other : (a b : Bool) → b ≡ true → (a || b) ≡ true
 or_other true b h = refl
 or_other false b h = h
 
-and_both : (a b : Bool) → (a && b) ≡ true → (a ≡ true) × (b ≡ true)
+pub and_both : (a b : Bool) → (a && b) ≡ true → (a ≡ true) × (b ≡ true)
 and_both true b h = (refl, h)
 and_both false b h = absurd (let no : false ≡ true = h in cc)
 
@@ -56,11 +55,11 @@ and_either : (a b : Bool) → (a && b) ≡ false → (a ≡ false) ⊎ (b ≡ fa
 and_either true b h = inr h
 and_either false b h = inl refl
 
-or_none : (a b : Bool) → (a || b) ≡ false → (a ≡ false) × (b ≡ false)
+pub or_none : (a b : Bool) → (a || b) ≡ false → (a ≡ false) × (b ≡ false)
 or_none true b h = absurd (let no : true ≡ false = h in cc)
 or_none false b h = (refl, h)
 
-not_true : (b : Bool) → not b ≡ true → b ≡ false
+pub not_true : (b : Bool) → not b ≡ true → b ≡ false
 not_true true h = absurd (let no : false ≡ true = h in cc)
 not_true false h = refl
 
@@ -73,7 +72,7 @@ if_among true origin place a = ⊎_elim (λ e. (refl, e)) (λ no. absurd no) a
 if_among false origin place a = absurd a
 
 -- what cannot be empty is left through marks alone
-leaves_apart : (tree : Tree) (a b : Bool) (spot : Spot) (marks : List Bool) → is_sound tree ≡ true → can_be_empty tree ≡ false →
+pub leaves_apart : (tree : Tree) (a b : Bool) (spot : Spot) (marks : List Bool) → is_sound tree ≡ true → can_be_empty tree ≡ false →
     leaves tree a spot marks ≡ leaves tree b spot marks
 leaves_apart empty a b spot marks s h = absurd (let no : true ≡ false = h in cc)
 leaves_apart never a b spot marks s h = refl
@@ -147,7 +146,7 @@ ends_ge text (repeat OneOrMore tree) i j a =
     let p = rounds_path (ends text tree) (length text) f.0 j f.2 in
     omega (arith, ends_ge text tree i f.0 f.1, path_ge (ends text tree) (λ k l b. ends_ge text tree k l b) p.0 f.0 j p.2)
 
-ends_le : (text : List ℕ) (tree : Tree) (i j : ℕ) → i ≤ length text → Among j (ends text tree i) → j ≤ length text
+pub ends_le : (text : List ℕ) (tree : Tree) (i j : ℕ) → i ≤ length text → Among j (ends text tree i) → j ≤ length text
 ends_le text empty i j h a = ⊎_elim (λ e. omega arith) (λ no. absurd no) a
 ends_le text never i j h a = absurd a
 ends_le text start i j h a = omega (arith, (if_among (i == 0) i j a).1)
@@ -420,58 +419,5 @@ first_right text (repeat OneOrMore tree) from = first_right text tree (Within te
 abbrev pub Places : List ℕ → ℕ → Type 0
 Places text place = place ≤ length text
 
--- up to a place no match has ended, and the marks are right
-pub record Searching (text : List ℕ) (tree : Tree) (place : ℕ) (marks : List Bool) : Type 0 where
-  pub right : Right text tree (Places text) place marks
-  pub none : (before : ℕ) → before < place → Out text tree (Places text) before → ⊥
-
-pub searching_first : (text : List ℕ) (tree : Tree) (marks : List Bool) → marks ≡ [] → Searching text tree 0 marks
-searching_first text tree marks e = record {
-  right = subst (λ (ms : List Bool). Right text tree (Places text) 0 ms) (sym e) (first_right text tree (Places text));
-  none = λ before h out. absurd (omega arith);
-}
-
-bounded : (text : List ℕ) → IsBounded text (Places text)
+pub bounded : (text : List ℕ) → IsBounded text (Places text)
 bounded text place h = h
-
-pub searching_more : (text : List ℕ) (tree : Tree) (place byte : ℕ) (marks next : List Bool) → is_sound tree ≡ true → place < length text → byte ≡ get_or text place 0 →
-    Searching text tree place marks → leaves tree true (spot_at text place) marks ≡ false → next ≡ next_marks tree true (spot_at text place) byte marks →
-    Searching text tree (place + 1) next
-searching_more text tree place byte marks next s inside e h stays n = record {
-  right = subst (λ (ms : List Bool). Right text tree (Places text) (place + 1) ms) (append-nil (next_marks tree true (spot_at text place) byte marks) ∙ sym n)
-      (next_right text tree (Places text) place byte true marks [] (bounded text) s inside e h.right (λ t. omega arith) (λ w. refl));
-  none = λ before below out. ⊎_elim (λ earlier. h.none before earlier out) (λ here. ended (subst (Out text tree (Places text)) here out)) (before_or before below);
-}
-  where
-    before_or : (before : ℕ) → before < place + 1 → (before < place) ⊎ (before ≡ place)
-    before_or before below = grind arith
-
-    ended : Out text tree (Places text) place → ⊥
-    ended out = let goes = leaves_whole text tree (Places text) place true marks (bounded text) s h.right (λ w. refl) out in let clash : true ≡ false = sym goes ∙ stays in cc
-
-pub searching_hit : (text : List ℕ) (tree : Tree) (place : ℕ) (marks : List Bool) → is_sound tree ≡ true → place ≤ length text →
-    Searching text tree place marks → leaves tree true (spot_at text place) marks ≡ true → true ≡ hits tree text
-searching_hit text tree place marks s within h goes =
-    let out = leaves_sound text tree (Places text) place true marks (bounded text) s h.right (λ t. within) goes in
-    sym (hits_from (length text) text tree out.0 place out.1 out.2)
-
-pub searching_last : (text : List ℕ) (tree : Tree) (marks : List Bool) (found : Bool) → is_sound tree ≡ true → Searching text tree (length text) marks →
-    found ≡ leaves tree true (spot_at text (length text)) marks → found ≡ hits tree text
-searching_last text tree marks true s h e = searching_hit text tree (length text) marks s (omega arith) h (sym e)
-searching_last text tree marks false s h e = none (hits tree text) refl
-  where
-    below_or : (place : ℕ) → place ≤ length text → (place < length text) ⊎ (place ≡ length text)
-    below_or place h = grind arith
-
-    none : (b : Bool) → hits tree text ≡ b → false ≡ hits tree text
-    none false n = sym n
-    none true n =
-        let found = hits_to (length text) text tree n in
-        let top = ends_le text tree found.0 found.2 found.1 found.3 in
-        absurd (⊎_elim
-        (λ below. h.none found.2 below (found.0, found.1, found.3))
-        (λ here.
-        let goes = leaves_whole text tree (Places text) (length text) true marks (bounded text) s h.right (λ w. refl)
-        (subst (Out text tree (Places text)) here (found.0, found.1, found.3)) in
-        let clash : false ≡ true = e ∙ goes in cc)
-        (below_or found.2 top))

@@ -4,7 +4,7 @@ use Rattle.ct_regex.specs.declared.tree.Quantifier.{Quantifier}
 use Rattle.ct_regex.specs.declared.tree.Quantifier.TheVariants.{ZeroOrOne, ZeroOrMore, OneOrMore}
 use Rattle.ct_regex.specs.Tree.{Tree, repeat, sequence_of, choice_of}
 use Rattle.ct_regex.specs.Reading.{may_repeat}
-use Rattle.ct_regex.specs.Live.{is_sound}
+use Rattle.ct_regex.specs.Sound.{is_sound}
 use Rattle.ct_regex.specs.Grammar as grammar
 use Rattle.ct_regex.specs.Grammar.{IsOne, IsPattern, IsBranches, IsBranch, IsPart, IsAtom}
 

@@ -9,4 +9,9 @@ pub mod Laws
 pub mod Meaning
 pub mod TreeOf
 pub mod Gives
-pub mod Live
+pub mod Sound
+pub mod Walk
+pub mod Stand
+pub mod Met
+pub mod Memory
+pub mod Scan

@@ -1,19 +1,24 @@
 //! The regular expressions of CMake: parsed exactly, and matched by their definition.
 //!
-//! Hands up: `Regex::parse` reads a pattern or says which fault comes first, and `hit` tells
-//! whether a text has a match anywhere.
+//! Hands up: `Regex::parse` reads a pattern or says which fault comes first, `hit` tells whether a
+//! text has a match anywhere, and a `Scan` tells it of a text that comes in pieces.
 //! Stands on: ct_base and `thiserror`.
-//! Read first: `specs/Tree.antt`, `specs/Ends.antt`, `specs/Signs.antt` and `specs/Reading.antt`.
+//! Read first: `specs/Tree.antt`, `specs/Ends.antt`, `specs/Signs.antt`, `specs/Reading.antt` and
+//! `specs/Scan.antt`. The files that `specs/Lib.antt` lists behind `Gives` are the machine's own.
 #![tactic(auto)]
 
 mod fault;
 pub mod laws;
-mod live;
+mod memory;
 mod pattern;
+mod program;
 mod reader;
+mod scan;
 mod set;
 mod sign;
 mod tree;
+mod walk;
 
 pub use fault::RegexFault;
 pub use pattern::Regex;
+pub use scan::Scan;

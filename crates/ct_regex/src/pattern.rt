@@ -1,14 +1,13 @@
 ghost use Rattle.std.specs.Prelude.{◌≡◌, ◌≤◌, IsTrue, length};
 ghost use Rattle.ct_regex.specs.Meaning.{meaning};
-ghost use Rattle.ct_regex.specs.Live.{is_sound};
+ghost use Rattle.ct_regex.specs.Sound.{is_sound};
 ghost use Rattle.ct_regex.specs.Reading.{reading};
 ghost use Rattle.ct_regex.specs.Gives.{Gives};
 
-use crate::RegexFault;
-use crate::live::has_match;
 use crate::reader::Reader;
 use crate::sign::sign_at;
 use crate::tree::Node;
+use crate::{RegexFault, Scan};
 use ct_base::NoMemory;
 use std::alloc::Global;
 
@@ -18,7 +17,7 @@ const MOST_BYTES: usize = 65_536;
 /// A pattern of CMake. In contracts `regex_tree` is its tree.
 ///
 /// Source: CMake manual, string(REGEX), Regex Specification.
-#[derive(Drop)]
+#[derive(Debug, Drop)]
 pub struct Regex {
     root: Node,
     // `*` and `+` repeat only what cannot be empty.
@@ -27,6 +26,7 @@ pub struct Regex {
 
 impl Regex {
     ghost use Rattle.std.specs.Prelude.{◌≡◌, IfOk};
+    ghost use Rattle.ct_regex.specs.Meaning.{meaning as tree_of};
     ghost use Rattle.ct_regex.specs.Tree.{Tree};
     ghost use Rattle.ct_regex.specs.TreeOf.{regex_tree};
     ghost use Rattle.ct_regex.specs.Ends.{hits};
@@ -57,7 +57,16 @@ impl Regex {
     pub fn hit(&self, alloc: Global, text: &[u8]) -> Result<bool, NoMemory>
         ensures { IfOk result (λ found. found ≡ hits (regex_tree self.now) text.now) }
     {
-        has_match(alloc, &self.root, text)
+        let mut scan = Scan::of_text(alloc, self, text)?;
+        scan.feed(text);
+        Ok(scan.ended())
+    }
+
+    pub(crate) fn root(&self) -> &Node
+        ensures tree { tree_of result.now ≡ regex_tree self.now }
+        ensures sound { IsTrue (is_sound (regex_tree self.now)) }
+    {
+        &self.root
     }
 }
 

@@ -261,7 +261,7 @@ fn may_be_repeated(quantifier: Quantifier, node: &Node) -> bool
 
 /// Tells whether the empty text can match, as far as a quantifier asks.
 #[cycle(can_be_empty)]
-fn can_be_empty(node: &Node) -> bool
+pub(crate) fn can_be_empty(node: &Node) -> bool
     ensures { result ≡ tree_can_be_empty (meaning node.now) }
 {
     match node {

@@ -1,7 +1,7 @@
 /// How often an atom is taken.
 ///
 /// Source: CMake manual, string(REGEX), Regex Specification.
-#[derive(Clone, Copy)]
+#[derive(Clone, Copy, Debug)]
 pub enum Quantifier {
     /// `?`: none or one.
     ZeroOrOne,
@@ -12,7 +12,7 @@ pub enum Quantifier {
 }
 
 /// The bytes from `low` to `high`, both included.
-#[derive(Clone, Copy)]
+#[derive(Clone, Copy, Debug)]
 pub struct Span {
     pub low: u8,
     pub high: u8,
@@ -21,7 +21,7 @@ pub struct Span {
 /// Which bytes an atom of one byte takes.
 ///
 /// Source: CMake manual, string(REGEX), Regex Specification.
-#[derive(Drop)]
+#[derive(Debug, Drop)]
 pub enum ByteTest {
     /// `.`: any byte.
     Any,
@@ -33,8 +33,8 @@ pub enum ByteTest {
     Outside(Vec<Span>),
 }
 
-/// A pattern as a tree. A group that only brackets is no node of its own.
-#[derive(Drop)]
+/// A pattern as a tree. A group is a choice of sequences.
+#[derive(Debug, Drop)]
 pub enum Node {
     /// `^`: the beginning of the text.
     Start,

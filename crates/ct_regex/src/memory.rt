@@ -1,0 +1,258 @@
+ghost use Rattle.std.specs.Prelude.{◌≡◌, ◌≤◌, ◌<◌, ℕ, Bool, length, vec_len, IsTrue};
+ghost use Rattle.ct_regex.specs.Met.{marks_in};
+
+use ct_base::NoMemory;
+use std::alloc::Global;
+
+/// A set of live positions that was met.
+#[derive(Drop)]
+pub struct Met {
+    pub marks: Vec<bool>,
+    /// Whether a match ends here, if the text does.
+    pub last: bool,
+    /// The `digest` of the marks: it makes the search for a set short.
+    pub digest: u32,
+}
+
+/// The sets that were met, by number, and where each byte leads from them.
+#[derive(Drop)]
+pub struct Memory {
+    /// The first `count` were met; the others are room.
+    pub sets: Vec<Met>,
+    pub count: u16,
+    /// How many marks a set has.
+    pub width: usize,
+    /// For each set and byte the set behind it, where it is known.
+    pub next: Vec<Option<u16>>,
+    ghost few: { count ≤ vec_len sets },
+    ghost some: { 0 < vec_len sets },
+    ghost short: { vec_len sets < 65536 },
+    ghost wide: { (at : ℕ) → at < vec_len sets → length (marks_in sets.items at) ≡ width },
+}
+
+impl Memory {
+    ghost use Rattle.std.specs.Prelude.{◌≡◌, ◌≤◌, ◌<◌, ◌+◌, ◌*◌, ℕ, List, Bool, Some, [], drop, length, vec_len, IfOk, IfSome, IsTrue, nat_le};
+    ghost use Rattle.ct_regex.specs.Walk.{Step};
+    ghost use Rattle.ct_regex.specs.Stand.{Stand, a_stand, behind_byte, behind_bytes};
+    ghost use Rattle.ct_regex.specs.Memory.{stand_at, entry_at, Remembers, Leads};
+
+    /// Begins with one set, and room for so many.
+    pub(crate) fn new(
+        alloc: Global,
+        room: u16,
+        marks: &[bool],
+        last: bool,
+    ) -> Result<Memory, NoMemory>
+        requires room { 0 < room }
+        ensures remembers { IfOk result (λ memory. (steps : List Step) → Remembers steps memory) }
+        ensures first { IfOk result (λ memory. stand_at memory 0 ≡ a_stand marks.now last) }
+        ensures count { IfOk result (λ memory. memory.count ≡ 1) }
+        ensures width { IfOk result (λ memory. memory.width ≡ length marks.now) }
+    {
+        let mut sets = Vec::with_capacity(alloc, room as usize)?;
+        let digest = digest(marks);
+        for made in 0..room {
+            let _ = made;
+            let marks = Vec::from_slice(alloc, marks)?;
+            sets.push_reserved(Met {
+                marks,
+                last,
+                digest,
+            });
+        }
+        let next = Vec::from_elem(alloc, None, room as usize * 256)?;
+        Ok(Memory {
+            sets,
+            count: 1,
+            width: marks.len(),
+            next,
+        })
+    }
+
+    /// Where the byte leads from the set, if that is known.
+    fn next(&self, at: u16, byte: u8) -> Option<u16>
+        ensures { result ≡ entry_at self.now at byte }
+    {
+        match self.next.get(at as usize * 256 + byte as usize) {
+            Some(to) => *to,
+            None => None,
+        }
+    }
+
+    /// Goes from the set as far as it is known where the bytes lead, and tells how many they were.
+    pub(crate) fn follow(&self, from: u16, piece: &[u8]) -> (u16, usize)
+        requires within { from < self.now.count }
+        ensures behind { (steps : List Step) → Remembers steps self.now →
+            behind_bytes steps (stand_at self.now result.0) (drop result.1 piece.now)
+            ≡ behind_bytes steps (stand_at self.now from) piece.now }
+        ensures known { (steps : List Step) → Remembers steps self.now →
+            result.0 < self.now.count }
+        ensures within { result.1 ≤ length piece.now }
+    {
+        let mut at = from;
+        let mut known = 0;
+        'bytes: while known < piece.len() {
+            match self.next(at, piece[known]) {
+                Some(to) if to == at => known += 1 + self.stays(at, &piece[known + 1..]),
+                Some(to) => {
+                    at = to;
+                    known += 1;
+                }
+                None => return (at, known),
+            }
+        }
+        (at, known)
+    }
+
+    /// How many bytes lead from the set to itself, before one that does not.
+    fn stays(&self, at: u16, piece: &[u8]) -> usize
+        ensures behind { (steps : List Step) → Remembers steps self.now →
+            behind_bytes steps (stand_at self.now at) (drop result piece.now)
+            ≡ behind_bytes steps (stand_at self.now at) piece.now }
+        ensures within { result ≤ length piece.now }
+    {
+        for i in 0..piece.len() {
+            if !self.leads_back(at, piece[i]) {
+                return i;
+            }
+        }
+        piece.len()
+    }
+
+    fn leads_back(&self, at: u16, byte: u8) -> bool
+        ensures { IsTrue result → entry_at self.now at byte ≡ Some at }
+    {
+        match self.next(at, byte) {
+            Some(to) => to == at,
+            None => false,
+        }
+    }
+
+    /// Whether a match ends at the set, if the text does.
+    pub(crate) fn last(&self, at: u16) -> bool
+        ensures { result ≡ (stand_at self.now at).last }
+    {
+        match self.sets.get(at as usize) {
+            Some(met) => met.last,
+            None => false,
+        }
+    }
+
+    pub(crate) fn marks(&self, at: u16) -> &[bool]
+        requires met { at < self.now.count }
+        ensures marks { result.now ≡ (stand_at self.now at).marks }
+        ensures wide { length result.now ≡ self.now.width }
+    {
+        &self.sets[at as usize].marks
+    }
+
+    /// Remembers that the byte leads from one set to another, whose number it gives.
+    ///
+    /// When there is no room for one more set, it forgets all others.
+    pub(crate) fn learn(&mut self, from: u16, byte: u8, marks: &[bool], last: bool) -> u16
+        requires met { from < self.old.count }
+        requires wide { length marks.now ≡ self.old.width }
+        ensures remembers { (steps : List Step) → Remembers steps self.old →
+            behind_byte steps (stand_at self.old from) byte ≡ a_stand marks.now last →
+            Remembers steps self.new }
+        ensures met { result < self.new.count }
+        ensures same { stand_at self.new result ≡ a_stand marks.now last }
+        ensures width { self.new.width ≡ self.old.width }
+    {
+        if let Some(to) = self.find(marks, last) {
+            self.link(from, byte, to);
+            return to;
+        }
+        if self.is_full() {
+            self.forget();
+            return self.add(marks, last);
+        }
+        let to = self.add(marks, last);
+        self.link(from, byte, to);
+        to
+    }
+
+    /// The number of the set, where it was met.
+    pub(crate) fn find(&self, marks: &[bool], last: bool) -> Option<u16>
+        ensures met { IfSome result (λ at. at < self.now.count) }
+        ensures same { IfSome result (λ at. stand_at self.now at ≡ a_stand marks.now last) }
+    {
+        let digest = digest(marks);
+        for at in 0..self.count {
+            let met = &self.sets[at as usize];
+            if met.digest == digest && is_same(met, marks, last) {
+                return Some(at);
+            }
+        }
+        None
+    }
+
+    pub(crate) fn is_full(&self) -> bool
+        ensures { result ≡ nat_le (vec_len self.now.sets) self.now.count }
+    {
+        self.sets.len() <= self.count as usize
+    }
+
+    /// Gives a set that was not met a number.
+    pub(crate) fn add(&mut self, marks: &[bool], last: bool) -> u16
+        requires room { self.old.count < vec_len self.old.sets }
+        requires wide { length marks.now ≡ self.old.width }
+        ensures remembers { (steps : List Step) →
+            Remembers steps self.old → Remembers steps self.new }
+        ensures number { result ≡ self.old.count }
+        ensures same { stand_at self.new result ≡ a_stand marks.now last }
+        ensures count { self.new.count ≡ self.old.count + 1 }
+        ensures kept { (at : ℕ) → at < self.old.count →
+            stand_at self.new at ≡ stand_at self.old at }
+        ensures width { self.new.width ≡ self.old.width }
+    {
+        let at = self.count;
+        let met = &mut self.sets[at as usize];
+        met.marks.copy_from_slice(marks);
+        met.last = last;
+        met.digest = digest(marks);
+        self.count = at + 1;
+        at
+    }
+
+    /// Remembers where the byte leads from a set.
+    pub(crate) fn link(&mut self, at: u16, byte: u8, to: u16)
+        ensures remembers { (steps : List Step) → Remembers steps self.old →
+            Leads steps self.old at byte to → Remembers steps self.new }
+        ensures sets { self.new.sets ≡ self.old.sets }
+        ensures count { self.new.count ≡ self.old.count }
+        ensures width { self.new.width ≡ self.old.width }
+    {
+        let place = at as usize * 256 + byte as usize;
+        if place < self.next.len() {
+            self.next[place] = Some(to);
+        }
+    }
+
+    /// Forgets all sets.
+    pub(crate) fn forget(&mut self)
+        ensures remembers { (steps : List Step) → Remembers steps self.new }
+        ensures room { self.new.count < vec_len self.new.sets }
+        ensures count { self.new.count ≡ 0 }
+        ensures width { self.new.width ≡ self.old.width }
+    {
+        self.count = 0;
+        self.next.fill(None);
+    }
+}
+
+fn is_same(met: &Met, marks: &[bool], last: bool) -> bool
+    ensures last { IsTrue result → met.now.last ≡ last }
+    ensures marks { IsTrue result → met.now.marks.items ≡ marks.now }
+{
+    met.last == last && met.marks.as_slice() == marks
+}
+
+/// A number by which two sets mostly differ, where their marks do. Nothing rests on it but speed.
+fn digest(marks: &[bool]) -> u32 {
+    let mut digest: u32 = 0;
+    for i in 0..marks.len() {
+        digest = digest.wrapping_mul(31).wrapping_add(marks[i] as u32);
+    }
+    digest
+}

@@ -1,0 +1,142 @@
+ghost use Rattle.std.specs.Prelude.{◌≡◌, ◌≤◌, ◌<◌, ◌||◌, map, length, vec_len, vec_capacity};
+ghost use Rattle.ct_regex.specs.Walk.{step_of};
+ghost use Rattle.ct_regex.specs.Memory.{Remembers};
+
+use crate::Regex;
+use crate::memory::Memory;
+use crate::program::Program;
+use crate::reader::can_be_empty;
+use crate::walk::{Branches, Step, walk};
+use ct_base::NoMemory;
+use std::alloc::Global;
+
+/// How many sets of live positions a scan remembers.
+const MOST_SETS: u16 = 128;
+
+/// A pattern and a text that comes in pieces. In contracts `StandsFor` says which text has come.
+///
+/// Source: CMake manual, string(REGEX), Regex Specification.
+#[derive(Drop)]
+pub struct Scan {
+    steps: Vec<Step>,
+    memory: Memory,
+    /// The set of live positions at which the scan stands.
+    at: u16,
+    /// A match has ended that no later byte takes away.
+    found: bool,
+    /// Room for the marks of a walk.
+    marks: Vec<bool>,
+    /// Room for the choices that are open in a walk.
+    choices: Vec<Branches>,
+    ghost room: { vec_len steps ≤ vec_capacity choices },
+    ghost wide: { vec_len marks ≡ memory.width },
+    ghost met: { at < memory.count },
+    ghost right: { Remembers (map step_of steps.items) memory },
+}
+
+impl Scan {
+    ghost use Rattle.std.specs.Prelude.{ℕ, List, [], ◌∷◌, ◌++◌, IfOk, false};
+    ghost use Rattle.ct_regex.specs.Tree.{Tree};
+    ghost use Rattle.ct_regex.specs.TreeOf.{regex_tree};
+    ghost use Rattle.ct_regex.specs.Ends.{hits};
+    ghost use Rattle.ct_regex.specs.Scan.{StandsFor, GoesOn};
+
+    /// Begins with the empty text. All the memory that a scan takes, it takes here.
+    pub fn new(alloc: Global, regex: &Regex) -> Result<Scan, NoMemory>
+        ensures { IfOk result (λ scan. StandsFor (regex_tree regex.now) [] scan) }
+    {
+        Scan::with_room(alloc, regex, MOST_SETS)
+    }
+
+    /// A scan for one text, which meets at most one set more than it has bytes.
+    pub(crate) fn of_text(alloc: Global, regex: &Regex, text: &[u8]) -> Result<Scan, NoMemory>
+        ensures { IfOk result (λ scan. StandsFor (regex_tree regex.now) [] scan) }
+    {
+        let sets = text.len().min(MOST_SETS as usize - 1) + 1;
+        Scan::with_room(alloc, regex, sets as u16)
+    }
+
+    /// A scan that remembers so many sets at most.
+    fn with_room(alloc: Global, regex: &Regex, sets: u16) -> Result<Scan, NoMemory>
+        requires sets { 0 < sets }
+        ensures { IfOk result (λ scan. StandsFor (regex_tree regex.now) [] scan) }
+    {
+        let root = regex.root();
+        let last = can_be_empty(root);
+        let program = Program::new(alloc, root)?;
+        let memory = Memory::new(alloc, sets, &program.marks, last)?;
+        let choices = Vec::with_capacity(alloc, program.steps.len())?;
+        Ok(Scan {
+            steps: program.steps,
+            memory,
+            at: 0,
+            found: false,
+            marks: program.marks,
+            choices,
+        })
+    }
+
+    /// Takes the next piece of the text.
+    pub fn feed(&mut self, piece: &[u8])
+        ensures { (tree : Tree) (text : List ℕ) →
+            StandsFor tree text self.old → StandsFor tree (text ++ piece.now) self.new }
+    {
+        let mut rest = piece;
+        'rest: while !rest.is_empty() {
+            if self.found {
+                return;
+            }
+            rest = self.take(rest);
+        }
+    }
+
+    /// Tells whether the text has a match anywhere, if it ends here. More may be fed afterwards.
+    pub fn ended(&self) -> bool
+        ensures { (tree : Tree) (text : List ℕ) →
+            StandsFor tree text self.now → result ≡ hits tree text }
+    {
+        either(self.found, self.memory.last(self.at))
+    }
+
+    /// Takes what the memory knows of the piece and a byte more, and gives the rest.
+    fn take<'a>(&mut self, piece: &'a [u8]) -> &'a [u8]
+        requires some { 0 < length piece.now }
+        requires goes { self.old.found ≡ false }
+        ensures less { length result.now < length piece.now }
+        ensures goes_on { GoesOn self.old piece.now result.now self.new }
+    {
+        let (at, known) = self.memory.follow(self.at, piece);
+        self.at = at;
+        if known == piece.len() {
+            return &piece[known..];
+        }
+        self.walk(piece[known]);
+        &piece[known + 1..]
+    }
+
+    /// Takes a byte by a walk over the pattern, and remembers where it leads.
+    fn walk(&mut self, byte: u8)
+        requires goes { self.old.found ≡ false }
+        ensures { GoesOn self.old (byte ∷ []) [] self.new }
+    {
+        let before = self.memory.marks(self.at);
+        let flow = walk(
+            &self.steps,
+            byte,
+            before,
+            &mut self.marks,
+            &mut self.choices,
+        );
+        if flow.now {
+            self.found = true;
+            return;
+        }
+        self.at = self.memory.learn(self.at, byte, &self.marks, flow.last);
+    }
+}
+
+fn either(one: bool, other: bool) -> bool
+    ensures { result ≡ (one || other) }
+{
+    one || other
+}

@@ -1,0 +1,243 @@
+ghost use Rattle.std.specs.Prelude.{◌≡◌, ◌+◌, ◌&&◌, ◌≤◌, ◌<◌, Bool, false, [], ◌∷◌, ◌++◌, map, reverse, length, slice_index_or, slice_set, vec_len, vec_capacity};
+ghost use Rattle.ct_regex.specs.Tree.{takes, has_byte};
+ghost use Rattle.ct_regex.specs.Meaning.{byte_test};
+ghost use Rattle.ct_regex.specs.Walk.{Walk, merged as merged_flow, no_flow, all_flow, entered as entered_of, left_of, around, with_left, step_of, behind_one, behind_step, walked};
+
+use crate::tree::{ByteTest, Span};
+
+/// One step of the walk over a pattern. A number is the place of the step's mark.
+#[derive(Drop)]
+pub enum Step {
+    /// `^`: the mark says that nothing was read yet.
+    Start(usize),
+    /// `$`.
+    End,
+    /// One byte: the mark says that a match has come behind it with the last byte.
+    One(usize, ByteTest),
+    /// Opens a choice.
+    Fork,
+    /// Opens a choice of which one branch is empty.
+    Maybe,
+    /// Ends a branch.
+    Or,
+    /// Ends a choice.
+    Join,
+    /// Opens a part that may be repeated: the mark says that a round has ended with the last byte.
+    Loop(usize),
+    /// Ends a round of such a part.
+    Back(usize),
+}
+
+/// Whether a match has come to a point of the pattern.
+#[derive(Clone, Copy)]
+pub struct Flow {
+    /// In front of the byte that is read.
+    pub now: bool,
+    /// Behind that byte, where more bytes follow.
+    pub next: bool,
+    /// Behind that byte, where the text ends.
+    pub last: bool,
+}
+
+/// A choice that is open: what enters its branches, and what has left them.
+#[derive(Clone, Copy)]
+pub struct Branches {
+    pub entered: Flow,
+    pub left: Flow,
+}
+
+/// Goes over the pattern once for a byte: brings the marks up to it, and tells what leaves.
+pub(crate) fn walk(
+    steps: &[Step],
+    byte: u8,
+    before: &[bool],
+    marks: &mut [bool],
+    opened: &mut Vec<Branches>,
+) -> Flow
+    requires room { length steps.now ≤ vec_capacity opened.old }
+    requires wide { length marks.old ≡ length before.now }
+    ensures flow { result ≡ (walked (map step_of steps.now) byte
+        (record { flow = all_flow; opened = []; marks = before.now })).flow }
+    ensures marks { marks.new ≡ (walked (map step_of steps.now) byte
+        (record { flow = all_flow; opened = []; marks = before.now })).marks }
+    ensures room { vec_capacity opened.new ≡ vec_capacity opened.old }
+{
+    marks.copy_from_slice(before);
+    opened.clear();
+    let mut flow = Flow {
+        now: true,
+        next: true,
+        last: true,
+    };
+    for i in 0..steps.len() {
+        flow = take(&steps[i], byte, flow, marks, opened);
+    }
+    flow
+}
+
+fn take(step: &Step, byte: u8, flow: Flow, marks: &mut [bool], opened: &mut Vec<Branches>) -> Flow
+    requires room { vec_len opened.old < vec_capacity opened.old }
+    ensures walk { record { flow = result; opened = reverse opened.new.items; marks = marks.new }
+        ≡ behind_step (step_of step.now) byte
+        (record { flow = flow; opened = reverse opened.old.items; marks = marks.old }) }
+    ensures len { vec_len opened.new ≤ vec_len opened.old + 1 }
+    ensures room { vec_capacity opened.new ≡ vec_capacity opened.old }
+{
+    match step {
+        Step::Start(at) => at_start(flow, marks, *at),
+        Step::End => Flow {
+            now: false,
+            next: false,
+            last: flow.last,
+        },
+        Step::One(at, test) => {
+            let came = mark_at(marks, *at);
+            let comes = flow.now && is_taken(test, byte);
+            set_mark(marks, *at, comes);
+            behind(came, comes)
+        }
+        Step::Fork => open(opened, flow, nothing()),
+        Step::Maybe => open(opened, flow, flow),
+        Step::Or => next_branch(opened, flow),
+        Step::Join => left(opened),
+        Step::Loop(at) => Flow {
+            now: flow.now || mark_at(marks, *at),
+            next: flow.next,
+            last: flow.last,
+        },
+        Step::Back(at) => {
+            set_mark(marks, *at, flow.next);
+            flow
+        }
+    }
+}
+
+fn at_start(flow: Flow, marks: &mut [bool], at: usize) -> Flow
+    ensures flow { result ≡ (record {
+      now = flow.now && slice_index_or marks.old at false;
+      next = false;
+      last = false;
+    }) }
+    ensures marks { marks.new ≡ slice_set marks.old at false }
+{
+    let is_first = mark_at(marks, at);
+    set_mark(marks, at, false);
+    Flow {
+        now: flow.now && is_first,
+        next: false,
+        last: false,
+    }
+}
+
+/// What comes behind an atom of one byte: by its mark, and by the byte.
+fn behind(came: bool, comes: bool) -> Flow
+    ensures { result ≡ behind_one came comes }
+{
+    Flow {
+        now: came,
+        next: comes,
+        last: comes,
+    }
+}
+
+fn nothing() -> Flow
+    ensures { result ≡ no_flow }
+{
+    Flow {
+        now: false,
+        next: false,
+        last: false,
+    }
+}
+
+/// Opens a choice, of which what `left` says has left already.
+fn open(opened: &mut Vec<Branches>, entered: Flow, left: Flow) -> Flow
+    requires room { vec_len opened.old < vec_capacity opened.old }
+    ensures flow { result ≡ entered }
+    ensures opened { reverse opened.new.items
+        ≡ record { entered = entered; left = left } ∷ reverse opened.old.items }
+    ensures len { vec_len opened.new ≡ vec_len opened.old + 1 }
+    ensures room { vec_capacity opened.new ≡ vec_capacity opened.old }
+{
+    opened.push_reserved(Branches { entered, left });
+    entered
+}
+
+fn mark_at(marks: &[bool], at: usize) -> bool
+    ensures { result ≡ slice_index_or marks.now at false }
+{
+    match marks.get(at) {
+        Some(mark) => *mark,
+        None => false,
+    }
+}
+
+fn set_mark(marks: &mut [bool], at: usize, mark: bool)
+    ensures { marks.new ≡ slice_set marks.old at mark }
+{
+    if at < marks.len() {
+        marks[at] = mark;
+    }
+}
+
+/// Ends a branch of the innermost choice, and enters the next one.
+fn next_branch(opened: &mut Vec<Branches>, flow: Flow) -> Flow
+    requires room { vec_len opened.old ≤ vec_capacity opened.old }
+    ensures flow { result ≡ entered_of (reverse opened.old.items) }
+    ensures opened { reverse opened.new.items ≡ with_left flow (reverse opened.old.items) }
+    ensures len { vec_len opened.new ≡ vec_len opened.old }
+    ensures room { vec_capacity opened.new ≡ vec_capacity opened.old }
+{
+    match opened.pop() {
+        Some(branches) => {
+            opened.push_reserved(Branches {
+                entered: branches.entered,
+                left: merged(branches.left, flow),
+            });
+            branches.entered
+        }
+        None => nothing(),
+    }
+}
+
+/// Ends the innermost choice.
+fn left(opened: &mut Vec<Branches>) -> Flow
+    ensures flow { result ≡ left_of (reverse opened.old.items) }
+    ensures opened { reverse opened.new.items ≡ around (reverse opened.old.items) }
+    ensures len { vec_len opened.new ≤ vec_len opened.old }
+    ensures room { vec_capacity opened.new ≡ vec_capacity opened.old }
+{
+    match opened.pop() {
+        Some(branches) => branches.left,
+        None => nothing(),
+    }
+}
+
+fn merged(left: Flow, right: Flow) -> Flow
+    ensures { result ≡ merged_flow left right }
+{
+    Flow {
+        now: left.now || right.now,
+        next: left.next || right.next,
+        last: left.last || right.last,
+    }
+}
+
+fn is_taken(test: &ByteTest, byte: u8) -> bool
+    ensures { result ≡ takes (byte_test test.now) byte }
+{
+    match test {
+        ByteTest::Any => true,
+        ByteTest::Same(wanted) => byte == *wanted,
+        ByteTest::Inside(spans) => is_in_spans(spans, byte),
+        ByteTest::Outside(spans) => !is_in_spans(spans, byte),
+    }
+}
+
+fn is_in_spans(spans: &[Span], byte: u8) -> bool
+    ensures { result ≡ has_byte spans.now byte }
+{
+    spans
+        .iter()
+        .any(|span| span.low <= byte && byte <= span.high)
+}
