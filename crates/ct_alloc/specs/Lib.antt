@@ -1,2 +1,5 @@
 -- The definitions that contracts cite, in reading order.
 pub mod Placement
+pub mod Free
+pub mod Packing
+pub mod Spread

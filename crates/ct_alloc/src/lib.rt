@@ -1,9 +1,14 @@
 //! Placements of a test's needs on the machine's resources.
 //!
-//! Hands up: `Placement`, which a start carries, and its `Pick`s.
+//! Hands up: `Free`, which places needs beside what is used, and `Placement`, which a start carries, with its `Pick`s.
 //! Stands on: ct_base.
+//! Read first: `specs/Placement.antt`, `specs/Free.antt`, then `free.rt`.
 #![tactic(auto)]
 
+mod bound;
+mod free;
+mod pack;
 mod placement;
 
+pub use free::Free;
 pub use placement::{Pick, Placement};

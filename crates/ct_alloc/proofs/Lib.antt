@@ -1,0 +1,6 @@
+pub mod PackLemmas
+pub mod BoundLemmas
+pub mod TwinLemmas
+pub mod PickLemmas
+pub mod SpreadLemmas
+pub mod PlaceLemmas

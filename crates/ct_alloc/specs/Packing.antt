@@ -1,0 +1,40 @@
+-- Sizes packed on cards, each with so many free slots: what the placing of the needs of one kind comes to in numbers.
+-- Source: this project's own.
+use Rattle.std.specs.Prelude.{◌≡◌, ◌<◌, ◌⊎◌, ℕ, ◌+◌, ◌≤◌, List, [], ◌∷◌, length, nat_le, nat_lt, ◌/◌, slice_index, if◌then◌else◌, ◌==◌, true}
+use Rattle.std.specs.List.{list_all}
+
+-- the slots that these sizes take together of one card, where each is packed on the card of the same place in the list
+abbrev pub load : ℕ → List ℕ → List ℕ → ℕ
+load card [] cards = 0
+load card (size ∷ sizes) [] = 0
+load card (size ∷ sizes) (on ∷ cards) = (if on == card then size else 0) + load card sizes cards
+
+-- the cards are a packing: one of them for each size, and no card takes more than its free slots
+pub record IsPacking (free sizes cards : List ℕ) : Type 0 where
+  pub count : length cards ≡ length sizes
+  pub within : list_all (λ card. nat_lt card (length free)) cards ≡ true
+  pub room : (card : ℕ) → load card sizes cards ≤ slice_index free card
+
+-- some packing of the sizes on the free slots
+abbrev pub CanPack : List ℕ → List ℕ → Type 0
+CanPack free sizes = (cards : List ℕ) × IsPacking free sizes cards
+
+-- no packing of the sizes on the free slots
+abbrev pub CannotPack : List ℕ → List ℕ → Type 0
+CannotPack free sizes = CanPack free sizes → ⊥
+
+-- the card has no room for the size, or an earlier one has as much room
+abbrev pub IsNotWorth : List ℕ → ℕ → ℕ → Type 0
+IsNotWorth free card size = (slice_index free card < size) ⊎ ((first : ℕ) × (first < card) × (slice_index free first ≡ slice_index free card))
+
+-- an amount, where it reaches a least one
+abbrev pub reaching : ℕ → ℕ → ℕ
+reaching least amount = if nat_le least amount then amount else 0
+
+-- one, where an amount reaches a least one
+abbrev pub one_from : ℕ → ℕ → ℕ
+one_from least amount = if nat_le least amount then 1 else 0
+
+-- how many sizes of at least this one a card has room for
+abbrev pub rooms : ℕ → ℕ → ℕ
+rooms least amount = amount / least
