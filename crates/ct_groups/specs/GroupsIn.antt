@@ -1,0 +1,45 @@
+-- The groups of a text, written out in order. Source: CMake manual, cmake-properties(7), RESOURCE_GROUPS.
+use Rattle.std.specs.Prelude.{ℕ, ◌+◌, ◌*◌, Bool, ◌||◌, List, [], ◌∷◌, ◌++◌, map, flat_map, length, nat_lt, Result, Ok, Err, if◌then◌else◌}
+use Rattle.std.specs.List.{range_with_len}
+use Rattle.ct_base.specs.Entries.{entries_of}
+use Rattle.ct_base.specs.declared.defs.Need.{Need}
+use Rattle.ct_groups.specs.declared.fault.GroupsFault.{GroupsFault}
+use Rattle.ct_groups.specs.declared.fault.GroupsFault.TheVariants.{TooMany}
+use Rattle.ct_groups.specs.declared.description.Requirement.{Requirement}
+use Rattle.ct_groups.specs.declared.description.Description.{Description}
+use Rattle.ct_groups.specs.declared.groups.Groups.{Groups}
+use Rattle.ct_groups.specs.Description.{reads_on, description_of}
+
+-- what a group needs for a requirement
+abbrev pub need_for : ℕ → Requirement → Need
+need_for group requirement = record { group = group; kind = requirement.kind; slots = requirement.slots }
+
+-- what a group with these requirements needs, in order
+abbrev pub group_needs : List Requirement → ℕ → List Need
+group_needs requirements group = map (need_for group) requirements
+
+-- what so many groups from a number on need, in order
+abbrev pub needs_from : ℕ → ℕ → List Requirement → List Need
+needs_from first count requirements = flat_map (group_needs requirements) (range_with_len first count)
+
+-- more than 64 groups, or more than 64 needs, would stand there with the description's
+abbrev pub passes_limits : Groups → Description → Bool
+passes_limits groups d = nat_lt 64 (groups.count + d.count) || nat_lt 64 (length groups.needs + d.count * length d.requirements)
+
+-- the groups with those of a description behind them
+abbrev pub with_description : Groups → Description → Result Groups GroupsFault
+with_description groups d =
+    if passes_limits groups d then Err TooMany else Ok (record { needs = groups.needs ++ needs_from groups.count d.count d.requirements; count = groups.count + d.count })
+
+-- the groups with those of these descriptions behind them, or the first fault; the limits are looked at behind each description
+abbrev pub with_descriptions : Groups → List (List ℕ) → Result Groups GroupsFault
+with_descriptions groups [] = Ok groups
+with_descriptions groups (text ∷ texts) = reads_on (description_of text) (λ d. reads_on (with_description groups d) (λ more. with_descriptions more texts))
+
+-- no groups
+abbrev pub no_groups : Groups
+no_groups = record { needs = []; count = 0 }
+
+-- the groups of a text, or its first fault in reading order
+abbrev pub groups_in : List ℕ → Result Groups GroupsFault
+groups_in text = with_descriptions no_groups (entries_of text)

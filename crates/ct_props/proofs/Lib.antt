@@ -1,0 +1,4 @@
+pub mod LabelLemmas
+pub mod PatternLemmas
+pub mod RefusalLemmas
+pub mod ReasonLemmas

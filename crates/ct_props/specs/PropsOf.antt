@@ -1,0 +1,62 @@
+-- The properties of a test: each field by the rule of its key.
+-- Source: CMake manual, cmake-properties(7), Properties on Tests.
+use Rattle.std.specs.Prelude.{◌≡◌, ℕ, List, ◌++◌, map, Ok, codes}
+use Rattle.ct_base.specs.Entries.{entries_of}
+use Rattle.ct_base.specs.Path.{joined}
+use Rattle.ct_base.specs.declared.defs.Pair.{Pair}
+use Rattle.ct_base.specs.declared.defs.TestDef.{TestDef}
+use Rattle.ct_regex.specs.TreeOf.{regex_tree}
+use Rattle.ct_props.specs.declared.checked.Checked.{Checked}
+use Rattle.ct_props.specs.declared.props.Props.{Props}
+use Rattle.ct_props.specs.Values.{value_of_key, text_of_key, is_true_text, processors_in, seconds_in, skip_code_in, patterns_in, resource_groups_in, unbuilt_in, working_dir_in, distinct}
+
+-- the fields whose keys can be refused
+pub record HasChecked (props : List Pair) (checked : Checked) : Type 0 where
+  pub depends : unbuilt_in (value_of_key props (codes "DEPENDS")) ≡ Ok checked.depends
+  pub setup : unbuilt_in (value_of_key props (codes "FIXTURES_SETUP")) ≡ Ok checked.setup
+  pub required : unbuilt_in (value_of_key props (codes "FIXTURES_REQUIRED")) ≡ Ok checked.required
+  pub cleanup : unbuilt_in (value_of_key props (codes "FIXTURES_CLEANUP")) ≡ Ok checked.cleanup
+  pub processors : processors_in (value_of_key props (codes "PROCESSORS")) ≡ Ok checked.processors
+  pub fail : patterns_in (text_of_key props (codes "FAIL_REGULAR_EXPRESSION")) ≡ Ok (map regex_tree checked.fail)
+  pub pass : patterns_in (text_of_key props (codes "PASS_REGULAR_EXPRESSION")) ≡ Ok (map regex_tree checked.pass)
+  pub skip : patterns_in (text_of_key props (codes "SKIP_REGULAR_EXPRESSION")) ≡ Ok (map regex_tree checked.skip)
+  pub skip_code : skip_code_in (value_of_key props (codes "SKIP_RETURN_CODE")) ≡ Ok checked.skip_code
+  pub timeout : seconds_in (value_of_key props (codes "TIMEOUT")) ≡ Ok checked.timeout
+  pub cost : seconds_in (value_of_key props (codes "COST")) ≡ Ok checked.cost
+  pub groups : resource_groups_in (text_of_key props (codes "RESOURCE_GROUPS")) ≡ Ok checked.groups
+
+-- the folder in which a test runs
+abbrev pub working_dir_of : TestDef → List ℕ
+working_dir_of def = working_dir_in def.dir (text_of_key def.props (codes "WORKING_DIRECTORY"))
+
+-- the files that a test needs, each below the folder in which it runs
+abbrev pub required_files_of : TestDef → List (List ℕ)
+required_files_of def = map (joined (working_dir_of def)) (entries_of (text_of_key def.props (codes "REQUIRED_FILES")))
+
+-- the labels of a test, and behind them those of its folder, each once
+abbrev pub test_labels : TestDef → List (List ℕ)
+test_labels def = distinct (entries_of (text_of_key def.props (codes "LABELS")) ++ def.dir_labels)
+
+-- the properties of a test: each field by the rule of its key; no other key has an effect
+pub record HasProps (def : TestDef) (props : Props) : Type 0 where
+  pub depends : unbuilt_in (value_of_key def.props (codes "DEPENDS")) ≡ Ok props.depends
+  pub setup : unbuilt_in (value_of_key def.props (codes "FIXTURES_SETUP")) ≡ Ok props.setup
+  pub required : unbuilt_in (value_of_key def.props (codes "FIXTURES_REQUIRED")) ≡ Ok props.required
+  pub cleanup : unbuilt_in (value_of_key def.props (codes "FIXTURES_CLEANUP")) ≡ Ok props.cleanup
+  pub disabled : props.disabled ≡ is_true_text (text_of_key def.props (codes "DISABLED"))
+  pub processors : processors_in (value_of_key def.props (codes "PROCESSORS")) ≡ Ok props.processors
+  pub locks : props.locks ≡ entries_of (text_of_key def.props (codes "RESOURCE_LOCK"))
+  pub serial : props.serial ≡ is_true_text (text_of_key def.props (codes "RUN_SERIAL"))
+  pub fail : patterns_in (text_of_key def.props (codes "FAIL_REGULAR_EXPRESSION")) ≡ Ok (map regex_tree props.fail)
+  pub pass : patterns_in (text_of_key def.props (codes "PASS_REGULAR_EXPRESSION")) ≡ Ok (map regex_tree props.pass)
+  pub skip : patterns_in (text_of_key def.props (codes "SKIP_REGULAR_EXPRESSION")) ≡ Ok (map regex_tree props.skip)
+  pub skip_code : skip_code_in (value_of_key def.props (codes "SKIP_RETURN_CODE")) ≡ Ok props.skip_code
+  pub will_fail : props.will_fail ≡ is_true_text (text_of_key def.props (codes "WILL_FAIL"))
+  pub timeout : seconds_in (value_of_key def.props (codes "TIMEOUT")) ≡ Ok props.timeout
+  pub cost : seconds_in (value_of_key def.props (codes "COST")) ≡ Ok props.cost
+  pub environment : props.environment ≡ entries_of (text_of_key def.props (codes "ENVIRONMENT"))
+  pub modification : props.modification ≡ entries_of (text_of_key def.props (codes "ENVIRONMENT_MODIFICATION"))
+  pub required_files : props.required_files ≡ required_files_of def
+  pub labels : props.labels ≡ test_labels def
+  pub working_dir : props.working_dir ≡ working_dir_of def
+  pub groups : resource_groups_in (text_of_key def.props (codes "RESOURCE_GROUPS")) ≡ Ok props.groups

@@ -1,0 +1,52 @@
+ghost use Rattle.ct_props.specs.Refusal.{IsBad};
+
+use ct_base::{Name, NoMemory};
+use ct_groups::GroupsFault;
+use ct_regex::RegexFault;
+use std::alloc::Global;
+
+/// Why the value of a key is refused.
+///
+/// Source: CMake manual, cmake-properties(7), Properties on Tests. That such a value refuses the
+/// run is this project's choice.
+#[derive(Debug, PartialEq, Eq, Drop)]
+pub enum PropKind {
+    /// A text that is no number of the kind that the key takes.
+    BadNumber,
+    /// The first pattern of the list that is none, and why. It holds no want of memory.
+    BadPattern(RegexFault),
+    /// No list of resource groups, and why. It holds no want of memory.
+    BadGroups(GroupsFault),
+    /// A key that this program does not know yet.
+    Unbuilt,
+}
+
+/// Why the properties of a test are not read.
+#[derive(Debug, Drop)]
+pub enum PropFault {
+    /// The least key, in byte order, whose value is refused.
+    Bad { key: Name, kind: PropKind },
+    /// Memory was wanting.
+    NoMemory,
+}
+
+impl From<NoMemory> for PropFault {
+    ghost use Rattle.std.specs.Prelude.{◌≡◌};
+    ghost use Rattle.ct_props.specs.declared.fault.PropFault.TheVariants.{NoMemory as wanting};
+
+    ghost from_gives = { λ _ e. e ≡ wanting };
+
+    fn from(_e: NoMemory) -> PropFault {
+        PropFault::NoMemory
+    }
+}
+
+/// Refuses the value of a key.
+pub fn bad(alloc: Global, key: &[u8], kind: PropKind) -> PropFault
+    ensures { IsBad key.now kind result }
+{
+    match Name::of(alloc, key) {
+        Ok(key) => PropFault::Bad { key, kind },
+        Err(NoMemory) => PropFault::NoMemory,
+    }
+}

@@ -1,0 +1,20 @@
+//! The properties of a test, each with the type that its key has.
+//!
+//! Hands up: `Props::of` reads the properties of a test, or names the least key with a bad value.
+//! Stands on: ct_base, ct_regex, ct_groups and ct_verdict.
+//! Read first: `specs/Values.antt`, then `specs/Refusal.antt`, `specs/PropsOf.antt` and `props.rt`.
+#![tactic(auto)]
+
+mod checked;
+mod fault;
+mod folder;
+mod labels;
+mod lists;
+mod numbers;
+mod patterns;
+mod props;
+mod texts;
+mod truth;
+
+pub use fault::{PropFault, PropKind};
+pub use props::Props;

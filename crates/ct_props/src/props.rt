@@ -1,0 +1,105 @@
+ghost use Rattle.std.specs.Prelude.{◌≡◌, ℕ, List as Bytes, None, IfOk, IfErr};
+ghost use Rattle.ct_props.specs.PropsOf.{HasProps};
+ghost use Rattle.ct_props.specs.Refusal.{IsPropFault, refused_as, HasReason};
+
+use crate::PropFault;
+use crate::checked::Checked;
+use crate::folder::{required_files, working_dir};
+use crate::labels::labels;
+use crate::lists::entries;
+use crate::texts::text_of;
+use crate::truth::is_true;
+use ct_base::{List, Name, TestDef};
+use ct_groups::Groups;
+use ct_regex::Regex;
+use std::alloc::Global;
+
+/// The properties of a test, each with the type that its key has.
+///
+/// Source: CMake manual, cmake-properties(7), Properties on Tests.
+#[derive(Drop)]
+pub struct Props {
+    /// The names of tests that end before it: DEPENDS.
+    pub depends: List<Name>,
+    /// The fixtures that it sets up: FIXTURES_SETUP.
+    pub setup: List<Name>,
+    /// The fixtures that it requires: FIXTURES_REQUIRED.
+    pub required: List<Name>,
+    /// The fixtures that it cleans up: FIXTURES_CLEANUP.
+    pub cleanup: List<Name>,
+    /// It is not run: DISABLED.
+    pub disabled: bool,
+    /// How many processors it takes, from 1 to 65,535: PROCESSORS.
+    pub processors: u32,
+    /// What no other test may hold meanwhile: RESOURCE_LOCK.
+    pub locks: List<Name>,
+    /// It runs alone: RUN_SERIAL.
+    pub serial: bool,
+    /// What its output must not have: FAIL_REGULAR_EXPRESSION.
+    pub fail: List<Regex>,
+    /// What its output must have: PASS_REGULAR_EXPRESSION.
+    pub pass: List<Regex>,
+    /// What its output has where it is skipped: SKIP_REGULAR_EXPRESSION.
+    pub skip: List<Regex>,
+    /// The exit code by which it is skipped: SKIP_RETURN_CODE.
+    pub skip_code: Option<i32>,
+    /// Its verdict is turned round: WILL_FAIL.
+    pub will_fail: bool,
+    /// How long it may run, in microseconds; 0 is no limit: TIMEOUT.
+    pub timeout: Option<u64>,
+    /// What it costs, in microseconds: COST.
+    pub cost: Option<u64>,
+    /// The variables that are set for it: ENVIRONMENT.
+    pub environment: List<Name>,
+    /// The operations on its variables: ENVIRONMENT_MODIFICATION.
+    pub modification: List<Name>,
+    /// The files without which it does not run: REQUIRED_FILES.
+    pub required_files: List<Name>,
+    /// Its labels and then those of its folder, each once: LABELS.
+    pub labels: List<Name>,
+    /// The folder in which it runs: WORKING_DIRECTORY.
+    pub working_dir: Name,
+    /// The resources that it needs: RESOURCE_GROUPS.
+    pub groups: Groups,
+}
+
+impl Props {
+    /// Reads the properties of a test, or finds the least key, in byte order, with a bad value.
+    ///
+    /// Keys with no field here have no effect.
+    ///
+    /// Source: CMake manual, cmake-properties(7), Properties on Tests. What is refused, and which
+    /// key is named, is this project's choice.
+    pub fn of(alloc: Global, def: &TestDef) -> Result<Props, PropFault>
+        ensures ok { IfOk result (λ props. HasProps def.now props) }
+        ensures none { IfOk result (λ props. (key : Bytes ℕ) → refused_as def.now.props key ≡ None) }
+        ensures bad { IfErr result (λ fault. IsPropFault def.now.props fault) }
+        ensures reason { IfErr result HasReason }
+    {
+        let props = def.props.as_slice();
+        let checked = Checked::of(alloc, props)?;
+        Ok(Props {
+            depends: checked.depends,
+            setup: checked.setup,
+            required: checked.required,
+            cleanup: checked.cleanup,
+            disabled: is_true(text_of(props, b"DISABLED")),
+            processors: checked.processors,
+            locks: entries(alloc, props, b"RESOURCE_LOCK")?,
+            serial: is_true(text_of(props, b"RUN_SERIAL")),
+            fail: checked.fail,
+            pass: checked.pass,
+            skip: checked.skip,
+            skip_code: checked.skip_code,
+            will_fail: is_true(text_of(props, b"WILL_FAIL")),
+            timeout: checked.timeout,
+            cost: checked.cost,
+            environment: entries(alloc, props, b"ENVIRONMENT")?,
+            modification: entries(alloc, props, b"ENVIRONMENT_MODIFICATION")?,
+            labels: labels(alloc, props, b"LABELS", def.dir_labels.as_slice())?,
+            required_files: required_files(alloc, def)?,
+            working_dir: working_dir(alloc, def)?,
+            groups: checked.groups,
+        })
+    }
+}
