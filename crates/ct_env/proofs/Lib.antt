@@ -1,0 +1,2 @@
+pub mod VariableLemmas
+pub mod FoldLemmas
