@@ -2,3 +2,4 @@ pub mod ChoiceLemmas
 pub mod FindLemmas
 pub mod KeptLemmas
 pub mod CallerLemmas
+pub mod RecordedLemmas

@@ -1,7 +1,8 @@
 -- What each call of the core does to its history. This project's own.
-use Rattle.std.specs.Prelude.{◌≡◌, ℕ, true, false, List, [], ◌∷◌, ◌++◌, if◌then◌else◌}
+use Rattle.std.specs.Prelude.{◌≡◌, ℕ, true, false, List, [], ◌∷◌, ◌++◌, None, if◌then◌else◌}
 use Rattle.ct_verdict.specs.declared.verdict.Cause.{Cause}
 use Rattle.ct_history.specs.declared.plan.PlanParts.{PlanParts}
+use Rattle.ct_history.specs.declared.board.Base.{Base}
 use Rattle.ct_history.specs.declared.history.Entry.{Entry}
 use Rattle.ct_history.specs.declared.history.Entry.TheVariants.{Settle, Stop}
 use Rattle.ct_history.specs.Plan.{test_at}
@@ -64,3 +65,7 @@ IsNext old worker Wait new = Waits old new
 IsNext old worker Done new = IsDone old new
 IsNext old worker Aborted new = (old.aborted ≡ true) × (new ≡ old)
 IsNext old worker NoMemory new = new ≡ old
+
+-- a core has no sink: nothing was told as written, and no fault was counted
+abbrev pub no_base : Base
+no_base = record { written = None; faults = 0 }

@@ -5,7 +5,7 @@ ghost use Rattle.ct_history.specs.declared.plan.PlanParts.{PlanParts};
 
 use crate::Ticket;
 use crate::choice::{Choice, choose};
-use ct_history::{Entry, History, Plan, PlanParts, is_stop_due, verdict_of};
+use ct_history::{Board, Entry, History, Plan, PlanParts, is_stop_due, verdict_of};
 use ct_verdict::{Cause, Seen, Verdict};
 use std::alloc::Global;
 use std::marker::Model;
@@ -206,6 +206,26 @@ impl Core {
             Entry::Settle { test, cause },
         );
         Next::Settled(test)
+    }
+}
+
+impl Board for Core {
+    ghost use Rattle.ct_core.specs.Core.{no_base};
+
+    ghost plan = { λ c. c.plan };
+
+    ghost history = { λ c. c.entries };
+
+    ghost base = { λ _. no_base };
+
+    ghost halted = { λ c. c.aborted };
+
+    fn length(&self) -> usize {
+        self.history.entries.len()
+    }
+
+    fn is_halted(&self) -> bool {
+        self.aborted
     }
 }
 

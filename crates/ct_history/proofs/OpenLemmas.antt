@@ -6,10 +6,12 @@ use Rattle.std.proofs.Common.{inl, inr}
 use Rattle.std.proofs.lemmas.Bool.{cases_Bool}
 use Rattle.std.proofs.lemmas.Bool.Decides.{nat_tests}
 use Rattle.std.proofs.lemmas.List.Folds.{list_any-append}
+use Rattle.ct_alloc.specs.declared.placement.Placement.{Placement}
 use Rattle.ct_verdict.specs.declared.attempt.Seen.{Seen}
 use Rattle.ct_history.specs.declared.history.Entry.{Entry}
 use Rattle.ct_history.specs.declared.history.Entry.TheVariants.{Start, End, Settle, Stop}
 use Rattle.ct_history.specs.History.{Running, is_end_of, opened, open_starts, holds_start}
+use Rattle.ct_history.proofs.BoolLemmas.{eq_same}
 
 -- the entry is no End
 abbrev pub is_no_end : Entry → Bool
@@ -40,7 +42,7 @@ opened_before_no_end (End t a w s) es e is = refl
 opened_before_no_end (Settle t c) es e is = refl
 opened_before_no_end Stop es e is = refl
 
-append-cons_option : (o : Option Running) (xs ys : List Running) → cons_option o (xs ++ ys) ≡ cons_option o xs ++ ys
+pub append-cons_option : (o : Option Running) (xs ys : List Running) → cons_option o (xs ++ ys) ≡ cons_option o xs ++ ys
 append-cons_option None xs ys = refl
 append-cons_option (Some r) xs ys = refl
 
@@ -181,3 +183,33 @@ open_starts-end (x ∷ xs) t a w s = elim (closes x xs t a w s) [
       ∙ open_starts-end xs t a w s
       ∙ sym (drops (opened x xs) t a (open_starts xs) shut.1)
 ]
+
+no_option : (o : Option Running) (rest : List Running) → cons_option o rest ≡ [] → (o ≡ None) × (rest ≡ [])
+no_option None rest is = (refl, is)
+no_option (Some r) rest is = cc
+
+-- what is closed stays closed
+closed_stays : (e : Entry) (es more : List Entry) → opened e es ≡ None → opened e (es ++ more) ≡ None
+closed_stays (Start t a w p) es more is = elim (cases_Bool (list_any (is_end_of t a) es)) [
+  | inl ended ↦ ap (λ (b : Bool). cond b None (Some (record { test = t; attempt = a; worker = w; placement = p }))) (list_any-append (is_end_of t a) es more ∙ ap (λ (b : Bool). b || list_any (is_end_of t a) more) ended)
+  | inr waits ↦
+      let run : Running = record { test = t; attempt = a; worker = w; placement = p } in
+      let no : Some run ≡ None = sym (ap (λ (b : Bool). cond b None (Some run)) waits) ∙ is in
+      cc
+]
+closed_stays (End t a w s) es more is = refl
+closed_stays (Settle t c) es more is = refl
+closed_stays Stop es more is = refl
+
+-- where nothing is open, what is open behind it is what comes behind it opens
+pub open_starts-append : (es more : List Entry) → open_starts es ≡ [] → open_starts (es ++ more) ≡ open_starts more
+open_starts-append [] more closed = refl
+open_starts-append (e ∷ es) more closed =
+    let both = no_option (opened e es) (open_starts es) closed in
+    ap (λ (o : Option Running). cons_option o (open_starts (es ++ more))) (closed_stays e es more both.0) ∙ open_starts-append es more both.1
+
+-- an attempt that started and ended leaves nothing open
+pub closed_both : (t a w : ℕ) (p : Option Placement) (s : Seen) → open_starts (Start t a w p ∷ End t a w s ∷ []) ≡ []
+closed_both t a w p s =
+    let run : Running = record { test = t; attempt = a; worker = w; placement = p } in
+    ap (λ (b : Bool). cons_option (cond ((b && a == a) || false) None (Some run)) []) (eq_same t) ∙ ap (λ (b : Bool). cons_option (cond (b || false) None (Some run)) []) (eq_same a)

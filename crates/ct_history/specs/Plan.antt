@@ -2,7 +2,7 @@
 use Rattle.std.specs.Prelude.{◌≡◌, ℕ, ◌+◌, ◌≤◌, Bool, true, false, not, ◌&&◌, List, [], ◌∷◌, map, filter, find, All, AllPairs, Option, Some, None, IfSome, nat_le, nat_lt, ◌==◌, bytes_eq, IsPermutation, is_some}
 use Rattle.std.specs.List.{list_any, list_all}
 use Rattle.ct_base.specs.declared.defs.Resource.{Resource}
-use Rattle.ct_alloc.specs.Placement.{SomeFits}
+use Rattle.ct_alloc.specs.Placement.{AreDistinct, SomeFits}
 use Rattle.ct_verdict.specs.declared.verdict.Cause.{Cause}
 use Rattle.ct_verdict.specs.declared.verdict.Cause.TheVariants.{NotAvailable, BadOperation, Insufficient}
 use Rattle.ct_history.specs.declared.plan.PlanTest.{PlanTest}
@@ -47,14 +47,6 @@ is_fixed_cause resources (Some _) = false
 -- a test takes from 1 processor to the level
 abbrev pub has_sound_processors : ℕ → PlanTest → Bool
 has_sound_processors level t = nat_le 1 t.processors && nat_le t.processors level
-
--- the resource has this kind and this id
-abbrev pub same_resource : Resource → Resource → Bool
-same_resource one other = bytes_eq one.kind other.kind && bytes_eq one.id other.id
-
--- no two resources have the same kind and id
-abbrev pub AreDistinct : List Resource → Type 0
-AreDistinct resources = AllPairs (λ one other. same_resource one other ≡ false) resources
 
 -- a test that nothing keeps from running has needs that fit while nothing is used
 abbrev pub IsPlaceable : List Resource → PlanTest → Type 0

@@ -1,10 +1,11 @@
 //! Plans of a run, histories of what happened in it, and what a history says of each test.
 //!
-//! Hands up: `Plan`, `History`, `final_verdict`, and the rules by which tests start and are settled.
+//! Hands up: `Plan`, `History`, `Board`, `final_verdict`, and the rules by which tests start and are settled.
 //! Stands on: ct_base, ct_alloc, ct_verdict.
 //! Read first: `specs/History.antt`, `specs/Verdicts.antt`, `specs/Rules.antt`, `specs/Legal.antt`.
 #![tactic(auto)]
 
+mod board;
 mod history;
 mod legal;
 mod open_starts;
@@ -12,6 +13,7 @@ mod plan;
 mod rules;
 mod verdicts;
 
+pub use board::{Base, Board};
 pub use history::{Entry, History};
 pub use legal::{is_stop_due, judge};
 pub use open_starts::{holds_start, is_busy};
