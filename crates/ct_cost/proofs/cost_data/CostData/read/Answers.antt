@@ -1,0 +1,5 @@
+use Rattle.ct_cost.proofs.ReadingLemmas.{costs_read}
+use Rattle.ct_cost.proofs.cost_data.CostData.read.Goals as goal
+
+pub returns : goal.returns
+returns c = costs_read c.args.text.now c.in_ok-reading.reading c.in_ok-reading.ensures

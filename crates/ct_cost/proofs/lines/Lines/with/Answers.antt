@@ -1,0 +1,10 @@
+use Rattle.std.proofs.Common.{ap, ◌∙◌, map}
+use Rattle.ct_cost.specs.CostLine.{with_line}
+use Rattle.ct_cost.specs.Kept.{kept_line, line_for}
+use Rattle.ct_cost.proofs.KeptLemmas.{lines-insert_entry}
+use Rattle.ct_cost.proofs.lines.Lines.with.Goals as goal
+
+pub returns : goal.returns
+returns c =
+    rw (c.in_ok-insert.ensures.entries, ← c.self.view_is) (lines-insert_entry c.self.inside.counts.entries c.in_ok-from_slice.field-0 c.args.counts
+    ∙ ap (λ name. with_line (map kept_line c.self.inside.counts.entries) (line_for name c.args.counts)) c.in_ok-from_slice.ensures.items)

@@ -1,0 +1,46 @@
+-- What a run says of its tests for the next one, and the log of its failed tests. Source: this project's choice, after what ctest does.
+use Rattle.std.specs.Prelude.{ℕ, min, List, ◌++◌, filter, filter_map, flat_map, codes, decimal, Option, Some, None, ◌==◌, if◌then◌else◌}
+use Rattle.ct_base.specs.Seconds.{most_micros}
+use Rattle.ct_verdict.specs.declared.attempt.Seen.{Seen}
+use Rattle.ct_history.specs.declared.plan.PlanTest.{PlanTest}
+use Rattle.ct_history.specs.declared.plan.PlanParts.{PlanParts}
+use Rattle.ct_history.specs.declared.history.Entry.{Entry}
+use Rattle.ct_history.specs.declared.history.Entry.TheVariants.{Start, End, Settle, Stop}
+use Rattle.ct_history.specs.Verdicts.{verdict_in, is_passed_verdict, is_failing_in, last_of_list}
+use Rattle.ct_cost.specs.CostLine.{CostLine, after_run}
+
+-- what was seen of the attempt that the entry ends, where it is one of the test
+abbrev pub seen_at_end : ℕ → Entry → Option Seen
+seen_at_end test (Start t a worker placement) = None
+seen_at_end test (End t a worker seen) = if t == test then Some seen else None
+seen_at_end test (Settle t cause) = None
+seen_at_end test Stop = None
+
+-- what was seen of the test's last attempt
+abbrev pub last_seen : ℕ → List Entry → Option Seen
+last_seen test entries = last_of_list (filter_map (seen_at_end test) entries)
+
+-- the microseconds of an attempt that count, up to 10^15
+abbrev pub counted_micros : Option Seen → ℕ
+counted_micros None = 0
+counted_micros (Some seen) = min seen.micros most_micros
+
+-- the tests that passed, in order of number
+abbrev pub passed_tests : PlanParts → List Entry → List PlanTest
+passed_tests plan entries = filter (λ (t : PlanTest). is_passed_verdict (verdict_in plan.repeat t entries)) plan.tests
+
+-- the tests of the failing class, in order of number
+abbrev pub failed_tests : PlanParts → List Entry → List PlanTest
+failed_tests plan entries = filter (λ (t : PlanTest). is_failing_in (verdict_in plan.repeat t entries)) plan.tests
+
+-- the lines after one more test that passed: its name gets one more run, of its last attempt
+abbrev pub after_test : List Entry → List CostLine → PlanTest → List CostLine
+after_test entries lines t = after_run lines t.name (counted_micros (last_seen t.number entries))
+
+-- a failed test in the log
+abbrev pub logged : PlanTest → List ℕ
+logged t = decimal t.number ++ codes ":" ++ t.name ++ codes "\n"
+
+-- the log of the failed tests
+abbrev pub failed_log_text : PlanParts → List Entry → List ℕ
+failed_log_text plan entries = flat_map logged (failed_tests plan entries)

@@ -1,0 +1,32 @@
+-- What contracts see of lines that are kept by their names. This project's own.
+use Rattle.std.specs.Prelude.{ℕ, List, Option, Some, None, if◌then◌else◌}
+use Rattle.std.specs.declared.vec.Vec.{Vec}
+use Rattle.ct_cost.specs.declared.line.Counts.{Counts}
+use Rattle.ct_cost.specs.declared.line.Line.{Line}
+use Rattle.ct_cost.specs.CostLine.{CostLine, with_new_line, with_new_name}
+use Rattle.ct_cost.specs.Text.{is_named}
+
+-- the line of a name with these counts
+abbrev pub line_for : List ℕ → Counts → CostLine
+line_for name counts = record { name = name; runs = counts.runs; micros = counts.micros }
+
+-- a line that is kept by its name
+abbrev pub kept_line : {Z : Type 0} → Vec ℕ Z × Counts → CostLine
+kept_line entry = line_for entry.0.items entry.1
+
+-- a line that was read, where it stands
+abbrev pub seen_line : Line → CostLine
+seen_line line = line_for line.name.now line.counts
+
+-- the counts of a line
+abbrev pub counts_of : CostLine → Counts
+counts_of line = record { runs = line.runs; micros = line.micros }
+
+-- the lines with what was read behind them, where it is a line
+abbrev pub with_read : List CostLine → Option CostLine → List CostLine
+with_read lines None = lines
+with_read lines (Some line) = with_new_line lines line
+
+-- the names with that of a line behind them, where it has one
+abbrev pub with_named : List (List ℕ) → List ℕ → List (List ℕ)
+with_named names line = if is_named line then with_new_name names line else names

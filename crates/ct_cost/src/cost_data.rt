@@ -1,0 +1,81 @@
+ghost use Rattle.std.specs.Prelude.{◌≡◌, IfOk, true};
+ghost use Rattle.ct_history.specs.Rules.{is_among};
+ghost use Rattle.ct_history.specs.Verdicts.{are_all_final};
+ghost use Rattle.ct_cost.specs.CostLine.{cost_of};
+ghost use Rattle.ct_cost.specs.Costs.{costs_after, costs_in, costs_text};
+
+use crate::endings::endings_of;
+use crate::lines::Lines;
+use crate::log::failed_names;
+use crate::names::Names;
+use crate::reading::Reading;
+use ct_base::{Blob, Name, NoMemory};
+use ct_history::{History, Plan};
+use std::alloc::Global;
+
+/// What earlier runs tell: what the tests cost, and which of them failed last time.
+///
+/// Names may hold spaces. A name has one line at most, and the lines keep their order.
+///
+/// Source: this project's choice, after the files that ctest writes.
+#[derive(Drop)]
+pub struct CostData {
+    lines: Lines,
+    failed: Names,
+}
+
+impl CostData {
+    /// Reads cost data: lines of a name, a space, runs, a space and a cost in seconds up to a line
+    /// `---`, and behind it the names of failed tests.
+    ///
+    /// Every other line is passed over, and so is a further line of a name, so that no text is
+    /// refused.
+    pub fn read(alloc: Global, text: &[u8]) -> Result<CostData, NoMemory>
+        ensures { IfOk result (λ costs. costs ≡ costs_in text.now) }
+    {
+        let reading = Reading::of(alloc, text)?;
+        Ok(CostData {
+            lines: reading.lines,
+            failed: reading.failed,
+        })
+    }
+
+    /// Looks up what a test of this name costs, in microseconds.
+    pub fn cost(&self, name: &Name) -> Option<u64>
+        ensures { result ≡ cost_of self.now.lines name.now }
+    {
+        self.lines.cost(name.bytes())
+    }
+
+    /// Tells whether a test of this name failed last time.
+    pub fn failed(&self, name: &Name) -> bool
+        ensures { result ≡ is_among name.now self.now.failed }
+    {
+        self.failed.has(name.bytes())
+    }
+
+    /// Makes the cost data after a run: each test that passed counts for the mean cost of its name,
+    /// and the failed names are those of this run.
+    ///
+    /// The mean is rounded down. Lines of names that did not run stay.
+    pub fn after(&self, alloc: Global, plan: &Plan, history: &History) -> Result<CostData, NoMemory>
+        requires ended { are_all_final plan.now history.now.entries.items ≡ true }
+        ensures { IfOk result (λ costs. costs ≡ costs_after plan.now history.now.entries.items self.now) }
+    {
+        let endings = endings_of(alloc, history.entries.as_slice())?;
+        let tests = plan.parts().tests.as_slice();
+        let lines = self.lines.after_tests(alloc, tests, &endings)?;
+        let failed = failed_names(alloc, tests, &endings)?;
+        Ok(CostData { lines, failed })
+    }
+
+    /// Writes the text that `read` reads, costs as seconds with six decimals.
+    pub fn text(&self, alloc: Global) -> Result<Blob, NoMemory>
+        ensures { IfOk result (λ text. text ≡ costs_text self.now) }
+    {
+        let mut text = self.lines.text(alloc)?;
+        text.append(b"---\n")?;
+        text.append(self.failed.text(alloc)?.bytes())?;
+        Ok(text)
+    }
+}

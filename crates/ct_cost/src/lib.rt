@@ -1,0 +1,19 @@
+//! What a run leaves for the next one: the costs of the tests, and which of them failed.
+//!
+//! Hands up: `CostData`, which is read from a text, taken on after a run and written, and
+//! `failed_log`.
+//! Stands on: ct_base, ct_verdict, ct_history and `indexmap`.
+//! Read first: `specs/CostLine.antt`, `specs/Text.antt`, `specs/After.antt`, then `cost_data.rt`.
+#![tactic(auto)]
+
+mod cost_data;
+mod endings;
+mod line;
+mod lines;
+mod log;
+mod names;
+mod reading;
+mod texts;
+
+pub use cost_data::CostData;
+pub use log::failed_log;

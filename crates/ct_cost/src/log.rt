@@ -1,0 +1,76 @@
+ghost use Rattle.std.specs.Prelude.{◌≡◌, [], true, IfOk, OnOk, flat_map, fold, ◌++◌};
+ghost use Rattle.ct_history.specs.Verdicts.{are_all_final};
+ghost use Rattle.ct_cost.specs.After.{failed_log_text, logged};
+ghost use Rattle.ct_cost.specs.Endings.{log_by, with_failed};
+
+use crate::endings::{Endings, ending_at, endings_of, fails_by};
+use crate::names::Names;
+use crate::texts::append_number;
+use ct_base::{Blob, NoMemory};
+use ct_history::{History, Plan, PlanTest};
+use std::alloc::Global;
+
+/// Writes the log of the tests of the failing class: a line of a number, `:` and a name for each,
+/// in order of number.
+///
+/// Source: CMake manual, ctest(1), --rerun-failed. The form is ctest's.
+pub fn failed_log(alloc: Global, plan: &Plan, history: &History) -> Result<Blob, NoMemory>
+    requires ended { are_all_final plan.now history.now.entries.items ≡ true }
+    ensures { IfOk result (λ text. text ≡ failed_log_text plan.now history.now.entries.items) }
+{
+    let endings = endings_of(alloc, history.entries.as_slice())?;
+    log_of(alloc, plan.parts().tests.as_slice(), &endings)
+}
+
+fn log_of(alloc: Global, tests: &[PlanTest], endings: &Endings) -> Result<Blob, NoMemory>
+    ensures { IfOk result (λ text. text ≡ flat_map (log_by endings.now) tests.now) }
+{
+    let mut text = Blob::new(alloc);
+    for test in tests {
+        append_failed(alloc, &mut text, test, endings)?;
+    }
+    Ok(text)
+}
+
+fn append_failed(
+    alloc: Global,
+    text: &mut Blob,
+    test: &PlanTest,
+    endings: &Endings,
+) -> Result<(), NoMemory>
+    ensures { OnOk result (text.new ≡ text.old ++ log_by endings.now test.now) }
+{
+    if fails_by(test, ending_at(endings, test.number)) {
+        append_logged(alloc, text, test)?;
+    }
+    Ok(())
+}
+
+fn append_logged(alloc: Global, text: &mut Blob, test: &PlanTest) -> Result<(), NoMemory>
+    ensures { OnOk result (text.new ≡ text.old ++ logged test.now) }
+{
+    let mut line = Blob::new(alloc);
+    append_number(alloc, &mut line, u64::from(test.number))?;
+    line.append(b":")?;
+    line.append(test.name.bytes())?;
+    line.append(b"\n")?;
+    text.append(line.bytes())?;
+    Ok(())
+}
+
+/// Gives the names of the tests of the failing class, in order, a repeated one once.
+pub(crate) fn failed_names(
+    alloc: Global,
+    tests: &[PlanTest],
+    endings: &Endings,
+) -> Result<Names, NoMemory>
+    ensures { IfOk result (λ names. names ≡ fold (with_failed endings.now) [] tests.now) }
+{
+    let mut names = Names::new(alloc);
+    for test in tests {
+        if fails_by(test, ending_at(endings, test.number)) {
+            names = names.with(alloc, test.name.bytes())?;
+        }
+    }
+    Ok(names)
+}

@@ -1,0 +1,69 @@
+ghost use Rattle.std.specs.Prelude.{◌≡◌, ◌++◌, ◌+◌, ◌/◌, ◌%◌, ◌<◌, IfOk, OnOk, decimal};
+ghost use Rattle.ct_cost.specs.Text.{exact_seconds as seconds, line_text as line_written};
+ghost use Rattle.ct_cost.specs.Kept.{line_for};
+
+use crate::line::Counts;
+use ct_base::{Blob, NoMemory};
+use std::alloc::Global;
+
+/// Puts a number in decimal behind the text.
+pub(crate) fn append_number(alloc: Global, text: &mut Blob, number: u64) -> Result<(), NoMemory>
+    ensures { OnOk result (text.new ≡ text.old ++ decimal number) }
+{
+    let digits = number.to_string(alloc)?;
+    text.append(digits.as_bytes())?;
+    Ok(())
+}
+
+/// Puts a line of cost data behind the text.
+pub(crate) fn append_line(
+    alloc: Global,
+    text: &mut Blob,
+    name: &[u8],
+    counts: Counts,
+) -> Result<(), NoMemory>
+    ensures { OnOk result (text.new ≡ text.old ++ line_written (line_for name.now counts)) }
+{
+    let line = line_text(alloc, name, counts)?;
+    text.append(line.bytes())?;
+    Ok(())
+}
+
+fn line_text(alloc: Global, name: &[u8], counts: Counts) -> Result<Blob, NoMemory>
+    ensures { IfOk result (λ text. text ≡ line_written (line_for name.now counts)) }
+{
+    let mut text = Blob::of(alloc, name)?;
+    text.append(b" ")?;
+    append_number(alloc, &mut text, u64::from(counts.runs))?;
+    text.append(b" ")?;
+    text.append(exact_seconds(alloc, counts.micros)?.bytes())?;
+    text.append(b"\n")?;
+    Ok(text)
+}
+
+/// Writes microseconds as seconds with six decimals.
+fn exact_seconds(alloc: Global, micros: u64) -> Result<Blob, NoMemory>
+    ensures { IfOk result (λ text. text ≡ seconds micros) }
+{
+    let mut text = Blob::new(alloc);
+    append_number(alloc, &mut text, micros / 1_000_000)?;
+    text.append(b".")?;
+    let rest = micros % 1_000_000;
+    text.append(&[
+        digit(rest, 100_000),
+        digit(rest, 10_000),
+        digit(rest, 1_000),
+        digit(rest, 100),
+        digit(rest, 10),
+        digit(rest, 1),
+    ])?;
+    Ok(text)
+}
+
+/// The digit of a number at a decimal place.
+fn digit(number: u64, place: u64) -> u8
+    requires { 0 < place }
+    ensures { result ≡ 48 + number / place % 10 }
+{
+    b'0' + (number / place % 10) as u8
+}

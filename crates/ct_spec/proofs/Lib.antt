@@ -1,0 +1,3 @@
+pub mod IdLemmas
+pub mod ReadLemmas
+pub mod ApartLemmas

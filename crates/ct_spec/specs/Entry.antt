@@ -1,0 +1,68 @@
+-- One entry of a resource specification. Source: CMake manual, ctest(1), Resource Specification File. The refusals are
+-- this project's choice.
+use Rattle.std.specs.Prelude.{ℕ, Bool, false, not, ◌&&◌, ◌||◌, List, [], ◌∷◌, length, codes, bytes_eq, nat_le, Option, Some, None, option_and_then, Result, Ok, Err, ◌==◌, if◌then◌else◌}
+use Rattle.std.specs.List.{list_all, list_any}
+use Rattle.std.specs.Int.{is_in_range}
+use Rattle.std.specs.Char.{is_ascii_digit}
+use Rattle.serde_json.specs.Data.{Data}
+use Rattle.serde_json.specs.Find.{get, as_str}
+use Rattle.ct_base.specs.declared.defs.Resource.{Resource}
+use Rattle.ct_spec.specs.declared.fault.SpecFault.{SpecFault}
+use Rattle.ct_spec.specs.declared.fault.SpecFault.TheVariants.{BadId, TwiceId, BadSlots}
+use Rattle.ct_spec.specs.Json.{whole}
+
+-- `a` to `z` or `_`: what the name of a resource type begins with
+abbrev pub begins_type : ℕ → Bool
+begins_type byte = is_in_range 97 122 byte || byte == 95
+
+-- what a name goes on with, and what an id has: `a` to `z`, `_` or a digit
+abbrev pub is_name_byte : ℕ → Bool
+is_name_byte byte = begins_type byte || is_ascii_digit byte
+
+-- the name of a resource type
+abbrev pub is_type_name : List ℕ → Bool
+is_type_name [] = false
+is_type_name (first ∷ rest) = begins_type first && list_all is_name_byte rest
+
+-- the id of a resource
+abbrev pub is_id : List ℕ → Bool
+is_id text = not (length text == 0) && list_all is_name_byte text
+
+-- the id is one of these
+abbrev pub stood_before : List ℕ → List (List ℕ) → Bool
+stood_before id ids = list_any (λ other. bytes_eq id other) ids
+
+-- a text that is an id
+abbrev pub checked_id : List ℕ → Option (List ℕ)
+checked_id text = if is_id text then Some text else None
+
+-- the id of an entry, where it has one
+abbrev pub id_in : Data → Option (List ℕ)
+id_in entry = option_and_then checked_id (option_and_then as_str (get (codes "id") entry))
+
+-- a number of slots, up to 1,000,000,000
+abbrev pub checked_slots : ℕ → Option ℕ
+checked_slots slots = if nat_le slots 1000000000 then Some slots else None
+
+-- the slots that a member says, 1 where there is none
+abbrev pub slots_said : Option Data → Option ℕ
+slots_said None = Some 1
+slots_said (Some value) = option_and_then checked_slots (whole value)
+
+-- the slots of an entry, where they are a number
+abbrev pub slots_in : Data → Option ℕ
+slots_in entry = slots_said (get (codes "slots") entry)
+
+-- the resource with this id, where the slots are a number
+abbrev pub resource_with : List ℕ → ℕ → List ℕ → Option ℕ → Result Resource SpecFault
+resource_with kind place id None = Err (BadSlots kind place)
+resource_with kind place id (Some slots) = Ok (record { kind = kind; id = id; slots = slots })
+
+-- the resource of the entry at a place, behind those with these ids; the id is looked at before the slots
+abbrev pub resource_for : List ℕ → ℕ → List (List ℕ) → Option (List ℕ) → Option ℕ → Result Resource SpecFault
+resource_for kind place ids None slots = Err (BadId kind place)
+resource_for kind place ids (Some id) slots = if stood_before id ids then Err (TwiceId kind place) else resource_with kind place id slots
+
+-- the resource that an entry declares, or what is wrong with it
+abbrev pub resource_in : List ℕ → ℕ → List (List ℕ) → Data → Result Resource SpecFault
+resource_in kind place ids entry = resource_for kind place ids (id_in entry) (slots_in entry)

@@ -1,0 +1,111 @@
+ghost use Rattle.std.specs.Prelude.{◌≡◌, ◌++◌, ◌∷◌, [], List, ℕ, IfOk, option_map};
+ghost use Rattle.std.specs.List.{list_all};
+ghost use Rattle.serde_json.specs.View.{view};
+ghost use Rattle.ct_spec.specs.Entry.{begins_type as may_begin, checked_slots as slots_by, id_in as id_said, is_id as is_id_text, is_name_byte as may_go_on, is_type_name as is_name, resource_in as resource_said, slots_in as slots_of};
+ghost use Rattle.ct_spec.specs.Ids.{AreIds};
+ghost use Rattle.ct_spec.specs.Read.{IsAnswer};
+
+use crate::SpecFault;
+use crate::ids::Ids;
+use ct_base::{Name, Resource};
+use serde_json::Value;
+use std::alloc::Global;
+
+/// The most slots of a resource. This project's choice.
+const MOST_SLOTS: u64 = 1_000_000_000;
+
+/// Reads the entry at a place of a kind, behind those with these ids.
+pub(crate) fn resource_in(
+    alloc: Global,
+    kind: &[u8],
+    place: usize,
+    ids: &Ids,
+    entry: &Value,
+) -> Result<Resource, SpecFault>
+    ensures { (taken : List (List ℕ)) → AreIds ids.now taken
+        → IsAnswer result (resource_said kind.now place taken (view entry.now)) }
+{
+    // There is no memory for an array of so many entries.
+    let Ok(number) = u32::try_from(place) else {
+        return Err(SpecFault::NoMemory);
+    };
+    let Some(id) = id_in(entry) else {
+        return Err(SpecFault::BadId {
+            kind: Name::of(alloc, kind)?,
+            entry: number,
+        });
+    };
+    if ids.has(id) {
+        return Err(SpecFault::TwiceId {
+            kind: Name::of(alloc, kind)?,
+            entry: number,
+        });
+    }
+    let Some(slots) = slots_in(entry) else {
+        return Err(SpecFault::BadSlots {
+            kind: Name::of(alloc, kind)?,
+            entry: number,
+        });
+    };
+    Ok(Resource {
+        kind: Name::of(alloc, kind)?,
+        id: Name::of(alloc, id)?,
+        slots,
+    })
+}
+
+/// Lends the id of an entry.
+fn id_in(entry: &Value) -> Option<&[u8]>
+    ensures { option_map (λ id. id.now) result ≡ id_said (view entry.now) }
+{
+    let id = entry.get("id")?.as_str()?.as_bytes();
+    if is_id(id) { Some(id) } else { None }
+}
+
+fn slots_in(entry: &Value) -> Option<u32>
+    ensures { result ≡ slots_of (view entry.now) }
+{
+    match entry.get("slots") {
+        Some(value) => checked_slots(value.as_u64()?),
+        None => Some(1),
+    }
+}
+
+fn checked_slots(slots: u64) -> Option<u32>
+    ensures { result ≡ slots_by slots }
+{
+    if slots <= MOST_SLOTS {
+        Some(slots as u32)
+    } else {
+        None
+    }
+}
+
+/// Tells whether a text is the name of a resource type.
+pub(crate) fn is_type_name(text: &[u8]) -> bool
+    ensures { result ≡ is_name text.now }
+{
+    match text {
+        [] => false,
+        [first, rest @ ..] => begins_type(*first) && has_name_bytes(rest),
+    }
+}
+
+fn is_id(text: &[u8]) -> bool
+    ensures { result ≡ is_id_text text.now }
+{
+    !text.is_empty() && has_name_bytes(text)
+}
+
+fn begins_type(byte: u8) -> bool
+    ensures { result ≡ may_begin byte }
+{
+    byte.is_ascii_lowercase() || byte == b'_'
+}
+
+fn has_name_bytes(text: &[u8]) -> bool
+    ensures { result ≡ list_all may_go_on text.now }
+{
+    text.iter()
+        .all(|byte| begins_type(*byte) || byte.is_ascii_digit())
+}
