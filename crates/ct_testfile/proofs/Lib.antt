@@ -1,5 +1,13 @@
-pub mod SplitLemmas
-pub mod LineLemmas
+pub mod TableLemmas
+pub mod PlaceLemmas
+pub mod WordLemmas
+pub mod ShortLemmas
+pub mod ReaderLemmas
+pub mod TakesLemmas
+pub mod NameLemmas
+pub mod SaysLemmas
+pub mod PerformLemmas
+pub mod OverLemmas
+pub mod ConditionLemmas
+pub mod StepLemmas
 pub mod TreeLemmas
-pub mod ReadLemmas
-pub mod PlainLemmas

@@ -1,54 +1,112 @@
--- The tests of a tree, or the first refusal in reading order. CMake manual, ctest(1); the limits are this project's own.
-use Rattle.std.specs.Prelude.{ℕ, ◌≡◌, ◌+◌, ◌==◌, nat_lt, List, [], ◌∷◌, ◌++◌, length, Option, Some, None, Result, Ok, Err, if◌then◌else◌, codes}
-use Rattle.std.specs.List.{slice_split}
-use Rattle.ct_base.specs.declared.defs.TestDef.{TestDef}
+-- What a tree of test files defines, or its first refusal in reading order.
+-- Source: CMake manual, ctest(1), subdirs and include. The limits and the order of the refusals are this project's own.
+use Rattle.std.specs.Prelude.{ℕ, zero, suc, false, nat_lt, codes, List, [], ◌∷◌, length, Option, Some, None, Result, Ok, Err, if◌then◌else◌}
 use Rattle.ct_base.specs.Outside.{Held}
-use Rattle.ct_base.specs.Path.{joined}
+use Rattle.ct_base.specs.declared.defs.TestDef.{TestDef}
+use Rattle.ct_lex.specs.Place.{beginning}
+use Rattle.ct_lex.specs.Reads.{Ending, reading}
+use Rattle.ct_lex.specs.declared.call.Call.{Call}
+use Rattle.ct_lex.specs.declared.fault.LexFault.{LexFault}
+use Rattle.ct_lex.specs.declared.fault.LexFault.TheVariants as lex
+use Rattle.ct_testfile.specs.Outcome.{◌>>=◌, or_refused, on_line, raised}
+use Rattle.ct_testfile.specs.Commands.{test_file, openings}
+use Rattle.ct_testfile.specs.Ifs.{stepped}
+use Rattle.ct_testfile.specs.declared.branch.OpenIf.{OpenIf}
+use Rattle.ct_testfile.specs.declared.fault.ReadKind.{ReadKind}
+use Rattle.ct_testfile.specs.declared.fault.ReadKind.TheVariants.{OpenString, OpenBracket, OpenCall, BadEscape, BadChar, BadReference, MissingInclude, UnpairedIf, TooDeep, TooLong}
 use Rattle.ct_testfile.specs.declared.fault.ReadFault.{ReadFault}
-use Rattle.ct_testfile.specs.declared.fault.ReadFault.TheVariants.{At}
-use Rattle.ct_testfile.specs.declared.fault.ReadKind.TheVariants.{BadChar, TooLong}
-use Rattle.ct_testfile.specs.declared.tree.TheConstants.{MOST_BYTES}
-use Rattle.ct_testfile.specs.Line.{test_in}
+use Rattle.ct_testfile.specs.declared.fault.ReadFault.TheVariants.{At, NoMemory}
+use Rattle.ct_testfile.specs.declared.limits.Limits.{Limits}
+use Rattle.ct_testfile.specs.declared.limits.TheConstants.{LIMITS}
+use Rattle.ct_testfile.specs.declared.opening.Opening.{Opening}
+use Rattle.ct_testfile.specs.declared.opening.TestFile.{TestFile}
+use Rattle.ct_testfile.specs.declared.state.State.{State}
 
--- the test file of a folder
-unfoldable pub test_file : List ℕ → List ℕ
-test_file dir = joined dir (codes "CTestTestfile.cmake")
+-- a place in a text where it has no reading, as a refusal of the file
+abbrev pub fault_in : List ℕ → LexFault → ReadFault
+fault_in file (lex.OpenString line) = At file line OpenString
+fault_in file (lex.OpenBracket line) = At file line OpenBracket
+fault_in file (lex.OpenCall line) = At file line OpenCall
+fault_in file (lex.BadEscape line) = At file line BadEscape
+fault_in file (lex.BadChar line) = At file line BadChar
+fault_in file (lex.BadReference line) = At file line BadReference
+fault_in file lex.NoMemory = NoMemory
 
--- the lines of a text: what stands between its line feeds, and behind the last
-abbrev pub lines_of : List ℕ → List (List ℕ)
-lines_of text = slice_split (λ byte. byte == 10) text
+-- behind the last command of a file: a text that ends there has to have ended each `if`
+abbrev pub ended : List ℕ → List OpenIf → State → Ending → Result State ReadFault
+ended file ifs state (Some fault) = Err (fault_in file fault)
+ended file [] state None = Ok state
+ended file (inner ∷ outer) state None = Err (At file inner.line UnpairedIf)
 
--- the one test, or the refusal where there is none
-abbrev pub tests_or_refusal : Option TestDef → ReadFault → Result (List TestDef) ReadFault
-tests_or_refusal None refusal = Err refusal
-tests_or_refusal (Some test) refusal = Ok (test ∷ [])
+-- how a text is read that a command on a line of a file opens as another file
+abbrev pub FileReading : Type 0
+FileReading = List ℕ → ℕ → TestFile → State → List ℕ → Result State ReadFault
 
--- what a line at this number defines: nothing where it is empty, else one test, or a refusal
-unfoldable pub tests_at : List ℕ → ℕ → List ℕ → Result (List TestDef) ReadFault
-tests_at dir number line = if length line == 0 then Ok [] else tests_or_refusal (test_in dir line) (At (test_file dir) number BadChar)
+-- a file that is absent is passed over, unless it has to be there
+abbrev pub absent : Opening → State → Result State ReadKind
+absent opening state = if opening.required then Err MissingInclude else Ok state
 
--- the first refusal, or the tests of both
-abbrev pub and_then_tests : Result (List TestDef) ReadFault → Result (List TestDef) ReadFault → Result (List TestDef) ReadFault
-and_then_tests (Err refusal) more = Err refusal
-and_then_tests (Ok tests) (Err refusal) = Err refusal
-and_then_tests (Ok tests) (Ok more) = Ok (tests ++ more)
+-- a file that a command opens is read where it is there
+abbrev pub opened_by : FileReading → List ℕ → ℕ → Opening → State → Option (List ℕ) → Result State ReadFault
+opened_by read file line opening state (Some text) = read file line opening.file state text
+opened_by read file line opening state None = on_line file line (absent opening state)
 
--- what these lines define, of which the first has this number
-abbrev pub tests_from : List ℕ → ℕ → List (List ℕ) → Result (List TestDef) ReadFault
-tests_from dir number [] = Ok []
-tests_from dir number (line ∷ lines) = and_then_tests (tests_at dir number line) (tests_from dir (number + 1) lines)
+-- the files that a command opens are read one behind the other
+abbrev pub all_opened : FileReading → Held → List ℕ → ℕ → List Opening → State → Result State ReadFault
+all_opened read held file line [] state = Ok state
+all_opened read held file line (opening ∷ more) state =
+    opened_by read file line opening state (held opening.file.path) >>= all_opened read held file line more
 
--- what the content of the folder's test file defines
-abbrev pub tests_in : List ℕ → Option (List ℕ) → Result (List TestDef) ReadFault
-tests_in dir None = Ok []
-tests_in dir (Some text) = if nat_lt MOST_BYTES (length text) then Err (At (test_file dir) 0 TooLong) else tests_from dir 1 (lines_of text)
+-- behind one command of a file, with all that it opens
+abbrev pub behind_call : FileReading → Limits → Held → TestFile → List OpenIf → State → Call → Result (List OpenIf × State) ReadFault
+behind_call read limits held file ifs state call =
+    on_line file.path call.line (stepped limits held file.dir ifs state call) >>= λ step.
+    all_opened read held file.path call.line (openings file.dir step.opens) step.state >>= λ next.
+    Ok (step.ifs, next)
 
--- what the tree of test files under a folder defines, or the first refusal in reading order
-abbrev pub tree_of : Held → List ℕ → Result (List TestDef) ReadFault
-tree_of held dir = tests_in dir (held (test_file dir))
+-- behind these commands of a file, and the end of its text
+abbrev pub carried : FileReading → Limits → Held → TestFile → List OpenIf → State → List Call → Ending → Result State ReadFault
+carried read limits held file ifs state [] ending = ended file.path ifs state ending
+carried read limits held file ifs state (call ∷ calls) ending =
+    behind_call read limits held file ifs state call >>= λ next. carried read limits held file next.0 next.1 calls ending
 
--- a test of this folder without properties and labels
-pub record IsPlain (dir : List ℕ) (test : TestDef) : Type 0 where
-  pub folder : test.dir ≡ dir
-  pub no_props : test.props ≡ []
-  pub no_labels : test.dir_labels ≡ []
+-- a text is read as a file: it may be so long, and all files together may
+abbrev pub admitted : Limits → List ℕ → State → Result State ReadKind
+admitted limits text state =
+    if nat_lt limits.file_bytes (length text) then Err TooLong
+    else (or_refused (raised limits.all_file_bytes state.file_bytes (length text)) TooLong >>= λ n. Ok (record state { file_bytes = n }))
+
+-- Behind a text that is read as a file, where so many files may be open, this one and those inside it: where none may,
+-- the command is refused that would open it.
+unfoldable pub nested : Limits → Held → ℕ → FileReading
+nested limits held zero site line file state text = Err (At site line TooDeep)
+nested limits held (suc more) site line file state text =
+    on_line file.path 0 (admitted limits text state) >>= λ next.
+    carried (nested limits held more) limits held file [] next (reading (beginning text)).0 (reading (beginning text)).1
+
+-- what is known before the first command: the variable CTEST_CONFIGURATION_TYPE has the configuration
+abbrev pub beginning_with : List ℕ → State
+beginning_with config = record {
+  tests = [];
+  variables = record { name = codes "CTEST_CONFIGURATION_TYPE"; value = Some config } ∷ [];
+  commands = 0;
+  file_bytes = 0;
+  value_bytes = 0;
+}
+
+-- the test file of the folder at the top, which is passed over where it is absent
+abbrev pub top : List ℕ → Opening
+top dir = record { file = test_file dir; required = false }
+
+-- behind all files of the tree
+abbrev pub read_through : Limits → Held → List ℕ → List ℕ → Result State ReadFault
+read_through limits held dir config =
+    opened_by (nested limits held limits.open_files) (test_file dir).path 0 (top dir) (beginning_with config) (held (test_file dir).path)
+
+-- what the tree of test files under a folder defines within limits, or the first refusal in reading order
+abbrev pub tree_within : Limits → Held → List ℕ → List ℕ → Result (List TestDef) ReadFault
+tree_within limits held dir config = read_through limits held dir config >>= λ state. Ok state.tests
+
+-- what it defines for a configuration, or the first refusal in reading order
+abbrev pub tree_of : Held → List ℕ → List ℕ → Result (List TestDef) ReadFault
+tree_of held dir config = tree_within LIMITS held dir config

@@ -1,14 +1,47 @@
-ghost use Rattle.std.specs.Prelude.{◌≡◌};
+ghost use Rattle.std.specs.Prelude.{◌≡◌, Result};
+ghost use Rattle.ct_testfile.specs.Outcome.{on_line};
+ghost use Rattle.ct_testfile.specs.Says.{Follows, IsAnswerOf, Unfailed, files_fault};
+ghost use Rattle.ct_testfile.specs.declared.fault.ReadKind.{ReadKind as Kind};
 ghost use Rattle.ct_testfile.specs.declared.fault.ReadFault.TheVariants as Cause;
+ghost use Rattle.ct_testfile.specs.declared.fault.Stop.TheVariants as Stopped;
 
-use ct_base::{Name, NoMemory};
+use ct_base::{FilesFault, Name, NoMemory};
+use std::alloc::Global;
 
 /// What is wrong with a test file.
 #[derive(Clone, Copy, Debug, PartialEq, Eq)]
 pub enum ReadKind {
-    /// The line has a byte that its form does not allow there, or ends too early.
+    /// The text ends in a quoted argument, which began on that line.
+    OpenString,
+    /// The text ends in a bracket argument or a bracket comment, which began on that line.
+    OpenBracket,
+    /// The text ends in a command, whose name stands on that line.
+    OpenCall,
+    /// A backslash in front of a byte that it cannot escape.
+    BadEscape,
+    /// A byte with which neither a command nor an argument can begin there.
     BadChar,
-    /// The file has more than `MOST_BYTES` bytes.
+    /// A `${` without a name and `}` behind it, or `$ENV{` or `$CACHE{`.
+    BadReference,
+    /// A command that a test file may not use.
+    UnknownCommand,
+    /// Arguments that the command does not take.
+    BadCall,
+    /// The file that `include` names is absent.
+    MissingInclude,
+    /// An `elseif`, `else` or `endif` that belongs to no `if`, or an `if` that its file does not end.
+    UnpairedIf,
+    /// A condition that is neither `EXISTS` nor `MATCHES`.
+    BadCondition,
+    /// The pattern of a `MATCHES` is no regular expression.
+    BadPattern,
+    /// More files are open inside one another than may be.
+    TooDeep,
+    /// More tests are defined than may be.
+    TooManyTests,
+    /// More commands are carried out than may be.
+    TooManyCommands,
+    /// A file, a value, or all of them together have more bytes than they may have.
     TooLong,
 }
 
@@ -34,5 +67,51 @@ impl From<NoMemory> for ReadFault {
 
     fn from(_e: NoMemory) -> ReadFault {
         ReadFault::NoMemory
+    }
+}
+
+/// Why a command was not carried out, in a file and on a line that the caller knows.
+#[derive(Clone, Copy, Debug)]
+pub(crate) enum Stop {
+    Refused(ReadKind),
+    NoMemory,
+}
+
+impl From<NoMemory> for Stop {
+    ghost from_gives = { λ _ e. e ≡ Stopped.NoMemory };
+
+    fn from(_e: NoMemory) -> Stop {
+        Stop::NoMemory
+    }
+}
+
+/// Gives a refusal its place: a line of a file.
+pub(crate) fn at_line<T>(
+    alloc: Global,
+    file: &Name,
+    line: u32,
+    given: Result<T, Stop>,
+) -> Result<T, ReadFault>
+    ensures says { (says : Result T Kind) → Follows given says → IsAnswerOf (on_line file.now line says) result }
+    ensures unfailed { Unfailed result }
+{
+    match given {
+        Ok(value) => Ok(value),
+        Err(Stop::Refused(kind)) => Err(ReadFault::At {
+            file: file.copy(alloc)?,
+            line,
+            kind,
+        }),
+        Err(Stop::NoMemory) => Err(ReadFault::NoMemory),
+    }
+}
+
+/// Says why a call on files, about this path, gave no answer.
+pub(crate) fn files_fault(path: Name, fault: FilesFault) -> ReadFault
+    ensures { result ≡ files_fault path fault }
+{
+    match fault {
+        FilesFault::Failed => ReadFault::FilesFailed { path },
+        FilesFault::NoMemory => ReadFault::NoMemory,
     }
 }

@@ -1,104 +1,333 @@
-ghost use Rattle.std.specs.Prelude.{◌≡◌, ◌-◌, ◌^◌, ◌<◌, ◌≤◌, List, Ok, Err, IfOk, IfErr, IfSome, length, Some, All, OnOk};
+ghost use Rattle.std.specs.Prelude.{◌≡◌, ◌+◌, ◌<◌, ◌≤◌, [], All, None, Ok, IfOk, IfErr, IfSome, OnOk, length, option_map, take};
 ghost use Rattle.ct_base.specs.Outside.{Becomes, SameHeld};
-ghost use Rattle.ct_testfile.specs.Fault.{HasFilesCause, IsTreeRefusal, IsRefusalOf};
-ghost use Rattle.ct_testfile.specs.Tree.{IsPlain, test_file, tests_at, tests_from, lines_of, tests_in, and_then_tests, tree_of};
+ghost use Rattle.ct_lex.specs.Place.{beginning};
+ghost use Rattle.ct_lex.specs.Reads.{reading};
+ghost use Rattle.ct_testfile.specs.Says.{AreBounded, Follows, HasFilesCause, IsAnswerOf, IsAt, IsFaultIn, IsNextOf, IsRefusalOf, Over, Unfailed};
+ghost use Rattle.ct_testfile.specs.Commands.{openings};
+ghost use Rattle.ct_testfile.specs.Tree.{absent, admitted, beginning_with, carried, ended, nested, all_opened, opened_by, tree_of, tree_within};
+ghost use Rattle.ct_testfile.specs.Tests.{HasShortValues, most_bytes, most_tests};
 
-use crate::line::test_in;
-use crate::{ReadFault, ReadKind};
-use ct_base::{Files, FilesFault, List, Name, NoMemory, TestDef, join_path};
+use crate::count::raised;
+use crate::fault::{ReadFault, ReadKind, Stop, at_line, files_fault};
+use crate::ifs::Ifs;
+use crate::limits::{LIMITS, Limits};
+use crate::opening::{Opening, Opens, TestFile, opening_of, test_file};
+use crate::state::State;
+use crate::step::{Step, advance};
+use crate::suite::Suite;
+use crate::table::Table;
+use ct_base::{Blob, Files, List, Name, NoMemory, TestDef};
+use ct_lex::{Call, LexFault, Lexer};
 use std::alloc::Global;
-
-/// The most bytes that a test file may have: 16 MiB.
-///
-/// Source: this project's choice.
-pub const MOST_BYTES: u64 = 16_777_216;
 
 /// Reads the tests that the tree of test files under a folder defines.
 ///
-/// An absent test file defines none. `config` is the configuration that the tests are built in;
-/// it has no effect yet. Source: CMake manual, ctest(1) and add_test.
+/// An absent test file of a folder defines none. `config` is the configuration that the tests are
+/// built in, or empty. Source: CMake manual, ctest(1). The limits, the order of the refusals and the
+/// part of the language that is read are this project's choice.
 pub fn read_tree<F: Files>(
     alloc: Global,
     files: &mut F,
     dir: &Name,
-    _config: &Name,
+    config: &Name,
 ) -> Result<List<TestDef>, ReadFault>
-    ensures ok { IfOk result (λ defs. IfSome (F.tells files.old).held (λ held. tree_of held dir.now ≡ Ok defs)) }
-    ensures refused { IfErr result (λ fault. IsTreeRefusal (F.tells files.old).held dir.now fault) }
-    ensures few { IfOk result (λ defs. length defs < 2 ^ 32 - 1) }
-    ensures plain { IfOk result (λ defs. All (IsPlain dir.now) defs) }
+    ensures ok { IfOk result (λ defs. IfSome (F.tells files.old).held (λ held. tree_of held dir.now config.now ≡ Ok defs)) }
+    ensures few { IfOk result (λ defs. length defs ≤ most_tests) }
+    ensures within { IfOk result (λ defs. All (HasShortValues most_bytes) defs) }
+    ensures refused { IfErr result (λ fault. IfSome (F.tells files.old).held (λ held. IsRefusalOf (tree_of held dir.now config.now) fault)) }
     ensures cause { HasFilesCause (F.tells files.old) (F.tells files.new) result }
     ensures kept { Becomes (F.tells files.old).held (F.tells files.new).held SameHeld }
 {
-    let path = test_file(alloc, dir)?;
-    match files.read(alloc, &path, MOST_BYTES) {
-        Ok(None) => Ok(List::new(alloc)),
-        Ok(Some(text)) => tests_in(alloc, dir, text.bytes()),
-        Err(FilesFault::Failed) => Err(ReadFault::FilesFailed { path }),
-        Err(FilesFault::NoMemory) => Err(ReadFault::NoMemory),
-    }
+    read_tree_within(alloc, files, &LIMITS, dir, config)
 }
 
-/// Reads the content of a folder's test file.
-fn tests_in(alloc: Global, dir: &Name, text: &[u8]) -> Result<List<TestDef>, ReadFault>
-    ensures ok { IfOk result (λ defs. tests_in dir.now (Some text.now) ≡ Ok defs) }
-    ensures bad { IfErr result (IsRefusalOf (tests_in dir.now (Some text.now))) }
-{
-    if text.len() as u64 > MOST_BYTES {
-        return Err(refusal(alloc, dir, 0, ReadKind::TooLong));
-    }
-    tests_of(alloc, dir, text)
-}
-
-/// Reads the lines of a folder's test file.
-fn tests_of(alloc: Global, dir: &Name, text: &[u8]) -> Result<List<TestDef>, ReadFault>
-    requires { length text.now ≤ MOST_BYTES }
-    ensures ok { IfOk result (λ defs. tests_from dir.now 1 (lines_of text.now) ≡ Ok defs) }
-    ensures bad { IfErr result (IsRefusalOf (tests_from dir.now 1 (lines_of text.now))) }
-{
-    let mut tests = List::new(alloc);
-    let mut number = 0;
-    for line in text.split(|byte| *byte == b'\n') {
-        number += 1;
-        push_test(alloc, dir, number, line, &mut tests)?;
-    }
-    Ok(tests)
-}
-
-/// Puts the test of a line behind the others, where the line is not empty.
-fn push_test(
+/// Reads the same within these limits.
+pub fn read_tree_within<F: Files>(
     alloc: Global,
+    files: &mut F,
+    limits: &Limits,
     dir: &Name,
-    number: u32,
-    line: &[u8],
-    tests: &mut List<TestDef>,
-) -> Result<(), ReadFault>
-    ensures ok { OnOk result (and_then_tests (Ok tests.old) (tests_at dir.now number line.now) ≡ Ok tests.new) }
-    ensures bad { IfErr result (IsRefusalOf (tests_at dir.now number line.now)) }
+    config: &Name,
+) -> Result<List<TestDef>, ReadFault>
+    requires { AreBounded limits.now }
+    ensures ok { IfOk result (λ defs. IfSome (F.tells files.old).held (λ held. tree_within limits.now held dir.now config.now ≡ Ok defs)) }
+    ensures few { IfOk result (λ defs. length defs ≤ most_tests) }
+    ensures within { IfOk result (λ defs. All (HasShortValues most_bytes) defs) }
+    ensures refused { IfErr result (λ fault. IfSome (F.tells files.old).held (λ held. IsRefusalOf (tree_within limits.now held dir.now config.now) fault)) }
+    ensures cause { HasFilesCause (F.tells files.old) (F.tells files.new) result }
+    ensures kept { Becomes (F.tells files.old).held (F.tells files.new).held SameHeld }
 {
-    if line.is_empty() {
-        return Ok(());
+    read_through(alloc, files, limits, dir, config)
+}
+
+fn read_through<F: Files>(
+    alloc: Global,
+    files: &mut F,
+    limits: &Limits,
+    dir: &Name,
+    config: &Name,
+) -> Result<List<TestDef>, ReadFault>
+    requires { AreBounded limits.now }
+    ensures says { Over (F.tells files.old) (F.tells files.new) (λ held. tree_within limits.now held dir.now config.now) result }
+    ensures few { IfOk result (λ defs. length defs ≤ most_tests) }
+    ensures within { IfOk result (λ defs. All (HasShortValues most_bytes) defs) }
+{
+    let state = begin(alloc, config)?;
+    let file = test_file(alloc, dir.copy(alloc)?)?;
+    let site = file.path.copy(alloc)?;
+    let opening = Opening {
+        file,
+        required: false,
+    };
+    let state = open(
+        alloc,
+        files,
+        limits,
+        limits.open_files,
+        &site,
+        0,
+        &opening,
+        state,
+    )?;
+    let defs = define(alloc, state)?;
+    Ok(defs)
+}
+
+fn define(alloc: Global, state: State) -> Result<List<TestDef>, NoMemory>
+    ensures is { IfOk result (λ defs. defs ≡ state.tests) }
+    ensures few { IfOk result (λ defs. length defs ≤ most_tests) }
+    ensures within { IfOk result (λ defs. All (HasShortValues most_bytes) defs) }
+{
+    let State {
+        tests,
+        variables: _,
+        commands: _,
+        file_bytes: _,
+        value_bytes: _,
+    } = state;
+    tests.define(alloc)
+}
+
+/// What is known before the first command: the variable CTEST_CONFIGURATION_TYPE alone.
+///
+/// Source: CMake manual, ctest(1), `--build-config`.
+fn begin(alloc: Global, config: &Name) -> Result<State, NoMemory>
+    ensures { IfOk result (λ state. state ≡ beginning_with config.now) }
+{
+    let name = Name::of(alloc, b"CTEST_CONFIGURATION_TYPE")?;
+    let value = config.copy(alloc)?;
+    Ok(State {
+        tests: Suite::new(alloc),
+        variables: Table::new(alloc).with(name, Some(value))?,
+        commands: 0,
+        file_bytes: 0,
+        value_bytes: 0,
+    })
+}
+
+/// Opens, one behind the other, what a command on a line of a file opens.
+///
+/// `left` is how many more files may be open, each inside the one before it.
+#[cycle(tree)]
+fn open_each<F: Files>(
+    alloc: Global,
+    files: &mut F,
+    limits: &Limits,
+    left: u32,
+    file: &TestFile,
+    line: u32,
+    opens: &Opens,
+    state: State,
+) -> Result<State, ReadFault>
+    requires { AreBounded limits.now }
+    ensures { Over (F.tells files.old) (F.tells files.new) (λ held. all_opened (nested limits.now held left) held file.now.path line (openings file.now.dir opens.now) state) result }
+{
+    let mut known = state;
+    for name in opens.names.as_slice() {
+        let opening = opening_of(alloc, &file.dir, opens.required, name)?;
+        known = open(
+            alloc, files, limits, left, &file.path, line, &opening, known,
+        )?;
     }
-    match test_in(alloc, dir, line)? {
-        None => Err(refusal(alloc, dir, number, ReadKind::BadChar)),
-        Some(test) => Ok(tests.push(test)?),
+    Ok(known)
+}
+
+/// Opens one file for a command on a line of another one.
+#[cycle(tree)]
+fn open<F: Files>(
+    alloc: Global,
+    files: &mut F,
+    limits: &Limits,
+    left: u32,
+    site: &Name,
+    line: u32,
+    opening: &Opening,
+    state: State,
+) -> Result<State, ReadFault>
+    requires { AreBounded limits.now }
+    ensures { Over (F.tells files.old) (F.tells files.new) (λ held. opened_by (nested limits.now held left) site.now line opening.now state (held opening.now.file.path)) result }
+{
+    let got = fetch(alloc, files, &opening.file.path, limits.file_bytes)?;
+    enter(alloc, files, limits, left, site, line, opening, state, got)
+}
+
+/// Reads what a path held as a file that a command opens on a line of another one.
+#[cycle(tree)]
+fn enter<F: Files>(
+    alloc: Global,
+    files: &mut F,
+    limits: &Limits,
+    left: u32,
+    site: &Name,
+    line: u32,
+    opening: &Opening,
+    state: State,
+    got: Option<Blob>,
+) -> Result<State, ReadFault>
+    requires { AreBounded limits.now }
+    ensures { Over (F.tells files.old) (F.tells files.new) (λ held. opened_by (nested limits.now held left) site.now line opening.now state got) result }
+{
+    let Some(text) = got else {
+        return at_line(alloc, site, line, absent(opening, state));
+    };
+    if left == 0 {
+        return at_line(alloc, site, line, Err(Stop::Refused(ReadKind::TooDeep)));
+    }
+    let admitted = admit(limits, text.bytes(), state);
+    let state = at_line(alloc, &opening.file.path, 0, admitted)?;
+    carry(
+        alloc,
+        files,
+        limits,
+        left - 1,
+        &opening.file,
+        state,
+        text.bytes(),
+    )
+}
+
+/// Reads what a path holds: of a file that is longer than `most`, one byte more than that.
+fn fetch<F: Files>(
+    alloc: Global,
+    files: &mut F,
+    path: &Name,
+    most: u32,
+) -> Result<Option<Blob>, ReadFault>
+    ensures { Over (F.tells files.old) (F.tells files.new) (λ held. Ok (option_map (take (most + 1)) (held path.now))) result }
+{
+    let asked = path.copy(alloc)?;
+    match files.read(alloc, &asked, u64::from(most)) {
+        Ok(got) => Ok(got),
+        Err(fault) => Err(files_fault(asked, fault)),
     }
 }
 
-/// Makes the refusal of a line of the folder's test file.
-fn refusal(alloc: Global, dir: &Name, line: u32, kind: ReadKind) -> ReadFault
-    ensures { IsRefusalOf (Err (ReadFault.At (test_file dir.now) line kind)) result }
+/// Passes over a file that is absent, unless it has to be there.
+fn absent(opening: &Opening, state: State) -> Result<State, Stop>
+    ensures { Follows result (absent opening.now state) }
 {
-    match test_file(alloc, dir) {
+    if opening.required {
+        Err(Stop::Refused(ReadKind::MissingInclude))
+    } else {
+        Ok(state)
+    }
+}
+
+/// Counts the bytes of a text that is read as a file.
+fn admit(limits: &Limits, text: &[u8], state: State) -> Result<State, Stop>
+    ensures { Follows result (admitted limits.now text.now state) }
+{
+    if text.len() > limits.file_bytes as usize {
+        return Err(Stop::Refused(ReadKind::TooLong));
+    }
+    match raised(limits.all_file_bytes, state.file_bytes, text.len() as u64) {
+        None => Err(Stop::Refused(ReadKind::TooLong)),
+        Some(file_bytes) => Ok(State {
+            file_bytes,
+            ..state
+        }),
+    }
+}
+
+/// Carries out the commands of a text that is read as a file.
+///
+/// `more` is how many files may be open inside this one, each inside the one before it.
+#[cycle(tree)]
+fn carry<F: Files>(
+    alloc: Global,
+    files: &mut F,
+    limits: &Limits,
+    more: u32,
+    file: &TestFile,
+    state: State,
+    text: &[u8],
+) -> Result<State, ReadFault>
+    requires limits { AreBounded limits.now }
+    requires lines { length text.now < 4294967295 }
+    ensures { Over (F.tells files.old) (F.tells files.new) (λ held. carried (nested limits.now held more) limits.now held file.now [] state (reading (beginning text.now)).0 (reading (beginning text.now)).1) result }
+{
+    let mut lexer = Lexer::new(text);
+    let mut ifs = Ifs::new(alloc);
+    let mut known = state;
+    'calls: while let Some(call) = next_call(alloc, &mut lexer, &file.path)? {
+        let step = advance(alloc, files, limits, file, ifs, known, &call)?;
+        let Step {
+            ifs: behind,
+            state,
+            opens,
+        } = step;
+        ifs = behind;
+        known = open_each(alloc, files, limits, more, file, call.line, &opens, state)?;
+    }
+    end(alloc, &file.path, ifs, known)
+}
+
+/// Reads the next command of a file.
+fn next_call(alloc: Global, lexer: &mut Lexer<'_>, file: &Name) -> Result<Option<Call>, ReadFault>
+    ensures { IsNextOf file.now lexer.old lexer.new result }
+{
+    match lexer.next(alloc) {
+        Ok(call) => Ok(call),
+        Err(fault) => Err(fault_in(alloc, file, fault)),
+    }
+}
+
+/// Ends a file: each `if` has to be ended in it.
+fn end(alloc: Global, file: &Name, ifs: Ifs, state: State) -> Result<State, ReadFault>
+    ensures says { IsAnswerOf (ended file.now ifs state None) result }
+    ensures unfailed { Unfailed result }
+{
+    match ifs.take_inner() {
+        None => Ok(state),
+        Some((inner, _)) => at_line(
+            alloc,
+            file,
+            inner.line,
+            Err(Stop::Refused(ReadKind::UnpairedIf)),
+        ),
+    }
+}
+
+/// Gives a fault of a text its file.
+fn fault_in(alloc: Global, file: &Name, fault: LexFault) -> ReadFault
+    ensures { IsFaultIn file.now fault result }
+{
+    match fault {
+        LexFault::OpenString { line } => refused(alloc, file, line, ReadKind::OpenString),
+        LexFault::OpenBracket { line } => refused(alloc, file, line, ReadKind::OpenBracket),
+        LexFault::OpenCall { line } => refused(alloc, file, line, ReadKind::OpenCall),
+        LexFault::BadEscape { line } => refused(alloc, file, line, ReadKind::BadEscape),
+        LexFault::BadChar { line } => refused(alloc, file, line, ReadKind::BadChar),
+        LexFault::BadReference { line } => refused(alloc, file, line, ReadKind::BadReference),
+        LexFault::NoMemory => ReadFault::NoMemory,
+    }
+}
+
+fn refused(alloc: Global, file: &Name, line: u32, kind: ReadKind) -> ReadFault
+    ensures { IsAt file.now line kind result }
+{
+    match file.copy(alloc) {
         Ok(file) => ReadFault::At { file, line, kind },
         Err(NoMemory) => ReadFault::NoMemory,
     }
-}
-
-/// Names the test file of a folder.
-#[tactic(auto, unfolding(crate::specs::Tree::test_file))]
-fn test_file(alloc: Global, dir: &Name) -> Result<Name, NoMemory>
-    ensures { IfOk result (λ path. path ≡ test_file dir.now) }
-{
-    join_path(alloc, dir, &Name::of(alloc, b"CTestTestfile.cmake")?)
 }

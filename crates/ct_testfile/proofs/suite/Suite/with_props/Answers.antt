@@ -1,0 +1,33 @@
+use Rattle.std.proofs.Common.{◌≡◌, ◌∙◌, ap, map, length, bytes_eq, vec_len, arith, refl}
+use Rattle.std.proofs.lemmas.List.{length-map}
+use Rattle.ct_base.specs.declared.defs.TestDef.{TestDef}
+use Rattle.ct_testfile.specs.Tests.{each_where, most_bytes, taking_props}
+use Rattle.ct_testfile.specs.Entries.{def_of, names_of, dirs_of}
+use Rattle.ct_testfile.proofs.PlaceLemmas.{changed-all, places-within, AreIndexed-same, keys-each_where, length-each_where}
+use Rattle.ct_testfile.proofs.ShortLemmas.{each_where-short, taking_props-short, tests-same}
+use Rattle.ct_testfile.proofs.suite.Suite.with_props.Goals as goal
+
+pub set_each-requires : goal.set_each-requires
+set_each-requires c =
+    let tests = c.self.inside.tests in
+    places-within (λ (test : TestDef). test.name) c.bytes.result.now c.self.inside.by_name.entries (map def_of tests.items) c.places_at.result.now (vec_len tests) c.places_at.ensures c.self.invariant.0 (omega (arith, length-map tests.items def_of, tests.ok.0))
+
+changed : (c : goal.In_ok-set_each) → map def_of c.set_each.new.tests.items ≡ each_where (λ (test : TestDef). bytes_eq c.args.name.now test.name) (taking_props c.args.pairs.now) (map def_of c.self.inside.tests.items)
+changed c =
+    c.in_ok-set_each.ensures
+    ∙ changed-all (taking_props c.args.pairs.now) (λ (test : TestDef). test.name) c.args.name.now c.bytes.result.now c.self.inside.by_name.entries (map def_of c.self.inside.tests.items) c.places_at.result.now c.bytes.ensures c.places_at.ensures c.self.invariant.0
+
+pub invariant_of-result : goal.invariant_of-result
+invariant_of-result c =
+    let old = map def_of c.self.inside.tests.items in
+    let now = map def_of c.set_each.new.tests.items in (
+      AreIndexed-same c.self.inside.by_name.entries (names_of old) (names_of now) (ap names_of (changed c) ∙ keys-each_where (λ (test : TestDef). test.name) (λ (test : TestDef). bytes_eq c.args.name.now test.name) (taking_props c.args.pairs.now) (λ test. refl) old) c.self.invariant.0,
+      AreIndexed-same c.self.inside.by_dir.entries (dirs_of old) (dirs_of now) (ap dirs_of (changed c) ∙ keys-each_where (λ (test : TestDef). test.dir) (λ (test : TestDef). bytes_eq c.args.name.now test.name) (taking_props c.args.pairs.now) (λ test. refl) old) c.self.invariant.1,
+      omega (arith, ap length (changed c), length-each_where (λ (test : TestDef). bytes_eq c.args.name.now test.name) (taking_props c.args.pairs.now) old, c.self.invariant.2),
+      tests-same most_bytes (each_where (λ (test : TestDef). bytes_eq c.args.name.now test.name) (taking_props c.args.pairs.now) old) now (changed c) (each_where-short most_bytes (λ (test : TestDef). bytes_eq c.args.name.now test.name) (taking_props c.args.pairs.now) (taking_props-short most_bytes c.args.pairs.now c.requires) old c.self.invariant.3),
+    )
+
+pub returns : goal.returns
+returns c =
+    changed c
+    ∙ ap (each_where (λ (test : TestDef). bytes_eq c.args.name.now test.name) (taking_props c.args.pairs.now)) c.self.view_is

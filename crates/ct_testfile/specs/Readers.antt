@@ -1,0 +1,61 @@
+-- What contracts see of values that are read byte by byte, until they are longer than they may be. This project's own.
+use Rattle.std.specs.Prelude.{ℕ, ◌≡◌, ⊤, Bool, true, false, ◌||◌, ◌==◌, nat_lt, List, [], ◌∷◌, ◌++◌, filter, map, Result, IfErr, OnOk, if◌then◌else◌}
+use Rattle.std.specs.List.{list_any}
+use Rattle.ct_base.specs.Entries.{backslash, is_entry, parts_of, semicolon, with_front}
+use Rattle.ct_testfile.specs.Values.{bare, size}
+use Rattle.ct_testfile.specs.Commands.{is_too_long}
+use Rattle.ct_testfile.specs.declared.fault.ReadKind.TheVariants.{TooLong}
+use Rattle.ct_testfile.specs.declared.fault.Stop.{Stop}
+use Rattle.ct_testfile.specs.declared.fault.Stop.TheVariants as stop
+use Rattle.ct_testfile.specs.declared.limits.Limits.{Limits}
+use Rattle.ct_testfile.specs.declared.reader.Reader.{Reader}
+use Rattle.ct_testfile.specs.declared.value.Value.{Value}
+
+-- values are longer than they may be: one of them, or all together
+abbrev pub are_too_long : Limits → List Value → Bool
+are_too_long limits values = list_any (is_too_long limits) values || nat_lt limits.all_value_bytes (size values)
+
+-- something is longer than it may be, and this says so, or memory was wanting
+abbrev pub StopsIf : Type 0 → Stop → Type 0
+StopsIf Long (stop.Refused kind) = (kind ≡ TooLong) × Long
+StopsIf Long stop.NoMemory = ⊤
+
+-- these values are, or memory was wanting
+abbrev pub StopsFor : Limits → List Value → Stop → Type 0
+StopsFor limits values why = StopsIf (are_too_long limits values ≡ true) why
+
+-- a reader counts the bytes of its values
+abbrev pub IsCounted : Reader → Type 0
+IsCounted reader = reader.bytes ≡ size reader.values
+
+-- nothing was read of the next value
+pub record IsAtRest (reader : Reader) : Type 0 where
+  pub counted : IsCounted reader
+  pub text : reader.text.items ≡ []
+  pub held : reader.held ≡ false
+
+-- the backslash behind the text that was read, if one stands there
+abbrev pub held_bytes : Bool → List ℕ
+held_bytes held = if held then backslash ∷ [] else []
+
+-- the values once these bytes of an unquoted argument are read too
+abbrev pub entries_with : Reader → List ℕ → List Value
+entries_with reader rest = reader.values ++ map bare (filter is_entry (with_front reader.text.items (parts_of (held_bytes reader.held ++ rest))))
+
+-- these bytes of an unquoted argument were read, or the values with them are too long
+pub record TakesEntries (limits : Limits) (old new : Reader) (piece : List ℕ) (result : Result (Unit {0}) Stop) : Type 0 where
+  pub counted : OnOk result (IsCounted new)
+  pub taken : OnOk result ((rest : List ℕ) → entries_with new rest ≡ entries_with old (piece ++ rest))
+  pub stopped : IfErr result (λ why. (rest : List ℕ) → StopsFor limits (entries_with old (piece ++ rest)) why)
+
+-- bytes begin with a semicolon
+abbrev pub is_ended : List ℕ → Bool
+is_ended [] = false
+is_ended (byte ∷ bytes) = byte == semicolon
+
+-- no backslash stands behind the text any more, which changes nothing where no semicolon comes next
+pub record Releases (limits : Limits) (old new : Reader) (result : Result (Unit {0}) Stop) : Type 0 where
+  pub counted : OnOk result (IsCounted new)
+  pub held : OnOk result (new.held ≡ false)
+  pub taken : OnOk result ((rest : List ℕ) → is_ended rest ≡ false → entries_with new rest ≡ entries_with old rest)
+  pub stopped : IfErr result (λ why. (rest : List ℕ) → is_ended rest ≡ false → StopsFor limits (entries_with old rest) why)

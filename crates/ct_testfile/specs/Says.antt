@@ -1,0 +1,111 @@
+-- What a call of this crate says, in the words of the definitions: memory may be wanting, and files may fail.
+use Rattle.std.specs.Prelude.{◌≡◌, ◌≤◌, ◌<◌, ⊤, ℕ, List, [], ◌∷◌, length, Option, Some, None, Result, Ok, Err, IfErr, IfSome, IsSomeAnd}
+use Rattle.ct_base.specs.Outside.{FilesTell, Held, SameHeld, Rose}
+use Rattle.ct_base.specs.declared.files.FilesFault.{FilesFault}
+use Rattle.ct_base.specs.declared.files.FilesFault.TheVariants as Files
+use Rattle.ct_lex.specs.Place.{Place}
+use Rattle.ct_lex.specs.Reads.{reading}
+use Rattle.ct_lex.specs.declared.call.Call.{Call}
+use Rattle.ct_lex.specs.declared.fault.LexFault.{LexFault}
+use Rattle.ct_testfile.specs.Tree.{fault_in}
+use Rattle.ct_testfile.specs.Tests.{most_bytes, most_tests}
+use Rattle.ct_testfile.specs.declared.limits.Limits.{Limits}
+use Rattle.ct_testfile.specs.declared.fault.ReadKind.{ReadKind}
+use Rattle.ct_testfile.specs.declared.fault.ReadFault.{ReadFault}
+use Rattle.ct_testfile.specs.declared.fault.ReadFault.TheVariants.{At, FilesFailed, NoMemory}
+use Rattle.ct_testfile.specs.declared.fault.Stop.{Stop}
+use Rattle.ct_testfile.specs.declared.fault.Stop.TheVariants as stop
+
+-- a step gave what its definition says, unless memory was wanting
+abbrev pub Follows : {A : Type 0} → Result A Stop → Result A ReadKind → Type 0
+Follows (Ok x) says = says ≡ Ok x
+Follows (Err (stop.Refused kind)) says = says ≡ Err kind
+Follows (Err stop.NoMemory) says = ⊤
+
+-- a fault is the refusal that the definition says; it says nothing of files that fail and of memory
+abbrev pub IsRefusalOf : {A : Type 0} → Result A ReadFault → ReadFault → Type 0
+IsRefusalOf says (At file line kind) = says ≡ Err (At file line kind)
+IsRefusalOf says (FilesFailed path) = ⊤
+IsRefusalOf says NoMemory = ⊤
+
+-- an answer is the one that the definition says
+abbrev pub IsAnswerOf : {A : Type 0} → Result A ReadFault → Result A ReadFault → Type 0
+IsAnswerOf says (Ok x) = says ≡ Ok x
+IsAnswerOf says (Err fault) = IsRefusalOf says fault
+
+-- the files tell that they hold this
+abbrev pub TellsHeld : Held → Option Held → Type 0
+TellsHeld held told = IsSomeAnd told (λ now. SameHeld held now)
+
+-- this fault is that of the files, and then this holds of its path
+abbrev pub IfFilesFailed : ReadFault → (List ℕ → Type 0) → Type 0
+IfFilesFailed (At file line kind) P = ⊤
+IfFilesFailed (FilesFailed path) P = P path
+IfFilesFailed NoMemory P = ⊤
+
+-- an answer that is no fault of the files
+abbrev pub Unfailed : {A : Type 0} → Result A ReadFault → Type 0
+Unfailed (Ok x) = ⊤
+Unfailed (Err (At file line kind)) = ⊤
+Unfailed (Err (FilesFailed path)) = ⊥
+Unfailed (Err NoMemory) = ⊤
+
+-- why a call on files, about this path, gave no answer
+abbrev pub files_fault : List ℕ → FilesFault → ReadFault
+files_fault path Files.Failed = FilesFailed path
+files_fault path Files.NoMemory = NoMemory
+
+-- this answer is not the fault of the files, and then this holds
+abbrev pub IfUnfailed : {A : Type 0} → Result A ReadFault → Type 0 → Type 0
+IfUnfailed (Err (FilesFailed path)) P = ⊤
+IfUnfailed (Err (At file line kind)) P = P
+IfUnfailed (Err NoMemory) P = P
+IfUnfailed (Ok x) P = P
+
+-- the files' count rose, and where they tell it their last refusal is of this path
+pub record IsRefused (before : ℕ) (now : FilesTell) (path : List ℕ) : Type 0 where
+  pub rose : Rose before now.faults
+  pub last : IfSome now.refused (λ last. last ≡ Some path)
+
+-- the files' count never falls; their fault comes only where it rose, for the path that they refused, and else it stays
+pub record HasFilesCause {A : Type 0} (before now : FilesTell) (result : Result A ReadFault) : Type 0 where
+  pub later : before.faults ≤ now.faults
+  pub failed : IfErr result (λ fault. IfFilesFailed fault (IsRefused before.faults now))
+  pub unfailed : IfUnfailed result (now.faults ≡ before.faults)
+  pub unrefused : IfUnfailed result (now.refused ≡ before.refused)
+
+-- a call that looks at files: its answer by what they hold, that they hold it still, and where they failed it
+pub record Over {A : Type 0} (before now : FilesTell) (says : Held → Result A ReadFault) (result : Result A ReadFault) : Type 0 where
+  pub answer : (held : Held) → TellsHeld held before.held → IsAnswerOf (says held) result
+  pub kept : (held : Held) → TellsHeld held before.held → TellsHeld held now.held
+  pub cause : HasFilesCause before now result
+
+-- the fault is this refusal, unless memory was wanting
+abbrev pub IsAt : List ℕ → ℕ → ReadKind → ReadFault → Type 0
+IsAt file line kind (At f l k) = At f l k ≡ At file line kind
+IsAt file line kind (FilesFailed path) = ⊥
+IsAt file line kind NoMemory = ⊤
+
+-- the fault is that of a text in a file, unless memory was wanting
+abbrev pub IsFaultIn : List ℕ → LexFault → ReadFault → Type 0
+IsFaultIn file fault (At f l k) = At f l k ≡ fault_in file fault
+IsFaultIn file fault (FilesFailed path) = ⊥
+IsFaultIn file fault NoMemory = ⊤
+
+-- the text ends at a place with this fault
+abbrev pub EndsWith : List ℕ → Place → ReadFault → Type 0
+EndsWith file place (At f l k) = ((reading place).0 ≡ []) × IsSomeAnd (reading place).1 (λ fault. At f l k ≡ fault_in file fault)
+EndsWith file place (FilesFailed path) = ⊥
+EndsWith file place NoMemory = ⊤
+
+-- a lexer gave the next command of a file and stands behind it, or its text has no more, or no reading there
+abbrev pub IsNextOf : List ℕ → Place → Place → Result (Option Call) ReadFault → Type 0
+IsNextOf file old new (Ok (Some call)) = ((reading old).0 ≡ call ∷ (reading new).0) × ((reading old).1 ≡ (reading new).1) × (length new.rest < length old.rest)
+IsNextOf file old new (Ok None) = ((reading old).0 ≡ []) × ((reading old).1 ≡ None)
+IsNextOf file old new (Err fault) = EndsWith file old fault
+
+-- limits within which lines can be counted, and no tree has more tests and no test longer values than it may
+pub record AreBounded (limits : Limits) : Type 0 where
+  pub lines : limits.file_bytes < 4294967295
+  pub values : limits.value_bytes ≤ most_bytes
+  pub tests : limits.tests ≤ most_tests

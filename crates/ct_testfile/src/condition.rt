@@ -1,0 +1,120 @@
+ghost use Rattle.std.specs.Prelude.{◌≡◌, IsTrue, Ok, is_some, length};
+ghost use Rattle.ct_base.specs.Path.{joined};
+ghost use Rattle.ct_regex.specs.Reading as pattern;
+ghost use Rattle.ct_testfile.specs.Outcome.{on_line};
+ghost use Rattle.ct_testfile.specs.Says.{Follows, Over};
+ghost use Rattle.ct_testfile.specs.Condition.{bad_pattern, holds, is_exists, is_matches, is_bare_word, matched, subject};
+
+use crate::fault::{ReadFault, ReadKind, Stop, at_line, files_fault};
+use crate::opening::TestFile;
+use crate::table::Table;
+use crate::value::Value;
+use ct_base::{Files, Name, join_path};
+use ct_regex::{Regex, RegexFault};
+use std::alloc::Global;
+
+/// Tells whether a condition holds, on this line of the file.
+///
+/// Source: CMake manual, if, Condition Syntax.
+pub(crate) fn holds<F: Files>(
+    alloc: Global,
+    files: &mut F,
+    file: &TestFile,
+    line: u32,
+    table: &Table,
+    values: &[Value],
+) -> Result<bool, ReadFault>
+    ensures { Over (F.tells files.old) (F.tells files.new) (λ held. on_line file.now.path line (holds held file.now.dir table.now values.now)) result }
+{
+    if is_exists(values) {
+        return exists(alloc, files, &file.dir, &values[1].text);
+    }
+    if is_matches(values) {
+        let found = matched(alloc, subject(table, &values[0]), values[2].text.bytes());
+        return at_line(alloc, &file.path, line, found);
+    }
+    at_line(
+        alloc,
+        &file.path,
+        line,
+        Err(Stop::Refused(ReadKind::BadCondition)),
+    )
+}
+
+/// Tells whether values are `EXISTS path`.
+fn is_exists(values: &[Value]) -> bool
+    ensures is { result ≡ is_exists values.now }
+    ensures two { IsTrue result → length values.now ≡ 2 }
+{
+    if values.len() != 2 {
+        return false;
+    }
+    is_word(&values[0], b"EXISTS")
+}
+
+/// Tells whether values are `text MATCHES pattern`.
+fn is_matches(values: &[Value]) -> bool
+    ensures is { result ≡ is_matches values.now }
+    ensures three { IsTrue result → length values.now ≡ 3 }
+{
+    if values.len() != 3 {
+        return false;
+    }
+    is_word(&values[1], b"MATCHES")
+}
+
+/// Tells whether the files hold the path, seen from a folder.
+fn exists<F: Files>(
+    alloc: Global,
+    files: &mut F,
+    dir: &Name,
+    name: &Name,
+) -> Result<bool, ReadFault>
+    ensures { Over (F.tells files.old) (F.tells files.new) (λ held. Ok (is_some (held (joined dir.now name.now)))) result }
+{
+    let path = join_path(alloc, dir, name)?;
+    match files.exists(alloc, &path) {
+        Ok(found) => Ok(found),
+        Err(fault) => Err(files_fault(path, fault)),
+    }
+}
+
+/// Tells whether the value is that word of an unquoted argument.
+fn is_word(value: &Value, word: &[u8]) -> bool
+    ensures { result ≡ is_bare_word word.now value.now }
+{
+    value.unquoted && value.text.bytes() == word
+}
+
+/// Lends what stands in front of MATCHES: the value of the variable that it names, or itself.
+fn subject<'a>(table: &'a Table, value: &'a Value) -> &'a [u8]
+    ensures { result.now ≡ subject table.entry.now value.entry.now }
+{
+    if !value.unquoted {
+        return value.text.bytes();
+    }
+    match table.value(value.text.bytes()) {
+        Some(meant) => meant.bytes(),
+        None => value.text.bytes(),
+    }
+}
+
+/// Tells whether a text has a match of a pattern.
+fn matched(alloc: Global, text: &[u8], right: &[u8]) -> Result<bool, Stop>
+    ensures { Follows result (matched text.now (pattern.reading right.now)) }
+{
+    match Regex::parse(alloc, right) {
+        Ok(regex) => Ok(regex.hit(alloc, text)?),
+        Err(fault) => Err(bad_pattern(fault)),
+    }
+}
+
+/// Says why a pattern was not read.
+fn bad_pattern(fault: RegexFault) -> Stop
+    ensures { result ≡ bad_pattern fault }
+{
+    match fault {
+        RegexFault::NoMemory => Stop::NoMemory,
+        _ => Stop::Refused(ReadKind::BadPattern),
+    }
+}

@@ -1,0 +1,31 @@
+/// How much of a tree of test files may be read. What would pass a limit is refused.
+///
+/// Source: this project's choice.
+#[derive(Clone, Copy, Debug)]
+pub struct Limits {
+    /// The bytes of one test file. Lines are counted by `u32`, so this is below its last number.
+    pub file_bytes: u32,
+    /// The bytes of all test files, each as often as it is read.
+    pub all_file_bytes: u32,
+    /// The bytes of one value, at most those of `LIMITS`.
+    pub value_bytes: u32,
+    /// The bytes of all values of arguments, and of the values and folders that tests take.
+    pub all_value_bytes: u32,
+    /// The files that are open inside one another, the first counted.
+    pub open_files: u32,
+    /// The commands that are carried out.
+    pub commands: u32,
+    /// The tests, at most those of `LIMITS`.
+    pub tests: u32,
+}
+
+/// The limits of a tree of test files. Source: this project's choice.
+pub const LIMITS: Limits = Limits {
+    file_bytes: 16_777_216,
+    all_file_bytes: 268_435_456,
+    value_bytes: 1_048_576,
+    all_value_bytes: 536_870_912,
+    open_files: 64,
+    commands: 4_000_000,
+    tests: 100_000,
+};

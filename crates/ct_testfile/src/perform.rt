@@ -1,0 +1,289 @@
+ghost use Rattle.std.specs.Prelude.{◌≡◌, ◌-◌, ◌^◌, ◌==◌, ◌||◌, min, length, fold, sum_by, Result, IfOk};
+ghost use Rattle.ct_testfile.specs.declared.fault.ReadKind.{ReadKind as Kind};
+ghost use Rattle.ct_testfile.specs.declared.state.State.{State as Known};
+ghost use Rattle.std.specs.List.{list_any};
+ghost use Rattle.ct_testfile.specs.Says.{AreBounded, Follows};
+ghost use Rattle.ct_testfile.specs.Tests.{AreShort, HaveShort, most_bytes, taking_props};
+ghost use Rattle.ct_testfile.specs.Commands.{add_test, carried_out, included, is_bad_name, is_full, opening_nothing, performed, set, set_directory_properties, set_tests_properties};
+ghost use Rattle.ct_testfile.specs.Entries.{count_of, of_name};
+
+use crate::command::Command;
+use crate::fault::{ReadKind, Stop};
+use crate::limits::Limits;
+use crate::opening::Opens;
+use crate::state::State;
+use crate::suite::Suite;
+use crate::value::texts;
+use crate::words::{
+    distinct, label_bytes, labels_of, list_value, names_and_pairs, pairs_behind, prop_bytes,
+    take_apart,
+};
+use ct_base::{List, Name, NoMemory, Pair};
+use ct_lex::Args;
+use std::alloc::Global;
+
+/// Carries out a command of a file whose folder this is.
+pub(crate) fn carry_out(
+    alloc: Global,
+    limits: &Limits,
+    dir: &Name,
+    command: Command,
+    args: &Args,
+    state: State,
+) -> Result<(State, Opens), Stop>
+    requires { AreBounded limits.now }
+    ensures { Follows result (carried_out limits.now dir.now command args.now state) }
+{
+    let (values, state) = state.begin(alloc, limits, args)?;
+    let values = texts(alloc, values)?;
+    perform(alloc, limits, dir, command, values, state)
+}
+
+/// Does what a command does with these values.
+fn perform(
+    alloc: Global,
+    limits: &Limits,
+    dir: &Name,
+    command: Command,
+    values: List<Name>,
+    state: State,
+) -> Result<(State, Opens), Stop>
+    requires limits { AreBounded limits.now }
+    requires values { AreShort most_bytes values }
+    ensures { Follows result (performed limits.now dir.now command values state) }
+{
+    match command {
+        Command::AddTest => opening_nothing(alloc, add_test(alloc, limits, dir, values, state)),
+        Command::SetTestsProperties => {
+            opening_nothing(alloc, set_tests_properties(alloc, limits, values, state))
+        }
+        Command::SetDirectoryProperties => {
+            opening_nothing(
+                alloc,
+                set_directory_properties(alloc, limits, dir, values, state),
+            )
+        }
+        Command::Subdirs => Ok((state, Opens::folders(values))),
+        Command::Include => include(alloc, values, state),
+        Command::Set => opening_nothing(alloc, set(alloc, values, state)),
+        Command::Unknown => Err(Stop::Refused(ReadKind::UnknownCommand)),
+    }
+}
+
+fn opening_nothing(alloc: Global, done: Result<State, Stop>) -> Result<(State, Opens), Stop>
+    ensures { (says : Result Known Kind) → Follows done says → Follows result (opening_nothing says) }
+{
+    match done {
+        Ok(state) => Ok((state, Opens::nothing(alloc))),
+        Err(stop) => Err(stop),
+    }
+}
+
+/// Defines a test of this folder.
+///
+/// Source: CMake manual, add_test. That a name may not be empty nor have a line feed is this project's choice.
+fn add_test(
+    alloc: Global,
+    limits: &Limits,
+    dir: &Name,
+    values: List<Name>,
+    state: State,
+) -> Result<State, Stop>
+    requires limits { AreBounded limits.now }
+    requires values { AreShort most_bytes values }
+    ensures { Follows result (add_test limits.now dir.now values state) }
+{
+    let Some((name, command)) = take_apart(values) else {
+        return Err(Stop::Refused(ReadKind::BadCall));
+    };
+    if is_bad_test(name.bytes(), &command) {
+        return Err(Stop::Refused(ReadKind::BadCall));
+    }
+    if is_full(limits, &state.tests) {
+        return Err(Stop::Refused(ReadKind::TooManyTests));
+    }
+    let dir = dir.copy(alloc)?;
+    let state = state.taken(limits, length(dir.bytes()))?;
+    let State {
+        tests,
+        variables,
+        commands,
+        file_bytes,
+        value_bytes,
+    } = state;
+    Ok(State {
+        tests: tests.with_test(alloc, name, command, dir)?,
+        variables,
+        commands,
+        file_bytes,
+        value_bytes,
+    })
+}
+
+/// Tells whether no test can have this name and command.
+fn is_bad_test(name: &[u8], command: &List<Name>) -> bool
+    ensures { result ≡ (length command.now == 0 || is_bad_name name.now) }
+{
+    command.is_empty() || is_bad_name(name)
+}
+
+/// Tells whether there are as many tests as there may be.
+fn is_full(limits: &Limits, tests: &Suite) -> bool
+    ensures { result ≡ is_full limits.now tests.now }
+{
+    limits.tests as usize <= tests.len()
+}
+
+/// Counts the bytes of a text.
+fn length(text: &[u8]) -> u64
+    ensures { result ≡ min (length text.now) (2 ^ 64 - 1) }
+{
+    0u64.saturating_add(text.len() as u64)
+}
+
+fn is_bad_name(name: &[u8]) -> bool
+    ensures { result ≡ is_bad_name name.now }
+{
+    name.is_empty() || has_feed(name)
+}
+
+fn has_feed(name: &[u8]) -> bool
+    ensures { result ≡ list_any (λ byte. byte == 10) name.now }
+{
+    name.iter().any(|byte| *byte == b'\n')
+}
+
+/// Sets properties of all tests so far that have one of the names.
+///
+/// Source: CMake manual, set_tests_properties. That a name which no test has is passed over is this project's choice.
+fn set_tests_properties(
+    alloc: Global,
+    limits: &Limits,
+    values: List<Name>,
+    state: State,
+) -> Result<State, Stop>
+    requires { AreShort most_bytes values }
+    ensures { Follows result (set_tests_properties limits.now values state) }
+{
+    let Some((names, props)) = names_and_pairs(alloc, values)? else {
+        return Err(Stop::Refused(ReadKind::BadCall));
+    };
+    let different = distinct(alloc, names)?;
+    let tests = count_named(&state.tests, different.as_slice());
+    let bytes = tests.saturating_mul(prop_bytes(props.as_slice()));
+    let state = state.taken(limits, bytes)?;
+    let State {
+        tests,
+        variables,
+        commands,
+        file_bytes,
+        value_bytes,
+    } = state;
+    Ok(State {
+        tests: set_named(alloc, tests, different.as_slice(), props.as_slice())?,
+        variables,
+        commands,
+        file_bytes,
+        value_bytes,
+    })
+}
+
+/// Counts the tests of each of these names, up to the greatest number that there is.
+fn count_named(tests: &Suite, names: &[Name]) -> u64
+    ensures { result ≡ min (sum_by (count_of tests.now) names.now) (2 ^ 64 - 1) }
+{
+    let mut count: u64 = 0;
+    for name in names {
+        count = count.saturating_add(tests.named(name) as u64);
+    }
+    count
+}
+
+/// Sets properties of the tests of one name after the other.
+fn set_named(alloc: Global, tests: Suite, names: &[Name], props: &[Pair]) -> Result<Suite, NoMemory>
+    requires { HaveShort most_bytes props.now }
+    ensures { IfOk result (λ after. after ≡ fold (of_name (taking_props props.now)) tests names.now) }
+{
+    let mut after = tests;
+    for name in names {
+        after = after.with_props(alloc, name, props)?;
+    }
+    Ok(after)
+}
+
+/// Adds labels to all tests so far of this folder.
+///
+/// Source: CMake manual, set_directory_properties. That LABELS alone has an effect is this project's choice.
+fn set_directory_properties(
+    alloc: Global,
+    limits: &Limits,
+    dir: &Name,
+    values: List<Name>,
+    state: State,
+) -> Result<State, Stop>
+    requires { AreShort most_bytes values }
+    ensures { Follows result (set_directory_properties limits.now dir.now values state) }
+{
+    let Some(props) = pairs_behind(alloc, values)? else {
+        return Err(Stop::Refused(ReadKind::BadCall));
+    };
+    let tests = state.tests.placed(dir) as u64;
+    let bytes = tests.saturating_mul(label_bytes(props.as_slice()));
+    let state = state.taken(limits, bytes)?;
+    let labels = labels_of(alloc, props.as_slice())?;
+    let State {
+        tests,
+        variables,
+        commands,
+        file_bytes,
+        value_bytes,
+    } = state;
+    Ok(State {
+        tests: tests.with_labels(alloc, dir, labels.as_slice())?,
+        variables,
+        commands,
+        file_bytes,
+        value_bytes,
+    })
+}
+
+/// Sets a variable, or takes its value away where the name stands alone.
+///
+/// Source: CMake manual, set and unset. That all files share one table is this project's choice.
+fn set(alloc: Global, values: List<Name>, state: State) -> Result<State, Stop>
+    ensures { Follows result (set values state) }
+{
+    let Some((name, values)) = take_apart(values) else {
+        return Err(Stop::Refused(ReadKind::BadCall));
+    };
+    let value = list_value(alloc, values.as_slice())?;
+    let State {
+        tests,
+        variables,
+        commands,
+        file_bytes,
+        value_bytes,
+    } = state;
+    Ok(State {
+        tests,
+        variables: variables.with(name, value)?,
+        commands,
+        file_bytes,
+        value_bytes,
+    })
+}
+
+/// Reads the call of `include`, which takes one value.
+///
+/// Source: CMake manual, include.
+fn include(alloc: Global, values: List<Name>, state: State) -> Result<(State, Opens), Stop>
+    ensures { Follows result (included values state) }
+{
+    let Some((name, rest)) = take_apart(values) else {
+        return Err(Stop::Refused(ReadKind::BadCall));
+    };
+    match take_apart(rest) {
+        None => Ok((state, Opens::file(alloc, name)?)),
+        Some(_) => Err(Stop::Refused(ReadKind::BadCall)),
+    }
+}

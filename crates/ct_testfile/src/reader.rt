@@ -1,0 +1,233 @@
+ghost use Rattle.std.specs.Prelude.{◌≡◌, ◌<◌, ◌++◌, ◌∷◌, [], ◌==◌, IfErr, OnOk, false, filter, length, map};
+ghost use Rattle.ct_base.specs.Entries.{entries_of, is_entry, semicolon};
+ghost use Rattle.ct_testfile.specs.Values.{bare, argument_text, values_by};
+ghost use Rattle.ct_testfile.specs.Readers.{IsAtRest, IsCounted, Releases, StopsFor, StopsIf, TakesEntries};
+
+use crate::count::raised;
+use crate::fault::{ReadKind, Stop};
+use crate::limits::Limits;
+use crate::table::Table;
+use crate::value::{Value, part_text};
+use ct_base::{List, Name, NoMemory};
+use ct_lex::{Arg, ArgKind, Part};
+use std::alloc::Global;
+use std::mem;
+
+/// The values of a command so far, and what was read of the next one.
+///
+/// Reading stops where a value or all of them are longer than they may be, so no more memory is
+/// taken than that.
+#[derive(Drop)]
+pub(crate) struct Reader {
+    pub(crate) values: List<Value>,
+    /// The bytes of those values.
+    pub(crate) bytes: u64,
+    /// What was read of the next value.
+    pub(crate) text: Vec<u8>,
+    /// Whether a backslash stands behind that text: the next byte decides what it is.
+    pub(crate) held: bool,
+}
+
+impl Reader {
+    /// Nothing was read.
+    pub(crate) fn new(alloc: Global) -> Reader
+        ensures rest { IsAtRest result }
+        ensures values { result.values ≡ [] }
+    {
+        Reader {
+            values: List::new(alloc),
+            bytes: 0,
+            text: Vec::new(alloc),
+            held: false,
+        }
+    }
+
+    /// Reads the values of one more argument.
+    pub(crate) fn take(
+        &mut self,
+        alloc: Global,
+        limits: &Limits,
+        table: &Table,
+        arg: &Arg,
+    ) -> Result<(), Stop>
+        requires { IsAtRest self.old }
+        ensures rest { OnOk result (IsAtRest self.new) }
+        ensures values { OnOk result (self.new.values ≡ self.old.values ++ values_by arg.now.kind (argument_text table.now arg.now.parts)) }
+        ensures stopped { IfErr result (StopsFor limits.now (self.old.values ++ values_by arg.now.kind (argument_text table.now arg.now.parts))) }
+    {
+        match arg.kind {
+            ArgKind::Unquoted => self.take_entries(alloc, limits, table, arg.parts.as_slice()),
+            ArgKind::Bracket => self.take_whole(alloc, limits, table, arg.parts.as_slice()),
+            ArgKind::Quoted => self.take_whole(alloc, limits, table, arg.parts.as_slice()),
+        }
+    }
+
+    /// Reads the value of a quoted argument or of a bracket argument.
+    fn take_whole(
+        &mut self,
+        alloc: Global,
+        limits: &Limits,
+        table: &Table,
+        parts: &[Part],
+    ) -> Result<(), Stop>
+        requires { IsAtRest self.old }
+        ensures rest { OnOk result (IsAtRest self.new) }
+        ensures values { OnOk result (self.new.values ≡ self.old.values ++ record { text = argument_text table.now parts.now; unquoted = false } ∷ []) }
+        ensures stopped { IfErr result (StopsFor limits.now (self.old.values ++ record { text = argument_text table.now parts.now; unquoted = false } ∷ [])) }
+    {
+        self.join(limits, table, parts)?;
+        self.end_value(alloc, limits, false)
+    }
+
+    /// Joins the texts of an argument's parts behind what was read.
+    fn join(&mut self, limits: &Limits, table: &Table, parts: &[Part]) -> Result<(), Stop>
+        ensures text { OnOk result (self.new.text.items ≡ self.old.text.items ++ argument_text table.now parts.now) }
+        ensures values { self.new.values ≡ self.old.values }
+        ensures bytes { self.new.bytes ≡ self.old.bytes }
+        ensures held { self.new.held ≡ self.old.held }
+        ensures stopped { IfErr result (StopsIf (limits.now.value_bytes < length (self.old.text.items ++ argument_text table.now parts.now))) }
+    {
+        for part in parts {
+            join_text(limits, &mut self.text, part_text(table, part))?;
+        }
+        Ok(())
+    }
+
+    /// Reads the values of an unquoted argument.
+    fn take_entries(
+        &mut self,
+        alloc: Global,
+        limits: &Limits,
+        table: &Table,
+        parts: &[Part],
+    ) -> Result<(), Stop>
+        requires { IsAtRest self.old }
+        ensures rest { OnOk result (IsAtRest self.new) }
+        ensures values { OnOk result (self.new.values ≡ self.old.values ++ map bare (entries_of (argument_text table.now parts.now))) }
+        ensures stopped { IfErr result (StopsFor limits.now (self.old.values ++ map bare (entries_of (argument_text table.now parts.now)))) }
+    {
+        self.take_parts(alloc, limits, table, parts)?;
+        self.release(limits)?;
+        self.end_entry(alloc, limits)
+    }
+
+    fn take_parts(
+        &mut self,
+        alloc: Global,
+        limits: &Limits,
+        table: &Table,
+        parts: &[Part],
+    ) -> Result<(), Stop>
+        requires { IsCounted self.old }
+        ensures { TakesEntries limits.now self.old self.new (argument_text table.now parts.now) result }
+    {
+        for part in parts {
+            self.take_piece(alloc, limits, part_text(table, part))?;
+        }
+        Ok(())
+    }
+
+    fn take_piece(&mut self, alloc: Global, limits: &Limits, piece: &[u8]) -> Result<(), Stop>
+        requires { IsCounted self.old }
+        ensures { TakesEntries limits.now self.old self.new piece.now result }
+    {
+        for byte in piece {
+            self.take_byte(alloc, limits, *byte)?;
+        }
+        Ok(())
+    }
+
+    /// Reads one more byte of an unquoted argument.
+    fn take_byte(&mut self, alloc: Global, limits: &Limits, byte: u8) -> Result<(), Stop>
+        requires { IsCounted self.old }
+        ensures { TakesEntries limits.now self.old self.new (byte ∷ []) result }
+    {
+        if byte != b';' {
+            self.release(limits)?;
+            return self.take_other(limits, byte);
+        }
+        if self.held {
+            self.held = false;
+            return join_text(limits, &mut self.text, &[byte]);
+        }
+        self.end_entry(alloc, limits)
+    }
+
+    /// Reads one more byte of an unquoted argument, which ends no entry.
+    fn take_other(&mut self, limits: &Limits, byte: u8) -> Result<(), Stop>
+        requires free { self.old.held ≡ false }
+        requires other { (byte == semicolon) ≡ false }
+        requires counted { IsCounted self.old }
+        ensures { TakesEntries limits.now self.old self.new (byte ∷ []) result }
+    {
+        if byte == b'\\' {
+            self.held = true;
+            return Ok(());
+        }
+        join_text(limits, &mut self.text, &[byte])
+    }
+
+    /// Takes a backslash for itself, behind which no `;` comes.
+    fn release(&mut self, limits: &Limits) -> Result<(), Stop>
+        requires { IsCounted self.old }
+        ensures { Releases limits.now self.old self.new result }
+    {
+        if !self.held {
+            return Ok(());
+        }
+        self.held = false;
+        join_text(limits, &mut self.text, b"\\")
+    }
+
+    /// Ends an entry, which is a value if it is not empty.
+    fn end_entry(&mut self, alloc: Global, limits: &Limits) -> Result<(), Stop>
+        requires { IsCounted self.old }
+        ensures counted { OnOk result (IsCounted self.new) }
+        ensures values { OnOk result (self.new.values ≡ self.old.values ++ map bare (filter is_entry (self.old.text.items ∷ []))) }
+        ensures empty { OnOk result (self.new.text.items ≡ []) }
+        ensures held { OnOk result (self.new.held ≡ self.old.held) }
+        ensures stopped { IfErr result (StopsFor limits.now (self.old.values ++ map bare (filter is_entry (self.old.text.items ∷ [])))) }
+    {
+        if self.text.is_empty() {
+            return Ok(());
+        }
+        self.end_value(alloc, limits, true)
+    }
+
+    /// Puts what was read behind the values.
+    fn end_value(&mut self, alloc: Global, limits: &Limits, unquoted: bool) -> Result<(), Stop>
+        requires { IsCounted self.old }
+        ensures counted { OnOk result (IsCounted self.new) }
+        ensures values { OnOk result (self.new.values ≡ self.old.values ++ record { text = self.old.text.items; unquoted = unquoted } ∷ []) }
+        ensures empty { OnOk result (self.new.text.items ≡ []) }
+        ensures held { OnOk result (self.new.held ≡ self.old.held) }
+        ensures stopped { IfErr result (StopsFor limits.now (self.old.values ++ record { text = self.old.text.items; unquoted = unquoted } ∷ [])) }
+    {
+        let len = self.text.len() as u64;
+        let Some(bytes) = raised(limits.all_value_bytes, self.bytes, len) else {
+            return Err(Stop::Refused(ReadKind::TooLong));
+        };
+        let text = Name::from_vec(mem::replace(&mut self.text, Vec::new(alloc)));
+        self.values.push(Value { text, unquoted })?;
+        self.bytes = bytes;
+        Ok(())
+    }
+}
+
+/// Puts a piece behind a text, unless a value may not be so long.
+fn join_text(limits: &Limits, text: &mut Vec<u8>, piece: &[u8]) -> Result<(), Stop>
+    ensures joined { OnOk result (text.new.items ≡ text.old.items ++ piece.now) }
+    ensures stopped { IfErr result (StopsIf (limits.now.value_bytes < length (text.old.items ++ piece.now))) }
+{
+    if raised(limits.value_bytes, text.len() as u64, piece.len() as u64).is_none() {
+        return Err(Stop::Refused(ReadKind::TooLong));
+    }
+    Ok(extend(text, piece)?)
+}
+
+fn extend(text: &mut Vec<u8>, piece: &[u8]) -> Result<(), NoMemory>
+    ensures { OnOk result (text.new.items ≡ text.old.items ++ piece.now) }
+{
+    text.extend_from_slice(piece)?;
+    Ok(())
+}

@@ -1,0 +1,85 @@
+ghost use Rattle.std.specs.Prelude.{◌≡◌, ◌-◌, ◌^◌, ℕ, min};
+ghost use Rattle.std.specs.List.{list_any};
+ghost use Rattle.ct_testfile.specs.Says.{Follows};
+ghost use Rattle.ct_testfile.specs.Commands.{begun, with_command, evaluated, is_too_long, taken};
+
+use crate::count::raised;
+use crate::fault::{ReadKind, Stop};
+use crate::limits::Limits;
+use crate::suite::Suite;
+use crate::table::Table;
+use crate::value::{Value, size, values_of};
+use ct_base::List;
+use ct_lex::Args;
+use std::alloc::Global;
+
+/// What is known of a tree behind a command: its tests and variables so far, and what is counted.
+#[derive(Drop)]
+pub(crate) struct State {
+    pub(crate) tests: Suite,
+    pub(crate) variables: Table,
+    /// The commands that were carried out.
+    pub(crate) commands: u64,
+    /// The bytes of the test files that were read.
+    pub(crate) file_bytes: u64,
+    /// The bytes of all values of arguments, and of the values and folders that tests took.
+    pub(crate) value_bytes: u64,
+}
+
+impl State {
+    /// Counts one more command that is carried out.
+    pub(crate) fn counted(self, limits: &Limits) -> Result<State, Stop>
+        ensures { Follows result (with_command limits.now self) }
+    {
+        match raised(limits.commands, self.commands, 1) {
+            None => Err(Stop::Refused(ReadKind::TooManyCommands)),
+            Some(commands) => Ok(State { commands, ..self }),
+        }
+    }
+
+    /// Counts bytes that values take. `bytes` may stand for any more than the greatest number.
+    pub(crate) fn taken(self, limits: &Limits, bytes: u64) -> Result<State, Stop>
+        ensures { (real : ℕ) → bytes ≡ min real (2 ^ 64 - 1) → Follows result (taken limits.now real self) }
+    {
+        match raised(limits.all_value_bytes, self.value_bytes, bytes) {
+            None => Err(Stop::Refused(ReadKind::TooLong)),
+            Some(value_bytes) => Ok(State {
+                value_bytes,
+                ..self
+            }),
+        }
+    }
+
+    /// Begins a command: it is counted, and then its arguments give their values.
+    pub(crate) fn begin(
+        self,
+        alloc: Global,
+        limits: &Limits,
+        args: &Args,
+    ) -> Result<(List<Value>, State), Stop>
+        ensures { Follows result (begun limits.now args.now self) }
+    {
+        let state = self.counted(limits)?;
+        let values = values_of(alloc, limits, &state.variables, args)?;
+        state.evaluated(limits, values)
+    }
+
+    /// Takes values, of which each one and all together may be so long.
+    fn evaluated(self, limits: &Limits, values: List<Value>) -> Result<(List<Value>, State), Stop>
+        ensures { Follows result (evaluated limits.now values self) }
+    {
+        if some_too_long(limits, values.as_slice()) {
+            return Err(Stop::Refused(ReadKind::TooLong));
+        }
+        let bytes = size(values.as_slice());
+        let state = self.taken(limits, bytes)?;
+        Ok((values, state))
+    }
+}
+
+/// Tells whether some value is longer than one may be.
+fn some_too_long(limits: &Limits, values: &[Value]) -> bool
+    ensures { result ≡ list_any (is_too_long limits.now) values.now }
+{
+    values.iter().any(|value| value.text.bytes().len() > limits.value_bytes as usize)
+}

@@ -1,0 +1,265 @@
+ghost use Rattle.std.specs.Prelude.{◌≡◌, Err, IfOk, if◌then◌else◌};
+ghost use Rattle.ct_testfile.specs.Outcome.{on_line};
+ghost use Rattle.ct_testfile.specs.Says.{AreBounded, Follows, IsAnswerOf, Over, Unfailed};
+ghost use Rattle.ct_testfile.specs.Ifs.{asked, begun_if, behind_else, behind_elseif, behind_if, begun_else, continued, done, in_branch, is_live, left, stepped};
+ghost use Rattle.ct_testfile.specs.declared.branch.Branch.TheVariants as branch;
+ghost use Rattle.ct_testfile.specs.declared.fault.ReadFault.TheVariants.{At};
+ghost use Rattle.ct_testfile.specs.declared.fault.ReadKind.TheVariants.{UnpairedIf};
+
+use crate::branch::{Branch, OpenIf};
+use crate::command::{Flow, command_of, flow_of};
+use crate::condition::holds;
+use crate::fault::{ReadFault, ReadKind, Stop, at_line};
+use crate::ifs::Ifs;
+use crate::limits::Limits;
+use crate::opening::{Opens, TestFile};
+use crate::perform::carry_out;
+use crate::state::State;
+use ct_base::{Files, Name, NoMemory};
+use ct_lex::Call;
+use std::alloc::Global;
+
+/// What there is behind a command.
+#[derive(Drop)]
+pub(crate) struct Step {
+    pub(crate) ifs: Ifs,
+    pub(crate) state: State,
+    pub(crate) opens: Opens,
+}
+
+/// Goes on behind a command of a file, but for what it opens.
+pub(crate) fn advance<F: Files>(
+    alloc: Global,
+    files: &mut F,
+    limits: &Limits,
+    file: &TestFile,
+    ifs: Ifs,
+    state: State,
+    call: &Call,
+) -> Result<Step, ReadFault>
+    requires { AreBounded limits.now }
+    ensures { Over (F.tells files.old) (F.tells files.new) (λ held. on_line file.now.path call.now.line (stepped limits.now held file.now.dir ifs state call.now)) result }
+{
+    let Some(flow) = flow_of(call.name.bytes()) else {
+        let step = do_other(alloc, limits, &file.dir, ifs, state, call);
+        return at_line(alloc, &file.path, call.line, step);
+    };
+    match flow {
+        Flow::If => do_if(alloc, files, limits, file, ifs, state, call),
+        Flow::ElseIf => do_elseif(alloc, files, limits, file, ifs, state, call),
+        Flow::Else => {
+            let step = do_else(alloc, limits, ifs, state);
+            at_line(alloc, &file.path, call.line, step)
+        }
+        Flow::EndIf => {
+            let step = do_endif(alloc, ifs, state);
+            at_line(alloc, &file.path, call.line, step)
+        }
+    }
+}
+
+/// Carries out a command that is none of an `if`, or passes it over.
+fn do_other(
+    alloc: Global,
+    limits: &Limits,
+    dir: &Name,
+    ifs: Ifs,
+    state: State,
+    call: &Call,
+) -> Result<Step, Stop>
+    requires { AreBounded limits.now }
+    ensures { Follows result (done limits.now dir.now call.now ifs state (is_live ifs)) }
+{
+    if !ifs.is_live() {
+        return Ok(Step {
+            ifs,
+            state,
+            opens: Opens::nothing(alloc),
+        });
+    }
+    let command = command_of(call.name.bytes());
+    let (state, opens) = carry_out(alloc, limits, dir, command, &call.args, state)?;
+    Ok(Step { ifs, state, opens })
+}
+
+/// Opens an `if`.
+///
+/// Source: CMake manual, if.
+fn do_if<F: Files>(
+    alloc: Global,
+    files: &mut F,
+    limits: &Limits,
+    file: &TestFile,
+    ifs: Ifs,
+    state: State,
+    call: &Call,
+) -> Result<Step, ReadFault>
+    ensures { Over (F.tells files.old) (F.tells files.new) (λ held. on_line file.now.path call.now.line (begun_if limits.now held file.now.dir call.now ifs state)) result }
+{
+    let live = ifs.is_live();
+    let (branch, state) = behind_if(alloc, files, limits, file, live, state, call)?;
+    Ok(in_branch(alloc, call.line, ifs, branch, state)?)
+}
+
+/// Tells which branch stands behind an `if`.
+fn behind_if<F: Files>(
+    alloc: Global,
+    files: &mut F,
+    limits: &Limits,
+    file: &TestFile,
+    live: bool,
+    state: State,
+    call: &Call,
+) -> Result<(Branch, State), ReadFault>
+    ensures { Over (F.tells files.old) (F.tells files.new) (λ held. on_line file.now.path call.now.line (behind_if limits.now held file.now.dir call.now state live)) result }
+{
+    if live {
+        asked(alloc, files, limits, file, state, call)
+    } else {
+        Ok((Branch::Idle, state))
+    }
+}
+
+/// Begins a later branch of the innermost `if`, whose condition is asked where no branch was taken yet.
+///
+/// Source: CMake manual, elseif.
+fn do_elseif<F: Files>(
+    alloc: Global,
+    files: &mut F,
+    limits: &Limits,
+    file: &TestFile,
+    ifs: Ifs,
+    state: State,
+    call: &Call,
+) -> Result<Step, ReadFault>
+    ensures { Over (F.tells files.old) (F.tells files.new) (λ held. on_line file.now.path call.now.line (continued limits.now held file.now.dir call.now ifs state)) result }
+{
+    let Some((inner, outer)) = ifs.take_inner() else {
+        return unpaired(alloc, file, call.line);
+    };
+    let (branch, state) = behind_elseif(alloc, files, limits, file, inner.branch, state, call)?;
+    Ok(in_branch(alloc, inner.line, outer, branch, state)?)
+}
+
+/// Tells which branch stands behind an `elseif`.
+fn behind_elseif<F: Files>(
+    alloc: Global,
+    files: &mut F,
+    limits: &Limits,
+    file: &TestFile,
+    branch: Branch,
+    state: State,
+    call: &Call,
+) -> Result<(Branch, State), ReadFault>
+    ensures { Over (F.tells files.old) (F.tells files.new) (λ held. on_line file.now.path call.now.line (behind_elseif limits.now held file.now.dir call.now state branch)) result }
+{
+    match branch {
+        Branch::Waiting => asked(alloc, files, limits, file, state, call),
+        Branch::Taken => Ok((Branch::Over, state)),
+        Branch::Over => Ok((Branch::Over, state)),
+        Branch::Idle => Ok((Branch::Idle, state)),
+        Branch::ElseTaken => unpaired(alloc, file, call.line),
+        Branch::ElseOver => unpaired(alloc, file, call.line),
+    }
+}
+
+/// Refuses a command that belongs to no open `if`.
+fn unpaired<T>(alloc: Global, file: &TestFile, line: u32) -> Result<T, ReadFault>
+    ensures says { IsAnswerOf (Err (At file.now.path line UnpairedIf)) result }
+    ensures unfailed { Unfailed result }
+{
+    at_line(
+        alloc,
+        &file.path,
+        line,
+        Err(Stop::Refused(ReadKind::UnpairedIf)),
+    )
+}
+
+/// Asks a condition: its command is counted, and the branch is taken where it holds.
+fn asked<F: Files>(
+    alloc: Global,
+    files: &mut F,
+    limits: &Limits,
+    file: &TestFile,
+    state: State,
+    call: &Call,
+) -> Result<(Branch, State), ReadFault>
+    ensures { Over (F.tells files.old) (F.tells files.new) (λ held. on_line file.now.path call.now.line (asked limits.now held file.now.dir call.now state)) result }
+{
+    let begun = state.begin(alloc, limits, &call.args);
+    let (values, state) = at_line(alloc, &file.path, call.line, begun)?;
+    let found = holds(
+        alloc,
+        files,
+        file,
+        call.line,
+        &state.variables,
+        values.as_slice(),
+    )?;
+    Ok((branch_by(found), state))
+}
+
+fn branch_by(is: bool) -> Branch
+    ensures { result ≡ (if is then branch.Taken else branch.Waiting) }
+{
+    if is { Branch::Taken } else { Branch::Waiting }
+}
+
+/// Begins the last branch of the innermost `if`.
+///
+/// Source: CMake manual, else.
+fn do_else(alloc: Global, limits: &Limits, ifs: Ifs, state: State) -> Result<Step, Stop>
+    ensures { Follows result (begun_else limits.now ifs state) }
+{
+    let Some((inner, outer)) = ifs.take_inner() else {
+        return Err(Stop::Refused(ReadKind::UnpairedIf));
+    };
+    let (branch, state) = behind_else(limits, inner.branch, state)?;
+    Ok(in_branch(alloc, inner.line, outer, branch, state)?)
+}
+
+/// Tells which branch stands behind an `else`.
+fn behind_else(limits: &Limits, branch: Branch, state: State) -> Result<(Branch, State), Stop>
+    ensures { Follows result (behind_else limits.now state branch) }
+{
+    match branch {
+        Branch::Waiting => Ok((Branch::ElseTaken, state.counted(limits)?)),
+        Branch::Taken | Branch::Over => Ok((Branch::ElseOver, state)),
+        Branch::Idle => Ok((Branch::Idle, state)),
+        Branch::ElseTaken | Branch::ElseOver => Err(Stop::Refused(ReadKind::UnpairedIf)),
+    }
+}
+
+/// Ends the innermost `if`.
+///
+/// Source: CMake manual, endif.
+fn do_endif(alloc: Global, ifs: Ifs, state: State) -> Result<Step, Stop>
+    ensures { Follows result (left ifs state) }
+{
+    let Some((_, outer)) = ifs.take_inner() else {
+        return Err(Stop::Refused(ReadKind::UnpairedIf));
+    };
+    Ok(Step {
+        ifs: outer,
+        state,
+        opens: Opens::nothing(alloc),
+    })
+}
+
+/// Puts a branch of an `if` inside the others.
+fn in_branch(
+    alloc: Global,
+    line: u32,
+    outer: Ifs,
+    branch: Branch,
+    state: State,
+) -> Result<Step, NoMemory>
+    ensures { IfOk result (λ step. step ≡ in_branch line outer (branch, state)) }
+{
+    Ok(Step {
+        ifs: outer.with(OpenIf { line, branch })?,
+        state,
+        opens: Opens::nothing(alloc),
+    })
+}

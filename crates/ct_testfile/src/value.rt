@@ -1,0 +1,81 @@
+ghost use Rattle.std.specs.Prelude.{◌≡◌, ◌-◌, ◌^◌, min, IfErr, IfOk};
+ghost use Rattle.ct_testfile.specs.Values.{part_text, values_of, texts, size};
+ghost use Rattle.ct_testfile.specs.Readers.{StopsFor};
+
+use crate::fault::Stop;
+use crate::limits::Limits;
+use crate::reader::Reader;
+use crate::table::Table;
+use ct_base::{List, Name, NoMemory};
+use ct_lex::{Args, Part};
+use std::alloc::Global;
+
+/// A value that a command gets, after evaluation.
+#[derive(Debug, Drop)]
+pub(crate) struct Value {
+    pub(crate) text: Name,
+    /// Whether the argument is unquoted that gives it.
+    pub(crate) unquoted: bool,
+}
+
+/// Gives the values of a command's arguments, unless they are longer than they may be.
+///
+/// Source: CMake manual, cmake-language(7), Command Arguments and Variable References.
+pub(crate) fn values_of(
+    alloc: Global,
+    limits: &Limits,
+    table: &Table,
+    args: &Args,
+) -> Result<List<Value>, Stop>
+    ensures values { IfOk result (λ values. values ≡ values_of table.now args.now) }
+    ensures stopped { IfErr result (StopsFor limits.now (values_of table.now args.now)) }
+{
+    let mut reader = Reader::new(alloc);
+    let mut left = args.reader();
+    'reads: while let Some(arg) = left.next(alloc)? {
+        reader.take(alloc, limits, table, &arg)?;
+    }
+    let Reader {
+        values,
+        bytes: _,
+        text: _,
+        held: _,
+    } = reader;
+    Ok(values)
+}
+
+/// Lends the text of a part: that of a reference is the variable's value.
+pub(crate) fn part_text<'a>(table: &'a Table, part: &'a Part) -> &'a [u8]
+    ensures { result.now ≡ part_text table.entry.now part.entry.now }
+{
+    match part {
+        Part::Bytes(bytes) => bytes.bytes(),
+        Part::Ref(name) => match table.value(name.bytes()) {
+            Some(value) => value.bytes(),
+            None => &[],
+        },
+    }
+}
+
+/// Takes the texts out of values.
+pub(crate) fn texts(alloc: Global, values: List<Value>) -> Result<List<Name>, NoMemory>
+    ensures { IfOk result (λ names. names ≡ texts values) }
+{
+    let names: Vec<Name> = values
+        .into_vec()
+        .into_iter()
+        .map(|value| value.text)
+        .collect(alloc)?;
+    Ok(List::from_vec(names))
+}
+
+/// Counts the bytes of values, up to the greatest number that there is.
+pub(crate) fn size(values: &[Value]) -> u64
+    ensures { result ≡ min (size values.now) (2 ^ 64 - 1) }
+{
+    let mut bytes: u64 = 0;
+    for value in values {
+        bytes = bytes.saturating_add(value.text.bytes().len() as u64);
+    }
+    bytes
+}
