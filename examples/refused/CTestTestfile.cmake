@@ -1,4 +1,4 @@
 add_test(passes "/bin/true")
 
-add_test(late "/bin/true" )
-add_test(later "/bin/true" )
+add_tests(late "/bin/true")
+add_tests(later "/bin/true")

@@ -26,8 +26,8 @@ use Rattle.ct_app.specs.InOrder.{in_order, seen_by, seens_in}
 use Rattle.ct_app.specs.Plain.{plan_of}
 use Rattle.ct_app.specs.Run.{IsBetween, RunEnds, fresh}
 use Rattle.ct_app.proofs.GateLemmas.{asked_none}
-use Rattle.ct_app.proofs.LineLemmas.{line_of_both, lines_of_both, lines_of_start, text_of-append, text_of-snoc}
-use Rattle.ct_app.proofs.PutLemmas.{puts_nothing, puts_same, puts_stop, puts_then}
+use Rattle.ct_report.proofs.LineLemmas.{line_of_both, lines_of_both, lines_of_start, text_of-append, text_of-snoc}
+use Rattle.ct_report.proofs.PutLemmas.{puts_nothing, puts_same, puts_stop, puts_then}
 
 -- so many lines were put, those of the history, and memory was there for each attempt
 pub record IsAlong (env : List Pair) (defs : List TestDef) (plan : PlanParts) (start gate : GateTell) (before after : SinkTell) (core : CoreValue) (lines : ℕ) : Type 0 where

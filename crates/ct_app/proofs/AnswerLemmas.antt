@@ -42,6 +42,7 @@ module _ (words : List (List ℕ)) (env : List Pair) (files files_now : FilesTel
       record {
         no_words = run.no_words;
         read = run.read;
+        built = run.built;
         ran = record {
           planned = run.ran.planned;
           legal = run.ran.legal;
@@ -91,7 +92,7 @@ module _ (words : List (List ℕ)) (env : List Pair) (files files_now : FilesTel
       line_told (Refused refusal) outcome status unput told.0 told.1 (λ puts. (late_refusal, puts, refl)) (λ puts. (late_refusal, puts))
   told_answer (Err (FilesFault path)) outcome status (inl (run, stay)) told = absurd (none_ran (λ p es. PlanEnds p es sink mid (Err (FilesFault path))) (λ p es none. none) run)
   told_answer (Err (FilesFault path)) outcome status (inr (fault, unput)) told =
-      let late_fault : IsReadFault (sides words env files files_now gates gates_now sink now plan history) path = record { no_words = fault.no_words; named = fault.named; failed = fault.failed; kept = fault.kept; unrun = unrun_late fault.unrun } in
+      let late_fault : IsReadFault (sides words env files files_now gates gates_now sink now plan history) path = record { no_words = fault.no_words; failed = fault.failed; kept = fault.kept; unrun = unrun_late fault.unrun } in
       line_told (FilesFault path) outcome status unput told.0 told.1 (λ puts. (inl (late_fault, puts), refl)) (λ puts. (late_fault, puts))
   told_answer (Err OutputFault) outcome status (inl (run, stay)) told =
       let cut = ran_late (λ p es. PlanEnds p es sink mid (Err OutputFault)) (λ p es. IsCutOff p es sink now) (λ p es was. subst (λ (t : SinkTell). IsCutOff p es sink t) (sym told.0.1) was) run in

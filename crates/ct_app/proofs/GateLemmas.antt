@@ -11,29 +11,20 @@ use Rattle.ct_base.specs.declared.defs.Pair.{Pair}
 use Rattle.ct_base.specs.declared.defs.TestDef.{TestDef}
 use Rattle.ct_base.specs.Outside.{Adds, Becomes}
 use Rattle.ct_alloc.specs.declared.placement.Placement.{Placement}
-use Rattle.ct_verdict.specs.declared.attempt.How.{How}
 use Rattle.ct_verdict.specs.declared.attempt.Seen.{Seen}
 use Rattle.ct_history.specs.declared.history.Entry.{Entry}
 use Rattle.ct_history.specs.declared.history.Entry.TheVariants.{Start, End, Settle, Stop}
 use Rattle.ct_history.specs.History.{Running, is_busy_in, is_end_of, opened, open_starts}
+use Rattle.ct_history.proofs.BoolLemmas.{and_left, and_right, eq_same, or_left, or_right}
+use Rattle.ct_history.proofs.OpenLemmas.{append-cons_option}
 use Rattle.ct_core.specs.declared.gate.Asked.{Asked}
 use Rattle.ct_core.specs.declared.gate.Request.{Request}
 use Rattle.ct_core.specs.declared.gate.Told.{Told}
+use Rattle.ct_core.proofs.RecordedLemmas.{filter_map-recorded, map-recorded}
 use Rattle.ct_core.specs.Gate.{GateTell, asked_for, is_no_memory, is_not_started, recorded}
 use Rattle.ct_report.proofs.PutLemmas.{adds_none, adds_then_adds}
 use Rattle.ct_app.specs.Attempt.{RunsAttempt}
 use Rattle.ct_app.specs.Gates.{AreAsked, AreTold, CountsUnstarted, IsAsked, SawTold, are_below, asked_by, def_at, ends_lacking, is_below, is_unstarted, lacks_memory, request_for, request_of, run_by, runs_of, sent_by, unstarted_count}
-
-eq_same : (n : ℕ) → (n == n) ≡ true
-eq_same n = grind (arith, nat_tests)
-
-left_false : (a b : Bool) → (a || b) ≡ false → a ≡ false
-left_false true b is = is
-left_false false b is = refl
-
-right_false : (a b : Bool) → (a || b) ≡ false → b ≡ false
-right_false true b is = cc
-right_false false b is = is
 
 -- the End of an attempt stays the first one of it
 ended_stays : (t a : ℕ) (es more : List Entry) → list_any (is_end_of t a) es ≡ true → ends_lacking t a (es ++ more) ≡ ends_lacking t a es
@@ -52,7 +43,7 @@ run_stays w (Start t a v p) es more rest free = elim (cases_Bool (list_any (is_e
   | inr waits ↦
       let run : Running = record { test = t; attempt = a; worker = v; placement = p } in
       let opens : opened (Start t a v p) es ≡ Some run = ap (λ (b : Bool). cond b None (Some run)) waits in
-      let other = left_false (v == w) (list_any (λ (r : Running). r.worker == w) rest) (sym (ap (λ (o : Option Running). list_any (λ (r : Running). r.worker == w) (cons_option o rest)) opens) ∙ free) in
+      let other = or_left (v == w) (list_any (λ (r : Running). r.worker == w) rest) (sym (ap (λ (o : Option Running). list_any (λ (r : Running). r.worker == w) (cons_option o rest)) opens) ∙ free) in
       ap (λ (b : Bool). cond (b && not (ends_lacking t a (es ++ more))) (Some run) None) other ∙ sym (ap (λ (b : Bool). cond (b && not (ends_lacking t a es)) (Some run) None) other)
 ]
 run_stays w (End t a v s) es more rest free = refl
@@ -61,11 +52,7 @@ run_stays w Stop es more rest free = refl
 
 free_behind : (w : ℕ) (o : Option Running) (rest : List Running) → list_any (λ (r : Running). r.worker == w) (cons_option o rest) ≡ false → list_any (λ (r : Running). r.worker == w) rest ≡ false
 free_behind w None rest free = free
-free_behind w (Some r) rest free = right_false (r.worker == w) (list_any (λ (q : Running). q.worker == w) rest) free
-
-append-cons_option : (o : Option Running) (xs ys : List Running) → cons_option o (xs ++ ys) ≡ cons_option o xs ++ ys
-append-cons_option None xs ys = refl
-append-cons_option (Some r) xs ys = refl
+free_behind w (Some r) rest free = or_right (r.worker == w) (list_any (λ (q : Running). q.worker == w) rest) free
 
 -- where a worker has no open start, what comes behind changes nothing of what it ran
 pub runs_of-append : (w : ℕ) (es more : List Entry) → is_busy_in w es ≡ false → runs_of w (es ++ more) ≡ runs_of w es ++ runs_of w more
@@ -91,20 +78,6 @@ module _ (t a w : ℕ) (p : Option Placement) (seen : Seen) where
 
   runs_of-more : (es : List Entry) → is_busy_in w es ≡ false → runs_of w (es ++ Start t a w p ∷ End t a w seen ∷ []) ≡ runs_of w es ++ recorded seen.how (record { test = t; attempt = a; worker = w; placement = p })
   runs_of-more es free = runs_of-append w es (Start t a w p ∷ End t a w seen ∷ []) free ∙ ap (λ (rs : List Running). runs_of w es ++ rs) runs_of-both
-
-map-recorded : {A B : Type 0} (f : A → B) (how : How) (x : A) → map f (recorded how x) ≡ recorded how (f x)
-map-recorded f how x = by (is_no_memory how)
-  where
-    by : (b : Bool) → map f (cond b [] (x ∷ [])) ≡ cond b [] (f x ∷ [])
-    by true = refl
-    by false = refl
-
-filter_map-recorded : {A B : Type 0} (f : A → Option B) (how : How) (x : A) (y : B) → f x ≡ Some y → filter_map f (recorded how x) ≡ recorded how y
-filter_map-recorded f how x y is = by (is_no_memory how)
-  where
-    by : (b : Bool) → filter_map f (cond b [] (x ∷ [])) ≡ cond b [] (y ∷ [])
-    by true = refl
-    by false = ap (λ o. cons_option o []) is
 
 are_told-append : (world : List Told) (w : ℕ) (es more : List Entry) → AreTold world w es → AreTold world w more → AreTold world w (es ++ more)
 are_told-append world w [] more one other = other
@@ -194,14 +167,6 @@ asked_none env defs w start = record {
 module _ (n w : ℕ) (behind : n ≤ w) where
   not_of : (v : ℕ) → nat_lt v n ≡ true → (v == w) ≡ false
   not_of v is = grind (arith, nat_tests)
-
-  and_left : (a b : Bool) → (a && b) ≡ true → a ≡ true
-  and_left true b is = refl
-  and_left false b is = is
-
-  and_right : (a b : Bool) → (a && b) ≡ true → b ≡ true
-  and_right true b is = is
-  and_right false b is = cc
 
   no_run : (e : Entry) (es : List Entry) → is_below n e ≡ true → run_by w e es ≡ None
   no_run (Start t a v p) es is = ap (λ (b : Bool). cond (b && not (ends_lacking t a es)) (Some (record { test = t; attempt = a; worker = v; placement = p })) None) (not_of v is)

@@ -3,8 +3,6 @@ pub mod RunLemmas
 pub mod NextLemmas
 pub mod GateLemmas
 pub mod StepLemmas
-pub mod LineLemmas
-pub mod PutLemmas
 pub mod AlongLemmas
 pub mod ReportLemmas
 pub mod EndLemmas

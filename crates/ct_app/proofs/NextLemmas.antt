@@ -3,6 +3,7 @@ use Rattle.std.proofs.Common.{◌≡◌, ◌∙◌, sym, ap, subst, true, false,
 use Rattle.std.specs.Prelude.{take, drop, All, Option, Some, None, is_some, IsSome, not, ◌&&◌, ⊤, slice_get}
 use Rattle.std.specs.List.{list_all, list_any}
 use Rattle.std.proofs.lemmas.Bool.{cases_eq}
+use Rattle.std.proofs.lemmas.List.{length-take-le}
 use Rattle.std.proofs.lemmas.List.Elements.{All-cons, All-nil, filter_map-append}
 use Rattle.ct_alloc.specs.declared.placement.Placement.{Placement}
 use Rattle.ct_base.specs.declared.defs.TestDef.{TestDef}
@@ -14,6 +15,7 @@ use Rattle.ct_history.specs.declared.plan.PlanParts.{PlanParts}
 use Rattle.ct_history.specs.declared.history.Entry.{Entry}
 use Rattle.ct_history.specs.declared.history.Entry.TheVariants as Is
 use Rattle.ct_history.specs.Plan.{test_at}
+use Rattle.ct_history.proofs.BoolLemmas.{and_false}
 use Rattle.ct_history.specs.History.{Running}
 use Rattle.ct_history.specs.Rules.{is_idle}
 use Rattle.ct_history.specs.Verdicts.{is_final_in, verdict_at, verdict_in, verdict_of_test, are_all_final}
@@ -47,10 +49,6 @@ unfolding finals
 all_final_from ss first [] low high = refl
 all_final_from ss first (d ∷ ds) low high =
     ap (λ (b : Bool). b && finals ss (first + 1) ds) (final_within first d ss low (omega arith)) ∙ all_final_from ss (first + 1) ds (omega arith) (omega arith)
-
-and_false : (b : Bool) → (b && false) ≡ false
-and_false true = refl
-and_false false = refl
 
 not_all_final_from : (ss : List Seen) (first : ℕ) (defs : List TestDef) → first ≤ 1 + length ss → 1 + length ss < first + length defs → finals ss first defs ≡ false
 unfolding finals
@@ -92,11 +90,6 @@ plain_tests-split first zero number (d ∷ ds) def there is =
 plain_tests-split first (suc place) number (d ∷ ds) def there is =
     ap (λ (ts : List PlanTest). plain_test first d ∷ ts) (plain_tests-split (first + 1) place number ds def there (is ∙ omega arith))
 
-length-taken : (place : ℕ) (defs : List TestDef) → place ≤ length defs → length (take place defs) ≡ place
-length-taken zero defs le = refl
-length-taken (suc place) [] le = absurd (omega arith)
-length-taken (suc place) (d ∷ ds) le = omega (arith, length-taken place ds (omega arith))
-
 -- the next attempt of the next test is its first
 next_attempt : (defs : List TestDef) (ss : List Seen) (m : ℕ) → length ss < length defs → m ≡ 1 + length ss → attempt_after (in_order 1 ss) (test_at (plain_tests 1 defs) m) ≡ 1
 next_attempt defs ss m less is =
@@ -131,7 +124,7 @@ module _ (dir : List ℕ) (defs : List TestDef) (ss : List Seen) where
   starts_behind m p less first =
       let place = length ss in
       let found = some_at defs place less in
-      let taken = length-taken place defs (omega arith) in
+      let taken = length-take-le place defs (omega arith) in
       free_starts (plan_of dir defs) (sound dir defs) (all_free 1 defs) (in_order 1 ss) (run_goes_on 1 ss) (run_idle 1 ss) refl
       (plain_tests 1 (take place defs)) (plain_tests (1 + place + 1) (drop (suc place) defs)) (plain_test (1 + place) found.0)
       (plain_tests-split 1 place (1 + place) defs found.0 found.1 refl)

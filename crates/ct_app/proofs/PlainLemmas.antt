@@ -1,12 +1,12 @@
 -- The plan of plain tests is sound, and its tests are found by their numbers.
-use Rattle.std.proofs.Common.{◌≡◌, ◌∙◌, sym, ap, subst, true, false, Bool, ℕ, ◌+◌, ◌<◌, ◌≤◌, zero, suc, List, [], ◌∷◌, length, refl, arith}
+use Rattle.std.proofs.Common.{◌≡◌, ◌∙◌, sym, ap, subst, true, false, Bool, ℕ, ◌+◌, ◌≤◌, zero, suc, List, [], ◌∷◌, length, refl, arith}
 use Rattle.std.specs.Prelude.{map, Some, ◌==◌, cond, slice_get, IsPermutation, None}
 use Rattle.std.specs.List.{list_all}
 use Rattle.std.proofs.lemmas.List.Sorted.{IsPermutation-refl}
-use Rattle.std.proofs.lemmas.Bool.Decides.{nat_tests}
 use Rattle.ct_base.specs.declared.defs.TestDef.{TestDef}
 use Rattle.ct_history.specs.declared.plan.PlanTest.{PlanTest}
 use Rattle.ct_history.specs.Plan.{IsSound, IsAscendingFrom, AllAscend, test_at, enabled, has_sound_links, has_sound_processors, is_fixed_cause}
+use Rattle.ct_history.proofs.BoolLemmas.{eq_is, eq_less}
 use Rattle.ct_app.specs.Plain.{plain_test, plain_tests, plan_of}
 
 ascends : (least first : ℕ) (defs : List TestDef) → least ≤ first → IsAscendingFrom least (map (λ (t : PlanTest). t.number) (plain_tests first defs))
@@ -47,20 +47,14 @@ test_at-plain_tests first [] number place def is here = cc
 test_at-plain_tests first (d ∷ ds) number zero def is here =
     let same : d ≡ def = cc in
     let at : first ≡ number = omega (arith, is) in
-    let found : (first == number) ≡ true = eq_test first number at in
+    let found : (first == number) ≡ true = eq_is first number at in
     ap (λ (b : Bool). cond b (Some (plain_test first d)) (test_at (plain_tests (first + 1) ds) number)) found
     ∙ ap (λ (n : ℕ). Some (plain_test n d)) at
     ∙ ap (λ (e : TestDef). Some (plain_test number e)) same
-  where
-    eq_test : (m n : ℕ) → m ≡ n → (m == n) ≡ true
-    eq_test m n is = grind (arith, nat_tests)
 test_at-plain_tests first (d ∷ ds) number (suc place) def is here =
-    let other : (first == number) ≡ false = ne_test first number (omega (arith, is)) in
+    let other : (first == number) ≡ false = eq_less first number (omega (arith, is)) in
     ap (λ (b : Bool). cond b (Some (plain_test first d)) (test_at (plain_tests (first + 1) ds) number)) other
     ∙ test_at-plain_tests (first + 1) ds number place def (is ∙ omega arith) here
-  where
-    ne_test : (m n : ℕ) → m < n → (m == n) ≡ false
-    ne_test m n lt = grind (arith, nat_tests)
 
 -- the plan of plain tests is sound
 pub sound : (dir : List ℕ) (defs : List TestDef) → IsSound (plan_of dir defs)

@@ -17,8 +17,8 @@ use Rattle.ct_history.specs.Verdicts.{are_all_final, is_final_in}
 use Rattle.ct_report.specs.Report.{body_lines, header_line, report_text, summary_lines, test_lines, text_of}
 use Rattle.ct_app.specs.Plain.{plain_tests, plan_of}
 use Rattle.ct_app.specs.Run.{RunEnds}
-use Rattle.ct_app.proofs.LineLemmas.{text_of-append}
-use Rattle.ct_app.proofs.PutLemmas.{puts_more, puts_same, puts_then}
+use Rattle.ct_report.proofs.LineLemmas.{text_of-append}
+use Rattle.ct_report.proofs.PutLemmas.{puts_more, puts_same, puts_then}
 
 -- the header alone, or a beginning of it
 pub header_fails : (plan : PlanParts) (es : List Entry) (old new : SinkTell) (fault : SinkFault) → Puts (header_line plan) old new (Err fault) → Puts (report_text plan es) old new (Err fault)

@@ -2,7 +2,6 @@
 use Rattle.std.proofs.Common.{◌≡◌, ◌∙◌, ap, true, false, Bool, ℕ, ◌+◌, ◌<◌, ◌≤◌, zero, suc, List, [], ◌∷◌, ◌++◌, length, refl, arith}
 use Rattle.std.specs.Prelude.{filter_map, Option, Some, None, not, ◌==◌, ◌&&◌, ◌||◌, cond, slice_get, if◌then◌else◌}
 use Rattle.std.specs.List.{list_any, cons_option}
-use Rattle.std.proofs.lemmas.Bool.Decides.{nat_tests}
 use Rattle.ct_base.specs.declared.defs.TestDef.{TestDef}
 use Rattle.ct_verdict.specs.declared.attempt.Seen.{Seen}
 use Rattle.ct_verdict.specs.declared.rules.Rules.{Rules}
@@ -13,20 +12,9 @@ use Rattle.ct_history.specs.declared.history.Entry.{Entry}
 use Rattle.ct_history.specs.declared.history.Entry.TheVariants.{Start, End}
 use Rattle.ct_history.specs.History.{Running, is_end_of, opened, open_starts, has_stop, settled_by, attempts_of}
 use Rattle.ct_history.specs.Verdicts.{first_of_list, settled_cause, settled_or, is_over, last_of_list, verdict_in}
+use Rattle.ct_history.proofs.BoolLemmas.{eq_is, eq_less, eq_more, eq_same}
 use Rattle.ct_app.specs.Plain.{once, plain_rules, plain_test}
 use Rattle.ct_app.specs.InOrder.{in_order, seens_in}
-
-eq_same : (n : ℕ) → (n == n) ≡ true
-eq_same n = grind (arith, nat_tests)
-
-eq_is : (m n : ℕ) → m ≡ n → (m == n) ≡ true
-eq_is m n is = grind (arith, nat_tests)
-
-eq_lt : (m n : ℕ) → m < n → (m == n) ≡ false
-eq_lt m n lt = grind (arith, nat_tests)
-
-eq_gt : (m n : ℕ) → n < m → (m == n) ≡ false
-eq_gt m n gt = grind (arith, nat_tests)
 
 -- a place of a list has an element
 pub some_at : {A : Type 0} (xs : List A) (i : ℕ) → i < length xs → (x : A) × (slice_get xs i ≡ Some x)
@@ -61,14 +49,14 @@ run_settled m first ss = ap (λ (cs : List Cause). first_of_list cs) (run_settle
 attempts_before : (m first : ℕ) (rules : Rules) (ss : List Seen) → m < first → attempts_of m rules (in_order first ss) ≡ []
 attempts_before m first rules [] lt = refl
 attempts_before m first rules (s ∷ ss) lt =
-    ap (λ (b : Bool). cons_option (cond b (Some (verdict_of rules s)) None) (attempts_of m rules (in_order (first + 1) ss))) (eq_gt first m lt)
+    ap (λ (b : Bool). cons_option (cond b (Some (verdict_of rules s)) None) (attempts_of m rules (in_order (first + 1) ss))) (eq_more first m lt)
     ∙ attempts_before m (first + 1) rules ss (omega arith)
 
 -- nor was one that comes behind them
 pub attempts_behind : (m first : ℕ) (rules : Rules) (ss : List Seen) → first + length ss ≤ m → attempts_of m rules (in_order first ss) ≡ []
 attempts_behind m first rules [] le = refl
 attempts_behind m first rules (s ∷ ss) le =
-    ap (λ (b : Bool). cons_option (cond b (Some (verdict_of rules s)) None) (attempts_of m rules (in_order (first + 1) ss))) (eq_lt first m (omega arith))
+    ap (λ (b : Bool). cons_option (cond b (Some (verdict_of rules s)) None) (attempts_of m rules (in_order (first + 1) ss))) (eq_less first m (omega arith))
     ∙ attempts_behind m (first + 1) rules ss (omega arith)
 
 -- one of them was attempted once
@@ -80,7 +68,7 @@ attempts_at m first zero rules (s ∷ ss) seen is here =
     ∙ ap (λ (vs : List Verdict). verdict_of rules s ∷ vs) (attempts_before m (first + 1) rules ss (omega arith))
     ∙ ap (λ (x : Seen). verdict_of rules x ∷ []) same
 attempts_at m first (suc place) rules (s ∷ ss) seen is here =
-    ap (λ (b : Bool). cons_option (cond b (Some (verdict_of rules s)) None) (attempts_of m rules (in_order (first + 1) ss))) (eq_lt first m (omega arith))
+    ap (λ (b : Bool). cons_option (cond b (Some (verdict_of rules s)) None) (attempts_of m rules (in_order (first + 1) ss))) (eq_less first m (omega arith))
     ∙ attempts_at m (first + 1) place rules ss seen (is ∙ omega arith) here
 
 -- the verdict of a plain test, by what its history says of it

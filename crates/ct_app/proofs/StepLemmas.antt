@@ -1,19 +1,18 @@
 -- A step of a run, in which an attempt starts and ends while nothing else is open.
-use Rattle.std.proofs.Common.{◌≡◌, ◌∙◌, sym, ap, subst, Bool, true, false, ℕ, ◌-◌, ◌<◌, List, [], ◌∷◌, ◌++◌, length, refl, arith, inl, inr, append_assoc, get_or}
-use Rattle.std.specs.Prelude.{Option, Some, None, IsSome, nat_lt, ◌==◌, ◌&&◌, ◌||◌, cond, slice_get}
-use Rattle.std.specs.List.{list_any, cons_option}
-use Rattle.std.proofs.lemmas.Bool.{cases_Bool}
+use Rattle.std.proofs.Common.{◌≡◌, ◌∙◌, sym, ap, subst, Bool, true, false, ℕ, ◌-◌, ◌<◌, List, [], ◌∷◌, ◌++◌, length, refl, arith, append_assoc, get_or}
+use Rattle.std.specs.Prelude.{Some, IsSome, nat_lt, ◌==◌, ◌&&◌, ◌||◌, slice_get}
+use Rattle.std.specs.List.{list_any}
 use Rattle.std.proofs.lemmas.Bool.Decides.{nat_tests}
-use Rattle.std.proofs.lemmas.List.Folds.{list_all-append, list_any-append}
+use Rattle.std.proofs.lemmas.List.Folds.{list_all-append}
 use Rattle.std.proofs.lemmas.Option.{slice_get_read, slice_get_within}
 use Rattle.ct_base.specs.declared.defs.Pair.{Pair}
 use Rattle.ct_base.specs.declared.defs.TestDef.{TestDef}
-use Rattle.ct_alloc.specs.declared.placement.Placement.{Placement}
 use Rattle.ct_verdict.specs.declared.attempt.Seen.{Seen}
 use Rattle.ct_history.specs.declared.plan.PlanParts.{PlanParts}
 use Rattle.ct_history.specs.declared.history.Entry.{Entry}
 use Rattle.ct_history.specs.declared.history.Entry.TheVariants as Is
-use Rattle.ct_history.specs.History.{Running, is_end_of, opened, open_starts}
+use Rattle.ct_history.specs.History.{Running}
+use Rattle.ct_history.proofs.OpenLemmas.{closed_both, open_starts-append}
 use Rattle.ct_history.specs.Verdicts.{verdict_of_test}
 use Rattle.ct_core.specs.declared.scheduler.Next.TheVariants as Says
 use Rattle.ct_core.specs.declared.ticket.Ticket.{Ticket}
@@ -27,38 +26,6 @@ use Rattle.ct_app.specs.Gates.{IsAsked, are_below, is_below}
 use Rattle.ct_app.specs.Run.{IsBetween}
 use Rattle.ct_app.proofs.GateLemmas.{asked_more}
 use Rattle.ct_app.proofs.NextLemmas.{StartsNext, plain_next}
-
-eq_same : (n : ℕ) → (n == n) ≡ true
-eq_same n = grind (arith, nat_tests)
-
-no_option : (o : Option Running) (rest : List Running) → cons_option o rest ≡ [] → (o ≡ None) × (rest ≡ [])
-no_option None rest is = (refl, is)
-no_option (Some r) rest is = cc
-
--- what is closed stays closed
-closed_stays : (e : Entry) (es more : List Entry) → opened e es ≡ None → opened e (es ++ more) ≡ None
-closed_stays (Is.Start t a w p) es more is = elim (cases_Bool (list_any (is_end_of t a) es)) [
-  | inl ended ↦ ap (λ (b : Bool). cond b None (Some (record { test = t; attempt = a; worker = w; placement = p }))) (list_any-append (is_end_of t a) es more ∙ ap (λ (b : Bool). b || list_any (is_end_of t a) more) ended)
-  | inr waits ↦
-      let run : Running = record { test = t; attempt = a; worker = w; placement = p } in
-      let no : Some run ≡ None = sym (ap (λ (b : Bool). cond b None (Some run)) waits) ∙ is in
-      cc
-]
-closed_stays (Is.End t a w s) es more is = refl
-closed_stays (Is.Settle t c) es more is = refl
-closed_stays Is.Stop es more is = refl
-
--- where nothing is open, what is open behind it is what comes behind it opens
-pub open_starts-append : (es more : List Entry) → open_starts es ≡ [] → open_starts (es ++ more) ≡ open_starts more
-open_starts-append [] more closed = refl
-open_starts-append (e ∷ es) more closed =
-    let both = no_option (opened e es) (open_starts es) closed in
-    ap (λ (o : Option Running). cons_option o (open_starts (es ++ more))) (closed_stays e es more both.0) ∙ open_starts-append es more both.1
-
-closed_both : (t a w : ℕ) (p : Option Placement) (s : Seen) → open_starts (Is.Start t a w p ∷ Is.End t a w s ∷ []) ≡ []
-closed_both t a w p s =
-    let run : Running = record { test = t; attempt = a; worker = w; placement = p } in
-    ap (λ (b : Bool). cons_option (cond ((b && a == a) || false) None (Some run)) []) (eq_same t) ∙ ap (λ (b : Bool). cons_option (cond (b || false) None (Some run)) []) (eq_same a)
 
 -- the next attempt of a run of plain tests
 module _ (defs : List TestDef) (old : CoreValue) (ticket : Ticket) (mid : CoreValue) (was : IsBetween defs old) (starts : StartsFirst old 0 ticket mid) where

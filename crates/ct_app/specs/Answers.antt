@@ -6,7 +6,7 @@ use Rattle.ct_base.specs.declared.sink.SinkFault.{SinkFault}
 use Rattle.ct_base.specs.declared.sink.SinkFault.TheVariants as Sinks
 use Rattle.ct_base.specs.Outside.{Becomes, FilesTell, Held, Puts, Rose, SameHeld, SinkTell}
 use Rattle.ct_testfile.specs.declared.fault.ReadFault.TheVariants as Read
-use Rattle.ct_testfile.specs.Tree.{test_file, tree_of}
+use Rattle.ct_testfile.specs.Tree.{tree_of}
 use Rattle.ct_history.specs.declared.plan.PlanParts.{PlanParts}
 use Rattle.ct_history.specs.declared.history.Entry.{Entry}
 use Rattle.ct_history.specs.History.{open_starts}
@@ -14,13 +14,14 @@ use Rattle.ct_history.specs.Legal.{IsComplete, StaysWithin, is_legal}
 use Rattle.ct_core.specs.Gate.{GateTell}
 use Rattle.ct_report.specs.Report.{header_line, report_text}
 use Rattle.ct_app.specs.declared.outcome.Refusal.{Refusal}
-use Rattle.ct_app.specs.declared.outcome.Refusal.TheVariants.{TestFile}
+use Rattle.ct_app.specs.declared.outcome.Refusal.TheVariants.{TestFile, Prop}
 use Rattle.ct_app.specs.declared.outcome.Outcome.{Outcome}
 use Rattle.ct_app.specs.declared.outcome.Outcome.TheVariants.{Completed, Usage, Refused, FilesFault, OutputFault, Memory}
 use Rattle.ct_app.specs.Gates.{AreAsked, are_below, had_memory}
 use Rattle.ct_app.specs.InOrder.{RunsInOrder}
 use Rattle.ct_app.specs.Outcome.{fault_line, status_of}
 use Rattle.ct_app.specs.Plain.{plan_of}
+use Rattle.ct_app.specs.Props.{first_unbuilt}
 use Rattle.ct_app.specs.Run.{RunEnds}
 
 -- the folder of a run without options
@@ -66,10 +67,6 @@ pub record FilesFail (path : List ℕ) (before now : FilesTell) : Type 0 where
   pub rose : Rose before.faults now.faults
   pub last : IfSome now.refused (λ last. last ≡ Some path)
 
--- the paths that reading names: the test file of the folder
-abbrev pub paths_read : List (List ℕ)
-paths_read = test_file here ∷ []
-
 -- the paths that a run of this plan writes: none yet
 abbrev pub paths_written : PlanParts → List (List ℕ)
 paths_written plan = []
@@ -103,10 +100,11 @@ pub record IsRunOf (env : List Pair) (defs : List TestDef) (gates_before gates_n
   pub asked : AreAsked env defs 0 gates_before gates_now entries
   pub in_order : RunsInOrder defs entries
 
--- the tests that were read ran
+-- the tests that were read ran, none of which has a property that is refused
 pub record IsRun (s : Sides) (defs : List TestDef) (plan : PlanParts) (entries : List Entry) : Type 0 where
   pub no_words : s.words ≡ []
-  pub read : IfSome s.files_before.held (λ held. tree_of held here ≡ Ok defs)
+  pub read : IfSome s.files_before.held (λ held. tree_of held here [] ≡ Ok defs)
+  pub built : first_unbuilt 1 defs ≡ None
   pub ran : IsRunOf s.env defs s.gates_before s.gates_now plan entries
 
 -- plan and history are there, of a run of the tests that were read, and this holds of them
@@ -144,19 +142,19 @@ pub record IsUsage (s : Sides) (word : ℕ) : Type 0 where
 
 -- what the files hold is refused so
 abbrev pub IsRefusedBy : Option Held → Refusal → Type 0
-IsRefusedBy told (TestFile file line kind) = IfSome told (λ held. tree_of held here ≡ Err (Read.At file line kind))
+IsRefusedBy told (TestFile file line kind) = IfSome told (λ held. tree_of held here [] ≡ Err (Read.At file line kind))
+IsRefusedBy told (Prop test key kind) = (defs : List TestDef) × IfSome told (λ held. tree_of held here [] ≡ Ok defs) × (first_unbuilt 1 defs ≡ Some (record { test = test; key = key }))
 
--- the test file was refused, and nothing was run
+-- a test file or a property was refused, and nothing was run
 pub record IsRefusal (s : Sides) (refusal : Refusal) : Type 0 where
   pub no_words : s.words ≡ []
   pub read : IsRefusedBy s.files_before.held refusal
   pub files : FilesStay s.files_before s.files_now
   pub unrun : IsUnrun s
 
--- the files failed at a path that reading names
+-- the files failed at a path while the tests were read
 pub record IsReadFault (s : Sides) (path : List ℕ) : Type 0 where
   pub no_words : s.words ≡ []
-  pub named : Contains paths_read path
   pub failed : FilesFail path s.files_before s.files_now
   pub kept : Becomes s.files_before.held s.files_now.held SameHeld
   pub unrun : IsUnrun s

@@ -1,5 +1,5 @@
 -- How a run ended, before its outcome is told. This project's own.
-use Rattle.std.specs.Prelude.{◌≡◌, ◌⊎◌, ℕ, ◌-◌, ◌^◌, ◌<◌, List, length, Contains, Option, Result, Ok, Err, IfSome, IsSomeAnd}
+use Rattle.std.specs.Prelude.{◌≡◌, ◌⊎◌, ℕ, ◌-◌, ◌^◌, ◌<◌, List, [], length, Option, None, Result, Ok, Err, IfSome, IsSomeAnd}
 use Rattle.ct_base.specs.declared.defs.Pair.{Pair}
 use Rattle.ct_base.specs.declared.defs.TestDef.{TestDef}
 use Rattle.ct_base.specs.declared.sink.SinkFault.{SinkFault}
@@ -12,9 +12,10 @@ use Rattle.ct_history.specs.declared.history.History.{History}
 use Rattle.ct_core.specs.Gate.{GateTell}
 use Rattle.ct_app.specs.declared.outcome.Outcome.{Outcome}
 use Rattle.ct_app.specs.declared.outcome.Outcome.TheVariants.{Completed, Usage, Refused, FilesFault, OutputFault, Memory}
-use Rattle.ct_app.specs.Answers.{FilesFail, FilesStay, HasRunWith, IsRefusedBy, paths_read, here, IsCutOff, IsGivenUp, IsReadFault, IsRefusal, IsReported, IsRunOf, IsUnrun, IsUsage, PutsOrFails, Sides}
+use Rattle.ct_app.specs.Answers.{FilesFail, FilesStay, HasRunWith, IsRefusedBy, here, IsCutOff, IsGivenUp, IsReadFault, IsRefusal, IsReported, IsRunOf, IsUnrun, IsUsage, PutsOrFails, Sides}
 use Rattle.ct_app.specs.Outcome.{fault_line, fault_status, outcome_of_sink, status_of}
 use Rattle.ct_app.specs.Plain.{plan_of}
+use Rattle.ct_app.specs.Props.{first_unbuilt}
 
 -- the entries of a history
 abbrev pub history_entries : History → List Entry
@@ -41,17 +42,18 @@ RanPlan env defs gates_before gates_now plan history before now ended = IsSomeAn
 
 -- the tests of the folder were read and planned, and the files stay
 pub record IsReadFolder (before now : FilesTell) (defs : List TestDef) (plan : PlanParts) : Type 0 where
-  pub read : IfSome before.held (λ held. tree_of held here ≡ Ok defs)
+  pub read : IfSome before.held (λ held. tree_of held here [] ≡ Ok defs)
   pub few : length defs < 2 ^ 32 - 1
+  pub built : first_unbuilt 1 defs ≡ None
   pub planned : plan ≡ plan_of here defs
   pub files : FilesStay before now
 
--- why they were not: the test file is refused, or the files failed at it, or memory was wanting
+-- why they were not: a test file or a property is refused, or the files failed at a path that was read, or memory was wanting
 abbrev pub IsUnread : FilesTell → FilesTell → Outcome → Type 0
 IsUnread before now Completed = ⊥
 IsUnread before now (Usage word kind) = ⊥
 IsUnread before now (Refused refusal) = IsRefusedBy before.held refusal × FilesStay before now
-IsUnread before now (FilesFault path) = Contains paths_read path × FilesFail path before now × Becomes before.held now.held SameHeld
+IsUnread before now (FilesFault path) = FilesFail path before now × Becomes before.held now.held SameHeld
 IsUnread before now OutputFault = ⊥
 IsUnread before now Memory = FilesStay before now
 

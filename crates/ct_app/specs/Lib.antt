@@ -5,5 +5,6 @@ pub mod Gates
 pub mod Attempt
 pub mod Run
 pub mod Outcome
+pub mod Props
 pub mod Answers
 pub mod Ends

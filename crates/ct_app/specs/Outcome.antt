@@ -5,14 +5,16 @@ use Rattle.ct_base.specs.declared.sink.SinkFault.TheVariants as Sinks
 use Rattle.ct_testfile.specs.declared.fault.ReadFault.{ReadFault}
 use Rattle.ct_testfile.specs.declared.fault.ReadFault.TheVariants as Read
 use Rattle.ct_testfile.specs.declared.fault.ReadKind.{ReadKind}
-use Rattle.ct_testfile.specs.declared.fault.ReadKind.TheVariants.{BadChar, TooLong}
+use Rattle.ct_testfile.specs.declared.fault.ReadKind.TheVariants.{OpenString, OpenBracket, OpenCall, BadEscape, BadChar, BadReference, UnknownCommand, BadCall, MissingInclude, UnpairedIf, BadCondition, BadPattern, TooDeep, TooManyTests, TooManyCommands, TooLong}
 use Rattle.ct_history.specs.declared.plan.PlanParts.{PlanParts}
 use Rattle.ct_history.specs.declared.history.Entry.{Entry}
 use Rattle.ct_history.specs.Legal.{has_failing}
 use Rattle.ct_app.specs.declared.outcome.UsageKind.{UsageKind}
 use Rattle.ct_app.specs.declared.outcome.UsageKind.TheVariants.{UnknownOption}
 use Rattle.ct_app.specs.declared.outcome.Refusal.{Refusal}
-use Rattle.ct_app.specs.declared.outcome.Refusal.TheVariants.{TestFile}
+use Rattle.ct_app.specs.declared.outcome.Refusal.TheVariants.{TestFile, Prop}
+use Rattle.ct_app.specs.declared.outcome.PropKind.{PropKind}
+use Rattle.ct_app.specs.declared.outcome.PropKind.TheVariants.{Unbuilt}
 use Rattle.ct_app.specs.declared.outcome.Outcome.{Outcome}
 use Rattle.ct_app.specs.declared.outcome.Outcome.TheVariants.{Completed, Usage, Refused, FilesFault, OutputFault, Memory}
 
@@ -37,12 +39,31 @@ usage_text UnknownOption = codes "unknown option"
 
 -- what is wrong with a line of a test file
 abbrev pub kind_text : ReadKind → List ℕ
+kind_text OpenString = codes "unclosed quoted argument"
+kind_text OpenBracket = codes "unclosed bracket"
+kind_text OpenCall = codes "unclosed command"
+kind_text BadEscape = codes "bad escape"
 kind_text BadChar = codes "unexpected byte"
+kind_text BadReference = codes "bad variable reference"
+kind_text UnknownCommand = codes "unknown command"
+kind_text BadCall = codes "bad arguments"
+kind_text MissingInclude = codes "included file is missing"
+kind_text UnpairedIf = codes "unpaired if"
+kind_text BadCondition = codes "bad condition"
+kind_text BadPattern = codes "bad pattern"
+kind_text TooDeep = codes "files nest too deep"
+kind_text TooManyTests = codes "too many tests"
+kind_text TooManyCommands = codes "too many commands"
 kind_text TooLong = codes "too much text"
+
+-- what is wrong with a property
+abbrev pub prop_text : PropKind → List ℕ
+prop_text Unbuilt = codes "not built yet"
 
 -- what is refused, and why
 abbrev pub refusal_text : Refusal → List ℕ
 refusal_text (TestFile file line kind) = file ++ codes ":" ++ decimal line ++ codes ": " ++ kind_text kind
+refusal_text (Prop test key kind) = codes "test " ++ decimal test ++ codes ": " ++ key ++ codes ": " ++ prop_text kind
 
 -- what an outcome says of itself, where it does
 abbrev pub outcome_text : Outcome → List ℕ

@@ -1,9 +1,9 @@
 ghost use Rattle.std.specs.Prelude.{◌≡◌, ◌++◌, codes, decimal, IfOk};
 ghost use Rattle.ct_app.specs.Ends.{Tells, TellsEnd};
-ghost use Rattle.ct_app.specs.Outcome.{fault_line, fault_status, kind_text, outcome_text, refusal_text, usage_text};
+ghost use Rattle.ct_app.specs.Outcome.{fault_line, fault_status, kind_text, outcome_text, prop_text, refusal_text, usage_text};
 ghost use Rattle.ct_base.specs.Outside.{Puts};
 
-use crate::{Outcome, Refusal, UsageKind};
+use crate::{Outcome, PropKind, Refusal, UsageKind};
 use ct_base::{Blob, Name, NoMemory, Sink, SinkFault};
 use ct_testfile::ReadKind;
 use std::alloc::Global;
@@ -110,6 +110,27 @@ fn text_of_refusal(alloc: Global, refusal: &Refusal) -> Result<Blob, NoMemory>
 {
     match refusal {
         Refusal::TestFile { file, line, kind } => text_of_place(alloc, file, *line, *kind),
+        Refusal::Prop { test, key, kind } => text_of_prop(alloc, *test, key, *kind),
+    }
+}
+
+fn text_of_prop(alloc: Global, test: u32, key: &Name, kind: PropKind) -> Result<Blob, NoMemory>
+    ensures { IfOk result (λ text. text ≡ codes "test " ++ decimal test ++ codes ": " ++ key.now ++ codes ": " ++ prop_text kind) }
+{
+    let mut text = Blob::of(alloc, b"test ")?;
+    text.append(test.to_string(alloc)?.as_bytes())?;
+    text.append(b": ")?;
+    text.append(key.bytes())?;
+    text.append(b": ")?;
+    text.append(text_of_prop_kind(kind))?;
+    Ok(text)
+}
+
+fn text_of_prop_kind(kind: PropKind) -> &'static [u8]
+    ensures { result.now ≡ prop_text kind }
+{
+    match kind {
+        PropKind::Unbuilt => b"not built yet",
     }
 }
 
@@ -128,7 +149,21 @@ fn text_of_kind(kind: ReadKind) -> &'static [u8]
     ensures { result.now ≡ kind_text kind }
 {
     match kind {
+        ReadKind::OpenString => b"unclosed quoted argument",
+        ReadKind::OpenBracket => b"unclosed bracket",
+        ReadKind::OpenCall => b"unclosed command",
+        ReadKind::BadEscape => b"bad escape",
         ReadKind::BadChar => b"unexpected byte",
+        ReadKind::BadReference => b"bad variable reference",
+        ReadKind::UnknownCommand => b"unknown command",
+        ReadKind::BadCall => b"bad arguments",
+        ReadKind::MissingInclude => b"included file is missing",
+        ReadKind::UnpairedIf => b"unpaired if",
+        ReadKind::BadCondition => b"bad condition",
+        ReadKind::BadPattern => b"bad pattern",
+        ReadKind::TooDeep => b"files nest too deep",
+        ReadKind::TooManyTests => b"too many tests",
+        ReadKind::TooManyCommands => b"too many commands",
         ReadKind::TooLong => b"too much text",
     }
 }

@@ -6,6 +6,7 @@ ghost use Rattle.ct_app.specs.Plain.{plan_of};
 
 use crate::Outcome;
 use crate::plain::plan;
+use crate::props::refuse_unbuilt;
 use crate::run::run;
 use ct_base::{Files, List, Name, Pair, Sink, SinkFault, TestDef};
 use ct_core::{Core, Gate};
@@ -66,6 +67,7 @@ fn read_folder<F: Files>(alloc: Global, files: &mut F) -> Result<Folder, Outcome
     let dir = Name::of(alloc, b".")?;
     let config = Name::of(alloc, b"")?;
     let tests = read_tree(alloc, files, &dir, &config)?;
+    refuse_unbuilt(alloc, tests.as_slice())?;
     let plan = plan(alloc, dir, tests.as_slice())?;
     Ok(Folder { tests, plan })
 }

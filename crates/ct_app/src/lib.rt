@@ -11,9 +11,10 @@ mod fault;
 mod folder;
 mod outcome;
 mod plain;
+mod props;
 mod run;
 mod top;
 mod words;
 
-pub use outcome::{Finished, Outcome, Refusal, UsageKind};
+pub use outcome::{Finished, Outcome, PropKind, Refusal, UsageKind};
 pub use top::ctest_main;

@@ -12,6 +12,13 @@ pub enum UsageKind {
     UnknownOption,
 }
 
+/// What is wrong with a property of a test.
+#[derive(Clone, Copy, Debug, PartialEq, Eq)]
+pub enum PropKind {
+    /// The property says how the test runs, and is not built yet.
+    Unbuilt,
+}
+
 /// What a run refuses.
 #[derive(Debug, Drop)]
 pub enum Refusal {
@@ -20,6 +27,12 @@ pub enum Refusal {
         file: Name,
         line: u32,
         kind: ReadKind,
+    },
+    /// The property of that key of the test with this number.
+    Prop {
+        test: u32,
+        key: Name,
+        kind: PropKind,
     },
 }
 
@@ -30,7 +43,7 @@ pub enum Outcome {
     Completed,
     /// A word of the command line, counted from 1, is refused.
     Usage { word: u32, kind: UsageKind },
-    /// The test file is refused.
+    /// A test file or a property is refused.
     Refused(Refusal),
     /// The files could not give what the path holds.
     FilesFault { path: Name },

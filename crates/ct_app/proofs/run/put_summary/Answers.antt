@@ -2,7 +2,7 @@ use Rattle.std.proofs.Common.{rules, ◌≡◌, ◌∙◌, ap, List, Err, Ok}
 use Rattle.ct_history.specs.declared.plan.PlanParts.{PlanParts}
 use Rattle.ct_history.specs.declared.history.Entry.{Entry}
 use Rattle.ct_report.specs.Report.{summary_lines, text_of}
-use Rattle.ct_app.proofs.PutLemmas.{puts_same}
+use Rattle.ct_report.proofs.PutLemmas.{puts_same}
 use Rattle.ct_app.proofs.run.put_summary.Goals as goal
 
 pub returns : goal.returns

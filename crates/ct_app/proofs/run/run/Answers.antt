@@ -1,7 +1,7 @@
 use Rattle.std.proofs.Common.{rules, ◌≡◌, ◌∙◌, sym, ap, Err, Ok}
 use Rattle.ct_report.specs.Report.{header_line}
 use Rattle.ct_app.proofs.AlongLemmas.{asked_fresh, between_fresh, had_fresh, torn_ends}
-use Rattle.ct_app.proofs.PutLemmas.{puts_same}
+use Rattle.ct_report.proofs.PutLemmas.{puts_same}
 use Rattle.ct_app.proofs.ReportLemmas.{behind_header, header_fails, lines_fail, none_complete, none_puts, summary_puts}
 use Rattle.ct_app.proofs.run.run.Goals as goal
 

@@ -1,0 +1,6 @@
+if(EXISTS "here")
+  add_test([=[Suite.finds its name]=] "/bin/sh" [==[-c]==] [==[test "$0" = "--only=Suite.finds its name"]==] [==[--only=Suite.finds its name]==])
+else()
+  add_test(discovery_failed "/bin/false")
+endif()
+set(of_this_suite [=[Suite.finds its name]=])
