@@ -28,7 +28,7 @@ struct Case {
     unstarted: u64,
 }
 
-const CASES: [Case; 13] = [
+const CASES: [Case; 16] = [
     Case {
         shows: "one test passes",
         word: None,
@@ -78,13 +78,13 @@ const CASES: [Case; 13] = [
         unstarted: 0,
     },
     Case {
-        shows: "the second line has another form",
+        shows: "the second line has an unknown command",
         word: None,
         text: Some(b"add_test(ok \"true\")\nadd_tests(a b)"),
         told: None,
         fails_files: None,
         fails_put: None,
-        output: b"ctest: ./CTestTestfile.cmake:2: unexpected byte\n",
+        output: b"ctest: ./CTestTestfile.cmake:2: unknown command\n",
         status: 2,
         asked: 0,
         unstarted: 0,
@@ -181,6 +181,44 @@ const CASES: [Case; 13] = [
         fails_files: None,
         fails_put: Some(1),
         output: b"",
+        status: 2,
+        asked: 0,
+        unstarted: 0,
+    },
+    Case {
+        shows: "a quoted argument is not closed",
+        word: None,
+        text: Some(b"add_test(a \"b"),
+        told: None,
+        fails_files: None,
+        fails_put: None,
+        output: b"ctest: ./CTestTestfile.cmake:1: unclosed quoted argument\n",
+        status: 2,
+        asked: 0,
+        unstarted: 0,
+    },
+    Case {
+        shows: "a test has no command",
+        word: None,
+        text: Some(b"add_test(a)"),
+        told: None,
+        fails_files: None,
+        fails_put: None,
+        output: b"ctest: ./CTestTestfile.cmake:1: bad arguments\n",
+        status: 2,
+        asked: 0,
+        unstarted: 0,
+    },
+    Case {
+        shows: "the second test has two properties that are not built yet",
+        word: None,
+        text: Some(
+            b"add_test(a true)\nadd_test(b true)\nset_tests_properties(a PROPERTIES COLOUR red)\nset_tests_properties(b PROPERTIES TIMEOUT 5 LABELS slow COLOUR red)\n",
+        ),
+        told: None,
+        fails_files: None,
+        fails_put: None,
+        output: b"ctest: test 2: LABELS: not built yet\n",
         status: 2,
         asked: 0,
         unstarted: 0,
@@ -292,6 +330,49 @@ fn expect_case(rt: &(impl Abort + AllocGlobal), case: &Case) -> Result<(), Fail>
     let planned = is_planned(&finished.outcome);
     assert_eq!(rt; finished.plan.is_some(), planned, "{}", case.shows);
     assert_eq!(rt; finished.history.is_some(), planned, "{}", case.shows);
+    Ok(())
+}
+
+/// A discovered list of tests that is not built yet, as CMake includes it.
+fn unbuilt_list(alloc: Global) -> Result<MemFiles, Fail> {
+    let mut held = List::new(alloc);
+    held.push(Pair {
+        name: Name::of(alloc, b"./CTestTestfile.cmake")?,
+        value: Name::of(alloc, b"include(\"/b/x_include.cmake\")\n")?,
+    })?;
+    held.push(Pair {
+        name: Name::of(alloc, b"/b/x_include.cmake")?,
+        value: Name::of(
+            alloc,
+            b"if(EXISTS \"/b/x_tests.cmake\")\n  include(\"/b/x_tests.cmake\")\nelse()\n  add_test(x_NOT_BUILT x_NOT_BUILT)\nendif()\n",
+        )?,
+    })?;
+    Ok(MemFiles::new(held, List::new(alloc)))
+}
+
+#[test]
+fn runs_the_placeholder_of_a_list_that_is_not_built(rt: HostRuntime) -> Result<(), Fail> {
+    let alloc = rt.alloc();
+    let mut world = List::new(alloc);
+    world.push(Told {
+        test: 1,
+        attempt: 1,
+        heard: Blob::new(alloc),
+        ended: Ended {
+            how: How::NotStarted,
+            micros: 0,
+        },
+    })?;
+    let mut gates = Vec::new(alloc);
+    gates
+        .push(ScriptGate::new(alloc, world))
+        .map_err(AllocError::from)?;
+    let sink = MemSink::new(alloc, List::new(alloc));
+    let finished = ctest_main(alloc, &[], &[], unbuilt_list(alloc)?, gates, sink);
+    let output =
+        b"Test project .\n1/1 Test #1: x_NOT_BUILT ... ***Not Run (Unable to start) 0.00 sec\n\n0% tests passed, 1 tests failed out of 1\n\nThe following tests FAILED:\n\t1 - x_NOT_BUILT (Not Run)\nErrors while running CTest\n";
+    assert!(&rt; finished.sink.written().bytes() == output.as_slice());
+    assert_eq!(&rt; finished.status, 8);
     Ok(())
 }
 

@@ -2,7 +2,7 @@
 
 use ct_base::{
     CalmFiles, CalmSink, Collect, Ear, Files, List, MemFiles, MemSink, Name, NoMemory, Pair, Sink,
-    join_path, split_list,
+    join_path, micros, split_list,
 };
 use std::alloc::Global;
 use std::process::Abort;
@@ -132,6 +132,53 @@ fn splits_a_text_into_entries(rt: HostRuntime) -> Result<(), Fail> {
         assert_eq!(rt; entries.len(), count, "at {text:?}");
         let ending = entries.as_slice().last().map(|entry| entry.bytes());
         assert_eq!(rt; ending.unwrap_or(b""), last, "at {text:?}");
+    }
+    Ok(())
+}
+
+/// A time in seconds, and its microseconds.
+const SECONDS: &str = "\
+0 Some(0)
+5 Some(5000000)
+007 Some(7000000)
+1.5 Some(1500000)
+0.05 Some(50000)
+0.000001 Some(1)
+0.0000019 Some(1)
+2.0000009999 Some(2000000)
+3.123456 Some(3123456)
+3.12345 Some(3123450)
+-1 Some(0)
+-0.25 Some(0)
+-99999999999999999999 Some(0)
+1000000000 Some(1000000000000000)
+1000000000.1 Some(1000000000000000)
+999999999.9999999 Some(999999999999999)
+1000000001 Some(1000000000000000)
+99999999999999999999999999 Some(1000000000000000)
+ None
+- None
+. None
+.5 None
+5. None
+-.5 None
+-5. None
+--5 None
++5 None
+1.2.3 None
+1e3 None
+5s None
+0x5 None
+";
+
+#[test]
+fn reads_seconds_as_microseconds(rt: HostRuntime) -> Result<(), Fail> {
+    for row in SECONDS.lines() {
+        let mut cells = row.split(' ');
+        let text = cells.next().unwrap_or("");
+        let found = micros(text.as_bytes());
+        let told = format!(in rt.alloc(); "{found:?}")?;
+        assert_eq!(rt; Some(told.as_str()), cells.next(), "{row}");
     }
     Ok(())
 }

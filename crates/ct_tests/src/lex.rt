@@ -152,11 +152,15 @@ fn put_call(alloc: Global, out: &mut Blob, call: &Call) -> Result<(), NoMemory> 
     out.append(call.name.bytes())?;
     put_line(alloc, out, call.line)?;
     out.append(b"(")?;
-    for (at, arg) in call.args.as_slice().iter().enumerate() {
+    let mut reader = call.args.reader();
+    for at in 0..100 {
+        let Some(arg) = reader.next(alloc)? else {
+            break;
+        };
         if at > 0 {
             out.append(b" ")?;
         }
-        put_arg(out, arg)?;
+        put_arg(out, &arg)?;
     }
     out.append(b") ")?;
     Ok(())

@@ -6,13 +6,19 @@
 #![tactic(auto)]
 
 #[cfg(test)]
+mod alloc;
+#[cfg(test)]
 mod app;
 #[cfg(test)]
 mod base;
 #[cfg(test)]
 mod core_runs;
 #[cfg(test)]
+mod groups;
+#[cfg(test)]
 mod lex;
+#[cfg(test)]
+mod props;
 #[cfg(test)]
 mod regex;
 #[cfg(test)]

@@ -1,6 +1,6 @@
 //! Patterns of CMake: what is refused, and what hits.
 
-use ct_regex::{Regex, RegexFault};
+use ct_regex::{Regex, RegexFault, Scan};
 use std::alloc::{AllocError, Global};
 use std::process::Abort;
 use std::test::Fail;
@@ -164,6 +164,85 @@ fn hits_where_a_match_exists(rt: HostRuntime) -> Result<(), Fail> {
     check(&rt, rt.alloc(), HITS)
 }
 
+/// Tells whether the pattern says the same of the text in one piece, in each two pieces, and byte by
+/// byte, and whether a scan tells between the pieces what the first one hits.
+fn agrees(alloc: Global, pattern: &[u8], text: &[u8]) -> Result<bool, RegexFault> {
+    let regex = Regex::parse(alloc, pattern)?;
+    let whole = regex.hit(alloc, text)?;
+    let mut bytes = Scan::new(alloc, &regex)?;
+    let mut agrees = true;
+    for cut in 0..text.len() {
+        let front = &text[..cut];
+        let mut scan = Scan::new(alloc, &regex)?;
+        scan.feed(front);
+        let between = scan.ended();
+        scan.feed(&text[cut..]);
+        agrees &= between == regex.hit(alloc, front)? && scan.ended() == whole;
+        agrees &= bytes.ended() == between;
+        bytes.feed(&text[cut..cut + 1]);
+    }
+    Ok(agrees && bytes.ended() == whole)
+}
+
+#[test]
+fn says_the_same_of_a_text_in_pieces(rt: HostRuntime) {
+    for row in HITS.lines() {
+        let mut cells = row.split(' ');
+        let pattern = cells.next().unwrap_or("");
+        let text = cells.next().unwrap_or("");
+        let found = agrees(rt.alloc(), pattern.as_bytes(), text.as_bytes());
+        assert_eq!(rt; found, Ok(true), "{row}");
+    }
+}
+
+/// What a scan of the pattern says of many pieces of `x` and then these two.
+fn behind_many(alloc: Global, pattern: &[u8], ends: [&[u8]; 2]) -> Result<bool, RegexFault> {
+    let regex = Regex::parse(alloc, pattern)?;
+    let mut scan = Scan::new(alloc, &regex)?;
+    let piece = [b'x'; 65_536];
+    for _ in 0..1_024 {
+        scan.feed(&piece);
+    }
+    scan.feed(ends[0]);
+    scan.feed(ends[1]);
+    Ok(scan.ended())
+}
+
+#[test]
+fn finds_what_is_cut_behind_64_mebibytes(rt: HostRuntime) {
+    for (pattern, ends, want) in [
+        (b"done$".as_slice(), [b"do".as_slice(), b"ne"], true),
+        (b"^done", [b"do", b"ne"], false),
+        (b"xdo", [b"do", b"ne"], true),
+        (b"error", [b"er", b"ror"], true),
+        (b"error", [b"er", b""], false),
+    ] {
+        let found = behind_many(rt.alloc(), pattern, ends);
+        assert_eq!(rt; found, Ok(want), "{pattern:?}");
+    }
+}
+
+/// Feeds bytes `a` and `b` as a shift register gives them, and tells whether a scan knows behind each
+/// whether the ninth byte from the end is `a`. It meets more sets than it remembers.
+fn knows_the_ninth(alloc: Global) -> Result<bool, RegexFault> {
+    let regex = Regex::parse(alloc, b"a........$")?;
+    let mut scan = Scan::new(alloc, &regex)?;
+    let mut bits: u32 = 0xbeef;
+    let mut knows = true;
+    for taken in 1..5_000 {
+        let bit = (bits ^ (bits >> 2) ^ (bits >> 3) ^ (bits >> 5)) & 1;
+        bits = (bits >> 1) | (bit << 15);
+        scan.feed(if bit == 1 { b"a" } else { b"b" });
+        knows &= scan.ended() == (9 <= taken && (bits >> 7) & 1 == 1);
+    }
+    Ok(knows)
+}
+
+#[test]
+fn stays_right_when_it_forgets(rt: HostRuntime) {
+    assert_eq!(rt; knows_the_ninth(rt.alloc()), Ok(true));
+}
+
 #[test]
 fn takes_bytes_that_are_no_text(rt: HostRuntime) {
     for (pattern, text, hits) in [
@@ -205,12 +284,13 @@ fn keeps_to_its_limits(rt: HostRuntime) -> Result<(), Fail> {
     Ok(())
 }
 
-/// So many groups, one in the other, each of which may be repeated.
+/// So many groups, one in the other, each of which may be repeated, and a byte behind them.
 fn nested(alloc: Global, depth: usize) -> Result<Vec<u8>, AllocError> {
     let mut pattern = run_of(alloc, b'(', depth, b"a")?;
     for _ in 0..depth {
         pattern.extend_from_slice(b"+)")?;
     }
+    pattern.push(b'c')?;
     Ok(pattern)
 }
 
@@ -221,7 +301,7 @@ fn takes_no_more_than_a_moment(rt: HostRuntime) -> Result<(), Fail> {
     for (pattern, want) in [
         (b"(a|a)*b".as_slice(), false),
         (b"^(a|a)*$", true),
-        (deep.as_slice(), true),
+        (deep.as_slice(), false),
     ] {
         assert_eq!(rt; comes_to(rt.alloc(), pattern, &text), Ok(want));
     }

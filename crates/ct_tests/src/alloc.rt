@@ -1,0 +1,167 @@
+//! Placements: the worked ones, and many small ones against all ways to place them.
+
+ghost use Rattle.std.specs.Prelude.{◌<◌};
+
+use ct_alloc::{Free, Placement};
+use ct_base::{List, Name, Need, NoMemory, Resource};
+use std::alloc::Global;
+use std::process::Abort;
+use std::test::Fail;
+
+/// Makes cards of one kind with these slots.
+fn cards(alloc: Global, slots: &[u32]) -> Result<List<Resource>, NoMemory> {
+    let mut cards = List::new(alloc);
+    for (at, slots) in slots.iter().enumerate() {
+        let id = at.to_string(alloc)?;
+        cards.push(Resource {
+            kind: Name::of(alloc, b"gpus")?,
+            id: Name::of(alloc, id.as_bytes())?,
+            slots: *slots,
+        })?;
+    }
+    Ok(cards)
+}
+
+/// Makes needs of one kind with these slots.
+fn needs(alloc: Global, slots: &[u32]) -> Result<List<Need>, NoMemory> {
+    let mut needs = List::new(alloc);
+    for slots in slots {
+        needs.push(Need {
+            group: 0,
+            kind: Name::of(alloc, b"gpus")?,
+            slots: *slots,
+        })?;
+    }
+    Ok(needs)
+}
+
+/// Makes what is free of some cards, of which nothing is used.
+fn unused(rt: &(impl Abort + AllocGlobal), slots: &[u32]) -> Result<Free, NoMemory> {
+    let resources = cards(rt.alloc(), slots)?;
+    assert!(rt; resources.len() < 4_294_967_295);
+    Free::all(rt.alloc(), &resources)
+}
+
+/// Places needs on cards of which nothing is used.
+fn placed(
+    rt: &(impl Abort + AllocGlobal),
+    slots: &[u32],
+    wanted: &[u32],
+) -> Result<Option<Placement>, NoMemory> {
+    let needs = needs(rt.alloc(), wanted)?;
+    unused(rt, slots)?.place(rt.alloc(), &needs)
+}
+
+/// Counts the picks of so many slots on a card.
+fn count(placement: &Placement, card: u32, slots: u32) -> usize {
+    let picks = placement.picks.as_slice();
+    picks
+        .iter()
+        .filter(|pick| pick.resource == card && pick.slots == slots)
+        .count()
+}
+
+#[test]
+fn places_a_small_and_a_great_need_on_each_card(rt: HostRuntime) -> Result<(), Fail> {
+    match placed(&rt, &[5, 5], &[2, 2, 3, 3])? {
+        Some(placement) => {
+            for card in 0..2 {
+                assert_eq!(rt; count(&placement, card, 2), 1, "on {card}");
+                assert_eq!(rt; count(&placement, card, 3), 1, "on {card}");
+            }
+        }
+        None => panic!(rt; "no placement"),
+    }
+    assert!(rt; placed(&rt, &[5, 5], &[2, 2, 3, 3, 1])?.is_none());
+    Ok(())
+}
+
+#[test]
+fn places_two_needs_on_each_of_thirteen_cards(rt: HostRuntime) -> Result<(), Fail> {
+    match placed(&rt, &[5; 13], &[2; 26])? {
+        Some(placement) => {
+            for card in 0..13 {
+                assert_eq!(rt; count(&placement, card, 2), 2, "on {card}");
+            }
+        }
+        None => panic!(rt; "no placement"),
+    }
+    assert!(rt; placed(&rt, &[5; 13], &[2; 27])?.is_none());
+    Ok(())
+}
+
+/// Numbers that look drawn by chance, the same at each run.
+#[derive(Drop)]
+struct Dice {
+    state: u64,
+}
+
+impl Dice {
+    /// Draws one of the numbers from 0 on, so many.
+    fn roll(&mut self, sides: u32) -> u32
+        requires { 0 < sides }
+        ensures { result < sides }
+    {
+        self.state = self
+            .state
+            .wrapping_mul(6_364_136_223_846_793_005)
+            .wrapping_add(1_442_695_040_888_963_407);
+        let drawn = (self.state >> 33) as u32;
+        drawn % sides
+    }
+
+    /// Draws amounts, up to so many, each below 7.
+    fn amounts(&mut self, alloc: Global, most: u32) -> Result<Vec<u32>, NoMemory>
+        requires { 0 < most }
+    {
+        let mut amounts = Vec::new(alloc);
+        for _ in 0..=self.roll(most) {
+            amounts.push(self.roll(7))?;
+        }
+        Ok(amounts)
+    }
+}
+
+/// The ways to place five needs on four cards.
+const WAYS: u32 = 1024;
+
+/// Adds up the needs that a way places on a card. The way has a digit in base 4 for each need.
+fn load(wanted: &[u32], way: u32, card: u32) -> u32 {
+    let mut rest = way;
+    let mut load: u32 = 0;
+    for slots in wanted {
+        if rest % 4 == card {
+            load = load.saturating_add(*slots);
+        }
+        rest /= 4;
+    }
+    load
+}
+
+/// Tells whether the needs fit when they are placed this way. A card beyond the last has no slots.
+fn fits(free: &[u32], wanted: &[u32], way: u32) -> bool {
+    for card in 0..4 {
+        let slots = free.get(card as usize).copied().unwrap_or(0);
+        if slots < load(wanted, way, card) {
+            return false;
+        }
+    }
+    true
+}
+
+#[test]
+fn finds_a_placement_exactly_where_one_of_all_ways_fits(rt: HostRuntime) -> Result<(), Fail> {
+    let mut dice = Dice { state: 2026 };
+    for round in 0..60 {
+        let free = dice.amounts(rt.alloc(), 4)?;
+        let wanted = dice.amounts(rt.alloc(), 5)?;
+        let found = placed(&rt, &free, &wanted)?.is_some();
+        let fits_some_way = (0..WAYS).any(|way| fits(&free, &wanted, way));
+        assert_eq!(rt;
+            found,
+            fits_some_way,
+            "{free:?} for {wanted:?} in round {round}"
+        );
+    }
+    Ok(())
+}

@@ -1,0 +1,94 @@
+//! Resource groups: what they need, and what is refused.
+
+use ct_groups::Groups;
+use std::alloc::{AllocError, Global};
+use std::str;
+use std::test::Fail;
+
+/// A text, and the number of its groups with their needs, as `group:type:slots`; or its first fault.
+const GROUPS: &str = "\
+; is 0
+ is 0
+gpus:2 is 1 0:gpus:2
+2,gpus:2;gpus:4,crypto_chips:2 is 3 0:gpus:2 1:gpus:2 2:gpus:4 2:crypto_chips:2
+2,b:1,a:2 is 2 0:b:1 0:a:2 1:b:1 1:a:2
+a:1,a:1 is 1 0:a:1 0:a:1
+;;a:1;;b:2; is 2 0:a:1 1:b:2
+3 is 3
+2;a:1;1 is 4 2:a:1
+1,a:1 is 1 0:a:1
+_a9:1 is 1 0:_a9:1
+_:007 is 1 0:_:7
+gpus:1000000000 is 1 0:gpus:1000000000
+gpus is NoColon
+gpus,2 is NoColon
+gpus:1,2 is NoColon
+,gpus:1 is NoColon
+gpus:1, is NoColon
+2, is NoColon
+-1 is NoColon
+GPU:1 is BadType
+gPu:1 is BadType
+9a:1 is BadType
+2:3 is BadType
+:1 is BadType
+g-p:1 is BadType
+a\\;b:1 is BadType
+0 is BadCount
+000 is BadCount
+a: is BadCount
+a:x is BadCount
+a:-1 is BadCount
+a:1:2 is BadCount
+a: 1 is BadCount
+a:0 is ZeroSlots
+a:1000000001 is TooMany
+a:99999999999999999999999999 is TooMany
+64 is 64
+65 is TooMany
+99999999999999999999999999 is TooMany
+64;1 is TooMany
+63;1 is 64
+32,a:1,b:1,c:1 is TooMany
+63;a:1,b:1 is 64 63:a:1 63:b:1
+64;64,gpus is NoColon
+0,gpus is BadCount
+65,GPU:1 is TooMany
+GPU:x is BadType
+a:0,b is ZeroSlots
+a,b:0 is NoColon
+a:x;B:1;c is BadCount
+B:1;a:x;c is BadType
+a:1;b:0;65 is ZeroSlots
+";
+
+/// How many groups the text has and what they need, or its fault.
+fn told(alloc: Global, text: &str) -> Result<String, AllocError> {
+    let groups = match Groups::parse(alloc, text.as_bytes()) {
+        Ok(groups) => groups,
+        Err(fault) => return format!(in alloc; "{fault:?}"),
+    };
+    let mut told = format!(in alloc; "{}", groups.count())?;
+    for need in groups.needs().as_slice() {
+        let kind = str::from_utf8(need.kind.bytes()).unwrap_or("?");
+        told = format!(in alloc; "{told} {}:{kind}:{}", need.group, need.slots)?;
+    }
+    Ok(told)
+}
+
+#[test]
+fn writes_groups_out_in_order(rt: HostRuntime) -> Result<(), Fail> {
+    for row in GROUPS.lines() {
+        let (text, want) = row.split_once(" is ").unwrap_or((row, ""));
+        let told = told(rt.alloc(), text)?;
+        assert_eq!(rt; told.as_str(), want, "{row}");
+    }
+    Ok(())
+}
+
+#[test]
+fn has_no_groups_at_first(rt: HostRuntime) {
+    let groups = Groups::none(rt.alloc());
+    assert_eq!(rt; groups.count(), 0);
+    assert!(rt; groups.needs().is_empty());
+}
