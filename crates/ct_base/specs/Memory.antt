@@ -68,14 +68,15 @@ pub record IsCall {T : Type 0} (path : List ℕ) (pairs : List Pair) (before now
   pub fails : IsErrOf result Files.Failed → FailsAsDue path before now
   pub unchanged : IsErrOf result Files.NoMemory → now ≡ before
 
--- a sink in memory: the bytes that it took, and the calls
+-- a sink in memory: the bytes that it took, in one and piece by piece, and the calls
 pub record MemSinkValue : Type 0 where
   pub written : List ℕ
+  pub pieces : List (List ℕ)
   pub counts : Calls
 
 -- what a sink in memory tells: all
 abbrev pub told_of : MemSinkValue → SinkTell
-told_of sink = record { written = Some sink.written; faults = sink.counts.faults }
+told_of sink = record { written = Some sink.written; pieces = Some sink.pieces; faults = sink.counts.faults }
 
 -- the put failed since it was due to, and wrote nothing
 pub record PutFailsAsDue (before now : MemSinkValue) : Type 0 where
@@ -85,7 +86,7 @@ pub record PutFailsAsDue (before now : MemSinkValue) : Type 0 where
 -- the put was not due to fail; it was counted, and the piece was written
 pub record PutPasses (piece : List ℕ) (before now : MemSinkValue) : Type 0 where
   pub not_due : is_due before.counts ≡ false
-  pub is : now ≡ record before { written = before.written ++ piece; counts = passed before.counts }
+  pub is : now ≡ record before { written = before.written ++ piece; pieces = before.pieces ++ piece ∷ []; counts = passed before.counts }
 
 -- a put into a sink in memory: it fails exactly where it is due to, each is counted, and want of memory changes nothing
 pub record IsPut (piece : List ℕ) (before now : MemSinkValue) (result : Result (Unit {0}) SinkFault) : Type 0 where

@@ -77,9 +77,10 @@ pub record WritesTo (path bytes : List ℕ) (before now : FilesTell) (result : R
   pub failed : IsErrOf result Files.Failed → Becomes before.held now.held (FailsToWrite path bytes)
   pub no_memory : IsErrOf result Files.NoMemory → Becomes before.held now.held SameHeld
 
--- what a sink tells: all that it took, and how many calls failed
+-- what a sink tells: all that it took, the pieces that it took whole, put by put, and how many calls failed
 pub record SinkTell : Type 0 where
   pub written : Option (List ℕ)
+  pub pieces : Option (List (List ℕ))
   pub faults : ℕ
 
 -- a call that puts a text: the whole of it stands behind what was written, or where the call has no Ok some beginning
@@ -87,3 +88,8 @@ pub record Puts (text : List ℕ) (before now : SinkTell) (result : Result (Unit
   pub ok : OnOk result (Becomes before.written now.written (Adds text))
   pub err : OnErr result (Becomes before.written now.written (AddsPrefix text))
   pub cause : HasCause Sinks.Failed before.faults now.faults result
+
+-- calls that put these lines: each line is one put; where the calls have no Ok some first lines were put whole
+pub record PutsEach (lines : List (List ℕ)) (before now : SinkTell) (result : Result (Unit {0}) SinkFault) : Type 0 where
+  pub ok : OnOk result (Becomes before.pieces now.pieces (Adds lines))
+  pub err : OnErr result (Becomes before.pieces now.pieces (AddsPrefix lines))

@@ -1,16 +1,18 @@
-ghost use Rattle.std.specs.Prelude.{◌≡◌, Some, []};
+ghost use Rattle.std.specs.Prelude.{◌≡◌, ◌∷◌, Some, None, []};
 ghost use Rattle.ct_base.specs.Memory.{IsPut, no_calls, told_of};
-ghost use Rattle.ct_base.specs.Outside.{Puts};
+ghost use Rattle.ct_base.specs.Outside.{Puts, PutsEach};
 
 use crate::calls::Calls;
-use crate::{Blob, List, Sink, SinkFault};
+use crate::{Blob, List, NoMemory, Sink, SinkFault};
 use std::alloc::Global;
 use std::marker::Model;
 
-/// A sink in memory, of which some puts fail as planned.
+/// A sink in memory, of which some puts fail as planned. It keeps each piece besides the whole.
 #[derive(Debug, Drop)]
 pub struct MemSink {
     written: Blob,
+    pieces: Vec<Blob>,
+    alloc: Global,
     counts: Calls,
 }
 
@@ -19,17 +21,19 @@ impl Model for MemSink {
 
     ghost Value = { MemSinkValue };
 
-    ghost view = { λ s. record { written = s.written; counts = s.counts } };
+    ghost view = { λ s. record { written = s.written; pieces = s.pieces.items; counts = s.counts } };
 }
 
 impl MemSink {
     /// Makes a sink in which nothing is written. The puts whose numbers, from 1, stand in
     /// `fail_at` fail and write nothing.
     pub fn new(alloc: Global, fail_at: List<u64>) -> MemSink
-        ensures { result ≡ record { written = []; counts = no_calls fail_at } }
+        ensures { result ≡ record { written = []; pieces = []; counts = no_calls fail_at } }
     {
         MemSink {
             written: Blob::new(alloc),
+            pieces: Vec::new(alloc),
+            alloc,
             counts: Calls::new(fail_at),
         }
     }
@@ -39,6 +43,13 @@ impl MemSink {
     {
         &self.written
     }
+
+    /// Lends the pieces that were taken, one for each put that passed.
+    pub fn pieces(&self) -> &[Blob]
+        ensures { result.now ≡ self.now.pieces }
+    {
+        self.pieces.as_slice()
+    }
 }
 
 impl Sink for MemSink {
@@ -46,13 +57,17 @@ impl Sink for MemSink {
 
     fn put(&mut self, piece: &[u8]) -> Result<(), SinkFault>
         ensures puts { Puts piece.now (told_of self.old) (told_of self.new) result }
+        ensures each { PutsEach (piece.now ∷ []) (told_of self.old) (told_of self.new) result }
         ensures planned { IsPut piece.now self.old self.new result }
     {
         if self.counts.is_due() {
             self.counts.fail();
             return Err(SinkFault::Failed);
         }
+        let kept = Blob::of(self.alloc, piece)?;
+        self.pieces.reserve(1).map_err(NoMemory::from)?;
         self.written.append(piece)?;
+        self.pieces.push_reserved(kept);
         self.counts.pass();
         Ok(())
     }
@@ -90,7 +105,7 @@ impl CalmSink {
 }
 
 impl Sink for CalmSink {
-    ghost tells = { λ sink. record { written = Some sink; faults = 0 } };
+    ghost tells = { λ sink. record { written = Some sink; pieces = None; faults = 0 } };
 
     fn put(&mut self, piece: &[u8]) -> Result<(), SinkFault> {
         Ok(self.written.append(piece)?)

@@ -1,5 +1,5 @@
-ghost use Rattle.std.specs.Prelude.{◌≡◌};
-ghost use Rattle.ct_base.specs.Outside.{Puts, SinkTell};
+ghost use Rattle.std.specs.Prelude.{◌≡◌, ◌∷◌, []};
+ghost use Rattle.ct_base.specs.Outside.{Puts, PutsEach, SinkTell};
 ghost use Rattle.ct_base.specs.declared.sink.SinkFault.TheVariants as SinkCause;
 
 use crate::NoMemory;
@@ -23,11 +23,13 @@ impl From<NoMemory> for SinkFault {
 
 /// What takes the report.
 ///
-/// `tells` is all that it took, where it tells that, and how many calls failed, which never falls.
+/// `tells` is all that it took and the pieces that it took whole, where it tells them, and how many
+/// calls failed, which never falls.
 pub trait Sink {
     ghost tells: { Self → SinkTell };
 
     /// Writes the piece behind what was written. After a fault some beginning of it was written.
     fn put(&mut self, piece: &[u8]) -> Result<(), SinkFault>
-        ensures { Puts piece.now (tells self.old) (tells self.new) result };
+        ensures puts { Puts piece.now (tells self.old) (tells self.new) result }
+        ensures each { PutsEach (piece.now ∷ []) (tells self.old) (tells self.new) result };
 }
