@@ -1,6 +1,7 @@
 //! The properties of a test, each with the type that its key has.
 //!
-//! Hands up: `Props::of` reads the properties of a test, or names the least key with a bad value.
+//! Hands up: `Props::of` reads the properties of a test, or names the least key with a bad value;
+//! `Wanted` says which tests a run is asked for, and how.
 //! Stands on: ct_base, ct_regex, ct_groups and ct_verdict.
 //! Read first: `specs/Values.antt`, then `specs/Refusal.antt`, `specs/PropsOf.antt` and `props.rt`.
 #![tactic(auto)]
@@ -15,6 +16,8 @@ mod patterns;
 mod props;
 mod texts;
 mod truth;
+mod wanted;
 
 pub use fault::{PropFault, PropKind};
 pub use props::Props;
+pub use wanted::{Choice, Numbers, Wanted};
