@@ -1,3 +1,4 @@
 pub mod PutLemmas
 pub mod LineLemmas
+pub mod LabelLemmas
 pub mod TotalLemmas

@@ -5,7 +5,7 @@ use Rattle.std.proofs.lemmas.List.{append-nil, take_more, take-append-drop}
 use Rattle.std.proofs.lemmas.Grind.{flat_map-append}
 use Rattle.ct_base.specs.declared.sink.SinkFault.{SinkFault}
 use Rattle.ct_base.specs.declared.sink.SinkFault.TheVariants as Sinks
-use Rattle.ct_base.specs.Outside.{Adds, AddsPrefix, Becomes, HasCause, Puts, SinkTell}
+use Rattle.ct_base.specs.Outside.{Adds, AddsPrefix, Becomes, HasCause, Puts, PutsEach, SinkTell}
 use Rattle.ct_report.specs.Report.{text_of}
 
 -- a piece and then one more are both in a row
@@ -75,6 +75,21 @@ puts_none sink text = record {
 pub text_of-split : (lines : List (List ℕ)) (at : ℕ) (other : List ℕ) → at < length lines → text_of lines ≡ text_of (take at lines) ++ get_or lines at other ++ text_of (drop (at + 1) lines)
 text_of-split lines at other within =
     ap text_of (sym (take-append-drop (at + 1) lines)) ∙ flat_map-append (λ (line : List ℕ). line) (take (at + 1) lines) (drop (at + 1) lines) ∙ ap (λ (front : List ℕ). front ++ text_of (drop (at + 1) lines)) (ap text_of (take_more lines at other within) ∙ flat_map-append (λ (line : List ℕ). line) (take at lines) (get_or lines at other ∷ []) ∙ ap (λ (last : List ℕ). text_of (take at lines) ++ last) (append-nil (get_or lines at other)))
+
+-- a list is what stands in front of an element, that one, and what stands behind it
+split_at : {A : Type 0} (xs : List A) (at : ℕ) (other : A) → at < length xs → xs ≡ take at xs ++ get_or xs at other ∷ [] ++ drop (at + 1) xs
+split_at {A = A} xs at other within = sym (take-append-drop (at + 1) xs) ∙ ap (λ (front : List A). front ++ drop (at + 1) xs) (take_more xs at other within)
+
+-- first lines were put, and then the put of one more failed
+pub each_fails : (old mid new : SinkTell) (lines : List (List ℕ)) (at : ℕ) (other : List ℕ) (fault : SinkFault) → at < length lines → Becomes old.pieces mid.pieces (Adds (take at lines)) → PutsEach (get_or lines at other ∷ []) mid new (Err fault) → PutsEach lines old new (Err fault)
+each_fails old mid new lines at other fault within put last = record {
+  ok = tt;
+  err = subst (λ (ls : List (List ℕ)). Becomes old.pieces new.pieces (AddsPrefix ls)) (sym (split_at lines at other within)) (prefix_of_more old.pieces new.pieces (take at lines ++ get_or lines at other ∷ []) (drop (at + 1) lines) (adds_then_prefix old.pieces mid.pieces new.pieces (take at lines) (get_or lines at other ∷ []) put last.err));
+}
+
+-- no line was put since memory was wanting
+pub each_none : (sink : SinkTell) (lines : List (List ℕ)) → PutsEach lines sink sink (Err Sinks.NoMemory)
+each_none sink lines = record { ok = tt; err = prefix_of_none sink.pieces lines }
 
 -- what holds in any case holds after an error
 pub on_err : {T E P : Type 0} (result : Result T E) → P → OnErr result P

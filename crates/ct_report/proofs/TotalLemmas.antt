@@ -1,48 +1,74 @@
--- The tests that pass a test, one element more at a time, and the list of those that failed.
-use Rattle.std.proofs.Common.{◌≡◌, ◌∙◌, sym, ap, ℕ, ◌+◌, ◌<◌, Bool, true, false, List, [], ◌∷◌, ◌++◌, length, get_or, take, map, refl, append_assoc}
-use Rattle.std.specs.Prelude.{filter, codes, cond, count_by}
-use Rattle.std.proofs.lemmas.List.{append-nil, map-append}
+-- The totals with one test more, and what is put under a heading.
+use Rattle.std.proofs.Common.{◌≡◌, ◌∙◌, sym, ap, ℕ, ◌+◌, ◌<◌, Bool, true, false, not, ◌&&◌, cond, List, [], ◌∷◌, ◌++◌, length, get_or, take, map, filter, count_by, codes, refl, append_assoc, arith, eqb-true, ◌==◌, if◌then◌else◌}
+use Rattle.std.proofs.lemmas.List.{map-append}
 use Rattle.std.proofs.lemmas.List.Elements.{filter_more}
-use Rattle.std.proofs.lemmas.List.Sums.{count_by_more_no, count_by_more_yes, length-filter}
+use Rattle.std.proofs.lemmas.List.Sums.{sum_by_more}
 use Rattle.ct_history.specs.declared.plan.PlanTest.{PlanTest}
 use Rattle.ct_history.specs.declared.plan.PlanParts.{PlanParts}
 use Rattle.ct_history.specs.declared.history.Entry.{Entry}
-use Rattle.ct_report.specs.Report.{failed_lines, listed_line}
+use Rattle.ct_history.specs.Verdicts.{verdict_in, is_failing_in}
+use Rattle.ct_report.specs.declared.totals.Totals.{Totals}
+use Rattle.ct_report.specs.Labels.{count_at, CountsTest}
+use Rattle.ct_report.specs.Report.{failed_lines, has_label, is_good_in, is_unrun_in, label_line, label_lines, labelled_count, labelled_good_count, labels_in_order, listed_line, under}
+use Rattle.ct_report.specs.Totals.{AreTotals}
 
--- an element that passes comes last
-pub map_filter-yes : {A B : Type 0} (f : A → B) (p : A → Bool) (xs : List A) (at : ℕ) (x : A) → at < length xs → x ≡ get_or xs at x → p x ≡ true → map f (filter p (take (at + 1) xs)) ≡ map f (filter p (take at xs)) ++ f x ∷ []
-map_filter-yes {A = A} {B = B} f p xs at x within is passes =
-    let here : p (get_or xs at x) ≡ true = sym (ap p is) ∙ passes in
-    ap (λ (ys : List A). map f ys) (filter_more p xs at x within ∙ ap (λ (b : Bool). filter p (take at xs) ++ cond b (get_or xs at x ∷ []) []) here) ∙ map-append f (filter p (take at xs)) (get_or xs at x ∷ []) ∙ ap (λ (y : A). map f (filter p (take at xs)) ++ f y ∷ []) (sym is)
+listed_by : {A B : Type 0} (f : A → B) (x : A) (wanted : Bool) → map f (cond wanted (x ∷ []) []) ≡ cond wanted (f x ∷ []) []
+listed_by f x true = refl
+listed_by f x false = refl
 
--- an element that does not pass changes nothing
-pub map_filter-no : {A B : Type 0} (f : A → B) (p : A → Bool) (xs : List A) (at : ℕ) (x : A) → at < length xs → x ≡ get_or xs at x → p x ≡ false → map f (filter p (take (at + 1) xs)) ≡ map f (filter p (take at xs))
-map_filter-no {A = A} {B = B} f p xs at x within is fails =
-    let here : p (get_or xs at x) ≡ false = sym (ap p is) ∙ fails in
-    ap (λ (ys : List A). map f ys) (filter_more p xs at x within ∙ ap (λ (b : Bool). filter p (take at xs) ++ cond b (get_or xs at x ∷ []) []) here ∙ append-nil (filter p (take at xs)))
+-- what passes a test, with one element more
+more_listed : {A B : Type 0} (f : A → B) (p : A → Bool) (xs : List A) (at : ℕ) (x : A) → at < length xs → x ≡ get_or xs at x → map f (filter p (take (at + 1) xs)) ≡ map f (filter p (take at xs)) ++ cond (p x) (f x ∷ []) []
+more_listed {A = A} {B = B} f p xs at x within is =
+    ap (λ (ys : List A). map f ys) (filter_more p xs at x within)
+    ∙ map-append f (filter p (take at xs)) (cond (p (get_or xs at x)) (get_or xs at x ∷ []) [])
+    ∙ ap (λ (ys : List B). map f (filter p (take at xs)) ++ ys) (listed_by f (get_or xs at x) (p (get_or xs at x)))
+    ∙ ap (λ (y : A). map f (filter p (take at xs)) ++ cond (p y) (f y ∷ []) []) (sym is)
 
--- an element that passes counts
-pub count-yes : {A : Type 0} (p : A → Bool) (xs : List A) (at : ℕ) (x : A) → at < length xs → x ≡ get_or xs at x → p x ≡ true → count_by p (take (at + 1) xs) ≡ count_by p (take at xs) + 1
-count-yes p xs at x within is passes = count_by_more_yes p xs at x within (sym (ap p is) ∙ passes)
+-- how many pass it
+more_counted : {A : Type 0} (p : A → Bool) (xs : List A) (at : ℕ) (x : A) → at < length xs → x ≡ get_or xs at x → count_by p (take (at + 1) xs) ≡ count_by p (take at xs) + cond (p x) 1 0
+more_counted {A = A} p xs at x within is =
+    sum_by_more (λ y. cond (p y) 1 0) xs at x within ∙ ap (λ (y : A). count_by p (take at xs) + cond (p y) 1 0) (sym is)
 
--- an element that does not pass does not count
-pub count-no : {A : Type 0} (p : A → Bool) (xs : List A) (at : ℕ) (x : A) → at < length xs → x ≡ get_or xs at x → p x ≡ false → count_by p (take (at + 1) xs) ≡ count_by p (take at xs)
-count-no p xs at x within is fails = count_by_more_no p xs at x within (sym (ap p is) ∙ fails)
+-- the totals of the tests in front of one, and of that one too
+module _ (plan : PlanParts) (entries : List Entry) (tests : List PlanTest) (at : ℕ) (t : PlanTest) (within : at < length tests) (is : t ≡ get_or tests at t) (before after : Totals) (were : AreTotals plan entries (take at tests) before) where
+  abbrev good : PlanTest → Bool
+  good u = is_good_in (verdict_in plan.repeat u entries)
 
--- the same of the length of what passes
-pub length_filter-yes : {A : Type 0} (p : A → Bool) (xs : List A) (at : ℕ) (x : A) → at < length xs → x ≡ get_or xs at x → p x ≡ true → length (filter p (take (at + 1) xs)) ≡ length (filter p (take at xs)) + 1
-length_filter-yes {A = A} p xs at x within is passes =
-    length-filter p (take (at + 1) xs) ∙ count-yes p xs at x within is passes ∙ ap (λ (n : ℕ). n + 1) (sym (length-filter p (take at xs)))
+  pub one_test_more : after.good ≡ before.good + (if good t then 1 else 0) → after.unrun ≡ before.unrun ++ (if is_unrun_in (verdict_in plan.repeat t entries) then listed_line plan entries t ∷ [] else []) → after.failed ≡ before.failed ++ (if is_failing_in (verdict_in plan.repeat t entries) then listed_line plan entries t ∷ [] else []) → CountsTest (not t.disabled) t before.labelled after.labelled → CountsTest (good t) t before.labelled_good after.labelled_good → AreTotals plan entries (take (at + 1) tests) after
+  one_test_more goods unruns fails labels good_labels = record {
+    good = goods ∙ ap (λ n. n + cond (good t) 1 0) were.good ∙ sym (more_counted good tests at t within is);
+    unrun = unruns ∙ ap (λ ls. ls ++ cond (is_unrun_in (verdict_in plan.repeat t entries)) (listed_line plan entries t ∷ []) []) were.unrun ∙ sym (more_listed (listed_line plan entries) (λ u. is_unrun_in (verdict_in plan.repeat u entries)) tests at t within is);
+    failed = fails ∙ ap (λ ls. ls ++ cond (is_failing_in (verdict_in plan.repeat t entries)) (listed_line plan entries t ∷ []) []) were.failed ∙ sym (more_listed (listed_line plan entries) (λ u. is_failing_in (verdict_in plan.repeat u entries)) tests at t within is);
+    labelled = λ label. labels label ∙ ap (λ n. n + cond (not t.disabled && has_label label t) 1 0) (were.labelled label) ∙ sym (more_counted (λ (u : PlanTest). not u.disabled && has_label label u) tests at t within is);
+    labelled_good = λ label. good_labels label ∙ ap (λ n. n + cond (good t && has_label label t) 1 0) (were.labelled_good label) ∙ sym (more_counted (λ u. good u && has_label label u) tests at t within is);
+  }
 
-pub length_filter-no : {A : Type 0} (p : A → Bool) (xs : List A) (at : ℕ) (x : A) → at < length xs → x ≡ get_or xs at x → p x ≡ false → length (filter p (take (at + 1) xs)) ≡ length (filter p (take at xs))
-length_filter-no {A = A} p xs at x within is fails =
-    length-filter p (take (at + 1) xs) ∙ count-no p xs at x within is fails ∙ sym (length-filter p (take at xs))
+full : (length {A = List ℕ} [] == 0) ≡ false → ⊥
+full is = cc
 
--- the list of the tests that failed, where there is one
-pub failed_lines-some : (plan : PlanParts) (entries : List Entry) (tests : List PlanTest) → (length tests ≡ 0 → ⊥) → failed_lines plan entries tests ≡ codes "\n" ∷ codes "The following tests FAILED:\n" ∷ map (listed_line plan entries) tests ++ codes "Errors while running CTest\n" ∷ []
-failed_lines-some plan entries [] some = absurd (some refl)
-failed_lines-some plan entries (t ∷ ts) some = refl
+-- the list of what is put under a heading, where there is some
+pub under_some : (heading : List ℕ) (lines : List (List ℕ)) → (length lines == 0) ≡ false → under heading lines ≡ codes "\n" ∷ heading ∷ lines
+under_some heading [] some = absurd (full some)
+under_some heading (line ∷ lines) some = refl
 
--- two elements, a list and one more, each put behind what was there
-pub four_behind : {A : Type 0} (front : List A) (one two : A) (rest : List A) (last : A) → front ++ one ∷ [] ++ two ∷ [] ++ rest ++ last ∷ [] ≡ front ++ (one ∷ two ∷ rest ++ last ∷ [])
-four_behind front one two rest last = simp append_assoc
+pub under_none : (heading : List ℕ) (lines : List (List ℕ)) → (length lines == 0) ≡ true → under heading lines ≡ []
+under_none heading [] none = refl
+under_none heading (line ∷ lines) none = absurd (omega (arith, eqb-true (length (line ∷ lines)) 0 none))
+
+pub failed_some : (lines : List (List ℕ)) → (length lines == 0) ≡ false → failed_lines lines ≡ under (codes "The following tests FAILED:\n") lines ++ codes "Errors while running CTest\n" ∷ []
+failed_some [] some = absurd (full some)
+failed_some (line ∷ lines) some = refl
+
+pub failed_none : (lines : List (List ℕ)) → (length lines == 0) ≡ true → failed_lines lines ≡ []
+failed_none [] none = refl
+failed_none (line ∷ lines) none = absurd (omega (arith, eqb-true (length (line ∷ lines)) 0 none))
+
+-- two elements and a list, each put behind what was there
+pub two_behind : {A : Type 0} (front : List A) (one two : A) (rest : List A) → ((front ++ one ∷ []) ++ two ∷ []) ++ rest ≡ front ++ (one ∷ two ∷ rest)
+two_behind front one two rest = simp append_assoc
+
+-- the lines of the labels, by the counts of the totals
+pub lines_are : (plan : PlanParts) (entries : List Entry) (totals : Totals) (labels : List (List ℕ)) → AreTotals plan entries plan.tests totals → labels ≡ labels_in_order plan.tests → map (λ label. label_line label (count_at totals.labelled_good label) (count_at totals.labelled label)) labels ≡ label_lines plan entries
+lines_are plan entries totals labels are names =
+    (λ i. map (λ label. label_line label (are.labelled_good label i) (are.labelled label i)) labels)
+    ∙ ap (λ ls. map (λ label. label_line label (labelled_good_count plan entries label) (labelled_count plan label)) ls) names

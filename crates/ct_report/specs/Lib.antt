@@ -1,2 +1,4 @@
 -- The definitions that contracts cite, in reading order.
 pub mod Report
+pub mod Labels
+pub mod Totals

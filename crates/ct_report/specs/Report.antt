@@ -1,6 +1,10 @@
 -- The texts of a run. Each is a list of lines with their line feeds; the report is the lines in a row.
 -- Source: this project's choice, after what ctest(1) prints.
-use Rattle.std.specs.Prelude.{ℕ, ◌+◌, ◌*◌, ◌/◌, ◌%◌, ◌^◌, min, Bool, true, false, List, [], ◌∷◌, ◌++◌, map, filter, length, flat_map, sum_by, count_by, Option, Some, None, codes, decimal, ◌==◌, if◌then◌else◌}
+use Rattle.std.specs.Prelude.{ℕ, ◌+◌, ◌*◌, ◌/◌, ◌%◌, ◌^◌, min, Bool, true, false, not, ◌&&◌, List, [], ◌∷◌, ◌++◌, map, filter, length, flat_map, fold, sum_by, count_by, Option, Some, None, codes, decimal, bytes_eq, ◌==◌, if◌then◌else◌}
+use Rattle.std.specs.List.{list_any}
+use Rattle.std.specs.Ordering.{nat_cmp}
+use Rattle.std.specs.Cmp.Lexicographic.{slice_cmp}
+use Rattle.std.specs.BTreeSet.{insert_key}
 use Rattle.ct_verdict.specs.declared.verdict.Cause.{Cause}
 use Rattle.ct_verdict.specs.declared.verdict.Cause.TheVariants.{Unstarted, Lacks, Fixture, NotAvailable, BadOperation, Insufficient, Stopped, Memory}
 use Rattle.ct_verdict.specs.declared.verdict.Verdict.{Verdict}
@@ -117,28 +121,76 @@ good_count plan entries = count_by (λ t. is_good_in (verdict_in plan.repeat t e
 abbrev pub percent : ℕ → ℕ → ℕ
 percent good all = if all == 0 then 100 else (100 * good) / all
 
--- the counts of a run
+-- so many tests that count as passed, that failed, and that there are
+abbrev pub counts_with : ℕ → ℕ → ℕ → List ℕ
+counts_with good failing all = decimal (percent good all) ++ codes "% tests passed, " ++ decimal failing ++ codes " tests failed out of " ++ decimal all ++ codes "\n"
+
+-- the counts of a run, in which disabled tests are not counted
 abbrev pub counts_line : PlanParts → List Entry → List ℕ
-counts_line plan entries =
-    decimal (percent (good_count plan entries) (length (enabled plan.tests))) ++ codes "% tests passed, " ++ decimal (length (failing_tests plan entries)) ++ codes " tests failed out of " ++ decimal (length (enabled plan.tests)) ++ codes "\n"
+counts_line plan entries = counts_with (good_count plan entries) (length (failing_tests plan entries)) (length (enabled plan.tests))
 
 -- the word of a test in the lists of the summary, by its verdict where it has one
 abbrev pub word_of : Option Verdict → List ℕ
 word_of None = []
 word_of (Some verdict) = verdict_word verdict
 
--- a test in a list of the summary
+-- a test with this verdict in a list of the summary
+abbrev pub listed_with : PlanTest → Option Verdict → List ℕ
+listed_with t verdict = codes "\t" ++ decimal t.number ++ codes " - " ++ t.name ++ codes " (" ++ word_of verdict ++ codes ")\n"
+
+-- a test in a list of the summary, by the verdict that the history gives it
 abbrev pub listed_line : PlanParts → List Entry → PlanTest → List ℕ
-listed_line plan entries t = codes "\t" ++ decimal t.number ++ codes " - " ++ t.name ++ codes " (" ++ word_of (verdict_in plan.repeat t entries) ++ codes ")\n"
+listed_line plan entries t = listed_with t (verdict_in plan.repeat t entries)
+
+-- a blank line, a heading and these lines, where there are any
+abbrev pub under : List ℕ → List (List ℕ) → List (List ℕ)
+under heading [] = []
+under heading (line ∷ lines) = codes "\n" ∷ heading ∷ line ∷ lines
+
+-- a test has this label
+abbrev pub has_label : List ℕ → PlanTest → Bool
+has_label label t = list_any (bytes_eq label) t.labels
+
+-- the labels of the tests that are not disabled, each once, in byte order
+abbrev pub labels_in_order : List PlanTest → List (List ℕ)
+labels_in_order tests = fold (insert_key (slice_cmp nat_cmp)) [] (flat_map (λ (t : PlanTest). t.labels) (enabled tests))
+
+-- how many tests that are not disabled have the label
+abbrev pub labelled_count : PlanParts → List ℕ → ℕ
+labelled_count plan label = count_by (λ (t : PlanTest). not t.disabled && has_label label t) plan.tests
+
+-- how many of them count as passed, which a disabled test never does
+abbrev pub labelled_good_count : PlanParts → List Entry → List ℕ → ℕ
+labelled_good_count plan entries label = count_by (λ t. is_good_in (verdict_in plan.repeat t entries) && has_label label t) plan.tests
+
+-- a label, how many of its tests count as passed, and how many there are
+abbrev pub label_line : List ℕ → ℕ → ℕ → List ℕ
+label_line label good all = label ++ codes " = " ++ decimal good ++ codes "/" ++ decimal all ++ codes "\n"
+
+-- the line of each label
+abbrev pub label_lines : PlanParts → List Entry → List (List ℕ)
+label_lines plan entries = map (λ label. label_line label (labelled_good_count plan entries label) (labelled_count plan label)) (labels_in_order plan.tests)
+
+-- a test is listed as one that did not run: Disabled, Skipped or Stopped
+abbrev pub is_unrun_in : Option Verdict → Bool
+is_unrun_in (Some Disabled) = true
+is_unrun_in (Some Skipped) = true
+is_unrun_in (Some (NotRun Stopped)) = true
+is_unrun_in _ = false
+
+-- the tests that did not run, in order of number
+abbrev pub unrun_tests : PlanParts → List Entry → List PlanTest
+unrun_tests plan entries = filter (λ t. is_unrun_in (verdict_in plan.repeat t entries)) plan.tests
 
 -- the list of the tests that failed, where there is one
-abbrev pub failed_lines : PlanParts → List Entry → List PlanTest → List (List ℕ)
-failed_lines plan entries [] = []
-failed_lines plan entries (t ∷ ts) = codes "\n" ∷ codes "The following tests FAILED:\n" ∷ map (listed_line plan entries) (t ∷ ts) ++ codes "Errors while running CTest\n" ∷ []
+abbrev pub failed_lines : List (List ℕ) → List (List ℕ)
+failed_lines [] = []
+failed_lines (line ∷ lines) = under (codes "The following tests FAILED:\n") (line ∷ lines) ++ codes "Errors while running CTest\n" ∷ []
 
--- the summary of a run. The list of labels and that of the tests that did not run are not there yet.
+-- the summary of a run: the counts, the labels, the tests that did not run, and those that failed
 abbrev pub summary_lines : PlanParts → List Entry → List (List ℕ)
-summary_lines plan entries = codes "\n" ∷ counts_line plan entries ∷ failed_lines plan entries (failing_tests plan entries)
+summary_lines plan entries =
+    codes "\n" ∷ counts_line plan entries ∷ under (codes "Label Summary:\n") (label_lines plan entries) ++ under (codes "The following tests did not run:\n") (map (listed_line plan entries) (unrun_tests plan entries)) ++ failed_lines (map (listed_line plan entries) (failing_tests plan entries))
 
 -- the test that an entry may make final
 abbrev pub finished_by : Entry → Option ℕ

@@ -5,9 +5,11 @@
 //! Read first: `specs/Report.antt`, then `report.rt`.
 #![tactic(auto)]
 
+mod labels;
 mod numbers;
 mod puts;
 mod report;
+mod summaries;
 mod test_lines;
 mod totals;
 mod verdict_texts;

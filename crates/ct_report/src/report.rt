@@ -1,12 +1,12 @@
-ghost use Rattle.std.specs.Prelude.{◌≡◌, ◌<◌, ◌^◌, codes, length, IfOk, IsSome};
-ghost use Rattle.ct_base.specs.Outside.{Puts};
+ghost use Rattle.std.specs.Prelude.{◌≡◌, ◌<◌, ◌^◌, ◌∷◌, [], codes, length, IfOk, IsSome};
+ghost use Rattle.ct_base.specs.Outside.{Puts, PutsEach};
 ghost use Rattle.ct_history.specs.Plan.{test_at};
 ghost use Rattle.ct_history.specs.Verdicts.{verdict_of_test};
 ghost use Rattle.ct_report.specs.Report.{header_line, summary_lines, test_line, text_of};
 
 use crate::puts::put_lines;
+use crate::summaries::summary_lines;
 use crate::test_lines::test_line;
-use crate::totals::summary_lines;
 use ct_base::{Blob, NoMemory, Sink, SinkFault};
 use ct_history::{History, Plan, PlanParts};
 use std::alloc::Global;
@@ -15,7 +15,8 @@ use std::alloc::Global;
 ///
 /// Source: CMake manual, ctest(1), Description. The wording is this project's choice.
 pub fn header<S: Sink>(alloc: Global, sink: &mut S, plan: &Plan) -> Result<(), SinkFault>
-    ensures { Puts (header_line plan.now) (S.tells sink.old) (S.tells sink.new) result }
+    ensures text { Puts (header_line plan.now) (S.tells sink.old) (S.tells sink.new) result }
+    ensures each { PutsEach (header_line plan.now ∷ []) (S.tells sink.old) (S.tells sink.new) result }
 {
     let header = header_line(alloc, plan.parts())?;
     sink.put(header.bytes())?;
@@ -34,14 +35,16 @@ pub fn line<S: Sink>(
     place: u32,
 ) -> Result<(), SinkFault>
     requires { IsSome (verdict_of_test plan.now history.now.entries.items test) }
-    ensures { Puts (test_line plan.now history.now.entries.items place (test_at plan.now.tests test)) (S.tells sink.old) (S.tells sink.new) result }
+    ensures text { Puts (test_line plan.now history.now.entries.items place (test_at plan.now.tests test)) (S.tells sink.old) (S.tells sink.new) result }
+    ensures each { PutsEach (test_line plan.now history.now.entries.items place (test_at plan.now.tests test) ∷ []) (S.tells sink.old) (S.tells sink.new) result }
 {
     let line = test_line(alloc, plan.parts(), history.entries.as_slice(), place, test)?;
     sink.put(line.bytes())?;
     Ok(())
 }
 
-/// Puts the counts of a run, and the list of the tests that failed where there is one.
+/// Puts the counts of a run, and where there are some the labels, the tests that did not run, and
+/// those that failed.
 ///
 /// Source: CMake manual, ctest(1), Description. The wording is this project's choice.
 pub fn summary<S: Sink>(
@@ -50,7 +53,8 @@ pub fn summary<S: Sink>(
     plan: &Plan,
     history: &History,
 ) -> Result<(), SinkFault>
-    ensures { Puts (text_of (summary_lines plan.now history.now.entries.items)) (S.tells sink.old) (S.tells sink.new) result }
+    ensures text { Puts (text_of (summary_lines plan.now history.now.entries.items)) (S.tells sink.old) (S.tells sink.new) result }
+    ensures each { PutsEach (summary_lines plan.now history.now.entries.items) (S.tells sink.old) (S.tells sink.new) result }
 {
     let lines = summary_lines(alloc, plan.parts(), history.entries.as_slice())?;
     put_lines(sink, lines.as_slice())?;
@@ -61,7 +65,8 @@ pub fn summary<S: Sink>(
 ///
 /// Source: CMake manual, ctest(1), --no-tests. The wording is ctest's.
 pub fn no_tests<S: Sink>(sink: &mut S) -> Result<(), SinkFault>
-    ensures { Puts (codes "No tests were found!!!\n") (S.tells sink.old) (S.tells sink.new) result }
+    ensures text { Puts (codes "No tests were found!!!\n") (S.tells sink.old) (S.tells sink.new) result }
+    ensures each { PutsEach (codes "No tests were found!!!\n" ∷ []) (S.tells sink.old) (S.tells sink.new) result }
 {
     sink.put(b"No tests were found!!!\n")?;
     Ok(())

@@ -1,42 +1,61 @@
-ghost use Rattle.std.specs.Prelude.{◌≡◌, ◌<◌, ◌^◌, ◌++◌, length, map, IfOk, OnOk};
+ghost use Rattle.std.specs.Prelude.{◌≡◌, ◌+◌, ◌<◌, ◌-◌, ◌^◌, ◌++◌, ◌∷◌, [], length, IfOk, OnOk, if◌then◌else◌};
 ghost use Rattle.ct_history.specs.Plan.{enabled};
-ghost use Rattle.ct_history.specs.Verdicts.{is_failing_in, verdict_in};
-ghost use Rattle.ct_report.specs.Report.{counts_line, failed_lines, failing_tests, good_count, is_good_in, listed_line, percent, summary_lines, word_of};
+ghost use Rattle.ct_history.specs.Verdicts.{is_failing_in};
+ghost use Rattle.ct_report.specs.Report.{is_good_in, is_unrun_in, listed_with, word_of};
+ghost use Rattle.ct_report.specs.Totals.{AreTotals};
 
+use crate::labels::{LabelCounts, count_test};
 use crate::numbers::append_number;
 use crate::verdict_texts::verdict_word;
 use ct_base::{Blob, List, NoMemory};
 use ct_history::{Entry, PlanParts, PlanTest, verdict};
-use ct_verdict::Verdict;
+use ct_verdict::{Cause, Verdict};
 use std::alloc::Global;
+use std::collections::BTreeMap;
 
-/// Writes the lines of the summary.
-pub(crate) fn summary_lines(
+/// What a summary tells of the tests of a plan.
+#[derive(Drop)]
+pub(crate) struct Totals {
+    /// How many tests count as passed.
+    pub good: usize,
+    /// The lines of the tests that did not run.
+    pub unrun: List<Blob>,
+    /// The lines of the tests that failed.
+    pub failed: List<Blob>,
+    /// How many tests that are not disabled have each label.
+    pub labelled: LabelCounts,
+    /// How many tests that count as passed have each label.
+    pub labelled_good: LabelCounts,
+}
+
+/// Counts and lists the tests, and looks up the verdict of each once.
+pub(crate) fn totals_of(
     alloc: Global,
     plan: &PlanParts,
     entries: &[Entry],
-) -> Result<List<Blob>, NoMemory>
-    ensures { IfOk result (λ lines. lines ≡ summary_lines plan.now entries.now) }
+) -> Result<Totals, NoMemory>
+    ensures { IfOk result (λ totals. AreTotals plan.now entries.now plan.now.tests totals) }
 {
-    let mut lines = List::new(alloc);
-    lines.push(Blob::of(alloc, b"\n")?)?;
-    lines.push(counts_line(alloc, plan, entries)?)?;
-    push_failed(alloc, plan, entries, &mut lines)?;
-    Ok(lines)
-}
-
-fn counts_line(alloc: Global, plan: &PlanParts, entries: &[Entry]) -> Result<Blob, NoMemory>
-    ensures { IfOk result (λ text. text ≡ counts_line plan.now entries.now) }
-{
-    let all = count_enabled(plan.tests.as_slice());
-    let mut text = Blob::new(alloc);
-    append_number(alloc, &mut text, percent(count_good(plan, entries), all))?;
-    text.append(b"% tests passed, ")?;
-    append_number(alloc, &mut text, count_failing(plan, entries) as u128)?;
-    text.append(b" tests failed out of ")?;
-    append_number(alloc, &mut text, all as u128)?;
-    text.append(b"\n")?;
-    Ok(text)
+    let mut good = 0;
+    let mut unrun = List::new(alloc);
+    let mut failed = List::new(alloc);
+    let mut labelled = BTreeMap::new(alloc);
+    let mut labelled_good = BTreeMap::new(alloc);
+    for test in plan.tests.as_slice() {
+        let verdict = verdict(&plan.repeat, test, entries);
+        good = one_more(good, is_good(verdict));
+        push_where(alloc, &mut unrun, is_unrun(verdict), test, verdict)?;
+        push_where(alloc, &mut failed, is_failing(verdict), test, verdict)?;
+        count_test(alloc, &mut labelled, !test.disabled, test)?;
+        count_test(alloc, &mut labelled_good, is_good(verdict), test)?;
+    }
+    Ok(Totals {
+        good,
+        unrun,
+        failed,
+        labelled,
+        labelled_good,
+    })
 }
 
 /// Counts the tests that are not disabled.
@@ -46,106 +65,62 @@ pub(crate) fn count_enabled(tests: &[PlanTest]) -> usize
     tests.iter().filter(|test| !test.disabled).count()
 }
 
-fn count_good(plan: &PlanParts, entries: &[Entry]) -> usize
-    ensures { result ≡ good_count plan.now entries.now }
+fn is_good(verdict: Option<Verdict>) -> bool
+    ensures { result ≡ is_good_in verdict }
 {
-    let mut good = 0;
-    for test in plan.tests.as_slice() {
-        if is_good(plan, test, entries) {
-            good += 1;
-        }
-    }
-    good
+    matches!(verdict, Some(Verdict::Passed | Verdict::Skipped))
 }
 
-fn is_good(plan: &PlanParts, test: &PlanTest, entries: &[Entry]) -> bool
-    ensures { result ≡ is_good_in (verdict_in plan.now.repeat test.now entries.now) }
+fn is_unrun(verdict: Option<Verdict>) -> bool
+    ensures { result ≡ is_unrun_in verdict }
 {
     matches!(
-        verdict(&plan.repeat, test, entries),
-        Some(Verdict::Passed | Verdict::Skipped)
+        verdict,
+        Some(Verdict::Disabled | Verdict::Skipped | Verdict::NotRun(Cause::Stopped))
     )
 }
 
-fn count_failing(plan: &PlanParts, entries: &[Entry]) -> usize
-    ensures { result ≡ length (failing_tests plan.now entries.now) }
+fn is_failing(verdict: Option<Verdict>) -> bool
+    ensures { result ≡ is_failing_in verdict }
 {
-    let mut failing = 0;
-    for test in plan.tests.as_slice() {
-        if is_failing(plan, test, entries) {
-            failing += 1;
-        }
-    }
-    failing
-}
-
-fn is_failing(plan: &PlanParts, test: &PlanTest, entries: &[Entry]) -> bool
-    ensures { result ≡ is_failing_in (verdict_in plan.now.repeat test.now entries.now) }
-{
-    match verdict(&plan.repeat, test, entries) {
+    match verdict {
         Some(verdict) => verdict.is_failing(),
         None => false,
     }
 }
 
-fn percent(good: usize, all: usize) -> u128
-    ensures { result ≡ percent good all }
+fn one_more(count: usize, wanted: bool) -> usize
+    requires room { count < 2 ^ 64 - 1 }
+    ensures { result ≡ count + (if wanted then 1 else 0) }
 {
-    if all == 0 {
-        100
-    } else {
-        100 * (good as u128) / (all as u128)
-    }
+    if wanted { count + 1 } else { count }
 }
 
-fn push_failed(
+/// Puts the line of the test behind the others, where it is wanted.
+fn push_where(
     alloc: Global,
-    plan: &PlanParts,
-    entries: &[Entry],
     lines: &mut List<Blob>,
-) -> Result<(), NoMemory>
-    ensures { OnOk result (lines.new ≡ lines.old ++ failed_lines plan.now entries.now (failing_tests plan.now entries.now)) }
-{
-    if count_failing(plan, entries) == 0 {
-        return Ok(());
-    }
-    lines.push(Blob::of(alloc, b"\n")?)?;
-    lines.push(Blob::of(alloc, b"The following tests FAILED:\n")?)?;
-    push_listed(alloc, plan, entries, lines)?;
-    lines.push(Blob::of(alloc, b"Errors while running CTest\n")?)?;
-    Ok(())
-}
-
-fn push_listed(
-    alloc: Global,
-    plan: &PlanParts,
-    entries: &[Entry],
-    lines: &mut List<Blob>,
-) -> Result<(), NoMemory>
-    ensures { OnOk result (lines.new ≡ lines.old ++ map (listed_line plan.now entries.now) (failing_tests plan.now entries.now)) }
-{
-    for test in plan.tests.as_slice() {
-        if is_failing(plan, test, entries) {
-            lines.push(listed_line(alloc, plan, test, entries)?)?;
-        }
-    }
-    Ok(())
-}
-
-fn listed_line(
-    alloc: Global,
-    plan: &PlanParts,
+    wanted: bool,
     test: &PlanTest,
-    entries: &[Entry],
-) -> Result<Blob, NoMemory>
-    ensures { IfOk result (λ text. text ≡ listed_line plan.now entries.now test.now) }
+    verdict: Option<Verdict>,
+) -> Result<(), NoMemory>
+    ensures { OnOk result (lines.new ≡ lines.old ++ (if wanted then listed_with test.now verdict ∷ [] else [])) }
+{
+    if wanted {
+        lines.push(listed_line(alloc, test, verdict)?)?;
+    }
+    Ok(())
+}
+
+fn listed_line(alloc: Global, test: &PlanTest, verdict: Option<Verdict>) -> Result<Blob, NoMemory>
+    ensures { IfOk result (λ text. text ≡ listed_with test.now verdict) }
 {
     let mut text = Blob::of(alloc, b"\t")?;
     append_number(alloc, &mut text, u128::from(test.number))?;
     text.append(b" - ")?;
     text.append(test.name.bytes())?;
     text.append(b" (")?;
-    text.append(word_of(verdict(&plan.repeat, test, entries)))?;
+    text.append(word_of(verdict))?;
     text.append(b")\n")?;
     Ok(text)
 }

@@ -1,0 +1,134 @@
+ghost use Rattle.std.specs.Prelude.{◌≡◌, ◌<◌, ◌-◌, ◌^◌, ◌++◌, ◌∷◌, [], map, fold, bytes_eq, IfOk, OnOk};
+ghost use Rattle.std.specs.List.{list_any};
+ghost use Rattle.std.specs.Ordering.{nat_cmp};
+ghost use Rattle.std.specs.Cmp.Lexicographic.{slice_cmp};
+ghost use Rattle.std.specs.BTreeSet.{insert_key};
+ghost use Rattle.ct_report.specs.Labels.{CountsLabel, CountsLabels, CountsTest, HasRoom, count_at, kept_labels};
+ghost use Rattle.ct_report.specs.Report.{label_line, labels_in_order};
+
+use crate::numbers::append_number;
+use ct_base::{Blob, List, Name, NoMemory};
+use ct_history::PlanTest;
+use std::alloc::Global;
+use std::collections::{BTreeMap, BTreeSet};
+
+/// How many tests have each label.
+pub(crate) type LabelCounts = BTreeMap<Vec<u8>, usize>;
+
+/// Gathers the labels of the tests that are not disabled, each once, in byte order.
+#[tactic(auto, using(crate::proofs::LabelLemmas::fold_behind))]
+pub(crate) fn labels_in_order(alloc: Global, tests: &[PlanTest]) -> Result<List<Name>, NoMemory>
+    ensures { IfOk result (λ labels. labels ≡ labels_in_order tests.now) }
+{
+    let mut labels = BTreeSet::new(alloc);
+    for test in tests {
+        if !test.disabled {
+            put_labels(alloc, &mut labels, test.labels.as_slice())?;
+        }
+    }
+    names_of(alloc, labels)
+}
+
+fn put_labels(alloc: Global, labels: &mut BTreeSet<Vec<u8>>, names: &[Name]) -> Result<(), NoMemory>
+    ensures { OnOk result (kept_labels labels.new.keys ≡ fold (insert_key (slice_cmp nat_cmp)) (kept_labels labels.old.keys) names.now) }
+{
+    for name in names {
+        put_label(alloc, labels, name)?;
+    }
+    Ok(())
+}
+
+fn put_label(alloc: Global, labels: &mut BTreeSet<Vec<u8>>, name: &Name) -> Result<(), NoMemory>
+    ensures { OnOk result (kept_labels labels.new.keys ≡ insert_key (slice_cmp nat_cmp) (kept_labels labels.old.keys) name.now) }
+{
+    labels.insert(Vec::from_slice(alloc, name.bytes())?)?;
+    Ok(())
+}
+
+fn names_of(alloc: Global, labels: BTreeSet<Vec<u8>>) -> Result<List<Name>, NoMemory>
+    ensures { IfOk result (λ names. names ≡ kept_labels labels.keys) }
+{
+    let mut names = List::new(alloc);
+    for label in labels {
+        names.push(Name::from_vec(label))?;
+    }
+    Ok(names)
+}
+
+/// Counts the test at each of its labels, where it is wanted.
+pub(crate) fn count_test(
+    alloc: Global,
+    counts: &mut LabelCounts,
+    wanted: bool,
+    test: &PlanTest,
+) -> Result<(), NoMemory>
+    requires room { HasRoom counts.old }
+    ensures { OnOk result (CountsTest wanted test.now counts.old counts.new) }
+{
+    if wanted {
+        count_labels(alloc, counts, test.labels.as_slice())
+    } else {
+        Ok(())
+    }
+}
+
+fn count_labels(alloc: Global, counts: &mut LabelCounts, labels: &[Name]) -> Result<(), NoMemory>
+    requires room { HasRoom counts.old }
+    ensures { OnOk result (CountsLabels labels.now counts.old counts.new) }
+{
+    for at in 0..labels.len() {
+        if !is_among(&labels[..at], &labels[at]) {
+            count_label(alloc, counts, &labels[at])?;
+        }
+    }
+    Ok(())
+}
+
+fn is_among(labels: &[Name], label: &Name) -> bool
+    ensures { result ≡ list_any (bytes_eq label.now) labels.now }
+{
+    labels.iter().any(|other| label.is(other))
+}
+
+fn count_label(alloc: Global, counts: &mut LabelCounts, label: &Name) -> Result<(), NoMemory>
+    requires room { count_at counts.old label.now < 2 ^ 64 - 1 }
+    ensures { OnOk result (CountsLabel label.now counts.old counts.new) }
+{
+    let count = count_of(counts, label) + 1;
+    counts.insert(Vec::from_slice(alloc, label.bytes())?, count)?;
+    Ok(())
+}
+
+fn count_of(counts: &LabelCounts, label: &Name) -> usize
+    ensures { result ≡ count_at counts.now label.now }
+{
+    counts.get(label.bytes()).copied().unwrap_or(0)
+}
+
+/// Writes the line of each of these labels.
+pub(crate) fn lines_of_labels(
+    alloc: Global,
+    labels: &[Name],
+    good: &LabelCounts,
+    all: &LabelCounts,
+) -> Result<List<Blob>, NoMemory>
+    ensures { IfOk result (λ lines. lines ≡ map (λ label. label_line label (count_at good.now label) (count_at all.now label)) labels.now) }
+{
+    let mut lines = List::new(alloc);
+    for label in labels {
+        lines.push(label_line(alloc, label, count_of(good, label), count_of(all, label))?)?;
+    }
+    Ok(lines)
+}
+
+fn label_line(alloc: Global, label: &Name, good: usize, all: usize) -> Result<Blob, NoMemory>
+    ensures { IfOk result (λ text. text ≡ label_line label.now good all) }
+{
+    let mut text = Blob::of(alloc, label.bytes())?;
+    text.append(b" = ")?;
+    append_number(alloc, &mut text, good as u128)?;
+    text.append(b"/")?;
+    append_number(alloc, &mut text, all as u128)?;
+    text.append(b"\n")?;
+    Ok(text)
+}
