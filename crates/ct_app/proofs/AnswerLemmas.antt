@@ -2,7 +2,7 @@
 use Rattle.std.proofs.Common.{◌≡◌, ◌∙◌, sym, ap, subst, true, ℕ, ◌<◌, List, [], ◌∷◌, length, get_or, refl, arith, inl, inr}
 use Rattle.std.specs.Prelude.{Option, Some, None, IsSomeAnd, Result, Ok, Err, map, slice_set}
 use Rattle.ct_base.specs.declared.defs.Pair.{Pair}
-use Rattle.ct_base.specs.declared.defs.TestDef.{TestDef}
+use Rattle.ct_app.specs.declared.props.Tests.{Tests}
 use Rattle.ct_base.specs.declared.sink.SinkFault.TheVariants as Sinks
 use Rattle.ct_base.specs.Outside.{FilesTell, Puts, SinkTell}
 use Rattle.ct_history.specs.declared.plan.PlanParts.{PlanParts}
@@ -32,35 +32,34 @@ tried text before now (inl put) = (Ok tt, put)
 tried text before now (inr put) = (Err Sinks.Failed, put)
 
 -- a call before its end is told, of which one gate is looked at, and behind that, of which all are
-module _ (words : List (List ℕ)) (env : List Pair) (files files_now : FilesTell) (gate gate_now gates gates_now : List GateTell) (sink mid now : SinkTell) (plan : Option PlanParts) (history : Option (List Entry)) (widen : (defs : List TestDef) (es : List Entry) → are_below 1 es ≡ true → AreAsked env defs 0 gate gate_now es → AreAsked env defs 0 gates gates_now es) (same : gate_now ≡ gate → gates_now ≡ gates) where
+module _ (words : List (List ℕ)) (env : List Pair) (files files_now : FilesTell) (gate gate_now gates gates_now : List GateTell) (sink mid now : SinkTell) (plan : Option PlanParts) (history : Option (List Entry)) (widen : (tests : Tests) (es : List Entry) → are_below 1 es ≡ true → AreAsked env tests 0 gate gate_now es → AreAsked env tests 0 gates gates_now es) (same : gate_now ≡ gate → gates_now ≡ gates) where
   unrun_late : IsUnrun (sides words env files files_now gate gate_now sink mid plan history) → IsUnrun (sides words env files files_now gates gates_now sink now plan history)
   unrun_late unrun = record { no_plan = unrun.no_plan; no_history = unrun.no_history; unasked = same unrun.unasked }
 
-  run_late : (defs : List TestDef) (p : PlanParts) (es : List Entry) → IsRun (sides words env files files_now gate gate_now sink mid plan history) defs p es → IsRun (sides words env files files_now gates gates_now sink now plan history) defs p es
-  run_late defs p es run =
+  run_late : (tests : Tests) (p : PlanParts) (es : List Entry) → IsRun (sides words env files files_now gate gate_now sink mid plan history) tests p es → IsRun (sides words env files files_now gates gates_now sink now plan history) tests p es
+  run_late tests p es run =
       let below = ap (λ (q : PlanParts). are_below q.level es) (sym run.ran.planned) ∙ run.ran.workers in
       record {
         no_words = run.no_words;
         read = run.read;
-        built = run.built;
+        props = run.props;
         ran = record {
           planned = run.ran.planned;
           legal = run.ran.legal;
           within = run.ran.within;
           closed = run.ran.closed;
           workers = run.ran.workers;
-          asked = widen defs es below run.ran.asked;
-          in_order = run.ran.in_order;
+          asked = widen tests es below run.ran.asked;
         };
       }
 
   ran_late : (P Q : PlanParts → List Entry → Type 0) → ((p : PlanParts) (es : List Entry) → P p es → Q p es) → HasRunWith (sides words env files files_now gate gate_now sink mid plan history) P → HasRunWith (sides words env files files_now gates gates_now sink now plan history) Q
   ran_late P Q each run =
-      run_map plan history (λ p es. ((defs : List TestDef) × IsRun (sides words env files files_now gate gate_now sink mid plan history) defs p es) × P p es) (λ p es. ((defs : List TestDef) × IsRun (sides words env files files_now gates gates_now sink now plan history) defs p es) × Q p es)
+      run_map plan history (λ p es. ((tests : Tests) × IsRun (sides words env files files_now gate gate_now sink mid plan history) tests p es) × P p es) (λ p es. ((tests : Tests) × IsRun (sides words env files files_now gates gates_now sink now plan history) tests p es) × Q p es)
       (λ p es was. ((was.0.0, run_late was.0.0 p es was.0.1), each p es was.1)) run
 
   none_ran : (P : PlanParts → List Entry → Type 0) → ((p : PlanParts) (es : List Entry) → P p es → ⊥) → HasRunWith (sides words env files files_now gate gate_now sink mid plan history) P → ⊥
-  none_ran P never run = run_none plan history (λ p es. ((defs : List TestDef) × IsRun (sides words env files files_now gate gate_now sink mid plan history) defs p es) × P p es) (λ p es was. never p es was.1) run
+  none_ran P never run = run_none plan history (λ p es. ((tests : Tests) × IsRun (sides words env files files_now gate gate_now sink mid plan history) tests p es) × P p es) (λ p es was. never p es was.1) run
 
   at : (o outcome : Outcome) (status : ℕ) → outcome ≡ o → status ≡ fault_status outcome → Answers (sides words env files files_now gates gates_now sink now plan history) o (fault_status o) → Answers (sides words env files files_now gates gates_now sink now plan history) outcome status
   at o outcome status is status_is answer =
@@ -108,12 +107,12 @@ module _ (words : List (List ℕ)) (env : List Pair) (files files_now : FilesTel
 
 -- what all gates tell, from what the first does
 module _ {G : Type 0} (tells : G → GateTell) (gates : List G) (gate new : G) (some : 0 < length gates) (is : gate ≡ get_or gates 0 gate) where
-  pub widened : (env : List Pair) (defs : List TestDef) (es : List Entry) → are_below 1 es ≡ true → AreAsked env defs 0 (tells gate ∷ []) (tells new ∷ []) es → AreAsked env defs 0 (map tells gates) (map tells (slice_set gates 0 new)) es
-  widened env defs es below asked = by gates some is
+  pub widened : (env : List Pair) (tests : Tests) (es : List Entry) → are_below 1 es ≡ true → AreAsked env tests 0 (tells gate ∷ []) (tells new ∷ []) es → AreAsked env tests 0 (map tells gates) (map tells (slice_set gates 0 new)) es
+  widened env tests es below asked = by gates some is
     where
-      by : (gs : List G) → 0 < length gs → gate ≡ get_or gs 0 gate → AreAsked env defs 0 (map tells gs) (map tells (slice_set gs 0 new)) es
+      by : (gs : List G) → 0 < length gs → gate ≡ get_or gs 0 gate → AreAsked env tests 0 (map tells gs) (map tells (slice_set gs 0 new)) es
       by [] none is = absurd (omega arith)
-      by (g ∷ gs) some is = asked_first env defs (tells g) (tells new) (map tells gs) es below (subst (λ (x : G). AreAsked env defs 0 (tells x ∷ []) (tells new ∷ []) es) is asked)
+      by (g ∷ gs) some is = asked_first env tests (tells g) (tells new) (map tells gs) es below (subst (λ (x : G). AreAsked env tests 0 (tells x ∷ []) (tells new ∷ []) es) is asked)
 
   pub unchanged : (tells new ∷ []) ≡ (tells gate ∷ []) → map tells (slice_set gates 0 new) ≡ map tells gates
   unchanged same = by gates some is

@@ -3,7 +3,6 @@ use Rattle.std.proofs.Common.{◌≡◌, sym, subst, true, ℕ, List, [], ◌∷
 use Rattle.std.specs.Prelude.{Result, Ok, Err, not}
 use Rattle.std.proofs.lemmas.Bool.{and_parts}
 use Rattle.ct_base.specs.declared.defs.Pair.{Pair}
-use Rattle.ct_base.specs.declared.defs.TestDef.{TestDef}
 use Rattle.ct_base.specs.declared.sink.SinkFault.{SinkFault}
 use Rattle.ct_base.specs.declared.sink.SinkFault.TheVariants as Sinks
 use Rattle.ct_base.specs.Outside.{Puts, SinkTell}
@@ -20,7 +19,8 @@ use Rattle.ct_app.specs.declared.outcome.Outcome.{Outcome}
 use Rattle.ct_app.specs.Answers.{IsGivenUp, IsRunOf, here}
 use Rattle.ct_app.specs.Ends.{PlanEnds, ended_as}
 use Rattle.ct_app.specs.Gates.{IsAsked}
-use Rattle.ct_app.specs.Plain.{plan_of}
+use Rattle.ct_app.specs.PlanOf.{plan_of}
+use Rattle.ct_app.specs.declared.props.Tests.{Tests}
 use Rattle.ct_app.specs.Run.{IsBetween, RunEnds}
 use Rattle.ct_app.proofs.GateLemmas.{asked_none}
 
@@ -35,14 +35,14 @@ ends_as plan es sink now (Err Sinks.NoMemory) put ends = record { why = ends; pu
 legal_stays_within : (plan : PlanParts) (es : List Entry) → is_legal plan es ≡ true → StaysWithin plan es
 legal_stays_within plan es legal = stays_within plan es (and_parts (is_allowed_so_far plan es) (not (is_stop_due plan es)) legal).0
 
-module _ (env : List Pair) (defs : List TestDef) (gate new : GateTell) (sink now : SinkTell) (core : CoreValue) (ran : Result (Unit {0}) SinkFault) where
-  pub core_ends : (p : PlanParts) (es : List Entry) (ended : Result ℕ Outcome) → p ≡ core.plan → es ≡ core.entries → core.plan ≡ plan_of here defs → is_legal core.plan core.entries ≡ true → IsBetween defs core → IsAsked env defs 0 gate new core.entries → Puts (report_text core.plan core.entries) sink now ran → RunEnds (header_line core.plan) core.plan core.entries sink now ran → ended ≡ ended_as ran core.plan core.entries → IsRunOf env defs (gate ∷ []) (new ∷ []) p es × PlanEnds p es sink now ended
+module _ (env : List Pair) (tests : Tests) (gate new : GateTell) (sink now : SinkTell) (core : CoreValue) (ran : Result (Unit {0}) SinkFault) where
+  pub core_ends : (p : PlanParts) (es : List Entry) (ended : Result ℕ Outcome) → p ≡ core.plan → es ≡ core.entries → core.plan ≡ plan_of here tests → is_legal core.plan core.entries ≡ true → IsBetween tests core → IsAsked env tests 0 gate new core.entries → Puts (report_text core.plan core.entries) sink now ran → RunEnds (header_line core.plan) core.plan core.entries sink now ran → ended ≡ ended_as ran core.plan core.entries → IsRunOf env tests (gate ∷ []) (new ∷ []) p es × PlanEnds p es sink now ended
   core_ends p es ended plan_is entries_are planned legal between asked put ends is =
-      subst (λ (q : PlanParts). IsRunOf env defs (gate ∷ []) (new ∷ []) q es × PlanEnds q es sink now ended) (sym plan_is)
-      (subst (λ (xs : List Entry). IsRunOf env defs (gate ∷ []) (new ∷ []) core.plan xs × PlanEnds core.plan xs sink now ended) (sym entries_are)
+      subst (λ (q : PlanParts). IsRunOf env tests (gate ∷ []) (new ∷ []) q es × PlanEnds q es sink now ended) (sym plan_is)
+      (subst (λ (xs : List Entry). IsRunOf env tests (gate ∷ []) (new ∷ []) core.plan xs × PlanEnds core.plan xs sink now ended) (sym entries_are)
       (run, subst (λ (o : Result ℕ Outcome). PlanEnds core.plan core.entries sink now o) (sym is) (ends_as core.plan core.entries sink now ran put ends)))
     where
-      run : IsRunOf env defs (gate ∷ []) (new ∷ []) core.plan core.entries
+      run : IsRunOf env tests (gate ∷ []) (new ∷ []) core.plan core.entries
       run = record {
         planned = planned;
         legal = legal;
@@ -50,22 +50,20 @@ module _ (env : List Pair) (defs : List TestDef) (gate new : GateTell) (sink now
         closed = between.closed;
         workers = between.workers;
         asked = (asked, tt);
-        in_order = between.in_order;
       }
 
 -- the run of a plan that could not be opened
-pub unopened : (env : List Pair) (defs : List TestDef) (gate : GateTell) (sink : SinkTell) (p : PlanParts) (es : List Entry) → p ≡ plan_of here defs → es ≡ [] → IsRunOf env defs (gate ∷ []) (gate ∷ []) p es × IsGivenUp p es sink sink
-unopened env defs gate sink p es planned none =
-    subst (λ (xs : List Entry). IsRunOf env defs (gate ∷ []) (gate ∷ []) p xs × IsGivenUp p xs sink sink) (sym none)
-    (subst (λ (q : PlanParts). IsRunOf env defs (gate ∷ []) (gate ∷ []) q [] × IsGivenUp q [] sink sink) (sym planned) (
+pub unopened : (env : List Pair) (tests : Tests) (gate : GateTell) (sink : SinkTell) (p : PlanParts) (es : List Entry) → p ≡ plan_of here tests → es ≡ [] → IsRunOf env tests (gate ∷ []) (gate ∷ []) p es × IsGivenUp p es sink sink
+unopened env tests gate sink p es planned none =
+    subst (λ (xs : List Entry). IsRunOf env tests (gate ∷ []) (gate ∷ []) p xs × IsGivenUp p xs sink sink) (sym none)
+    (subst (λ (q : PlanParts). IsRunOf env tests (gate ∷ []) (gate ∷ []) q [] × IsGivenUp q [] sink sink) (sym planned) (
       record {
         planned = refl;
-        legal = legal-nil (plan_of here defs);
-        within = legal_stays_within (plan_of here defs) [] (legal-nil (plan_of here defs));
+        legal = legal-nil (plan_of here tests);
+        within = legal_stays_within (plan_of here tests) [] (legal-nil (plan_of here tests));
         closed = refl;
         workers = refl;
-        asked = (asked_none env defs 0 gate, tt);
-        in_order = record { each = refl; few = omega arith };
+        asked = (asked_none env tests 0 gate, tt);
       },
-      record { why = inl refl; put = puts_none sink (report_text (plan_of here defs) []) },
+      record { why = inl refl; put = puts_none sink (report_text (plan_of here tests) []) },
     ))

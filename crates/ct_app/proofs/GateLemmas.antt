@@ -1,165 +1,225 @@
 -- What the gate of a worker was asked, with one attempt more, and what stands of the workers that ran none.
-use Rattle.std.proofs.Common.{◌≡◌, ◌∙◌, sym, ap, subst, Bool, true, false, ℕ, ◌+◌, ◌≤◌, List, [], ◌∷◌, ◌++◌, refl, arith, inl, inr}
-use Rattle.std.specs.Prelude.{Option, Some, None, IfSome, map, filter_map, nat_lt, not, ◌==◌, ◌&&◌, ◌||◌, cond, option_map}
+use Rattle.std.proofs.Common.{◌≡◌, ◌∙◌, sym, ap, subst, Bool, true, false, ℕ, ◌+◌, ◌≤◌, List, [], ◌∷◌, ◌++◌, refl, arith, inl, inr, append_assoc}
+use Rattle.std.specs.Prelude.{◌⊎◌, Option, Some, None, IfSome, IsSomeAnd, map, filter_map, nat_lt, not, ◌==◌, ◌&&◌, ◌||◌, cond}
 use Rattle.std.specs.List.{list_any, cons_option}
 use Rattle.std.proofs.lemmas.Bool.{cases_Bool}
 use Rattle.std.proofs.lemmas.Bool.Decides.{nat_tests}
-use Rattle.std.proofs.lemmas.List.{map-append}
+use Rattle.std.proofs.lemmas.List.{append-nil, map-append}
 use Rattle.std.proofs.lemmas.List.Elements.{filter_map-append}
+use Rattle.std.proofs.lemmas.List.Folds.{list_any-append}
 use Rattle.std.proofs.lemmas.List.Sums.{sum_by-append}
 use Rattle.ct_base.specs.declared.defs.Pair.{Pair}
 use Rattle.ct_base.specs.declared.defs.TestDef.{TestDef}
 use Rattle.ct_base.specs.Outside.{Adds, Becomes}
+use Rattle.ct_props.specs.declared.props.Props.{Props}
 use Rattle.ct_alloc.specs.declared.placement.Placement.{Placement}
 use Rattle.ct_verdict.specs.declared.attempt.Seen.{Seen}
+use Rattle.ct_verdict.specs.declared.verdict.Cause.{Cause}
 use Rattle.ct_history.specs.declared.history.Entry.{Entry}
 use Rattle.ct_history.specs.declared.history.Entry.TheVariants.{Start, End, Settle, Stop}
-use Rattle.ct_history.specs.History.{Running, is_busy_in, is_end_of, opened, open_starts}
-use Rattle.ct_history.proofs.BoolLemmas.{and_left, and_right, eq_same, or_left, or_right}
-use Rattle.ct_history.proofs.OpenLemmas.{append-cons_option}
+use Rattle.ct_history.specs.History.{Running}
+use Rattle.ct_history.proofs.BoolLemmas.{and_left, and_right, eq_same}
 use Rattle.ct_core.specs.declared.gate.Asked.{Asked}
 use Rattle.ct_core.specs.declared.gate.Request.{Request}
 use Rattle.ct_core.specs.declared.gate.Told.{Told}
-use Rattle.ct_core.proofs.RecordedLemmas.{filter_map-recorded, map-recorded}
-use Rattle.ct_core.specs.Gate.{GateTell, asked_for, is_no_memory, is_not_started, recorded}
+use Rattle.ct_core.specs.Gate.{GateTell, is_no_memory, is_not_started, told}
 use Rattle.ct_report.proofs.PutLemmas.{adds_none, adds_then_adds}
-use Rattle.ct_app.specs.Attempt.{RunsAttempt}
-use Rattle.ct_app.specs.Gates.{AreAsked, AreTold, CountsUnstarted, IsAsked, SawTold, are_below, asked_by, def_at, ends_lacking, is_below, is_unstarted, lacks_memory, request_for, request_of, run_by, runs_of, sent_by, unstarted_count}
+use Rattle.ct_app.specs.declared.props.Tests.{Tests}
+use Rattle.ct_app.specs.Tests.{def_at, props_at}
+use Rattle.ct_app.specs.Attempt.{AsksNone, AsksOnce, RunsAttempt}
+use Rattle.ct_app.specs.Gates.{AreAsked, AreRequests, AreTold, CountsUnstarted, IsAsked, IsRequestFor, IsRequestOf, MayMiss, SawTold, Sends, are_below, asked_run, ended_lacking, is_below, is_unstarted, is_unsure, lacks_for, seen_of, started_by, starts_of, unstarted_count, unsure_count}
 
--- the End of an attempt stays the first one of it
-ended_stays : (t a : ℕ) (es more : List Entry) → list_any (is_end_of t a) es ≡ true → ends_lacking t a (es ++ more) ≡ ends_lacking t a es
-ended_stays t a [] more is = cc
-ended_stays t a (e ∷ es) more is = elim (cases_Bool (is_end_of t a e)) [
-  | inl here ↦ ap (λ (b : Bool). cond b (lacks_memory e) (ends_lacking t a (es ++ more))) here ∙ sym (ap (λ (b : Bool). cond b (lacks_memory e) (ends_lacking t a es)) here)
-  | inr other ↦
-      let rest = sym (ap (λ (b : Bool). b || list_any (is_end_of t a) es) other) ∙ is in
-      ap (λ (b : Bool). cond b (lacks_memory e) (ends_lacking t a (es ++ more))) other ∙ ended_stays t a es more rest ∙ sym (ap (λ (b : Bool). cond b (lacks_memory e) (ends_lacking t a es)) other)
-]
+-- what may be missing may be so where more may
+may_miss-more : (may also : Running → Bool) → ((run : Running) → may run ≡ true → also run ≡ true) → (runs kept : List Running) → MayMiss may runs kept → MayMiss also runs kept
+may_miss-more may also more [] kept is = is
+may_miss-more may also more (run ∷ runs) [] is = (more run is.0, may_miss-more may also more runs [] is.1)
+may_miss-more may also more (run ∷ runs) (first ∷ kept) (inl (same, rest)) = inl (same, may_miss-more may also more runs kept rest)
+may_miss-more may also more (run ∷ runs) (first ∷ kept) (inr (lacks, rest)) = inr (more run lacks, may_miss-more may also more runs (first ∷ kept) rest)
 
--- what an entry started for a worker stays, once the worker has no open start
-run_stays : (w : ℕ) (e : Entry) (es more : List Entry) (rest : List Running) → list_any (λ (r : Running). r.worker == w) (cons_option (opened e es) rest) ≡ false → run_by w e (es ++ more) ≡ run_by w e es
-run_stays w (Start t a v p) es more rest free = elim (cases_Bool (list_any (is_end_of t a) es)) [
-  | inl ended ↦ ap (λ (b : Bool). cond (v == w && not b) (Some (record { test = t; attempt = a; worker = v; placement = p })) None) (ended_stays t a es more ended)
-  | inr waits ↦
-      let run : Running = record { test = t; attempt = a; worker = v; placement = p } in
-      let opens : opened (Start t a v p) es ≡ Some run = ap (λ (b : Bool). cond b None (Some run)) waits in
-      let other = or_left (v == w) (list_any (λ (r : Running). r.worker == w) rest) (sym (ap (λ (o : Option Running). list_any (λ (r : Running). r.worker == w) (cons_option o rest)) opens) ∙ free) in
-      ap (λ (b : Bool). cond (b && not (ends_lacking t a (es ++ more))) (Some run) None) other ∙ sym (ap (λ (b : Bool). cond (b && not (ends_lacking t a es)) (Some run) None) other)
-]
-run_stays w (End t a v s) es more rest free = refl
-run_stays w (Settle t c) es more rest free = refl
-run_stays w Stop es more rest free = refl
+may_miss-append : (may : Running → Bool) (runs more kept others : List Running) → MayMiss may runs kept → MayMiss may more others → MayMiss may (runs ++ more) (kept ++ others)
+may_miss-append may [] more kept others is rest = subst (λ (rs : List Running). MayMiss may more (rs ++ others)) (sym is) rest
+may_miss-append may (run ∷ runs) more [] [] is rest = (is.0, may_miss-append may runs more [] [] is.1 rest)
+may_miss-append may (run ∷ runs) more [] (other ∷ others) is rest = inr (is.0, may_miss-append may runs more [] (other ∷ others) is.1 rest)
+may_miss-append may (run ∷ runs) more (first ∷ kept) others (inl (same, left)) rest = inl (same, may_miss-append may runs more kept others left rest)
+may_miss-append may (run ∷ runs) more (first ∷ kept) others (inr (lacks, left)) rest = inr (lacks, may_miss-append may runs more (first ∷ kept) others left rest)
 
-free_behind : (w : ℕ) (o : Option Running) (rest : List Running) → list_any (λ (r : Running). r.worker == w) (cons_option o rest) ≡ false → list_any (λ (r : Running). r.worker == w) rest ≡ false
-free_behind w None rest free = free
-free_behind w (Some r) rest free = or_right (r.worker == w) (list_any (λ (q : Running). q.worker == w) rest) free
+-- an attempt that lacked memory still did with entries more
+lacking_stays : (es more : List Entry) (run : Running) → ended_lacking es run ≡ true → ended_lacking (es ++ more) run ≡ true
+lacking_stays es more run is = list_any-append (lacks_for run) es more ∙ ap (λ (b : Bool). b || list_any (lacks_for run) more) is
 
--- where a worker has no open start, what comes behind changes nothing of what it ran
-pub runs_of-append : (w : ℕ) (es more : List Entry) → is_busy_in w es ≡ false → runs_of w (es ++ more) ≡ runs_of w es ++ runs_of w more
-runs_of-append w [] more free = refl
-runs_of-append w (e ∷ es) more free =
-    ap (λ (o : Option Running). cons_option o (runs_of w (es ++ more))) (run_stays w e es more (open_starts es) free)
-    ∙ ap (λ (rs : List Running). cons_option (run_by w e es) rs) (runs_of-append w es more (free_behind w (opened e es) (open_starts es) free))
-    ∙ append-cons_option (run_by w e es) (runs_of w es) (runs_of w more)
+or_true : (b : Bool) → (b || true) ≡ true
+or_true true = refl
+or_true false = refl
 
--- an attempt that started and ended is run, unless memory was wanting for it
-module _ (t a w : ℕ) (p : Option Placement) (seen : Seen) where
-  by_memory : (b : Bool) (r : Running) → cons_option (cond (not b) (Some r) None) [] ≡ cond b [] (r ∷ [])
-  by_memory true r = refl
-  by_memory false r = refl
+are_requests-append : (own : List Pair) (tests : Tests) (runs more : List Running) (requests others : List Request) → AreRequests own tests runs requests → AreRequests own tests more others → AreRequests own tests (runs ++ more) (requests ++ others)
+are_requests-append own tests [] more [] others are rest = rest
+are_requests-append own tests [] more (request ∷ requests) others are rest = absurd are
+are_requests-append own tests (run ∷ runs) more [] others are rest = absurd are
+are_requests-append own tests (run ∷ runs) more (request ∷ requests) others are rest = (are.0, are_requests-append own tests runs more requests others are.1 rest)
 
-  runs_of-both : runs_of w (Start t a w p ∷ End t a w seen ∷ []) ≡ recorded seen.how (record { test = t; attempt = a; worker = w; placement = p })
-  runs_of-both =
+sends_then : (own : List Pair) (tests : Tests) (start old new : Option (List Request)) (runs more : List Running) (requests : List Request) → Becomes start old (Sends own tests runs) → Becomes old new (Adds requests) → AreRequests own tests more requests → Becomes start new (Sends own tests (runs ++ more))
+sends_then own tests None old new runs more requests first second are = tt
+sends_then own tests (Some before) None new runs more requests first second are = absurd first
+sends_then own tests (Some before) (Some between) None runs more requests first second are = absurd second
+sends_then own tests (Some before) (Some between) (Some now) runs more requests first second are = record {
+  requests = first.requests ++ requests;
+  are = are_requests-append own tests runs more first.requests requests first.are are;
+  added = second ∙ ap (λ (rs : List Request). rs ++ requests) first.added ∙ append_assoc before first.requests requests;
+}
+
+sends_none : (own : List Pair) (tests : Tests) (old : Option (List Request)) → Becomes old old (Sends own tests [])
+sends_none own tests None = tt
+sends_none own tests (Some before) = record { requests = []; are = tt; added = sym (append-nil before) }
+
+are_told-append : (props : List Props) (world : List Told) (w : ℕ) (es more : List Entry) → AreTold props world w es → AreTold props world w more → AreTold props world w (es ++ more)
+are_told-append props world w [] more one other = other
+are_told-append props world w (e ∷ es) more one other = (one.0, are_told-append props world w es more one.1 other)
+
+both_told : (props : List Props) (start old : Option (List Told)) (w : ℕ) (es more : List Entry) → old ≡ start → IfSome start (λ world. AreTold props world w es) → IfSome old (λ world. AreTold props world w more) → IfSome start (λ world. AreTold props world w (es ++ more))
+both_told props None old w es more same one other = tt
+both_told props (Some world) old w es more same one other =
+    are_told-append props world w es more one (subst (λ (o : Option (List Told)). IfSome o (λ x. AreTold props x w more)) same other)
+
+-- an attempt that started and ended
+module _ (t a w : ℕ) (p : Option Placement) (seen : Seen) (es : List Entry) where
+  starts-both : starts_of w (es ++ Start t a w p ∷ End t a w seen ∷ []) ≡ starts_of w es ++ record { test = t; attempt = a; worker = w; placement = p } ∷ []
+  starts-both =
+      filter_map-append (started_by w) es (Start t a w p ∷ End t a w seen ∷ [])
+      ∙ ap (λ (b : Bool). starts_of w es ++ cons_option (cond b (Some (record { test = t; attempt = a; worker = w; placement = p })) None) []) (eq_same w)
+
+  lacking_now : is_no_memory seen.how ≡ true → ended_lacking (es ++ Start t a w p ∷ End t a w seen ∷ []) (record { test = t; attempt = a; worker = w; placement = p }) ≡ true
+  lacking_now lacks =
       let run : Running = record { test = t; attempt = a; worker = w; placement = p } in
-      ap (λ (b : Bool). cons_option (cond (b && not (cond (t == t && a == a) (is_no_memory seen.how) false)) (Some run) None) []) (eq_same w)
-      ∙ ap (λ (b : Bool). cons_option (cond (not (cond (b && a == a) (is_no_memory seen.how) false)) (Some run) None) []) (eq_same t)
-      ∙ ap (λ (b : Bool). cons_option (cond (not (cond b (is_no_memory seen.how) false)) (Some run) None) []) (eq_same a)
-      ∙ by_memory (is_no_memory seen.how) run
+      list_any-append (lacks_for run) es (Start t a w p ∷ End t a w seen ∷ [])
+      ∙ ap (λ (b : Bool). list_any (lacks_for run) es || ((b && a == a) && is_no_memory seen.how || false)) (eq_same t)
+      ∙ ap (λ (b : Bool). list_any (lacks_for run) es || (b && is_no_memory seen.how || false)) (eq_same a)
+      ∙ ap (λ (b : Bool). list_any (lacks_for run) es || (b || false)) lacks
+      ∙ or_true (list_any (lacks_for run) es)
 
-  runs_of-more : (es : List Entry) → is_busy_in w es ≡ false → runs_of w (es ++ Start t a w p ∷ End t a w seen ∷ []) ≡ runs_of w es ++ recorded seen.how (record { test = t; attempt = a; worker = w; placement = p })
-  runs_of-more es free = runs_of-append w es (Start t a w p ∷ End t a w seen ∷ []) free ∙ ap (λ (rs : List Running). runs_of w es ++ rs) runs_of-both
+  unstarted-both : unstarted_count w (es ++ Start t a w p ∷ End t a w seen ∷ []) ≡ unstarted_count w es + cond (is_not_started seen.how) 1 0
+  unstarted-both =
+      sum_by-append (λ (e : Entry). cond (is_unstarted w e) 1 0) es (Start t a w p ∷ End t a w seen ∷ [])
+      ∙ ap (λ (b : Bool). unstarted_count w es + (0 + cond (b && is_not_started seen.how) 1 0)) (eq_same w)
+      ∙ last (unstarted_count w es) (cond (is_not_started seen.how) 1 0)
+    where
+      last : (m n : ℕ) → m + (0 + n) ≡ m + n
+      last m n = omega arith
 
-are_told-append : (world : List Told) (w : ℕ) (es more : List Entry) → AreTold world w es → AreTold world w more → AreTold world w (es ++ more)
-are_told-append world w [] more one other = other
-are_told-append world w (e ∷ es) more one other = (one.0, are_told-append world w es more one.1 other)
-
-both_told : (start old : Option (List Told)) (w : ℕ) (es more : List Entry) → old ≡ start → IfSome start (λ world. AreTold world w es) → IfSome old (λ world. AreTold world w more) → IfSome start (λ world. AreTold world w (es ++ more))
-both_told None old w es more same one other = tt
-both_told (Some world) old w es more same one other =
-    are_told-append world w es more one (subst (λ (o : Option (List Told)). IfSome o (λ x. AreTold x w more)) same other)
-
-if_told : (old : Option (List Told)) (P Q : List Told → Type 0) → ((world : List Told) → P world → Q world) → IfSome old P → IfSome old Q
-if_told None P Q each holds = tt
-if_told (Some world) P Q each holds = each world holds
-
-unstarted-both : (t a w : ℕ) (p : Option Placement) (seen : Seen) (es : List Entry) → unstarted_count w (es ++ Start t a w p ∷ End t a w seen ∷ []) ≡ unstarted_count w es + cond (is_not_started seen.how) 1 0
-unstarted-both t a w p seen es =
-    sum_by-append (λ (e : Entry). cond (is_unstarted w e) 1 0) es (Start t a w p ∷ End t a w seen ∷ [])
-    ∙ ap (λ (b : Bool). unstarted_count w es + (0 + cond (b && is_not_started seen.how) 1 0)) (eq_same w)
-    ∙ last (unstarted_count w es) (cond (is_not_started seen.how) 1 0)
-  where
-    last : (m n : ℕ) → m + (0 + n) ≡ m + n
-    last m n = omega arith
+  unsure-both : unsure_count w (es ++ Start t a w p ∷ End t a w seen ∷ []) ≡ unsure_count w es + cond (is_not_started seen.how || is_no_memory seen.how) 1 0
+  unsure-both =
+      sum_by-append (λ (e : Entry). cond (is_unsure w e) 1 0) es (Start t a w p ∷ End t a w seen ∷ [])
+      ∙ ap (λ (b : Bool). unsure_count w es + (0 + cond (b && (is_not_started seen.how || is_no_memory seen.how)) 1 0)) (eq_same w)
+      ∙ last (unsure_count w es) (cond (is_not_started seen.how || is_no_memory seen.how) 1 0)
+    where
+      last : (m n : ℕ) → m + (0 + n) ≡ m + n
+      last m n = omega arith
 
 -- one attempt more
-module _ (env : List Pair) (defs : List TestDef) (w : ℕ) (start old new : GateTell) (es : List Entry) (t a : ℕ) (p : Option Placement) (seen : Seen) (def : TestDef) where
-  counts_more : CountsUnstarted (unstarted_count w es) start.faults old.faults → RunsAttempt env def (record { test = t; attempt = a; worker = w; placement = p }) seen old new → CountsUnstarted (unstarted_count w (es ++ Start t a w p ∷ End t a w seen ∷ [])) start.faults new.faults
+module _ (env : List Pair) (tests : Tests) (w : ℕ) (start old new : GateTell) (es : List Entry) (t a : ℕ) (p : Option Placement) (seen : Seen) (def : TestDef) (own : Props) where
+  counts_more : CountsUnstarted (unstarted_count w es) (unsure_count w es) start.faults old.faults → RunsAttempt env def own (record { test = t; attempt = a; worker = w; placement = p }) seen old new → CountsUnstarted (unstarted_count w (es ++ Start t a w p ∷ End t a w seen ∷ [])) (unsure_count w (es ++ Start t a w p ∷ End t a w seen ∷ [])) start.faults new.faults
   counts_more before runs = elim (cases_Bool (is_not_started seen.how)) [
     | inl failed ↦
         let count : unstarted_count w (es ++ Start t a w p ∷ End t a w seen ∷ []) ≡ unstarted_count w es + 1 = unstarted-both t a w p seen es ∙ ap (λ (b : Bool). unstarted_count w es + cond b 1 0) failed in
+        let unsure : unsure_count w (es ++ Start t a w p ∷ End t a w seen ∷ []) ≡ unsure_count w es + 1 = unsure-both t a w p seen es ∙ ap (λ (b : Bool). unsure_count w es + cond (b || is_no_memory seen.how) 1 0) failed in
         let was_later : start.faults ≤ old.faults = before.later in
         let was = before.rose in
         let later : old.faults ≤ new.faults = runs.cause.later in
         let rose = runs.cause.failed failed in
-        record { later = omega arith; rose = omega (arith, count, was, rose); stays = λ none. absurd (omega (arith, count, none)) }
+        record { later = omega arith; rose = omega (arith, count, was, rose); stays = λ none. absurd (omega (arith, unsure, none)) }
     | inr passed ↦
         let count : unstarted_count w (es ++ Start t a w p ∷ End t a w seen ∷ []) ≡ unstarted_count w es + 0 = unstarted-both t a w p seen es ∙ ap (λ (b : Bool). unstarted_count w es + cond b 1 0) passed in
-        let same : new.faults ≡ old.faults = runs.cause.unfailed passed in
+        let unsure : unsure_count w (es ++ Start t a w p ∷ End t a w seen ∷ []) ≡ unsure_count w es + cond (is_no_memory seen.how) 1 0 = unsure-both t a w p seen es ∙ ap (λ (b : Bool). unsure_count w es + cond (b || is_no_memory seen.how) 1 0) passed in
         let was_later : start.faults ≤ old.faults = before.later in
         let was = before.rose in
-        record { later = omega arith; rose = omega (arith, count, was, same); stays = λ none. same ∙ before.stays (omega (arith, count, none)) }
+        let later : old.faults ≤ new.faults = runs.cause.later in
+        record {
+          later = omega arith;
+          rose = omega (arith, count, was, later);
+          stays = λ none. elim (cases_Bool (is_no_memory seen.how)) [
+            | inl lacks ↦
+                let one : unsure_count w (es ++ Start t a w p ∷ End t a w seen ∷ []) ≡ unsure_count w es + 1 = unsure ∙ ap (λ (b : Bool). unsure_count w es + cond b 1 0) lacks in
+                absurd (omega (arith, one, none))
+            | inr has ↦
+                let same : new.faults ≡ old.faults = runs.cause.unfailed passed has in
+                same ∙ before.stays (omega (arith, unsure, none))
+          ];
+        }
   ]
 
-  pub asked_more : is_busy_in w es ≡ false → def_at defs t ≡ Some def → IsAsked env defs w start old es → RunsAttempt env def (record { test = t; attempt = a; worker = w; placement = p }) seen old new → IsAsked env defs w start new (es ++ Start t a w p ∷ End t a w seen ∷ [])
-  asked_more free there was runs =
-      let run : Running = record { test = t; attempt = a; worker = w; placement = p } in
-      let more = runs_of-more t a w p seen es free in
-      let f = λ (r : Running). asked_for r.test r.attempt in
-      let asks : asked_by w (es ++ Start t a w p ∷ End t a w seen ∷ []) ≡ asked_by w es ++ recorded seen.how (asked_for t a) = ap (λ (rs : List Running). map f rs) more ∙ map-append f (runs_of w es) (recorded seen.how run) ∙ ap (λ (xs : List Asked). asked_by w es ++ xs) (map-recorded f seen.how run) in
-      let found : request_for env defs run ≡ Some (request_of env def run) = ap (λ (o : Option TestDef). option_map (λ (d : TestDef). request_of env d run) o) there in
-      let sends : sent_by w env defs (es ++ Start t a w p ∷ End t a w seen ∷ []) ≡ sent_by w env defs es ++ recorded seen.how (request_of env def run) = ap (λ (rs : List Running). filter_map (request_for env defs) rs) more ∙ filter_map-append (request_for env defs) (runs_of w es) (recorded seen.how run) ∙ ap (λ (xs : List Request). sent_by w env defs es ++ xs) (filter_map-recorded (request_for env defs) seen.how run (request_of env def run) found) in
+  -- with what was recorded of it
+  grown : (more : List Running) (requests : List Request) → MayMiss (ended_lacking (es ++ Start t a w p ∷ End t a w seen ∷ [])) (record { test = t; attempt = a; worker = w; placement = p } ∷ []) more → AreRequests env tests more requests → Becomes old.asked new.asked (Adds (map asked_run more)) → Becomes old.sent new.sent (Adds requests) → props_at tests.props t ≡ Some own → IsAsked env tests w start old es → RunsAttempt env def own (record { test = t; attempt = a; worker = w; placement = p }) seen old new → IsAsked env tests w start new (es ++ Start t a w p ∷ End t a w seen ∷ [])
+  grown more requests missed are asked sent has was runs =
+      let now = es ++ Start t a w p ∷ End t a w seen ∷ [] in
+      let left = may_miss-more (ended_lacking es) (ended_lacking now) (λ run is. lacking_stays es (Start t a w p ∷ End t a w seen ∷ []) run is) (starts_of w es) was.runs was.kept in
       record {
-        told = both_told start.world old.world w es (Start t a w p ∷ End t a w seen ∷ []) was.world was.told tells;
-        asked = subst (λ (xs : List Asked). Becomes start.asked new.asked (Adds xs)) (sym asks) (adds_then_adds start.asked old.asked new.asked (asked_by w es) (recorded seen.how (asked_for t a)) was.asked runs.asked);
-        sent = subst (λ (xs : List Request). Becomes start.sent new.sent (Adds xs)) (sym sends) (adds_then_adds start.sent old.sent new.sent (sent_by w env defs es) (recorded seen.how (request_of env def run)) was.sent runs.sent);
+        told = both_told tests.props start.world old.world w es (Start t a w p ∷ End t a w seen ∷ []) was.world was.told saw;
+        runs = was.runs ++ more;
+        kept = subst (λ (rs : List Running). MayMiss (ended_lacking now) rs (was.runs ++ more)) (sym (starts-both t a w p seen es)) (may_miss-append (ended_lacking now) (starts_of w es) (record { test = t; attempt = a; worker = w; placement = p } ∷ []) was.runs more left missed);
+        asked = subst (λ (xs : List Asked). Becomes start.asked new.asked (Adds xs)) (sym (map-append asked_run was.runs more)) (adds_then_adds start.asked old.asked new.asked (map asked_run was.runs) (map asked_run more) was.asked asked);
+        sent = sends_then env tests start.sent old.sent new.sent was.runs more requests was.sent sent are;
         world = runs.world ∙ was.world;
         unstarted = counts_more was.unstarted runs;
       }
     where
-      tells : IfSome old.world (λ world. AreTold world w (Start t a w p ∷ End t a w seen ∷ []))
-      tells = elim (cases_Bool (is_no_memory seen.how)) [
-        | inl lacks ↦ always old.world (λ world. AreTold world w (Start t a w p ∷ End t a w seen ∷ [])) (λ world. (tt, ((λ same has. absurd (no lacks has)), tt)))
-        | inr has ↦ if_told old.world _ (λ world. AreTold world w (Start t a w p ∷ End t a w seen ∷ [])) (λ world is. (tt, ((λ same had. is), tt))) (runs.told has)
-      ]
-        where
-          no : is_no_memory seen.how ≡ true → is_no_memory seen.how ≡ false → ⊥
-          no lacks has = let both : true ≡ false = sym lacks ∙ has in cc
+      saw_own : (world : List Told) → (is_no_memory seen.how ≡ false → seen ≡ seen_of own (told world t a).heard (told world t a).ended) → AreTold tests.props world w (Start t a w p ∷ End t a w seen ∷ [])
+      saw_own world says = (tt, ((λ here memory. subst (λ (o : Option Props). IsSomeAnd o (λ x. seen ≡ seen_of x (told world t a).heard (told world t a).ended)) (sym has) (says memory)), tt))
 
-          always : (o : Option (List Told)) (P : List Told → Type 0) → ((world : List Told) → P world) → IfSome o P
-          always None P each = tt
-          always (Some world) P each = each world
+      by_world : (o : Option (List Told)) → (is_no_memory seen.how ≡ false → IfSome o (λ world. seen ≡ seen_of own (told world t a).heard (told world t a).ended)) → IfSome o (λ world. AreTold tests.props world w (Start t a w p ∷ End t a w seen ∷ []))
+      by_world None says = tt
+      by_world (Some world) says = saw_own world says
 
--- nothing was asked yet
-pub asked_none : (env : List Pair) (defs : List TestDef) (w : ℕ) (start : GateTell) → IsAsked env defs w start start []
-asked_none env defs w start = record {
-  told = none start.world;
-  asked = adds_none start.asked;
-  sent = adds_none start.sent;
+      saw : IfSome old.world (λ world. AreTold tests.props world w (Start t a w p ∷ End t a w seen ∷ []))
+      saw = by_world old.world runs.told
+
+  pub asked_more : def_at tests.defs t ≡ Some def → props_at tests.props t ≡ Some own → IsAsked env tests w start old es → RunsAttempt env def own (record { test = t; attempt = a; worker = w; placement = p }) seen old new → IsAsked env tests w start new (es ++ Start t a w p ∷ End t a w seen ∷ [])
+  asked_more there has was runs = by_calls runs.calls
+    where
+      request_for : (request : Request) → IsRequestOf env def own (record { test = t; attempt = a; worker = w; placement = p }) request → IsRequestFor env tests (record { test = t; attempt = a; worker = w; placement = p }) request
+      request_for request is =
+          subst (λ (o : Option TestDef). IsSomeAnd o (λ d. IsSomeAnd (props_at tests.props t) (λ x. IsRequestOf env d x (record { test = t; attempt = a; worker = w; placement = p }) request))) (sym there)
+          (subst (λ (o : Option Props). IsSomeAnd o (λ x. IsRequestOf env def x (record { test = t; attempt = a; worker = w; placement = p }) request)) (sym has) is)
+
+      by_calls : (AsksOnce env def own (record { test = t; attempt = a; worker = w; placement = p }) old new ⊎ AsksNone seen.how old new) → IsAsked env tests w start new (es ++ Start t a w p ∷ End t a w seen ∷ [])
+      by_calls (inl once) = grown (record { test = t; attempt = a; worker = w; placement = p } ∷ []) (once.request ∷ []) (inl (refl, refl)) (request_for once.request once.is, tt) once.asked once.sent has was runs
+      by_calls (inr none) = grown [] [] (lacking_now t a w p seen es none.lacks, refl) tt none.asked none.sent has was runs
+
+-- a test that was settled is no attempt
+pub asked_settled : (env : List Pair) (tests : Tests) (w : ℕ) (start gate : GateTell) (es : List Entry) (test : ℕ) (cause : Cause) → IsAsked env tests w start gate es → IsAsked env tests w start gate (es ++ Settle test cause ∷ [])
+asked_settled env tests w start gate es test cause was =
+    let now = es ++ Settle test cause ∷ [] in
+    let starts : starts_of w now ≡ starts_of w es = filter_map-append (started_by w) es (Settle test cause ∷ []) ∙ append-nil (starts_of w es) in
+    let unstarted : unstarted_count w now ≡ unstarted_count w es = sum_by-append (λ (e : Entry). cond (is_unstarted w e) 1 0) es (Settle test cause ∷ []) ∙ none (unstarted_count w es) in
+    let unsure : unsure_count w now ≡ unsure_count w es = sum_by-append (λ (e : Entry). cond (is_unsure w e) 1 0) es (Settle test cause ∷ []) ∙ none (unsure_count w es) in
+    record {
+      told = still start.world was.told;
+      runs = was.runs;
+      kept = subst (λ (rs : List Running). MayMiss (ended_lacking now) rs was.runs) (sym starts) (may_miss-more (ended_lacking es) (ended_lacking now) (λ run is. lacking_stays es (Settle test cause ∷ []) run is) (starts_of w es) was.runs was.kept);
+      asked = was.asked;
+      sent = was.sent;
+      world = was.world;
+      unstarted = subst (λ (n : ℕ). CountsUnstarted n (unsure_count w now) start.faults gate.faults) (sym unstarted) (subst (λ (n : ℕ). CountsUnstarted (unstarted_count w es) n start.faults gate.faults) (sym unsure) was.unstarted);
+    }
+  where
+    none : (m : ℕ) → m + (0 + 0) ≡ m
+    none m = omega arith
+
+    still : (o : Option (List Told)) → IfSome o (λ world. AreTold tests.props world w es) → IfSome o (λ world. AreTold tests.props world w (es ++ Settle test cause ∷ []))
+    still None told = tt
+    still (Some world) told = are_told-append tests.props world w es (Settle test cause ∷ []) told (tt, tt)
+
+-- where nothing ran
+pub asked_none : (env : List Pair) (tests : Tests) (w : ℕ) (tell : GateTell) → IsAsked env tests w tell tell []
+asked_none env tests w tell = record {
+  told = none tell.world;
+  runs = [];
+  kept = refl;
+  asked = adds_none tell.asked;
+  sent = sends_none env tests tell.sent;
   world = refl;
   unstarted = record { later = omega arith; rose = omega arith; stays = λ none. refl };
 }
   where
-    none : (o : Option (List Told)) → IfSome o (λ world. AreTold world w [])
+    none : (o : Option (List Told)) → IfSome o (λ world. AreTold tests.props world w [])
     none None = tt
     none (Some world) = tt
 
@@ -168,15 +228,15 @@ module _ (n w : ℕ) (behind : n ≤ w) where
   not_of : (v : ℕ) → nat_lt v n ≡ true → (v == w) ≡ false
   not_of v is = grind (arith, nat_tests)
 
-  no_run : (e : Entry) (es : List Entry) → is_below n e ≡ true → run_by w e es ≡ None
-  no_run (Start t a v p) es is = ap (λ (b : Bool). cond (b && not (ends_lacking t a es)) (Some (record { test = t; attempt = a; worker = v; placement = p })) None) (not_of v is)
-  no_run (End t a v s) es is = refl
-  no_run (Settle t c) es is = refl
-  no_run Stop es is = refl
+  no_start : (e : Entry) → is_below n e ≡ true → started_by w e ≡ None
+  no_start (Start t a v p) is = ap (λ (b : Bool). cond b (Some (record { test = t; attempt = a; worker = v; placement = p })) None) (not_of v is)
+  no_start (End t a v s) is = refl
+  no_start (Settle t c) is = refl
+  no_start Stop is = refl
 
-  no_runs : (es : List Entry) → are_below n es ≡ true → runs_of w es ≡ []
-  no_runs [] is = refl
-  no_runs (e ∷ es) is = ap (λ (o : Option Running). cons_option o (runs_of w es)) (no_run e es (and_left (is_below n e) (are_below n es) is)) ∙ no_runs es (and_right (is_below n e) (are_below n es) is)
+  no_starts : (es : List Entry) → are_below n es ≡ true → starts_of w es ≡ []
+  no_starts [] is = refl
+  no_starts (e ∷ es) is = ap (λ (o : Option Running). cons_option o (starts_of w es)) (no_start e (and_left (is_below n e) (are_below n es) is)) ∙ no_starts es (and_right (is_below n e) (are_below n es) is)
 
   not_unstarted : (e : Entry) → is_below n e ≡ true → is_unstarted w e ≡ false
   not_unstarted (Start t a v p) is = refl
@@ -192,36 +252,38 @@ module _ (n w : ℕ) (behind : n ≤ w) where
       zero : (m : ℕ) → m ≡ 0 → (0 + 0) + m ≡ 0
       zero m is = omega arith
 
-  saw_none : (world : List Told) (e : Entry) → is_below n e ≡ true → SawTold world w e
-  saw_none world (Start t a v p) is = tt
-  saw_none world (End t a v s) is = λ same has. absurd (no same)
+  saw_none : (props : List Props) (world : List Told) (e : Entry) → is_below n e ≡ true → SawTold props world w e
+  saw_none props world (Start t a v p) is = tt
+  saw_none props world (End t a v s) is = λ same has. absurd (no same)
     where
       no : v ≡ w → ⊥
       no same = let differ = not_of v is in let here : (v == w) ≡ true = ap (λ (x : ℕ). v == x) (sym same) ∙ eq_same v in let both : true ≡ false = sym here ∙ differ in cc
-  saw_none world (Settle t c) is = tt
-  saw_none world Stop is = tt
+  saw_none props world (Settle t c) is = tt
+  saw_none props world Stop is = tt
 
-  told_none : (world : List Told) (es : List Entry) → are_below n es ≡ true → AreTold world w es
-  told_none world [] is = tt
-  told_none world (e ∷ es) is = (saw_none world e (and_left (is_below n e) (are_below n es) is), told_none world es (and_right (is_below n e) (are_below n es) is))
+  told_none : (props : List Props) (world : List Told) (es : List Entry) → are_below n es ≡ true → AreTold props world w es
+  told_none props world [] is = tt
+  told_none props world (e ∷ es) is = (saw_none props world e (and_left (is_below n e) (are_below n es) is), told_none props world es (and_right (is_below n e) (are_below n es) is))
 
-  unasked : (env : List Pair) (defs : List TestDef) (tell : GateTell) (es : List Entry) → are_below n es ≡ true → IsAsked env defs w tell tell es
-  unasked env defs tell es is = record {
+  unasked : (env : List Pair) (tests : Tests) (tell : GateTell) (es : List Entry) → are_below n es ≡ true → IsAsked env tests w tell tell es
+  unasked env tests tell es is = record {
     told = none tell.world;
-    asked = subst (λ (xs : List Running). Becomes tell.asked tell.asked (Adds (map (λ (r : Running). asked_for r.test r.attempt) xs))) (sym (no_runs es is)) (adds_none tell.asked);
-    sent = subst (λ (xs : List Running). Becomes tell.sent tell.sent (Adds (filter_map (request_for env defs) xs))) (sym (no_runs es is)) (adds_none tell.sent);
+    runs = [];
+    kept = subst (λ (rs : List Running). MayMiss (ended_lacking es) rs []) (sym (no_starts es is)) refl;
+    asked = adds_none tell.asked;
+    sent = sends_none env tests tell.sent;
     world = refl;
     unstarted = record { later = omega arith; rose = omega (arith, none_unstarted es is); stays = λ none. refl };
   }
     where
-      none : (o : Option (List Told)) → IfSome o (λ world. AreTold world w es)
+      none : (o : Option (List Told)) → IfSome o (λ world. AreTold tests.props world w es)
       none None = tt
-      none (Some world) = told_none world es is
+      none (Some world) = told_none tests.props world es is
 
-unasked_from : (env : List Pair) (defs : List TestDef) (n w : ℕ) (tells : List GateTell) (es : List Entry) → n ≤ w → are_below n es ≡ true → AreAsked env defs w tells tells es
-unasked_from env defs n w [] es behind is = tt
-unasked_from env defs n w (tell ∷ tells) es behind is = (unasked n w behind env defs tell es is, unasked_from env defs n (w + 1) tells es (omega arith) is)
+unasked_from : (env : List Pair) (tests : Tests) (n w : ℕ) (tells : List GateTell) (es : List Entry) → n ≤ w → are_below n es ≡ true → AreAsked env tests w tells tells es
+unasked_from env tests n w [] es behind is = tt
+unasked_from env tests n w (tell ∷ tells) es behind is = (unasked n w behind env tests tell es is, unasked_from env tests n (w + 1) tells es (omega arith) is)
 
 -- the first gate was asked, and no worker but the first has entries
-pub asked_first : (env : List Pair) (defs : List TestDef) (before now : GateTell) (others : List GateTell) (es : List Entry) → are_below 1 es ≡ true → AreAsked env defs 0 (before ∷ []) (now ∷ []) es → AreAsked env defs 0 (before ∷ others) (now ∷ others) es
-asked_first env defs before now others es is first = (first.0, unasked_from env defs 1 1 others es (omega arith) is)
+pub asked_first : (env : List Pair) (tests : Tests) (before now : GateTell) (others : List GateTell) (es : List Entry) → are_below 1 es ≡ true → AreAsked env tests 0 (before ∷ []) (now ∷ []) es → AreAsked env tests 0 (before ∷ others) (now ∷ others) es
+asked_first env tests before now others es is first = (first.0, unasked_from env tests 1 1 others es (omega arith) is)

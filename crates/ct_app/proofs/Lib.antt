@@ -1,9 +1,12 @@
-pub mod PlainLemmas
-pub mod RunLemmas
-pub mod NextLemmas
+pub mod TestLemmas
+pub mod PlanningLemmas
+pub mod FallLemmas
+pub mod OnceLemmas
 pub mod GateLemmas
+pub mod AskLemmas
 pub mod StepLemmas
 pub mod AlongLemmas
 pub mod ReportLemmas
+pub mod ReadLemmas
 pub mod EndLemmas
 pub mod AnswerLemmas

@@ -15,7 +15,10 @@ use Rattle.ct_history.specs.History.{open_starts}
 use Rattle.ct_history.specs.Legal.{IsComplete}
 use Rattle.ct_history.specs.Verdicts.{are_all_final, is_final_in}
 use Rattle.ct_report.specs.Report.{body_lines, header_line, report_text, summary_lines, test_lines, text_of}
-use Rattle.ct_app.specs.Plain.{plain_tests, plan_of}
+use Rattle.ct_props.specs.declared.props.Props.{Props}
+use Rattle.ct_app.specs.declared.props.Tests.{Tests}
+use Rattle.ct_app.specs.Tests.{HaveProps}
+use Rattle.ct_app.specs.PlanOf.{plan_of, planned_tests}
 use Rattle.ct_app.specs.Run.{RunEnds}
 use Rattle.ct_report.proofs.LineLemmas.{text_of-append}
 use Rattle.ct_report.proofs.PutLemmas.{puts_more, puts_same, puts_then}
@@ -40,38 +43,39 @@ behind_header plan es old mid new Sinks.NoMemory head (inr lacks) = inr (record 
 full : (length {A = TestDef} [] == 0) ≡ false → ⊥
 full is = cc
 
-module _ (plan : PlanParts) (es : List Entry) (defs : List TestDef) (planned : plan ≡ plan_of plan.dir defs) where
-  tests_are : plan.tests ≡ plain_tests 1 defs
+module _ (plan : PlanParts) (es : List Entry) (tests : Tests) (have : HaveProps tests.defs tests.props) (planned : plan ≡ plan_of plan.dir tests) where
+  tests_are : plan.tests ≡ planned_tests 1 tests.defs tests.props
   tests_are = ap (λ (p : PlanParts). p.tests) planned
 
   -- no test at all
-  module _ (none : (length defs == 0) ≡ true) where
-    no_tests : (ds : List TestDef) → (length ds == 0) ≡ true → plain_tests 1 ds ≡ []
-    no_tests [] is = refl
-    no_tests (d ∷ ds) is = absurd (omega (arith, eqb-true (length (d ∷ ds)) 0 is))
+  module _ (none : (length tests.defs == 0) ≡ true) where
+    no_tests : (ds : List TestDef) (os : List Props) → (length ds == 0) ≡ true → planned_tests 1 ds os ≡ []
+    no_tests [] os is = refl
+    no_tests (d ∷ ds) os is = absurd (omega (arith, eqb-true (length (d ∷ ds)) 0 is))
 
     none_text : report_text plan es ≡ header_line plan ++ codes "No tests were found!!!\n"
     none_text =
-        ap (λ (ts : List PlanTest). header_line plan ++ text_of (body_lines plan es ts)) (tests_are ∙ no_tests defs none) ∙ ap (λ (t : List ℕ). header_line plan ++ t) (append-nil (codes "No tests were found!!!\n"))
+        ap (λ (ts : List PlanTest). header_line plan ++ text_of (body_lines plan es ts)) (tests_are ∙ no_tests tests.defs tests.props none) ∙ ap (λ (t : List ℕ). header_line plan ++ t) (append-nil (codes "No tests were found!!!\n"))
 
     pub none_puts : (old mid new : SinkTell) (result : Result (Unit {0}) SinkFault) → Puts (header_line plan) old mid (Ok tt) → Puts (codes "No tests were found!!!\n") mid new result → Puts (report_text plan es) old new result
     none_puts old mid new result head line = puts_same old new _ _ result (sym none_text) (puts_then old mid new (header_line plan) (codes "No tests were found!!!\n") result head line)
 
     pub none_complete : open_starts es ≡ [] → IsComplete plan es
     none_complete closed = record {
-      final = ap (λ (ts : List PlanTest). list_all (λ (t : PlanTest). is_final_in plan.repeat t es) ts) (tests_are ∙ no_tests defs none);
+      final = ap (λ (ts : List PlanTest). list_all (λ (t : PlanTest). is_final_in plan.repeat t es) ts) (tests_are ∙ no_tests tests.defs tests.props none);
       closed = closed;
     }
 
   -- some tests
-  module _ (some : (length defs == 0) ≡ false) where
-    body_text : (ds : List TestDef) → (length ds == 0) ≡ false → text_of (body_lines plan es (plain_tests 1 ds)) ≡ text_of (test_lines plan es) ++ text_of (if are_all_final plan es then summary_lines plan es else [])
-    body_text [] is = absurd (full is)
-    body_text (d ∷ ds) is = text_of-append (test_lines plan es) (if are_all_final plan es then summary_lines plan es else [])
+  module _ (some : (length tests.defs == 0) ≡ false) where
+    body_text : (ds : List TestDef) (os : List Props) → HaveProps ds os → (length ds == 0) ≡ false → text_of (body_lines plan es (planned_tests 1 ds os)) ≡ text_of (test_lines plan es) ++ text_of (if are_all_final plan es then summary_lines plan es else [])
+    body_text [] os has is = absurd (full is)
+    body_text (d ∷ ds) [] has is = absurd has
+    body_text (d ∷ ds) (o ∷ os) has is = text_of-append (test_lines plan es) (if are_all_final plan es then summary_lines plan es else [])
 
     some_text : report_text plan es ≡ header_line plan ++ (text_of (test_lines plan es) ++ text_of (if are_all_final plan es then summary_lines plan es else []))
     some_text =
-        ap (λ (ts : List PlanTest). header_line plan ++ text_of (body_lines plan es ts)) tests_are ∙ ap (λ (t : List ℕ). header_line plan ++ t) (body_text defs some)
+        ap (λ (ts : List PlanTest). header_line plan ++ text_of (body_lines plan es ts)) tests_are ∙ ap (λ (t : List ℕ). header_line plan ++ t) (body_text tests.defs tests.props have some)
 
     -- the lines, not all of them
     pub lines_fail : (old mid new : SinkTell) (fault : SinkFault) → Puts (header_line plan) old mid (Ok tt) → Puts (text_of (test_lines plan es)) mid new (Err fault) → Puts (report_text plan es) old new (Err fault)

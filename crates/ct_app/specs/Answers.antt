@@ -17,11 +17,11 @@ use Rattle.ct_app.specs.declared.outcome.Refusal.{Refusal}
 use Rattle.ct_app.specs.declared.outcome.Refusal.TheVariants.{TestFile, Prop}
 use Rattle.ct_app.specs.declared.outcome.Outcome.{Outcome}
 use Rattle.ct_app.specs.declared.outcome.Outcome.TheVariants.{Completed, Usage, Refused, FilesFault, OutputFault, Memory}
+use Rattle.ct_app.specs.declared.props.Tests.{Tests}
+use Rattle.ct_app.specs.Tests.{HaveProps, RefusesFirst}
 use Rattle.ct_app.specs.Gates.{AreAsked, are_below, had_memory}
-use Rattle.ct_app.specs.InOrder.{RunsInOrder}
 use Rattle.ct_app.specs.Outcome.{fault_line, status_of}
-use Rattle.ct_app.specs.Plain.{plan_of}
-use Rattle.ct_app.specs.Props.{first_unbuilt}
+use Rattle.ct_app.specs.PlanOf.{plan_of}
 use Rattle.ct_app.specs.Run.{RunEnds}
 
 -- the folder of a run without options
@@ -91,25 +91,24 @@ pub record IsUnrun (s : Sides) : Type 0 where
 
 -- these tests ran as far as the history goes: it is legal and leaves nothing open, at no moment was more given than is
 -- declared, and it says what the gates were asked and told
-pub record IsRunOf (env : List Pair) (defs : List TestDef) (gates_before gates_now : List GateTell) (plan : PlanParts) (entries : List Entry) : Type 0 where
-  pub planned : plan ≡ plan_of here defs
+pub record IsRunOf (env : List Pair) (tests : Tests) (gates_before gates_now : List GateTell) (plan : PlanParts) (entries : List Entry) : Type 0 where
+  pub planned : plan ≡ plan_of here tests
   pub legal : is_legal plan entries ≡ true
   pub within : StaysWithin plan entries
   pub closed : open_starts entries ≡ []
   pub workers : are_below plan.level entries ≡ true
-  pub asked : AreAsked env defs 0 gates_before gates_now entries
-  pub in_order : RunsInOrder defs entries
+  pub asked : AreAsked env tests 0 gates_before gates_now entries
 
--- the tests that were read ran, none of which has a property that is refused
-pub record IsRun (s : Sides) (defs : List TestDef) (plan : PlanParts) (entries : List Entry) : Type 0 where
+-- the tests that were read ran, with the properties that they have
+pub record IsRun (s : Sides) (tests : Tests) (plan : PlanParts) (entries : List Entry) : Type 0 where
   pub no_words : s.words ≡ []
-  pub read : IfSome s.files_before.held (λ held. tree_of held here [] ≡ Ok defs)
-  pub built : first_unbuilt 1 defs ≡ None
-  pub ran : IsRunOf s.env defs s.gates_before s.gates_now plan entries
+  pub read : IfSome s.files_before.held (λ held. tree_of held here [] ≡ Ok tests.defs)
+  pub props : HaveProps tests.defs tests.props
+  pub ran : IsRunOf s.env tests s.gates_before s.gates_now plan entries
 
 -- plan and history are there, of a run of the tests that were read, and this holds of them
 abbrev pub HasRunWith : Sides → (PlanParts → List Entry → Type 0) → Type 0
-HasRunWith s P = IsSomeAnd s.plan (λ plan. IsSomeAnd s.history (λ entries. ((defs : List TestDef) × IsRun s defs plan entries) × P plan entries))
+HasRunWith s P = IsSomeAnd s.plan (λ plan. IsSomeAnd s.history (λ entries. ((tests : Tests) × IsRun s tests plan entries) × P plan entries))
 
 -- each test is final, no attempt wanted memory, and the whole report was put
 pub record IsReported (plan : PlanParts) (entries : List Entry) (before now : SinkTell) : Type 0 where
@@ -143,7 +142,7 @@ pub record IsUsage (s : Sides) (word : ℕ) : Type 0 where
 -- what the files hold is refused so
 abbrev pub IsRefusedBy : Option Held → Refusal → Type 0
 IsRefusedBy told (TestFile file line kind) = IfSome told (λ held. tree_of held here [] ≡ Err (Read.At file line kind))
-IsRefusedBy told (Prop test key kind) = (defs : List TestDef) × IfSome told (λ held. tree_of held here [] ≡ Ok defs) × (first_unbuilt 1 defs ≡ Some (record { test = test; key = key }))
+IsRefusedBy told (Prop test key kind) = (defs : List TestDef) × IfSome told (λ held. tree_of held here [] ≡ Ok defs) × RefusesFirst defs test key kind
 
 -- a test file or a property was refused, and nothing was run
 pub record IsRefusal (s : Sides) (refusal : Refusal) : Type 0 where

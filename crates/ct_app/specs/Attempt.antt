@@ -1,31 +1,61 @@
--- One attempt more of a run, by worker 0. This project's own.
-use Rattle.std.specs.Prelude.{◌≡◌, ◌⊎◌, ℕ, true, false, List, [], ◌∷◌, ◌++◌, Option, Some, None, Result, Ok, Err, IfSome, IsSome}
+-- One step more of a run, by worker 0: an attempt, or a test that is settled. This project's own.
+use Rattle.std.specs.Prelude.{◌≡◌, ◌⊎◌, ℕ, ◌<◌, ◌≤◌, true, false, List, [], ◌∷◌, ◌++◌, Option, Some, None, Result, Ok, Err, IfSome, IsSome}
 use Rattle.ct_base.specs.declared.defs.Pair.{Pair}
 use Rattle.ct_base.specs.declared.defs.TestDef.{TestDef}
 use Rattle.ct_base.specs.declared.memory.NoMemory.{NoMemory}
-use Rattle.ct_base.specs.Outside.{Adds, Becomes}
+use Rattle.ct_base.specs.Memory.{CollectValue}
+use Rattle.ct_base.specs.Outside.{Adds, Becomes, Rose}
+use Rattle.ct_props.specs.declared.props.Props.{Props}
 use Rattle.ct_alloc.specs.declared.placement.Placement.{Placement}
+use Rattle.ct_verdict.specs.declared.attempt.How.{How}
 use Rattle.ct_verdict.specs.declared.attempt.Seen.{Seen}
+use Rattle.ct_verdict.specs.declared.verdict.Cause.{Cause}
 use Rattle.ct_history.specs.declared.history.Entry.{Entry}
-use Rattle.ct_history.specs.declared.history.Entry.TheVariants.{Start, End}
+use Rattle.ct_history.specs.declared.history.Entry.TheVariants.{Start, End, Settle}
 use Rattle.ct_history.specs.History.{Running}
 use Rattle.ct_history.specs.Verdicts.{are_all_final, verdict_of_test}
+use Rattle.ct_core.specs.declared.gate.Ended.{Ended}
+use Rattle.ct_core.specs.declared.gate.Request.{Request}
 use Rattle.ct_core.specs.declared.ticket.Ticket.{Ticket}
 use Rattle.ct_core.specs.CoreValue.{CoreValue}
-use Rattle.ct_core.specs.Gate.{GateTell, HasStartCause, asked_for, is_no_memory, recorded, told}
-use Rattle.ct_app.specs.Gates.{IsAsked, request_of, seen_of}
+use Rattle.ct_core.specs.Gate.{GateTell, is_no_memory, is_not_started, told}
+use Rattle.ct_app.specs.declared.props.Tests.{Tests}
+use Rattle.ct_app.specs.Run.{left_count}
+use Rattle.ct_app.specs.Gates.{IsAsked, IsRequestOf, asked_run, seen_of}
 
 -- the attempt that a ticket stands for
 abbrev pub run_of : Ticket → Running
 run_of ticket = record { test = ticket.test; attempt = ticket.attempt; worker = ticket.worker; placement = ticket.placement }
 
--- a gate ran an attempt of a test, which was so seen
-pub record RunsAttempt (env : List Pair) (def : TestDef) (run : Running) (seen : Seen) (old new : GateTell) : Type 0 where
-  pub told : is_no_memory seen.how ≡ false → IfSome old.world (λ world. seen ≡ seen_of (told world run.test run.attempt).ended)
-  pub asked : Becomes old.asked new.asked (Adds (recorded seen.how (asked_for run.test run.attempt)))
-  pub sent : Becomes old.sent new.sent (Adds (recorded seen.how (request_of env def run)))
+-- the gate was asked once, for this attempt
+pub record AsksOnce (env : List Pair) (def : TestDef) (props : Props) (run : Running) (old new : GateTell) : Type 0 where
+  pub request : Request
+  pub is : IsRequestOf env def props run request
+  pub asked : Becomes old.asked new.asked (Adds (asked_run run ∷ []))
+  pub sent : Becomes old.sent new.sent (Adds (request ∷ []))
+
+-- memory was wanting for an attempt, and the gate has no record of it
+pub record AsksNone (how : How) (old new : GateTell) : Type 0 where
+  pub lacks : is_no_memory how ≡ true
+  pub asked : Becomes old.asked new.asked (Adds [])
+  pub sent : Becomes old.sent new.sent (Adds [])
+
+-- the count of faults never falls, it rose where the attempt was not started, and else it stays where memory was there
+pub record HasAttemptCause (before now : ℕ) (how : How) : Type 0 where
+  pub later : before ≤ now
+  pub failed : is_not_started how ≡ true → Rose before now
+  pub unfailed : is_not_started how ≡ false → is_no_memory how ≡ false → now ≡ before
+
+-- an attempt of a test was run on a gate, and was so seen
+pub record RunsAttempt (env : List Pair) (def : TestDef) (props : Props) (run : Running) (seen : Seen) (old new : GateTell) : Type 0 where
+  pub told : is_no_memory seen.how ≡ false → IfSome old.world (λ world. seen ≡ seen_of props (told world run.test run.attempt).heard (told world run.test run.attempt).ended)
+  pub calls : AsksOnce env def props run old new ⊎ AsksNone seen.how old new
   pub world : new.world ≡ old.world
-  pub cause : HasStartCause old.faults new.faults seen.how
+  pub cause : HasAttemptCause old.faults new.faults seen.how
+
+-- what an ear that is not short kept is what was heard of an attempt that ended so; else memory was wanting
+abbrev pub SeesEnd : Props → CollectValue → Ended → Seen → Type 0
+SeesEnd props ear ended seen = (is_no_memory seen.how ≡ true) ⊎ ((ear.short ≡ false) × (seen ≡ seen_of props ear.heard ended))
 
 -- one attempt of a test was started by worker 0 and ended, and was so seen
 pub record RanOnce (test : ℕ) (seen : Seen) (before now : CoreValue) : Type 0 where
@@ -33,12 +63,21 @@ pub record RanOnce (test : ℕ) (seen : Seen) (before now : CoreValue) : Type 0 
   pub placement : Option Placement
   pub appended : now ≡ record before { entries = before.entries ++ Start test attempt 0 placement ∷ End test attempt 0 seen ∷ [] }
 
--- what a step says: all is final; or one attempt more made a test final; or memory was wanting for an attempt, or before one
+-- one test was settled
+pub record SettledOne (test : ℕ) (before now : CoreValue) : Type 0 where
+  pub cause : Cause
+  pub appended : now ≡ record before { entries = before.entries ++ Settle test cause ∷ [] }
+
+-- a test got its verdict: by an attempt for which memory was there, or without one
+abbrev pub MakesFinal : ℕ → CoreValue → CoreValue → Type 0
+MakesFinal test before now = ((seen : Seen) × RanOnce test seen before now × (is_no_memory seen.how ≡ false)) ⊎ SettledOne test before now
+
+-- what a step says: all is final; or a test got its verdict, and fewer are left; or memory was wanting for an attempt, or before one
 abbrev pub IsStep : CoreValue → CoreValue → Result (Option ℕ) NoMemory → Type 0
 IsStep before now (Ok None) = (now ≡ before) × (are_all_final now.plan now.entries ≡ true)
-IsStep before now (Ok (Some test)) = (seen : Seen) × RanOnce test seen before now × (is_no_memory seen.how ≡ false) × IsSome (verdict_of_test now.plan now.entries test)
+IsStep before now (Ok (Some test)) = MakesFinal test before now × IsSome (verdict_of_test now.plan now.entries test) × (left_count now.plan now.entries < left_count before.plan before.entries)
 IsStep before now (Err e) = (now ≡ before) ⊎ ((test : ℕ) × (seen : Seen) × RanOnce test seen before now × (is_no_memory seen.how ≡ true))
 
 -- since whatever moment the gate was asked for what the worker ran before, it was also asked for what it ran now
-abbrev pub StaysAsked : List Pair → List TestDef → ℕ → GateTell → GateTell → List Entry → List Entry → Type 0
-StaysAsked env defs worker old new before now = (start : GateTell) → IsAsked env defs worker start old before → IsAsked env defs worker start new now
+abbrev pub StaysAsked : List Pair → Tests → ℕ → GateTell → GateTell → List Entry → List Entry → Type 0
+StaysAsked env tests worker old new before now = (start : GateTell) → IsAsked env tests worker start old before → IsAsked env tests worker start new now

@@ -1,7 +1,6 @@
 -- How a run ended, before its outcome is told. This project's own.
 use Rattle.std.specs.Prelude.{◌≡◌, ◌⊎◌, ℕ, ◌-◌, ◌^◌, ◌<◌, List, [], length, Option, None, Result, Ok, Err, IfSome, IsSomeAnd}
 use Rattle.ct_base.specs.declared.defs.Pair.{Pair}
-use Rattle.ct_base.specs.declared.defs.TestDef.{TestDef}
 use Rattle.ct_base.specs.declared.sink.SinkFault.{SinkFault}
 use Rattle.ct_base.specs.declared.sink.SinkFault.TheVariants as Sinks
 use Rattle.ct_base.specs.Outside.{Becomes, FilesTell, Puts, SameHeld, SinkTell}
@@ -14,8 +13,9 @@ use Rattle.ct_app.specs.declared.outcome.Outcome.{Outcome}
 use Rattle.ct_app.specs.declared.outcome.Outcome.TheVariants.{Completed, Usage, Refused, FilesFault, OutputFault, Memory}
 use Rattle.ct_app.specs.Answers.{FilesFail, FilesStay, HasRunWith, IsRefusedBy, here, IsCutOff, IsGivenUp, IsReadFault, IsRefusal, IsReported, IsRunOf, IsUnrun, IsUsage, PutsOrFails, Sides}
 use Rattle.ct_app.specs.Outcome.{fault_line, fault_status, outcome_of_sink, status_of}
-use Rattle.ct_app.specs.Plain.{plan_of}
-use Rattle.ct_app.specs.Props.{first_unbuilt}
+use Rattle.ct_app.specs.PlanOf.{plan_of}
+use Rattle.ct_app.specs.Tests.{HaveProps}
+use Rattle.ct_app.specs.declared.props.Tests.{Tests}
 
 -- the entries of a history
 abbrev pub history_entries : History → List Entry
@@ -37,15 +37,15 @@ ended_as (Ok done) plan entries = Ok (status_of plan entries)
 ended_as (Err fault) plan entries = Err (outcome_of_sink fault)
 
 -- plan and history are there, of a run of these tests that ended so
-abbrev pub RanPlan : List Pair → List TestDef → List GateTell → List GateTell → Option PlanParts → Option (List Entry) → SinkTell → SinkTell → Result ℕ Outcome → Type 0
-RanPlan env defs gates_before gates_now plan history before now ended = IsSomeAnd plan (λ p. IsSomeAnd history (λ es. IsRunOf env defs gates_before gates_now p es × PlanEnds p es before now ended))
+abbrev pub RanPlan : List Pair → Tests → List GateTell → List GateTell → Option PlanParts → Option (List Entry) → SinkTell → SinkTell → Result ℕ Outcome → Type 0
+RanPlan env tests gates_before gates_now plan history before now ended = IsSomeAnd plan (λ p. IsSomeAnd history (λ es. IsRunOf env tests gates_before gates_now p es × PlanEnds p es before now ended))
 
 -- the tests of the folder were read and planned, and the files stay
-pub record IsReadFolder (before now : FilesTell) (defs : List TestDef) (plan : PlanParts) : Type 0 where
-  pub read : IfSome before.held (λ held. tree_of held here [] ≡ Ok defs)
-  pub few : length defs < 2 ^ 32 - 1
-  pub built : first_unbuilt 1 defs ≡ None
-  pub planned : plan ≡ plan_of here defs
+pub record IsReadFolder (before now : FilesTell) (tests : Tests) (plan : PlanParts) : Type 0 where
+  pub read : IfSome before.held (λ held. tree_of held here [] ≡ Ok tests.defs)
+  pub few : length tests.defs < 2 ^ 32 - 1
+  pub props : HaveProps tests.defs tests.props
+  pub planned : plan ≡ plan_of here tests
   pub files : FilesStay before now
 
 -- why they were not: a test file or a property is refused, or the files failed at a path that was read, or memory was wanting

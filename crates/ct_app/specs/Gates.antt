@@ -1,9 +1,15 @@
--- What the gates of a run were asked and told, by the entries of their workers. This project's own.
-use Rattle.std.specs.Prelude.{◌≡◌, ℕ, ◌+◌, ◌-◌, ◌^◌, ◌≤◌, ⊤, min, nat_lt, Bool, true, false, not, ◌&&◌, List, [], ◌∷◌, map, filter_map, count_by, slice_get, Option, Some, None, option_map, IfSome, ◌==◌, if◌then◌else◌}
-use Rattle.std.specs.List.{list_all, cons_option}
+-- What the gates of a run were asked and told, by the entries of their workers. This project's own; the request of a start
+-- is after CMake manual, cmake-properties(7), REQUIRED_FILES, TIMEOUT, WORKING_DIRECTORY.
+use Rattle.std.specs.Prelude.{◌≡◌, ◌⊎◌, ℕ, ◌+◌, ◌-◌, ◌^◌, ◌≤◌, ⊤, min, nat_lt, Bool, true, false, not, ◌&&◌, ◌||◌, List, [], ◌∷◌, ◌++◌, map, filter_map, count_by, Option, Some, None, unwrap_or, IfSome, IsSomeAnd, ◌==◌, if◌then◌else◌}
+use Rattle.std.specs.List.{list_all, list_any}
 use Rattle.ct_base.specs.declared.defs.Pair.{Pair}
 use Rattle.ct_base.specs.declared.defs.TestDef.{TestDef}
 use Rattle.ct_base.specs.Outside.{Adds, Becomes}
+use Rattle.ct_regex.specs.declared.pattern.Regex.{Regex}
+use Rattle.ct_regex.specs.Ends.{hits}
+use Rattle.ct_regex.specs.TreeOf.{regex_tree}
+use Rattle.ct_props.specs.declared.props.Props.{Props}
+use Rattle.ct_env.specs.Environment.{IsEnvironment}
 use Rattle.ct_verdict.specs.declared.attempt.Seen.{Seen}
 use Rattle.ct_history.specs.declared.history.Entry.{Entry}
 use Rattle.ct_history.specs.declared.history.Entry.TheVariants.{Start, End, Settle, Stop}
@@ -13,6 +19,8 @@ use Rattle.ct_core.specs.declared.gate.Ended.{Ended}
 use Rattle.ct_core.specs.declared.gate.Request.{Request}
 use Rattle.ct_core.specs.declared.gate.Told.{Told}
 use Rattle.ct_core.specs.Gate.{GateTell, asked_for, is_no_memory, is_not_started, told}
+use Rattle.ct_app.specs.declared.props.Tests.{Tests}
+use Rattle.ct_app.specs.Tests.{def_at, props_at}
 
 -- the entry ends an attempt for want of memory, for which its gate may not have been asked
 abbrev pub lacks_memory : Entry → Bool
@@ -25,67 +33,103 @@ lacks_memory Stop = false
 abbrev pub had_memory : List Entry → Bool
 had_memory entries = list_all (λ entry. not (lacks_memory entry)) entries
 
--- the End of this attempt, which is the first one of it among these entries, lacks memory
-abbrev pub ends_lacking : ℕ → ℕ → List Entry → Bool
-ends_lacking test attempt [] = false
-ends_lacking test attempt (entry ∷ entries) = if is_end_of test attempt entry then lacks_memory entry else ends_lacking test attempt entries
+-- the attempt that an entry starts for a worker
+abbrev pub started_by : ℕ → Entry → Option Running
+started_by worker (Start t a w p) = if w == worker then Some (record { test = t; attempt = a; worker = w; placement = p }) else None
+started_by worker (End t a w seen) = None
+started_by worker (Settle t cause) = None
+started_by worker Stop = None
 
--- the attempt that the entry starts for the worker, unless its End behind lacks memory
-abbrev pub run_by : ℕ → Entry → List Entry → Option Running
-run_by worker (Start t a w p) behind = if w == worker && not (ends_lacking t a behind) then Some (record { test = t; attempt = a; worker = w; placement = p }) else None
-run_by worker (End t a w seen) behind = None
-run_by worker (Settle t cause) behind = None
-run_by worker Stop behind = None
+-- the attempts of a worker, in the order of its Starts
+abbrev pub starts_of : ℕ → List Entry → List Running
+starts_of worker entries = filter_map (started_by worker) entries
 
--- what a worker ran: its Starts in order, but for those whose End lacks memory
-abbrev pub runs_of : ℕ → List Entry → List Running
-runs_of worker [] = []
-runs_of worker (entry ∷ entries) = cons_option (run_by worker entry entries) (runs_of worker entries)
+-- the entry ends this attempt for want of memory
+abbrev pub lacks_for : Running → Entry → Bool
+lacks_for run entry = is_end_of run.test run.attempt entry && lacks_memory entry
 
--- the attempts that the gate of a worker is asked for
-abbrev pub asked_by : ℕ → List Entry → List Asked
-asked_by worker entries = map (λ (run : Running). asked_for run.test run.attempt) (runs_of worker entries)
+-- one of the entries ends the attempt for want of memory
+abbrev pub ended_lacking : List Entry → Running → Bool
+ended_lacking entries run = list_any (lacks_for run) entries
+
+-- these are the attempts, in order, of which those that pass the test may be missing
+abbrev pub MayMiss : (Running → Bool) → List Running → List Running → Type 0
+MayMiss may [] kept = kept ≡ []
+MayMiss may (run ∷ runs) [] = (may run ≡ true) × MayMiss may runs []
+MayMiss may (run ∷ runs) (first ∷ kept) = ((first ≡ run) × MayMiss may runs kept) ⊎ ((may run ≡ true) × MayMiss may runs (first ∷ kept))
+
+-- what a gate is asked for an attempt
+abbrev pub asked_run : Running → Asked
+asked_run run = asked_for run.test run.attempt
+
+-- how long an attempt may run without the property, in microseconds: 1500 seconds
+abbrev pub default_limit : ℕ
+default_limit = 1500000000
+
+-- a limit; 0 is none
+abbrev pub limit_of : ℕ → Option ℕ
+limit_of micros = if micros == 0 then None else Some micros
 
 -- what a gate is asked to run for an attempt of this test: its command, in its folder, with this environment
-abbrev pub request_of : List Pair → TestDef → Running → Request
-request_of env def run = record {
+abbrev pub request_in : List Pair → TestDef → Props → Running → Request
+request_in env def props run = record {
   test = run.test;
   attempt = run.attempt;
   name = def.name;
   command = def.command;
-  dir = def.dir;
+  dir = props.working_dir;
   env = env;
-  limit = None;
-  required = [];
+  limit = limit_of (unwrap_or props.timeout default_limit);
+  required = props.required_files;
 }
 
--- the test with this number; numbers count from 1
-abbrev pub def_at : List TestDef → ℕ → Option TestDef
-def_at defs number = slice_get defs (number - 1)
+-- the request is that of an attempt of this test, with the environment that its properties make of the run's own
+pub record IsRequestOf (own : List Pair) (def : TestDef) (props : Props) (run : Running) (request : Request) : Type 0 where
+  pub env : IsEnvironment own props run.placement request.env
+  pub is : request ≡ request_in request.env def props run
 
--- what a gate is asked to run for an attempt of one of these tests
-abbrev pub request_for : List Pair → List TestDef → Running → Option Request
-request_for env defs run = option_map (λ def. request_of env def run) (def_at defs run.test)
+-- the request is that of an attempt of one of these tests
+abbrev pub IsRequestFor : List Pair → Tests → Running → Request → Type 0
+IsRequestFor own tests run request = IsSomeAnd (def_at tests.defs run.test) (λ def. IsSomeAnd (props_at tests.props run.test) (λ props. IsRequestOf own def props run request))
 
--- the requests that the gate of a worker is sent
-abbrev pub sent_by : ℕ → List Pair → List TestDef → List Entry → List Request
-sent_by worker env defs entries = filter_map (request_for env defs) (runs_of worker entries)
+-- the requests are those of these attempts, one for each, in order
+abbrev pub AreRequests : List Pair → Tests → List Running → List Request → Type 0
+AreRequests own tests [] [] = ⊤
+AreRequests own tests [] (request ∷ requests) = ⊥
+AreRequests own tests (run ∷ runs) [] = ⊥
+AreRequests own tests (run ∷ runs) (request ∷ requests) = IsRequestFor own tests run request × AreRequests own tests runs requests
 
--- what is seen of an attempt that ended so; there is no pattern that could hit
-abbrev pub seen_of : Ended → Seen
-seen_of ended = record { how = ended.how; fail_hit = false; pass_hit = false; skip_hit = false; micros = ended.micros }
+-- the requests of these attempts stand behind those that were sent before
+pub record Sends (own : List Pair) (tests : Tests) (runs : List Running) (before now : List Request) : Type 0 where
+  pub requests : List Request
+  pub are : AreRequests own tests runs requests
+  pub added : now ≡ before ++ requests
+
+-- one of these patterns hits the text
+abbrev pub some_hits : List Regex → List ℕ → Bool
+some_hits patterns text = list_any (λ pattern. hits (regex_tree pattern) text) patterns
+
+-- what is seen of an attempt of which this was heard and that ended so
+abbrev pub seen_of : Props → List ℕ → Ended → Seen
+seen_of props heard ended = record {
+  how = ended.how;
+  fail_hit = some_hits props.fail heard;
+  pass_hit = some_hits props.pass heard;
+  skip_hit = some_hits props.skip heard;
+  micros = ended.micros;
+}
 
 -- an End of the worker saw what the world tells of its attempt, unless memory was wanting
-abbrev pub SawTold : List Told → ℕ → Entry → Type 0
-SawTold world worker (Start t a w placement) = ⊤
-SawTold world worker (End t a w seen) = w ≡ worker → is_no_memory seen.how ≡ false → seen ≡ seen_of (told world t a).ended
-SawTold world worker (Settle t cause) = ⊤
-SawTold world worker Stop = ⊤
+abbrev pub SawTold : List Props → List Told → ℕ → Entry → Type 0
+SawTold props world worker (Start t a w placement) = ⊤
+SawTold props world worker (End t a w seen) = w ≡ worker → is_no_memory seen.how ≡ false → IsSomeAnd (props_at props t) (λ own. seen ≡ seen_of own (told world t a).heard (told world t a).ended)
+SawTold props world worker (Settle t cause) = ⊤
+SawTold props world worker Stop = ⊤
 
 -- each End of the worker did
-abbrev pub AreTold : List Told → ℕ → List Entry → Type 0
-AreTold world worker [] = ⊤
-AreTold world worker (entry ∷ entries) = SawTold world worker entry × AreTold world worker entries
+abbrev pub AreTold : List Props → List Told → ℕ → List Entry → Type 0
+AreTold props world worker [] = ⊤
+AreTold props world worker (entry ∷ entries) = SawTold props world worker entry × AreTold props world worker entries
 
 -- an attempt of the worker could not be started
 abbrev pub is_unstarted : ℕ → Entry → Bool
@@ -98,26 +142,40 @@ is_unstarted worker Stop = false
 abbrev pub unstarted_count : ℕ → List Entry → ℕ
 unstarted_count worker entries = count_by (is_unstarted worker) entries
 
--- a gate's count rose by as many as could not be started at least, up to its last value, and stays where none was so
-pub record CountsUnstarted (unstarted before now : ℕ) : Type 0 where
+-- an attempt of the worker could not be started, or memory was wanting to tell
+abbrev pub is_unsure : ℕ → Entry → Bool
+is_unsure worker (Start t a w placement) = false
+is_unsure worker (End t a w seen) = w == worker && (is_not_started seen.how || is_no_memory seen.how)
+is_unsure worker (Settle t cause) = false
+is_unsure worker Stop = false
+
+-- how many attempts of the worker are such ones
+abbrev pub unsure_count : ℕ → List Entry → ℕ
+unsure_count worker entries = count_by (is_unsure worker) entries
+
+-- a gate's count rose by as many as could not be started at least, up to its last value, and stays where none can have been
+pub record CountsUnstarted (unstarted unsure before now : ℕ) : Type 0 where
   pub later : before ≤ now
   pub rose : min (before + unstarted) (2 ^ 64 - 1) ≤ now
-  pub stays : unstarted ≡ 0 → now ≡ before
+  pub stays : unsure ≡ 0 → now ≡ before
 
--- a gate was asked for what its worker ran, and the worker saw what the gate's world tells
-pub record IsAsked (env : List Pair) (defs : List TestDef) (worker : ℕ) (before now : GateTell) (entries : List Entry) : Type 0 where
-  pub told : IfSome before.world (λ world. AreTold world worker entries)
-  pub asked : Becomes before.asked now.asked (Adds (asked_by worker entries))
-  pub sent : Becomes before.sent now.sent (Adds (sent_by worker env defs entries))
+-- a gate was asked for the attempts of its worker, but for some that lacked memory, and the worker saw what the gate's world
+-- tells
+pub record IsAsked (env : List Pair) (tests : Tests) (worker : ℕ) (before now : GateTell) (entries : List Entry) : Type 0 where
+  pub told : IfSome before.world (λ world. AreTold tests.props world worker entries)
+  pub runs : List Running
+  pub kept : MayMiss (ended_lacking entries) (starts_of worker entries) runs
+  pub asked : Becomes before.asked now.asked (Adds (map asked_run runs))
+  pub sent : Becomes before.sent now.sent (Sends env tests runs)
   pub world : now.world ≡ before.world
-  pub unstarted : CountsUnstarted (unstarted_count worker entries) before.faults now.faults
+  pub unstarted : CountsUnstarted (unstarted_count worker entries) (unsure_count worker entries) before.faults now.faults
 
 -- so were these gates, each by the worker of its place; the first of them is that of this worker
-abbrev pub AreAsked : List Pair → List TestDef → ℕ → List GateTell → List GateTell → List Entry → Type 0
-AreAsked env defs worker [] [] entries = ⊤
-AreAsked env defs worker [] (now ∷ nows) entries = ⊥
-AreAsked env defs worker (before ∷ befores) [] entries = ⊥
-AreAsked env defs worker (before ∷ befores) (now ∷ nows) entries = IsAsked env defs worker before now entries × AreAsked env defs (worker + 1) befores nows entries
+abbrev pub AreAsked : List Pair → Tests → ℕ → List GateTell → List GateTell → List Entry → Type 0
+AreAsked env tests worker [] [] entries = ⊤
+AreAsked env tests worker [] (now ∷ nows) entries = ⊥
+AreAsked env tests worker (before ∷ befores) [] entries = ⊥
+AreAsked env tests worker (before ∷ befores) (now ∷ nows) entries = IsAsked env tests worker before now entries × AreAsked env tests (worker + 1) befores nows entries
 
 -- a Start or an End is of one of so many first workers
 abbrev pub is_below : ℕ → Entry → Bool

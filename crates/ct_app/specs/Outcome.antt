@@ -6,6 +6,10 @@ use Rattle.ct_testfile.specs.declared.fault.ReadFault.{ReadFault}
 use Rattle.ct_testfile.specs.declared.fault.ReadFault.TheVariants as Read
 use Rattle.ct_testfile.specs.declared.fault.ReadKind.{ReadKind}
 use Rattle.ct_testfile.specs.declared.fault.ReadKind.TheVariants.{OpenString, OpenBracket, OpenCall, BadEscape, BadChar, BadReference, UnknownCommand, BadCall, MissingInclude, UnpairedIf, BadCondition, BadPattern, TooDeep, TooManyTests, TooManyCommands, TooLong}
+use Rattle.ct_props.specs.declared.fault.PropKind.{PropKind}
+use Rattle.ct_props.specs.declared.fault.PropKind.TheVariants.{BadNumber, BadPattern, BadGroups, Unbuilt}
+use Rattle.ct_props.specs.declared.fault.PropFault.{PropFault}
+use Rattle.ct_props.specs.declared.fault.PropFault.TheVariants as Props
 use Rattle.ct_history.specs.declared.plan.PlanParts.{PlanParts}
 use Rattle.ct_history.specs.declared.history.Entry.{Entry}
 use Rattle.ct_history.specs.Legal.{has_failing}
@@ -13,8 +17,6 @@ use Rattle.ct_app.specs.declared.outcome.UsageKind.{UsageKind}
 use Rattle.ct_app.specs.declared.outcome.UsageKind.TheVariants.{UnknownOption}
 use Rattle.ct_app.specs.declared.outcome.Refusal.{Refusal}
 use Rattle.ct_app.specs.declared.outcome.Refusal.TheVariants.{TestFile, Prop}
-use Rattle.ct_app.specs.declared.outcome.PropKind.{PropKind}
-use Rattle.ct_app.specs.declared.outcome.PropKind.TheVariants.{Unbuilt}
 use Rattle.ct_app.specs.declared.outcome.Outcome.{Outcome}
 use Rattle.ct_app.specs.declared.outcome.Outcome.TheVariants.{Completed, Usage, Refused, FilesFault, OutputFault, Memory}
 
@@ -23,6 +25,11 @@ abbrev pub outcome_of : ReadFault → Outcome
 outcome_of (Read.At file line kind) = Refused (TestFile file line kind)
 outcome_of (Read.FilesFailed path) = FilesFault path
 outcome_of Read.NoMemory = Memory
+
+-- what a fault of the properties of this test is to a run
+abbrev pub outcome_of_prop : ℕ → PropFault → Outcome
+outcome_of_prop test (Props.Bad key kind) = Refused (Prop test key kind)
+outcome_of_prop test Props.NoMemory = Memory
 
 -- what a fault of the sink is to a run
 abbrev pub outcome_of_sink : SinkFault → Outcome
@@ -58,6 +65,9 @@ kind_text TooLong = codes "too much text"
 
 -- what is wrong with a property
 abbrev pub prop_text : PropKind → List ℕ
+prop_text BadNumber = codes "bad number"
+prop_text (BadPattern why) = codes "bad pattern"
+prop_text (BadGroups why) = codes "bad resource groups"
 prop_text Unbuilt = codes "not built yet"
 
 -- what is refused, and why

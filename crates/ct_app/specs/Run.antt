@@ -1,30 +1,36 @@
--- How far a run of plain tests has come, what it put, and how it ended. This project's own.
-use Rattle.std.specs.Prelude.{◌≡◌, ◌⊎◌, ℕ, true, false, List, [], ◌∷◌, ◌++◌, Result, Ok, Err}
-use Rattle.ct_base.specs.declared.defs.TestDef.{TestDef}
+-- How far a run has come, what it put, and how it ended. This project's own.
+use Rattle.std.specs.Prelude.{◌≡◌, ◌⊎◌, ℕ, true, false, not, count_by, List, [], ◌∷◌, ◌++◌, Result, Ok, Err}
 use Rattle.ct_base.specs.declared.sink.SinkFault.{SinkFault}
 use Rattle.ct_base.specs.declared.sink.SinkFault.TheVariants as Sinks
 use Rattle.ct_base.specs.Outside.{Puts, SinkTell}
 use Rattle.ct_history.specs.declared.plan.PlanParts.{PlanParts}
 use Rattle.ct_history.specs.declared.history.Entry.{Entry}
 use Rattle.ct_history.specs.History.{open_starts}
-use Rattle.ct_history.specs.Legal.{IsComplete}
+use Rattle.ct_history.specs.Legal.{IsComplete, is_legal}
+use Rattle.ct_history.specs.Verdicts.{is_final_in}
 use Rattle.ct_core.specs.CoreValue.{CoreValue}
 use Rattle.ct_report.specs.Report.{test_lines, text_of}
-use Rattle.ct_app.specs.Plain.{plan_of}
+use Rattle.ct_app.specs.declared.props.Tests.{Tests}
+use Rattle.ct_app.specs.Tests.{HaveProps}
+use Rattle.ct_app.specs.PlanOf.{plan_of}
 use Rattle.ct_app.specs.Gates.{are_below, had_memory, lacks_memory}
-use Rattle.ct_app.specs.InOrder.{RunsInOrder}
 
 -- a core that runs this plan and has done nothing yet
 abbrev pub fresh : PlanParts → CoreValue
 fresh plan = record { plan = plan; entries = []; aborted = false }
 
 -- a core that runs these tests, between two attempts: it goes on, and nothing is open
-pub record IsBetween (defs : List TestDef) (core : CoreValue) : Type 0 where
-  pub planned : core.plan ≡ plan_of core.plan.dir defs
+pub record IsBetween (tests : Tests) (core : CoreValue) : Type 0 where
+  pub planned : core.plan ≡ plan_of core.plan.dir tests
+  pub props : HaveProps tests.defs tests.props
   pub goes_on : core.aborted ≡ false
+  pub legal : is_legal core.plan core.entries ≡ true
   pub closed : open_starts core.entries ≡ []
   pub workers : are_below core.plan.level core.entries ≡ true
-  pub in_order : RunsInOrder defs core.entries
+
+-- how many tests of the plan are not final
+abbrev pub left_count : PlanParts → List Entry → ℕ
+left_count plan entries = count_by (λ t. not (is_final_in plan.repeat t entries)) plan.tests
 
 -- memory was wanting for the last attempt alone, and of the lines behind this head those in front of its End were put
 pub record LacksLast (head : List ℕ) (plan : PlanParts) (entries : List Entry) (before now : SinkTell) : Type 0 where

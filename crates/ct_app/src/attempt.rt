@@ -1,33 +1,48 @@
-ghost use Rattle.std.specs.Prelude.{◌≡◌, IfOk};
-ghost use Rattle.ct_app.specs.Attempt.{IsStep, RunsAttempt, StaysAsked, run_of};
-ghost use Rattle.ct_app.specs.Gates.{request_of, seen_of};
+ghost use Rattle.std.specs.Prelude.{◌≡◌, true, IfOk, unwrap_or};
+ghost use Rattle.ct_core.specs.Gate.{is_no_memory};
+ghost use Rattle.ct_app.specs.Attempt.{IsStep, RunsAttempt, SeesEnd, StaysAsked, run_of};
+ghost use Rattle.ct_app.specs.Gates.{IsRequestOf, default_limit, limit_of, seen_of, some_hits};
 ghost use Rattle.ct_app.specs.Run.{IsBetween};
 
-use ct_base::{Collect, List, NoMemory, Pair, TestDef};
-use ct_core::{Core, Ended, Gate, Next, Request, Ticket, copy_names, copy_pairs, lacks_memory};
+use crate::props::Tests;
+use ct_base::{Collect, NoMemory, Pair, TestDef};
+use ct_core::{Core, Ended, Gate, Next, Request, Ticket, copy_names, lacks_memory};
+use ct_env::environment;
+use ct_props::Props;
+use ct_regex::Regex;
 use ct_verdict::{How, Seen};
 use std::alloc::Global;
 
-/// Runs the next attempt on the gate, and gives the number of its test, which is final by it;
-/// `None` when all tests are.
+/// How long an attempt of a test without TIMEOUT may run, in microseconds. This project's choice.
+const DEFAULT_LIMIT: u64 = 1_500_000_000;
+
+/// Runs the next attempt on the gate, or settles the next test, and gives the number of the test,
+/// which is final by it; `None` when all tests are.
 ///
 /// Where memory is wanting, either nothing was done, or the attempt ended for want of it.
 pub(crate) fn step<G: Gate>(
     alloc: Global,
     core: &mut Core,
     env: &[Pair],
-    defs: &[TestDef],
+    tests: &Tests,
     gate: &mut G,
 ) -> Result<Option<u32>, NoMemory>
-    requires { IsBetween defs.now core.old }
+    requires { IsBetween tests.now core.old }
     ensures gives { IsStep core.old core.new result }
-    ensures between { IsBetween defs.now core.new }
-    ensures asked { StaysAsked env.now defs.now 0 (G.tells gate.old) (G.tells gate.new) core.old.entries core.new.entries }
+    ensures between { IsBetween tests.now core.new }
+    ensures asked { StaysAsked env.now tests.now 0 (G.tells gate.old) (G.tells gate.new) core.old.entries core.new.entries }
 {
     match core.next(0) {
         Next::Start(ticket) => {
             let test = ticket.test();
-            let seen = ask(alloc, &ticket, env, &defs[test as usize - 1], gate);
+            let seen = ask(
+                alloc,
+                &ticket,
+                env,
+                tests.def(test),
+                tests.props(test),
+                gate,
+            );
             let _ = core.finish(ticket, seen);
             if lacks_memory(seen.how) {
                 Err(NoMemory)
@@ -35,9 +50,9 @@ pub(crate) fn step<G: Gate>(
                 Ok(Some(test))
             }
         }
+        Next::Settled(test) => Ok(Some(test)),
         Next::Done => Ok(None),
         Next::NoMemory => Err(NoMemory),
-        Next::Settled(_) => unreachable!(),
         Next::Wait => unreachable!(),
         Next::Aborted => unreachable!(),
     }
@@ -45,46 +60,107 @@ pub(crate) fn step<G: Gate>(
 
 /// Asks the gate to run the attempt of a ticket; where memory is wanting for the request it is not
 /// asked.
-fn ask<G: Gate>(alloc: Global, ticket: &Ticket, env: &[Pair], def: &TestDef, gate: &mut G) -> Seen
-    ensures { RunsAttempt env.now def.now (run_of ticket.now) result (G.tells gate.old) (G.tells gate.new) }
+fn ask<G: Gate>(
+    alloc: Global,
+    ticket: &Ticket,
+    env: &[Pair],
+    def: &TestDef,
+    props: &Props,
+    gate: &mut G,
+) -> Seen
+    ensures { RunsAttempt env.now def.now props.now (run_of ticket.now) result (G.tells gate.old) (G.tells gate.new) }
 {
-    match request(alloc, ticket, env, def) {
+    match request(alloc, ticket, env, def, props) {
         Ok(request) => {
             let mut ear = Collect::new(alloc);
-            seen(gate.run(alloc, ticket, &request, &mut ear))
+            let ended = gate.run(alloc, ticket, &request, &mut ear);
+            judged(alloc, props, &ear, ended)
         }
-        Err(NoMemory) => seen(Ended {
-            how: How::NoMemory,
-            micros: 0,
-        }),
+        Err(NoMemory) => unheard(0),
     }
 }
 
 /// Makes the request for the attempt of a ticket.
-fn request(alloc: Global, ticket: &Ticket, env: &[Pair], def: &TestDef) -> Result<Request, NoMemory>
-    ensures { IfOk result (λ request. request ≡ request_of env.now def.now (run_of ticket.now)) }
+///
+/// Source: CMake manual, cmake-properties(7), ENVIRONMENT, REQUIRED_FILES, TIMEOUT,
+/// WORKING_DIRECTORY. The limit of a test without TIMEOUT is this project's choice.
+fn request(
+    alloc: Global,
+    ticket: &Ticket,
+    env: &[Pair],
+    def: &TestDef,
+    props: &Props,
+) -> Result<Request, NoMemory>
+    ensures { IfOk result (λ request. IsRequestOf env.now def.now props.now (run_of ticket.now) request) }
 {
     Ok(Request {
         test: ticket.test(),
         attempt: ticket.attempt(),
         name: def.name.copy(alloc)?,
         command: copy_names(alloc, def.command.as_slice())?,
-        dir: def.dir.copy(alloc)?,
-        env: copy_pairs(alloc, env)?,
-        limit: None,
-        required: List::new(alloc),
+        dir: props.working_dir.copy(alloc)?,
+        env: environment(alloc, env, props, ticket.placement())?,
+        limit: limit(props.timeout),
+        required: copy_names(alloc, props.required_files.as_slice())?,
     })
 }
 
-/// What is seen of an attempt: no pattern can hit yet.
-fn seen(ended: Ended) -> Seen
-    ensures { result ≡ seen_of ended }
+/// How long an attempt may run, in microseconds, by TIMEOUT; `None` is no limit, as is a TIMEOUT of 0.
+fn limit(timeout: Option<u64>) -> Option<u64>
+    ensures { result ≡ limit_of (unwrap_or timeout default_limit) }
+{
+    let micros = timeout.unwrap_or(DEFAULT_LIMIT);
+    if micros == 0 { None } else { Some(micros) }
+}
+
+/// What is seen of an attempt by an ear; where the ear is short, or memory is wanting to look for
+/// the patterns, memory was wanting for the attempt.
+fn judged(alloc: Global, props: &Props, ear: &Collect, ended: Ended) -> Seen
+    ensures { SeesEnd props.now ear.now ended result }
+{
+    if ear.short() {
+        return unheard(ended.micros);
+    }
+    match seen(alloc, props, ear.heard().bytes(), ended) {
+        Ok(seen) => seen,
+        Err(NoMemory) => unheard(ended.micros),
+    }
+}
+
+/// What is seen of an attempt of which this was heard.
+fn seen(alloc: Global, props: &Props, heard: &[u8], ended: Ended) -> Result<Seen, NoMemory>
+    ensures { IfOk result (λ seen. seen ≡ seen_of props.now heard.now ended) }
+{
+    Ok(Seen {
+        how: ended.how,
+        fail_hit: some_hits(alloc, props.fail.as_slice(), heard)?,
+        pass_hit: some_hits(alloc, props.pass.as_slice(), heard)?,
+        skip_hit: some_hits(alloc, props.skip.as_slice(), heard)?,
+        micros: ended.micros,
+    })
+}
+
+/// Tells whether one of these patterns hits the text.
+fn some_hits(alloc: Global, patterns: &[Regex], text: &[u8]) -> Result<bool, NoMemory>
+    ensures { IfOk result (λ found. found ≡ some_hits patterns.now text.now) }
+{
+    for pattern in patterns {
+        if pattern.hit(alloc, text)? {
+            return Ok(true);
+        }
+    }
+    Ok(false)
+}
+
+/// What is seen of an attempt for which memory was wanting.
+fn unheard(micros: u64) -> Seen
+    ensures { is_no_memory result.how ≡ true }
 {
     Seen {
-        how: ended.how,
+        how: How::NoMemory,
         fail_hit: false,
         pass_hit: false,
         skip_hit: false,
-        micros: ended.micros,
+        micros,
     }
 }

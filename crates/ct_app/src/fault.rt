@@ -3,8 +3,9 @@ ghost use Rattle.ct_app.specs.Ends.{Tells, TellsEnd};
 ghost use Rattle.ct_app.specs.Outcome.{fault_line, fault_status, kind_text, outcome_text, prop_text, refusal_text, usage_text};
 ghost use Rattle.ct_base.specs.Outside.{Puts};
 
-use crate::{Outcome, PropKind, Refusal, UsageKind};
+use crate::{Outcome, Refusal, UsageKind};
 use ct_base::{Blob, Name, NoMemory, Sink, SinkFault};
+use ct_props::PropKind;
 use ct_testfile::ReadKind;
 use std::alloc::Global;
 
@@ -110,12 +111,12 @@ fn text_of_refusal(alloc: Global, refusal: &Refusal) -> Result<Blob, NoMemory>
 {
     match refusal {
         Refusal::TestFile { file, line, kind } => text_of_place(alloc, file, *line, *kind),
-        Refusal::Prop { test, key, kind } => text_of_prop(alloc, *test, key, *kind),
+        Refusal::Prop { test, key, kind } => text_of_prop(alloc, *test, key, kind),
     }
 }
 
-fn text_of_prop(alloc: Global, test: u32, key: &Name, kind: PropKind) -> Result<Blob, NoMemory>
-    ensures { IfOk result (λ text. text ≡ codes "test " ++ decimal test ++ codes ": " ++ key.now ++ codes ": " ++ prop_text kind) }
+fn text_of_prop(alloc: Global, test: u32, key: &Name, kind: &PropKind) -> Result<Blob, NoMemory>
+    ensures { IfOk result (λ text. text ≡ codes "test " ++ decimal test ++ codes ": " ++ key.now ++ codes ": " ++ prop_text kind.now) }
 {
     let mut text = Blob::of(alloc, b"test ")?;
     text.append(test.to_string(alloc)?.as_bytes())?;
@@ -126,10 +127,13 @@ fn text_of_prop(alloc: Global, test: u32, key: &Name, kind: PropKind) -> Result<
     Ok(text)
 }
 
-fn text_of_prop_kind(kind: PropKind) -> &'static [u8]
-    ensures { result.now ≡ prop_text kind }
+fn text_of_prop_kind(kind: &PropKind) -> &'static [u8]
+    ensures { result.now ≡ prop_text kind.now }
 {
     match kind {
+        PropKind::BadNumber => b"bad number",
+        PropKind::BadPattern(_) => b"bad pattern",
+        PropKind::BadGroups(_) => b"bad resource groups",
         PropKind::Unbuilt => b"not built yet",
     }
 }

@@ -2,13 +2,14 @@ ghost use Rattle.std.specs.Prelude.{◌≡◌, ◌<◌, ◌-◌, ◌^◌, [], �
 ghost use Rattle.ct_app.specs.Answers.{here, sides};
 ghost use Rattle.ct_app.specs.Ends.{Ends, IsReadFolder, IsUnread, RanPlan, ended_as, history_entries};
 ghost use Rattle.ct_app.specs.Outcome.{status_of};
-ghost use Rattle.ct_app.specs.Plain.{plan_of};
+ghost use Rattle.ct_app.specs.PlanOf.{plan_of};
+ghost use Rattle.ct_app.specs.Tests.{HaveProps};
 
 use crate::Outcome;
-use crate::plain::plan;
-use crate::props::refuse_unbuilt;
+use crate::planning::plan;
+use crate::props::{Tests, read_props};
 use crate::run::run;
-use ct_base::{Files, List, Name, Pair, Sink, SinkFault, TestDef};
+use ct_base::{Files, Name, Pair, Sink, SinkFault};
 use ct_core::{Core, Gate};
 use ct_history::{History, Plan, has_failing};
 use ct_testfile::read_tree;
@@ -28,7 +29,7 @@ pub(crate) struct Ran {
 /// The tests that the folder defines, and the plan of their run.
 #[derive(Drop)]
 struct Folder {
-    tests: List<TestDef>,
+    tests: Tests,
     plan: Plan,
 }
 
@@ -43,7 +44,7 @@ pub(crate) fn run_folder<F: Files, G: Gate, S: Sink>(
     ensures { Ends (sides [] env.now (F.tells files.old) (F.tells files.new) (G.tells gate.old ∷ []) (G.tells gate.new ∷ []) (S.tells sink.old) (S.tells sink.new) result.plan (option_map history_entries result.history)) result.ended }
 {
     match read_folder(alloc, files) {
-        Ok(Folder { tests, plan }) => run_plan(alloc, plan, env, tests.as_slice(), gate, sink),
+        Ok(Folder { tests, plan }) => run_plan(alloc, plan, env, &tests, gate, sink),
         Err(outcome) => unplanned(outcome),
     }
 }
@@ -59,16 +60,18 @@ pub(crate) fn unplanned(outcome: Outcome) -> Ran
     }
 }
 
-/// Reads the tests of the folder `.` and plans them.
+/// Reads the tests of the folder `.` and their properties, and plans them.
+#[tactic(auto, using(crate::proofs::ReadLemmas::unread_props))]
 fn read_folder<F: Files>(alloc: Global, files: &mut F) -> Result<Folder, Outcome>
     ensures ok { IfOk result (λ folder. IsReadFolder (F.tells files.old) (F.tells files.new) folder.tests folder.plan) }
     ensures err { IfErr result (IsUnread (F.tells files.old) (F.tells files.new)) }
 {
     let dir = Name::of(alloc, b".")?;
     let config = Name::of(alloc, b"")?;
-    let tests = read_tree(alloc, files, &dir, &config)?;
-    refuse_unbuilt(alloc, tests.as_slice())?;
-    let plan = plan(alloc, dir, tests.as_slice())?;
+    let defs = read_tree(alloc, files, &dir, &config)?;
+    let props = read_props(alloc, defs.as_slice())?;
+    let tests = Tests { defs, props };
+    let plan = plan(alloc, dir, &tests)?;
     Ok(Folder { tests, plan })
 }
 
@@ -77,17 +80,18 @@ fn run_plan<G: Gate, S: Sink>(
     alloc: Global,
     plan: Plan,
     env: &[Pair],
-    defs: &[TestDef],
+    tests: &Tests,
     gate: &mut G,
     sink: &mut S,
 ) -> Ran
-    requires planned { plan ≡ plan_of here defs.now }
-    requires few { length defs.now < 2 ^ 32 - 1 }
-    ensures { RanPlan env.now defs.now (G.tells gate.old ∷ []) (G.tells gate.new ∷ []) result.plan (option_map history_entries result.history) (S.tells sink.old) (S.tells sink.new) result.ended }
+    requires planned { plan ≡ plan_of here tests.now }
+    requires props { HaveProps tests.now.defs tests.now.props }
+    requires few { length tests.now.defs < 2 ^ 32 - 1 }
+    ensures { RanPlan env.now tests.now (G.tells gate.old ∷ []) (G.tells gate.new ∷ []) result.plan (option_map history_entries result.history) (S.tells sink.old) (S.tells sink.new) result.ended }
 {
     match Core::open(alloc, plan) {
         Ok(mut core) => {
-            let run = run(alloc, &mut core, env, defs, gate, sink);
+            let run = run(alloc, &mut core, env, tests, gate, sink);
             let ended = ended(run, &core);
             let (plan, history) = core.into_parts();
             Ran {

@@ -1,7 +1,8 @@
 //! The top calls of ctest: from the words of a command line to a report and a status.
 //!
 //! Hands up: `ctest_main`, which does all that the program does.
-//! Stands on: ct_base, ct_testfile, ct_verdict, ct_history, ct_core, ct_report.
+//! Stands on: ct_base, ct_testfile, ct_regex, ct_props, ct_env, ct_verdict, ct_history, ct_core,
+//! ct_report.
 //! Read first: `specs/Gates.antt`, `specs/Answers.antt`, then `top.rt`, and the four steps of a call:
 //! `words.rt`, `folder.rt`, `run.rt`, `attempt.rt`.
 #![tactic(auto)]
@@ -10,11 +11,12 @@ mod attempt;
 mod fault;
 mod folder;
 mod outcome;
-mod plain;
+mod planning;
 mod props;
 mod run;
 mod top;
 mod words;
 
-pub use outcome::{Finished, Outcome, PropKind, Refusal, UsageKind};
+pub use ct_props::PropKind;
+pub use outcome::{Finished, Outcome, Refusal, UsageKind};
 pub use top::ctest_main;

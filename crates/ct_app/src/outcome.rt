@@ -3,6 +3,7 @@ ghost use Rattle.std.specs.Prelude.{◌≡◌};
 
 use ct_base::{Name, NoMemory, SinkFault};
 use ct_history::{History, Plan};
+use ct_props::PropKind;
 use ct_testfile::{ReadFault, ReadKind};
 
 /// What is wrong with a word of the command line.
@@ -10,13 +11,6 @@ use ct_testfile::{ReadFault, ReadKind};
 pub enum UsageKind {
     /// The word is no option. No word is one yet.
     UnknownOption,
-}
-
-/// What is wrong with a property of a test.
-#[derive(Clone, Copy, Debug, PartialEq, Eq)]
-pub enum PropKind {
-    /// The property says how the test runs, and is not built yet.
-    Unbuilt,
 }
 
 /// What a run refuses.
@@ -28,7 +22,7 @@ pub enum Refusal {
         line: u32,
         kind: ReadKind,
     },
-    /// The property of that key of the test with this number.
+    /// The property of that key of the test with this number. Its kind holds no want of memory.
     Prop {
         test: u32,
         key: Name,

@@ -1,87 +1,76 @@
-ghost use Rattle.std.specs.Prelude.{◌≡◌, ◌-◌, ◌^◌, ◌<◌, IfErr, None, OnOk, bytes_eq, find, length, option_map};
-ghost use Rattle.std.specs.List.{list_any};
-ghost use Rattle.ct_app.specs.Props.{IsUnbuilt, IsUnbuiltAt, first_unbuilt, has_key, least_key};
+ghost use Rattle.std.specs.Prelude.{◌≡◌, ◌≤◌, ◌-◌, ◌^◌, ◌<◌, IfOk, IfErr, Some, length};
+ghost use Rattle.ct_props.specs.PropsOf.{HasProps};
+ghost use Rattle.ct_app.specs.Outcome.{outcome_of_prop};
+ghost use Rattle.ct_app.specs.Tests.{HaveProps, IsUnrefused, RefusesTest, RefusesTests, def_at, props_at};
 
-use crate::{Outcome, PropKind, Refusal};
-use ct_base::{Name, Pair, TestDef};
+use crate::{Outcome, Refusal};
+use ct_base::{List, TestDef};
+use ct_props::{PropFault, Props};
 use std::alloc::Global;
 
-/// The keys of the properties that say how a test runs, in byte order.
-///
-/// Source: CMake manual, cmake-properties(7), Properties on Tests.
-pub(crate) const KEYS: [&str; 21] = [
-    "COST",
-    "DEPENDS",
-    "DISABLED",
-    "ENVIRONMENT",
-    "ENVIRONMENT_MODIFICATION",
-    "FAIL_REGULAR_EXPRESSION",
-    "FIXTURES_CLEANUP",
-    "FIXTURES_REQUIRED",
-    "FIXTURES_SETUP",
-    "LABELS",
-    "PASS_REGULAR_EXPRESSION",
-    "PROCESSORS",
-    "REQUIRED_FILES",
-    "RESOURCE_GROUPS",
-    "RESOURCE_LOCK",
-    "RUN_SERIAL",
-    "SKIP_REGULAR_EXPRESSION",
-    "SKIP_RETURN_CODE",
-    "TIMEOUT",
-    "WILL_FAIL",
-    "WORKING_DIRECTORY",
-];
+/// The tests of a run and their properties, which belong together by place.
+#[derive(Drop)]
+pub(crate) struct Tests {
+    pub(crate) defs: List<TestDef>,
+    pub(crate) props: List<Props>,
+}
 
-/// Refuses the first test with a property that says how it runs, since none is built yet.
-pub(crate) fn refuse_unbuilt(alloc: Global, defs: &[TestDef]) -> Result<(), Outcome>
-    requires { length defs.now < 2 ^ 32 - 1 }
-    ensures ok { OnOk result (first_unbuilt 1 defs.now ≡ None) }
-    ensures err { IfErr result (IsUnbuilt defs.now) }
-{
-    let mut test: u32 = 1;
-    for def in defs {
-        if let Some(key) = least_key(def) {
-            return Err(unbuilt(alloc, test, key));
-        }
-        test += 1;
+impl Tests {
+    /// Lends the test with this number.
+    pub(crate) fn def(&self, number: u32) -> &TestDef
+        requires low { 1 ≤ number }
+        requires there { number ≤ length self.now.defs }
+        ensures { def_at self.now.defs number ≡ Some result.now }
+    {
+        &self.defs.as_slice()[number as usize - 1]
     }
-    Ok(())
+
+    /// Lends the properties of the test with this number.
+    pub(crate) fn props(&self, number: u32) -> &Props
+        requires low { 1 ≤ number }
+        requires there { number ≤ length self.now.props }
+        ensures { props_at self.now.props number ≡ Some result.now }
+    {
+        &self.props.as_slice()[number as usize - 1]
+    }
 }
 
-/// The least key in byte order that a test has of those that say how it runs.
-fn least_key(def: &TestDef) -> Option<&'static str>
-    ensures { option_map (λ key. key.now) result ≡ least_key def.now }
+/// Reads the properties of each test, or refuses the first test that has a bad one.
+#[tactic(auto, using(crate::proofs::TestLemmas::read_all, crate::proofs::TestLemmas::read_none, crate::proofs::TestLemmas::refuses))]
+pub(crate) fn read_props(alloc: Global, defs: &[TestDef]) -> Result<List<Props>, Outcome>
+    requires { length defs.now < 2 ^ 32 - 1 }
+    ensures ok { IfOk result (λ props. HaveProps defs.now props) }
+    ensures err { IfErr result (RefusesTests defs.now) }
 {
-    first_key(&KEYS, def.props.as_slice())
+    let mut props = List::new(alloc);
+    let mut number: u32 = 1;
+    for def in defs {
+        let own = props_of(alloc, number, def)?;
+        props.push(own)?;
+        number += 1;
+    }
+    Ok(props)
 }
 
-/// The first of these keys that one of the properties has.
-fn first_key(keys: &[&'static str], props: &[Pair]) -> Option<&'static str>
-    ensures { option_map (λ key. key.now) result ≡ option_map (λ key. key.now) (find (λ key. has_key key.now props.now) keys.now) }
+/// Reads the properties of the test with this number.
+#[tactic(auto, using(crate::proofs::TestLemmas::refuses_as))]
+fn props_of(alloc: Global, number: u32, def: &TestDef) -> Result<Props, Outcome>
+    ensures ok { IfOk result (HasProps def.now) }
+    ensures unrefused { IfOk result (λ props. IsUnrefused def.now) }
+    ensures err { IfErr result (RefusesTest number def.now) }
 {
-    keys.iter()
-        .find(|key| has_key(props, key.as_bytes()))
-        .copied()
+    match Props::of(alloc, def) {
+        Ok(props) => Ok(props),
+        Err(fault) => Err(refusal(number, fault)),
+    }
 }
 
-/// Tells whether a property has this key.
-fn has_key(props: &[Pair], key: &[u8]) -> bool
-    ensures { result ≡ has_key key.now props.now }
+/// What a fault of the properties of a test is to a run.
+fn refusal(test: u32, fault: PropFault) -> Outcome
+    ensures { result ≡ outcome_of_prop test fault }
 {
-    props.iter().any(|prop| prop.name.bytes() == key)
-}
-
-/// The refusal of a key, or want of memory.
-fn unbuilt(alloc: Global, test: u32, key: &str) -> Outcome
-    ensures { IsUnbuiltAt test key.now result }
-{
-    match Name::of(alloc, key.as_bytes()) {
-        Ok(key) => Outcome::Refused(Refusal::Prop {
-            test,
-            key,
-            kind: PropKind::Unbuilt,
-        }),
-        Err(want) => Outcome::from(want),
+    match fault {
+        PropFault::Bad { key, kind } => Outcome::Refused(Refusal::Prop { test, key, kind }),
+        PropFault::NoMemory => Outcome::Memory,
     }
 }

@@ -1,54 +1,70 @@
-use Rattle.std.proofs.Common.{◌∙◌, sym, refl, arith, inr}
-use Rattle.ct_core.specs.declared.scheduler.Next.TheVariants as Says
-use Rattle.ct_app.proofs.NextLemmas.{plain_next}
-use Rattle.ct_app.proofs.StepLemmas.{asked_now, between_now, final_now, holds, next, ran_now, within}
+use Rattle.std.proofs.Common.{◌≡◌, ◌∙◌, sym, ap, true, false, List, refl, arith, inl, inr}
+use Rattle.std.specs.Prelude.{not}
+use Rattle.std.specs.List.{list_any}
+use Rattle.ct_history.specs.History.{Running}
+use Rattle.ct_app.proofs.StepLemmas.{asked_now, asked_still, between_now, between_settled, fewer_now, fewer_settled, final_now, final_settled, holds, low, ran_now, settled_one, within, within_props}
 use Rattle.ct_app.proofs.attempt.step.Goals as goal
 
-pub overflow_sub-test : goal.overflow_sub-test
-overflow_sub-test g c =
-    let starts = next c.args.defs.now c.args.core.now c.in-Start.ticket c.next.new.self c.requires c.in-Start.ensures in
-    omega (arith, starts.low, c.test-test.ensures)
+pub def-requires-clause-low : goal.def-requires-clause-low
+def-requires-clause-low g c =
+    let first = low c.args.tests.now c.args.core.now c.in-Start.ticket c.next.new.self c.requires c.in-Start.ensures in
+    omega (arith, first, c.test-test.ensures)
 
-pub bounds-defs-test : goal.bounds-defs-test
-bounds-defs-test g c =
-    let there = within c.args.defs.now c.args.core.now c.in-Start.ticket c.next.new.self c.requires c.in-Start.ensures in
+pub def-requires-clause-there : goal.def-requires-clause-there
+def-requires-clause-there g c =
+    let there = within c.args.tests.now c.args.core.now c.in-Start.ticket c.next.new.self c.requires c.in-Start.ensures in
+    omega (arith, there, c.test-test.ensures)
+
+pub props-requires-clause-low : goal.props-requires-clause-low
+props-requires-clause-low g c =
+    let first = low c.args.tests.now c.args.core.now c.in-Start.ticket c.next.new.self c.requires c.in-Start.ensures in
+    omega (arith, first, c.test-test.ensures)
+
+pub props-requires-clause-there : goal.props-requires-clause-there
+props-requires-clause-there g c =
+    let there = within_props c.args.tests.now c.args.core.now c.in-Start.ticket c.next.new.self c.requires c.in-Start.ensures in
     omega (arith, there, c.test-test.ensures)
 
 pub finish-requires : goal.finish-requires
-finish-requires g c = holds c.args.defs.now c.args.core.now c.in-Start.ticket c.next.new.self c.requires c.in-Start.ensures
+finish-requires g c = holds c.args.tests.now c.args.core.now c.in-Start.ticket c.next.new.self c.requires c.in-Start.ensures
 
 pub unreachable-requires : goal.unreachable-requires
-unreachable-requires g c = plain_next c.args.core.now.plan.dir c.args.defs.now c.args.core.now c.requires.planned c.requires.in_order c.requires.goes_on (Says.Settled c.in-Settled.field-0) c.next.new.self c.in-Settled.ensures
-
-pub unreachable-requires-in-Wait : goal.unreachable-requires-in-Wait
-unreachable-requires-in-Wait g c = plain_next c.args.core.now.plan.dir c.args.defs.now c.args.core.now c.requires.planned c.requires.in_order c.requires.goes_on Says.Wait c.next.new.self c.in-Wait.ensures
+unreachable-requires g c = let no : true ≡ false = sym (ap (λ (rs : List Running). not (list_any (λ (r : Running). true) rs)) c.requires.closed) ∙ c.in-Wait.ensures.busy in cc
 
 pub returns-then-lacks_memory-clause-gives : goal.returns-then-lacks_memory-clause-gives
 returns-then-lacks_memory-clause-gives g c =
-    let ran = ran_now c.args.defs.now c.args.core.now c.in-Start.ticket c.next.new.self c.requires c.in-Start.ensures c.ask-seen.result c.finish.new.self c.finish.ensures.appended c.test-test.result c.test-test.ensures in
+    let ran = ran_now c.args.tests.now c.args.core.now c.in-Start.ticket c.next.new.self c.requires c.in-Start.ensures c.ask-seen.result c.finish.new.self c.finish.ensures.appended c.test-test.result c.test-test.ensures in
     inr (c.test-test.result, c.ask-seen.result, ran, sym c.lacks_memory.ensures ∙ c.if-lacks_memory.true)
 
 pub returns-then-lacks_memory-clause-between : goal.returns-then-lacks_memory-clause-between
-returns-then-lacks_memory-clause-between g c = between_now c.args.defs.now c.args.core.now c.in-Start.ticket c.next.new.self c.requires c.in-Start.ensures c.ask-seen.result c.finish.new.self c.finish.ensures.appended
+returns-then-lacks_memory-clause-between g c = between_now c.args.tests.now c.args.core.now c.in-Start.ticket c.next.new.self c.requires c.in-Start.ensures c.ask-seen.result c.finish.new.self c.finish.ensures.appended
 
 pub returns-then-lacks_memory-clause-asked : goal.returns-then-lacks_memory-clause-asked
 returns-then-lacks_memory-clause-asked g c =
-    asked_now c.args.defs.now c.args.core.now c.in-Start.ticket c.next.new.self c.requires c.in-Start.ensures c.ask-seen.result c.finish.new.self c.finish.ensures.appended c.test-test.result c.test-test.ensures c.args.env.now c.index-defs-test.result (g.G.Gate.tells c.args.gate.now) (g.G.Gate.tells c.ask-seen.new.gate) c.index-defs-test.is c.ask-seen.ensures
+    asked_now c.args.tests.now c.args.core.now c.in-Start.ticket c.next.new.self c.requires c.in-Start.ensures c.ask-seen.result c.finish.new.self c.finish.ensures.appended c.test-test.result c.test-test.ensures c.args.env.now c.def.result.now c.props.result.now (g.G.Gate.tells c.args.gate.now) (g.G.Gate.tells c.ask-seen.new.gate) c.def.ensures c.props.ensures c.ask-seen.ensures
 
 pub returns-else-lacks_memory-clause-gives : goal.returns-else-lacks_memory-clause-gives
 returns-else-lacks_memory-clause-gives g c =
-    let ran = ran_now c.args.defs.now c.args.core.now c.in-Start.ticket c.next.new.self c.requires c.in-Start.ensures c.ask-seen.result c.finish.new.self c.finish.ensures.appended c.test-test.result c.test-test.ensures in
-    let final = final_now c.args.defs.now c.args.core.now c.in-Start.ticket c.next.new.self c.requires c.in-Start.ensures c.ask-seen.result c.finish.new.self c.finish.ensures.appended c.test-test.result c.test-test.ensures in
-    (c.ask-seen.result, ran, sym c.lacks_memory.ensures ∙ c.if-lacks_memory.false, final)
+    let ran = ran_now c.args.tests.now c.args.core.now c.in-Start.ticket c.next.new.self c.requires c.in-Start.ensures c.ask-seen.result c.finish.new.self c.finish.ensures.appended c.test-test.result c.test-test.ensures in
+    let final = final_now c.args.tests.now c.args.core.now c.in-Start.ticket c.next.new.self c.requires c.in-Start.ensures c.ask-seen.result c.finish.new.self c.finish.ensures.appended c.test-test.result c.test-test.ensures in
+    let fewer = fewer_now c.args.tests.now c.args.core.now c.in-Start.ticket c.next.new.self c.requires c.in-Start.ensures c.ask-seen.result c.finish.new.self c.finish.ensures.appended in
+    (inl (c.ask-seen.result, ran, sym c.lacks_memory.ensures ∙ c.if-lacks_memory.false), final, fewer)
 
 pub returns-else-lacks_memory-clause-between : goal.returns-else-lacks_memory-clause-between
-returns-else-lacks_memory-clause-between g c = between_now c.args.defs.now c.args.core.now c.in-Start.ticket c.next.new.self c.requires c.in-Start.ensures c.ask-seen.result c.finish.new.self c.finish.ensures.appended
+returns-else-lacks_memory-clause-between g c = between_now c.args.tests.now c.args.core.now c.in-Start.ticket c.next.new.self c.requires c.in-Start.ensures c.ask-seen.result c.finish.new.self c.finish.ensures.appended
 
 pub returns-else-lacks_memory-clause-asked : goal.returns-else-lacks_memory-clause-asked
 returns-else-lacks_memory-clause-asked g c =
-    asked_now c.args.defs.now c.args.core.now c.in-Start.ticket c.next.new.self c.requires c.in-Start.ensures c.ask-seen.result c.finish.new.self c.finish.ensures.appended c.test-test.result c.test-test.ensures c.args.env.now c.index-defs-test.result (g.G.Gate.tells c.args.gate.now) (g.G.Gate.tells c.ask-seen.new.gate) c.index-defs-test.is c.ask-seen.ensures
+    asked_now c.args.tests.now c.args.core.now c.in-Start.ticket c.next.new.self c.requires c.in-Start.ensures c.ask-seen.result c.finish.new.self c.finish.ensures.appended c.test-test.result c.test-test.ensures c.args.env.now c.def.result.now c.props.result.now (g.G.Gate.tells c.args.gate.now) (g.G.Gate.tells c.ask-seen.new.gate) c.def.ensures c.props.ensures c.ask-seen.ensures
+
+pub returns-in-Settled-clause-gives : goal.returns-in-Settled-clause-gives
+returns-in-Settled-clause-gives g c = (inr (settled_one c.args.tests.now c.args.core.now c.in-Settled.test c.next.new.self c.requires c.in-Settled.ensures), final_settled c.args.tests.now c.args.core.now c.in-Settled.test c.next.new.self c.requires c.in-Settled.ensures, fewer_settled c.args.tests.now c.args.core.now c.in-Settled.test c.next.new.self c.requires c.in-Settled.ensures)
+
+pub returns-in-Settled-clause-between : goal.returns-in-Settled-clause-between
+returns-in-Settled-clause-between g c = between_settled c.args.tests.now c.args.core.now c.in-Settled.test c.next.new.self c.requires c.in-Settled.ensures
+
+pub returns-in-Settled-clause-asked : goal.returns-in-Settled-clause-asked
+returns-in-Settled-clause-asked g c = asked_still c.args.tests.now c.args.core.now c.in-Settled.test c.next.new.self c.requires c.in-Settled.ensures c.args.env.now (g.G.Gate.tells c.args.gate.now)
 
 pub returns-in-Done-clause-gives : goal.returns-in-Done-clause-gives
-returns-in-Done-clause-gives g c =
-    let final = plain_next c.args.core.now.plan.dir c.args.defs.now c.args.core.now c.requires.planned c.requires.in_order c.requires.goes_on Says.Done c.next.new.self c.in-Done.ensures in
-    rw c.in-Done.ensures.kept (refl, final)
+returns-in-Done-clause-gives g c = rw c.in-Done.ensures.kept (refl, c.in-Done.ensures.final)

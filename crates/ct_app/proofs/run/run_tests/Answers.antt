@@ -1,7 +1,10 @@
 use Rattle.std.proofs.Common.{rules, ◌≡◌, arith, Err}
 use Rattle.ct_base.specs.declared.sink.SinkFault.TheVariants as Sinks
-use Rattle.ct_app.proofs.AlongLemmas.{final_along, final_closer, final_puts, final_room, refused_ends, refused_puts}
+use Rattle.ct_app.proofs.AlongLemmas.{along_fresh, final_along, final_puts, final_room, refused_ends, refused_puts}
 use Rattle.ct_app.proofs.run.run_tests.Goals as goal
+
+pub loop-test-init : goal.loop-test-init
+loop-test-init g c = along_fresh c.args.tests.now c.args.core.now c.requires.fresh c.args.env.now (g.G.Gate.tells c.args.gate.now) (g.S.Sink.tells c.args.sink.now) c.requires.props
 
 pub returns-in_err-test-clause-puts : goal.returns-in_err-test-clause-puts
 returns-in_err-test-clause-puts g c =
@@ -16,7 +19,7 @@ returns-in_err-test-clause-ends g c =
 pub put_line-requires-clause-few : goal.put_line-requires-clause-few
 put_line-requires-clause-few g c =
     let step = rw c.in-Some.is at c.in_ok-test.ensures.gives in
-    let room = final_room c.loop-test.invariant step c.in_ok-test.ensures.between in
+    let room = final_room c.loop-test.invariant step in
     omega (arith, room, c.requires.few)
 
 pub returns-in_err-put_line-clause-puts : goal.returns-in_err-put_line-clause-puts
@@ -28,13 +31,13 @@ returns-in_err-put_line-clause-puts g c =
 pub overflow_add-lines : goal.overflow_add-lines
 overflow_add-lines g c =
     let step = rw c.in-Some.is at c.in_ok-test.ensures.gives in
-    let room = final_room c.loop-test.invariant step c.in_ok-test.ensures.between in
+    let room = final_room c.loop-test.invariant step in
     omega (arith, room, c.requires.few)
 
 pub loop-test-smaller : goal.loop-test-smaller
 loop-test-smaller g c =
     let step = rw c.in-Some.is at c.in_ok-test.ensures.gives in
-    final_closer c.loop-test.invariant step c.in_ok-test.ensures.between
+    step.2
 
 pub loop-test-preserved : goal.loop-test-preserved
 loop-test-preserved g c =

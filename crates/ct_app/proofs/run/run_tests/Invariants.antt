@@ -1,10 +1,9 @@
-use Rattle.std.proofs.Common.{◌-◌, length}
-use Rattle.ct_app.specs.InOrder.{seens_in}
+use Rattle.ct_app.specs.Run.{left_count}
 use Rattle.ct_app.proofs.AlongLemmas.{IsAlong}
 use Rattle.ct_app.proofs.run.run_tests.Given as goal
 
 abbrev pub invariant-loop-test : goal.invariant-loop-test
-invariant-loop-test g l = IsAlong l.env l.defs l.fn.core.plan (g.G.Gate.tells l.fn.gate) (g.G.Gate.tells l.gate) (g.S.Sink.tells l.fn.sink) (g.S.Sink.tells l.sink) l.core l.lines
+invariant-loop-test g l = IsAlong l.env l.tests l.fn.core.plan (g.G.Gate.tells l.fn.gate) (g.G.Gate.tells l.gate) (g.S.Sink.tells l.fn.sink) (g.S.Sink.tells l.sink) l.core l.lines
 
 abbrev pub decreases-loop-test : goal.decreases-loop-test
-decreases-loop-test g l = length l.defs - length (seens_in l.core.entries)
+decreases-loop-test g l = left_count l.core.plan l.core.entries
