@@ -10,7 +10,7 @@ files_tell faults = record { held = None; refused = None; faults = faults }
 
 -- an output that holds this, where it is known, and of which so many puts failed
 abbrev pub sink_tell : Option (List ℕ) → ℕ → SinkTell
-sink_tell written faults = record { written = written; faults = faults }
+sink_tell written faults = record { written = written; pieces = None; faults = faults }
 
 -- a gate of which so many starts and waits failed
 abbrev pub gate_tell : ℕ → GateTell

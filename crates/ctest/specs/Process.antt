@@ -1,5 +1,5 @@
 -- How a program that ran is answered, and with which variables it is started. This project's own.
-use Rattle.std.specs.Prelude.{◌≡◌, ◌↔◌, ℕ, List, ℤ, Option, Some, None, Result, Ok, Err, option_map, true}
+use Rattle.std.specs.Prelude.{◌≡◌, ◌↔◌, ℕ, Bool, List, [], ◌∷◌, ◌++◌, codes, ℤ, Option, Some, None, Result, Ok, Err, option_map, true, if◌then◌else◌}
 use Rattle.std.specs.IoError.{error_kind}
 use Rattle.std.specs.declared.io.Error.{Error}
 use Rattle.std.specs.declared.io.ErrorKind.TheVariants as ErrorKind
@@ -9,8 +9,8 @@ use Rattle.ct_base.specs.declared.defs.Pair.{Pair}
 use Rattle.ct_base.specs.Memory.{held_by}
 use Rattle.ct_verdict.specs.declared.attempt.How.{How}
 use Rattle.ct_verdict.specs.declared.attempt.How.TheVariants as Ends
-use Rattle.ctest.specs.declared.process_gate.StartFault.{StartFault}
-use Rattle.ctest.specs.declared.process_gate.StartFault.TheVariants as Fault
+use Rattle.ctest.specs.declared.fault.StartFault.{StartFault}
+use Rattle.ctest.specs.declared.fault.StartFault.TheVariants as Fault
 
 -- a program that has an exit code exited with it, and any other was ended by a signal
 abbrev pub how_of_code : Option ℤ → How
@@ -31,3 +31,12 @@ how_of_run (Err Fault.NoMemory) = Ends.NoMemory
 pub record HasEnv {A : Type 0} (pairs : List Pair) (command : Command A) : Type 0 where
   pub alone : clears_env command ≡ true
   pub values : (name : List ℕ) → command_var command name ≡ option_map Some (held_by pairs name)
+
+-- a program as the system looks it up: one beside the test by its path in the folder, any other by its name
+abbrev pub program_as : Bool → List ℕ → List ℕ
+program_as beside program = if beside then codes "./" ++ program else program
+
+-- a command as the system looks it up
+abbrev pub found_as : Bool → List (List ℕ) → List (List ℕ)
+found_as beside [] = []
+found_as beside (program ∷ args) = program_as beside program ∷ args

@@ -1,14 +1,8 @@
 -- How the program begins, runs and ends. This project's own.
-use Rattle.std.specs.Prelude.{ℕ, List, map, drop, replicate, None, Result, Ok, Err, option_map, string_bytes}
+use Rattle.std.specs.Prelude.{ℕ, List, map, drop, Result, Ok, Err, string_bytes}
 use Rattle.std.specs.declared.string.String.{String}
 use Rattle.ct_base.specs.declared.defs.Pair.{Pair}
-use Rattle.ct_app.specs.Answers.{Answers, sides}
-use Rattle.ct_app.specs.Ends.{history_entries}
 use Rattle.ct_app.specs.declared.outcome.Finished.{Finished}
-use Rattle.ctest.specs.Machine.{files_tell, gate_tell, gates_tell, sink_tell}
-use Rattle.ctest.specs.declared.process_gate.ProcessGate.{ProcessGate}
-use Rattle.ctest.specs.declared.real_files.RealFiles.{RealFiles}
-use Rattle.ctest.specs.declared.real_sink.RealSink.{RealSink}
 use Rattle.ctest.specs.declared.start.BeginFault.{BeginFault}
 use Rattle.ctest.specs.declared.start.BeginFault.TheVariants.{Failed, NoMemory}
 
@@ -23,14 +17,6 @@ words_in args = map string_bytes (drop 1 args)
 -- the variables, each with its name and its value, in their order
 abbrev pub pairs_in : {A : Type 0} → List (String A × String A) → List Pair
 pairs_in vars = map (λ var. record { name = string_bytes var.0; value = string_bytes var.1 }) vars
-
--- what a run of these words and variables came to, on a machine that tells nothing, and of which no call had failed
-abbrev pub RunsOnMachine : {R W : Type 0} → List (List ℕ) → List Pair → Finished (RealFiles R) (ProcessGate R) (RealSink W) → Type 0
-RunsOnMachine words env finished = Answers (sides words env
-    (files_tell 0) (files_tell finished.files.faults)
-    (replicate gate_count (gate_tell 0)) (gates_tell finished.gates.items)
-    (sink_tell None 0) (sink_tell None finished.sink.faults)
-    finished.plan (option_map history_entries finished.history)) finished.outcome finished.status
 
 -- the exit status of a run that could not begin
 abbrev pub status_of_fault : BeginFault → ℕ

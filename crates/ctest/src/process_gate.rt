@@ -1,75 +1,42 @@
-ghost use Rattle.std.specs.Prelude.{◌≡◌, ◌/◌, ◌-◌, ◌^◌, ◌∷◌, ◌++◌, min, None, Some, IfErr, IfOk, IsErrAnd, Ok, OnErr, OnOk, false};
-ghost use Rattle.std.specs.Process.{SameDir, SameProgramAndArgs, command_args, command_dir, command_program, exit_code};
-ghost use Rattle.std.specs.Duration.{as_nanos};
+ghost use Rattle.std.specs.Prelude.{◌≡◌, IfOk, false};
 ghost use Rattle.ct_core.specs.Gate.{HasStartCause, is_not_started};
 ghost use Rattle.ctest.specs.Machine.{gate_tell};
-ghost use Rattle.ctest.specs.Process.{HasEnv, IsFaultOf, how_of_code, how_of_run};
-ghost use Rattle.ctest.specs.declared.process_gate.StartFault.TheVariants as StartCause;
+ghost use Rattle.ctest.specs.Process.{how_of_run};
 
-use crate::text::text_of;
-use ct_base::{Ear, Name, NoMemory, Pair};
+use crate::command::{command_of, is_beside};
+use crate::fault::StartFault;
+use crate::real_files::is_there;
+use crate::watched::{micros_of, watched};
+use ct_base::{Ear, Name};
 use ct_core::{Ended, Gate, Request, Ticket};
 use ct_verdict::How;
-use std::alloc::{AllocError, Global};
-use std::io;
-use std::process::{Command, ExitStatus, Stdio};
-use std::rt::{Clock, Processes};
-use std::time::{Duration, Instant};
-
-/// Why a program was not run to its end.
-#[derive(Clone, Copy, Debug, PartialEq, Eq)]
-enum StartFault {
-    /// It could not be started, or not be waited for.
-    Failed,
-    /// Memory was wanting.
-    NoMemory,
-}
-
-impl From<NoMemory> for StartFault {
-    ghost from_gives = { λ _ fault. fault ≡ StartCause.NoMemory };
-
-    fn from(_e: NoMemory) -> StartFault {
-        StartFault::NoMemory
-    }
-}
-
-impl From<AllocError> for StartFault {
-    ghost from_gives = { λ _ fault. fault ≡ StartCause.NoMemory };
-
-    fn from(_e: AllocError) -> StartFault {
-        StartFault::NoMemory
-    }
-}
-
-impl From<io::Error> for StartFault {
-    ghost from_gives = { IsFaultOf };
-
-    fn from(e: io::Error) -> StartFault {
-        if e.kind() == io::ErrorKind::OutOfMemory {
-            StartFault::NoMemory
-        } else {
-            StartFault::Failed
-        }
-    }
-}
+use std::alloc::Global;
+use std::rt::Files;
+use std::thread::Threads;
+use std::time::Instant;
 
 /// Runs the programs of tests on the machine, and waits for each.
 ///
-/// It tells nothing of them. A program has no input, and what it writes is dropped for now; its
-/// limit and its required files are not looked at yet.
+/// It tells nothing of them. A program has no input.
 #[derive(Drop)]
-pub struct ProcessGate<R> {
-    rt: R,
+pub struct ProcessGate<T> {
+    /// Where the threads are made that watch a program and keep its standard error.
+    threads: T,
+    rt: HostRuntime,
     /// The starts and waits that failed. It stands still at its last value.
     faults: u64,
 }
 
-impl<R> ProcessGate<R> {
+impl<T> ProcessGate<T> {
     /// Makes the gate of which no start has failed.
-    pub fn new(rt: R) -> ProcessGate<R>
+    pub fn new(threads: T, rt: HostRuntime) -> ProcessGate<T>
         ensures { result.faults ≡ 0 }
     {
-        ProcessGate { rt, faults: 0 }
+        ProcessGate {
+            threads,
+            rt,
+            faults: 0,
+        }
     }
 
     /// Counts a start or a wait that failed, and tells how the attempt ended.
@@ -89,13 +56,13 @@ impl<R> ProcessGate<R> {
     }
 }
 
-impl<R: Processes + Clock> ProcessGate<R> {
+impl<T: Threads> ProcessGate<T> {
     /// Runs the program, and takes the time that this took.
-    fn attempt(&mut self, alloc: Global, request: &Request) -> Ended
+    fn attempt<E: Ear>(&mut self, alloc: Global, request: &Request, ear: &mut E) -> Ended
         ensures cause { HasStartCause self.old.faults self.new.faults result.how }
     {
         let began = Instant::now(&self.rt);
-        let outcome = run_program(&self.rt, alloc, request);
+        let outcome = run_program(&self.threads, self.rt, alloc, request, ear);
         let passed = began.and_then(|began| began.elapsed(&self.rt));
         Ended {
             how: self.count(outcome),
@@ -104,7 +71,7 @@ impl<R: Processes + Clock> ProcessGate<R> {
     }
 }
 
-impl<R: Processes + Clock> Gate for ProcessGate<R> {
+impl<T: Threads> Gate for ProcessGate<T> {
     ghost tells = { λ gate. gate_tell gate.faults };
 
     fn run<E: Ear>(
@@ -112,98 +79,47 @@ impl<R: Processes + Clock> Gate for ProcessGate<R> {
         alloc: Global,
         _ticket: &Ticket,
         request: &Request,
-        _ear: &mut E,
+        ear: &mut E,
     ) -> Ended {
-        self.attempt(alloc, request)
+        self.attempt(alloc, request, ear)
     }
 }
 
-/// Starts the program and waits for it.
-fn run_program<R: Processes>(rt: &R, alloc: Global, request: &Request) -> Result<How, StartFault>
+/// Runs the program of a request to its end, and hands what it writes to the ear; without one of the
+/// required files it is not started.
+fn run_program<T: Threads, E: Ear>(
+    threads: &T,
+    rt: HostRuntime,
+    alloc: Global,
+    request: &Request,
+    ear: &mut E,
+) -> Result<How, StartFault>
     ensures { IfOk result (λ how. is_not_started how ≡ false) }
 {
-    let mut command = command_of(alloc, request)?;
-    how_of(command.spawn(rt)?.wait())
-}
-
-/// How the program ended, as the wait for it tells.
-fn how_of(waited: io::Result<ExitStatus>) -> Result<How, StartFault>
-    ensures ok { IfOk waited (λ status. result ≡ Ok (how_of_code (exit_code status))) }
-    ensures err { IfErr waited (λ e. IsErrAnd result (IsFaultOf e)) }
-{
-    Ok(match waited?.code() {
-        Some(code) => How::Exited(code),
-        None => How::Signalled,
-    })
-}
-
-/// The command as the system takes it.
-///
-/// A program name with `/` is read from the folder that the program starts in, unless it begins
-/// with `/`; one without is looked up in the folders that its own PATH names.
-fn command_of(alloc: Global, request: &Request) -> Result<Command, StartFault>
-    ensures call { IfOk result (λ command. command_program command ∷ command_args command ≡ request.now.command) }
-    ensures dir { IfOk result (λ command. command_dir command ≡ Some request.now.dir) }
-    ensures env { IfOk result (λ command. HasEnv request.now.env command) }
-{
-    let Some((program, args)) = request.command.as_slice().split_first() else {
-        return Err(StartFault::Failed);
-    };
-    let mut command = Command::new(alloc, word_of(program)?)?;
-    command.stdin(Stdio::null());
-    command.stdout(Stdio::null());
-    command.stderr(Stdio::null());
-    add_arguments(&mut command, args)?;
-    command.current_dir(word_of(&request.dir)?)?;
-    set_environment(&mut command, request.env.as_slice())?;
-    Ok(command)
-}
-
-fn add_arguments(command: &mut Command, args: &[Name]) -> Result<(), StartFault>
-    ensures args { OnOk result (command_args command.new ≡ command_args command.old ++ args.now) }
-    ensures program { OnOk result (command_program command.new ≡ command_program command.old) }
-{
-    for arg in args {
-        command.arg(word_of(arg)?)?;
+    if let Some(place) = first_missing(&rt, request.required.as_slice())? {
+        return Ok(How::Lacks(place));
     }
-    Ok(())
+    let beside = is_beside(&rt, alloc, request)?;
+    let child = command_of(alloc, request, beside)?.spawn(&rt)?;
+    watched(threads, rt, alloc, child, request.limit, ear)
 }
 
-/// Gives the program these variables alone; of several of one name the last counts.
-fn set_environment(command: &mut Command, env: &[Pair]) -> Result<(), StartFault>
-    ensures env { OnOk result (HasEnv env.now command.new) }
-    ensures call { OnOk result (SameProgramAndArgs command.old command.new) }
-    ensures dir { OnOk result (SameDir command.old command.new) }
-{
-    command.env_clear();
-    for pair in env {
-        command.env(word_of(&pair.name)?, word_of(&pair.value)?)?;
+/// The place, from 0, of the first file that is missing.
+fn first_missing<R: Files>(rt: &R, files: &[Name]) -> Result<Option<u32>, StartFault> {
+    let mut place: u32 = 0;
+    for file in files {
+        if !is_there(rt, file)? {
+            return Ok(Some(place));
+        }
+        place = place.saturating_add(1);
     }
-    Ok(())
-}
-
-/// The word as text; one that is not UTF-8 is a start that failed.
-fn word_of(word: &Name) -> Result<&str, StartFault>
-    ensures { IfOk result (λ text. text.now ≡ word.entry.now) }
-{
-    text_of(word).ok_or(StartFault::Failed)
-}
-
-/// The whole microseconds that passed, at most the greatest u64, and 0 where the clock failed.
-fn micros_of(passed: io::Result<Duration>) -> u64
-    ensures ok { IfOk passed (λ time. result ≡ min (as_nanos time / 1000) (2 ^ 64 - 1)) }
-    ensures failed { OnErr passed (result ≡ 0) }
-{
-    match passed {
-        Ok(time) => u64::try_from(time.as_micros()).unwrap_or(u64::MAX),
-        Err(_) => 0,
-    }
+    Ok(None)
 }
 
 #[cfg(test)]
 mod tests {
     use super::*;
-    use ct_base::List;
+    use ct_base::{Collect, List, NoMemory, Pair};
     use std::test::Fail;
 
     /// Asks for the words of the line, which one space parts, in the root folder with A=b alone.
@@ -243,8 +159,12 @@ mod tests {
             (b"/bin/true \xff", How::NotStarted, 1),
             (b"", How::NotStarted, 1),
         ] {
-            let mut gate = ProcessGate::new(rt);
-            let ended = gate.attempt(rt.alloc(), &request(rt.alloc(), line)?);
+            let mut gate = ProcessGate::new(rt, rt);
+            let ended = gate.attempt(
+                rt.alloc(),
+                &request(rt.alloc(), line)?,
+                &mut Collect::new(rt.alloc()),
+            );
             assert_eq!(rt; ended.how, how, "at {line:?}");
             assert_eq!(rt; gate.faults, faults, "at {line:?}");
         }
@@ -253,8 +173,12 @@ mod tests {
 
     #[test]
     fn takes_the_time_of_an_attempt(rt: HostRuntime) -> Result<(), Fail> {
-        let mut gate = ProcessGate::new(rt);
-        let ended = gate.attempt(rt.alloc(), &request(rt.alloc(), b"sleep 0.1")?);
+        let mut gate = ProcessGate::new(rt, rt);
+        let ended = gate.attempt(
+            rt.alloc(),
+            &request(rt.alloc(), b"sleep 0.1")?,
+            &mut Collect::new(rt.alloc()),
+        );
         assert!(rt; ended.micros >= 100_000 && ended.micros < 50_000_000);
         Ok(())
     }

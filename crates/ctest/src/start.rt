@@ -1,20 +1,20 @@
-ghost use Rattle.std.specs.Prelude.{◌≡◌, ◌↔◌, ◌<◌, ◌≤◌, ◌^◌, ◌-◌, IfOk, IsErrOf, length, replicate, vec_len};
+ghost use Rattle.std.specs.Prelude.{◌≡◌, ◌↔◌, ◌<◌, ◌≤◌, ◌^◌, ◌-◌, IfOk, IsErrOf, length, map, option_map, replicate, vec_len};
 ghost use Rattle.std.specs.IoError.{error_kind};
 ghost use Rattle.std.specs.Process.{exit_status};
 ghost use Rattle.std.specs.declared.env.VarError.TheVariants as VarCause;
 ghost use Rattle.std.specs.declared.io.ErrorKind.TheVariants as ErrorKind;
 ghost use Rattle.ctest.specs.declared.start.BeginFault.TheVariants as BeginCause;
 ghost use Rattle.ctest.specs.Machine.{gate_tell, gates_tell};
-ghost use Rattle.ctest.specs.Start.{RunsOnMachine, gate_count, pairs_in, status_of_fault, status_of_run, words_in};
+ghost use Rattle.ctest.specs.Start.{gate_count, pairs_in, status_of_fault, status_of_run, words_in};
+ghost use Rattle.ct_app.specs.Answers.{Answers, sides};
+ghost use Rattle.ct_app.specs.Ends.{history_entries};
 
 use crate::process_gate::ProcessGate;
-use crate::real_files::RealFiles;
-use crate::real_sink::RealSink;
 use ct_app::{Finished, ctest_main};
-use ct_base::{Name, NoMemory, Pair};
+use ct_base::{Files, Name, NoMemory, Pair, Sink};
+use ct_core::Gate;
 use std::alloc::{AllocError, AllocFailed, Global};
 use std::env::VarError;
-use std::io::Stdout;
 use std::process::ExitCode;
 use std::{env, io};
 
@@ -99,36 +99,49 @@ impl From<VarError> for BeginFault {
     }
 }
 
-/// What a run on the machine gives back.
-pub type Run = Finished<RealFiles<HostRuntime>, ProcessGate<HostRuntime>, RealSink<Stdout>>;
-
 /// Runs the tests of the folder that the process is in, with its words and its environment.
 ///
 /// Where it cannot begin, it writes nothing.
-pub fn begin(rt: HostRuntime) -> Result<Run, BeginFault> {
+pub fn begin<F: Files + Drop, G: Gate + Send + Drop, S: Sink + Send + Drop>(
+    rt: HostRuntime,
+    files: F,
+    gates: Vec<G>,
+    sink: S,
+) -> Result<Finished<F, G, S>, BeginFault>
+    requires { 0 < vec_len gates }
+{
     let args: Vec<String> = env::args(&rt)?.collect(rt.alloc())?;
     let vars: Vec<(String, String)> = env::vars(&rt)?.collect(rt.alloc())?;
-    run(rt, args.as_slice(), vars.as_slice())
+    run(
+        rt.alloc(),
+        args.as_slice(),
+        vars.as_slice(),
+        files,
+        gates,
+        sink,
+    )
 }
 
-/// Hands the words, the variables and the machine to the top call.
+/// Hands the words, the variables and what stands for the machine to the top call.
 //
-// It takes the runtime of the host: a call that may send its gates to threads gets no proof yet
-// where a bound alone says that they can be sent.
-fn run(rt: HostRuntime, args: &[String], vars: &[(String, String)]) -> Result<Run, BeginFault>
-    ensures { IfOk result (λ run. RunsOnMachine (words_in args.now) (pairs_in vars.now) run) }
+// The host's runtime has threads in `main` alone, so `main` makes the gates, and this takes any.
+fn run<F: Files + Drop, G: Gate + Send + Drop, S: Sink + Send + Drop>(
+    alloc: Global,
+    args: &[String],
+    vars: &[(String, String)],
+    files: F,
+    gates: Vec<G>,
+    sink: S,
+) -> Result<Finished<F, G, S>, BeginFault>
+    requires { 0 < vec_len gates }
+    ensures { IfOk result (λ run. Answers (sides (words_in args.now) (pairs_in vars.now)
+        (F.tells files) (F.tells run.files)
+        (map G.tells gates.items) (map G.tells run.gates.items) (S.tells sink) (S.tells run.sink)
+        run.plan (option_map history_entries run.history)) run.outcome run.status) }
 {
-    let words = words_of(rt.alloc(), args)?;
-    let env = pairs_of(rt.alloc(), vars)?;
-    let gates = gates_of(rt.alloc(), rt)?;
-    Ok(ctest_main(
-        rt.alloc(),
-        words.as_slice(),
-        env.as_slice(),
-        RealFiles::new(rt),
-        gates,
-        RealSink::new(rt.stdout()),
-    ))
+    let words = words_of(alloc, args)?;
+    let env = pairs_of(alloc, vars)?;
+    Ok(ctest_main(alloc, words.as_slice(), env.as_slice(), files, gates, sink))
 }
 
 /// The exit status of the program.
@@ -177,13 +190,17 @@ fn pairs_of(alloc: Global, vars: &[(String, String)]) -> Result<Vec<Pair>, NoMem
 }
 
 /// The gates through which tests may run, none of which has failed.
-fn gates_of<R: Copy + Drop>(alloc: Global, rt: R) -> Result<Vec<ProcessGate<R>>, NoMemory>
+pub fn gates_of<T: Copy + Drop>(
+    alloc: Global,
+    threads: T,
+    rt: HostRuntime,
+) -> Result<Vec<ProcessGate<T>>, NoMemory>
     ensures count { IfOk result (λ gates. vec_len gates ≡ gate_count) }
     ensures unfailed { IfOk result (λ gates. gates_tell gates.items ≡ replicate gate_count (gate_tell 0)) }
 {
     let mut gates = Vec::new(alloc);
     for _ in 0..GATES {
-        gates.push(ProcessGate::new(rt))?;
+        gates.push(ProcessGate::new(threads, rt))?;
     }
     Ok(gates)
 }

@@ -1,7 +1,7 @@
 use Rattle.std.proofs.Common.{take}
 use Rattle.std.specs.Process.{SameDir, SameProgramAndArgs}
 use Rattle.ctest.specs.Process.{HasEnv}
-use Rattle.ctest.proofs.process_gate.set_environment.Given as goal
+use Rattle.ctest.proofs.command.set_environment.Given as goal
 
 abbrev pub invariant-loop-pair : goal.invariant-loop-pair
 invariant-loop-pair l = record {

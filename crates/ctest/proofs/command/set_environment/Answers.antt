@@ -1,7 +1,7 @@
 use Rattle.std.proofs.Common.{◌+◌, ◌∷◌, ◌++◌, [], take, sym, ap, ◌∙◌, rules}
 use Rattle.std.proofs.lemmas.List.{take_more}
 use Rattle.ctest.proofs.EnvLemmas.{has_env-more}
-use Rattle.ctest.proofs.process_gate.set_environment.Goals as goal
+use Rattle.ctest.proofs.command.set_environment.Goals as goal
 
 pub loop-pair-preserved : goal.loop-pair-preserved
 loop-pair-preserved c =

@@ -1,6 +1,6 @@
 use Rattle.std.proofs.Common.{◌≡◌, ◌++◌, take}
 use Rattle.std.specs.Process.{command_args, command_program}
-use Rattle.ctest.proofs.process_gate.add_arguments.Given as goal
+use Rattle.ctest.proofs.command.add_arguments.Given as goal
 
 abbrev pub invariant-loop-arg : goal.invariant-loop-arg
 invariant-loop-arg l =
