@@ -1,385 +1,572 @@
-//! What a whole run writes and comes to, over two gates and with an environment.
+//! Whole runs over files, a gate and a sink in memory: what they ask for, write and come to.
+//!
+//! In a table each run begins with `===` and what it shows. Then come the facts that it differs
+//! in, and its files, each behind `---` and its path, or behind `---` alone the test file of the
+//! folder. Behind `>>>` stands what comes of it.
 
-use ct_app::{Finished, Outcome, ctest_main};
-use ct_base::{Blob, List, MemFiles, MemSink, Name, Pair};
-use ct_core::{Ended, Request, ScriptGate, Told};
+ghost use Rattle.std.specs.Prelude.{None};
+
+use ct_app::{Finished, ctest_main};
+use ct_base::{Blob, Ear, List, MemFiles, MemSink, Name, NoMemory, Pair};
+use ct_core::{Ended, Gate, Request, ScriptGate, Ticket, Told};
 use ct_verdict::How;
 use std::alloc::{AllocError, Global};
 use std::process::Abort;
+use std::str;
 use std::test::Fail;
 
-/// A call of the top, what it writes and what it comes to.
-struct Case {
-    shows: &'static str,
-    word: Option<&'static [u8]>,
-    /// What the test file holds; none where it is absent.
-    text: Option<&'static [u8]>,
-    /// The test that is told to end otherwise than at once with 0.
-    told: Option<(u32, How, u64)>,
-    /// The call of the files that fails, from 1.
-    fails_files: Option<u64>,
-    /// The put that fails, from 1.
-    fails_put: Option<u64>,
-    output: &'static [u8],
-    status: u8,
-    /// How many attempts the first gate is asked for.
-    asked: usize,
-    /// How many attempts are not started.
-    unstarted: u64,
-}
+/// Runs that come to their end.
+const RUNS: &str = "
+=== one test passes
+told 1 0 10000
+---
+add_test(ok \"true\")
+>>> status 0, asked 1, unstarted 0
+Test project .
+1/1 Test #1: ok ... Passed 0.01 sec
 
-const CASES: [Case; 16] = [
-    Case {
-        shows: "one test passes",
-        word: None,
-        text: Some(b"add_test(ok \"true\")"),
-        told: Some((1, How::Exited(0), 10_000)),
-        fails_files: None,
-        fails_put: None,
-        output: b"Test project .\n1/1 Test #1: ok ... Passed 0.01 sec\n\n100% tests passed, 0 tests failed out of 1\n",
-        status: 0,
-        asked: 1,
-        unstarted: 0,
-    },
-    Case {
-        shows: "there is no test file",
-        word: None,
-        text: None,
-        told: None,
-        fails_files: None,
-        fails_put: None,
-        output: b"Test project .\nNo tests were found!!!\n",
-        status: 0,
-        asked: 0,
-        unstarted: 0,
-    },
-    Case {
-        shows: "the second of three tests is not started",
-        word: None,
-        text: Some(b"add_test(a true)\nadd_test(b true)\nadd_test(c true)\n"),
-        told: Some((2, How::NotStarted, 0)),
-        fails_files: None,
-        fails_put: None,
-        output: b"Test project .\n1/3 Test #1: a ... Passed 0.00 sec\n2/3 Test #2: b ... ***Not Run (Unable to start) 0.00 sec\n3/3 Test #3: c ... Passed 0.00 sec\n\n66% tests passed, 1 tests failed out of 3\n\nThe following tests FAILED:\n\t2 - b (Not Run)\nErrors while running CTest\n",
-        status: 8,
-        asked: 3,
-        unstarted: 1,
-    },
-    Case {
-        shows: "a test fails",
-        word: None,
-        text: Some(b"add_test(f false)"),
-        told: Some((1, How::Exited(1), 0)),
-        fails_files: None,
-        fails_put: None,
-        output: b"Test project .\n1/1 Test #1: f ... ***Failed 0.00 sec\n\n0% tests passed, 1 tests failed out of 1\n\nThe following tests FAILED:\n\t1 - f (Failed)\nErrors while running CTest\n",
-        status: 8,
-        asked: 1,
-        unstarted: 0,
-    },
-    Case {
-        shows: "the second line has an unknown command",
-        word: None,
-        text: Some(b"add_test(ok \"true\")\nadd_tests(a b)"),
-        told: None,
-        fails_files: None,
-        fails_put: None,
-        output: b"ctest: ./CTestTestfile.cmake:2: unknown command\n",
-        status: 2,
-        asked: 0,
-        unstarted: 0,
-    },
-    Case {
-        shows: "the files fail",
-        word: None,
-        text: Some(b"add_test(ok \"true\")"),
-        told: None,
-        fails_files: Some(1),
-        fails_put: None,
-        output: b"ctest: cannot use file ./CTestTestfile.cmake\n",
-        status: 3,
-        asked: 0,
-        unstarted: 0,
-    },
-    Case {
-        shows: "there is a word",
-        word: Some(b"--nope"),
-        text: Some(b"add_test(ok \"true\")"),
-        told: None,
-        fails_files: None,
-        fails_put: None,
-        output: b"ctest: word 1: unknown option\n",
-        status: 1,
-        asked: 0,
-        unstarted: 0,
-    },
-    Case {
-        shows: "the sink fails at the second line of a test",
-        word: None,
-        text: Some(b"add_test(a true)\nadd_test(b true)\nadd_test(c true)\n"),
-        told: None,
-        fails_files: None,
-        fails_put: Some(3),
-        output: b"Test project .\n1/3 Test #1: a ... Passed 0.00 sec\n",
-        status: 4,
-        asked: 2,
-        unstarted: 0,
-    },
-    Case {
-        shows: "the sink fails inside the summary",
-        word: None,
-        text: Some(b"add_test(ok true)"),
-        told: None,
-        fails_files: None,
-        fails_put: Some(4),
-        output: b"Test project .\n1/1 Test #1: ok ... Passed 0.00 sec\n\n",
-        status: 4,
-        asked: 1,
-        unstarted: 0,
-    },
-    Case {
-        shows: "a program is killed by a signal, and the next test runs",
-        word: None,
-        text: Some(b"add_test(a true)\nadd_test(b true)\n"),
-        told: Some((1, How::Signalled, 0)),
-        fails_files: None,
-        fails_put: None,
-        output: b"Test project .\n1/2 Test #1: a ... ***Exception 0.00 sec\n2/2 Test #2: b ... Passed 0.00 sec\n\n50% tests passed, 1 tests failed out of 2\n\nThe following tests FAILED:\n\t1 - a (Exception)\nErrors while running CTest\n",
-        status: 8,
-        asked: 2,
-        unstarted: 0,
-    },
-    Case {
-        shows: "the sink fails at the header",
-        word: None,
-        text: Some(b"add_test(ok true)"),
-        told: None,
-        fails_files: None,
-        fails_put: Some(1),
-        output: b"",
-        status: 4,
-        asked: 0,
-        unstarted: 0,
-    },
-    Case {
-        shows: "there is a word, and the sink fails at its line",
-        word: Some(b"--nope"),
-        text: Some(b"add_test(ok true)"),
-        told: None,
-        fails_files: None,
-        fails_put: Some(1),
-        output: b"",
-        status: 1,
-        asked: 0,
-        unstarted: 0,
-    },
-    Case {
-        shows: "the first line is refused, and the sink fails at its line",
-        word: None,
-        text: Some(b"add_tests(a b)"),
-        told: None,
-        fails_files: None,
-        fails_put: Some(1),
-        output: b"",
-        status: 2,
-        asked: 0,
-        unstarted: 0,
-    },
-    Case {
-        shows: "a quoted argument is not closed",
-        word: None,
-        text: Some(b"add_test(a \"b"),
-        told: None,
-        fails_files: None,
-        fails_put: None,
-        output: b"ctest: ./CTestTestfile.cmake:1: unclosed quoted argument\n",
-        status: 2,
-        asked: 0,
-        unstarted: 0,
-    },
-    Case {
-        shows: "a test has no command",
-        word: None,
-        text: Some(b"add_test(a)"),
-        told: None,
-        fails_files: None,
-        fails_put: None,
-        output: b"ctest: ./CTestTestfile.cmake:1: bad arguments\n",
-        status: 2,
-        asked: 0,
-        unstarted: 0,
-    },
-    Case {
-        shows: "the second test has two properties that are not built yet",
-        word: None,
-        text: Some(
-            b"add_test(a true)\nadd_test(b true)\nset_tests_properties(a PROPERTIES COLOUR red)\nset_tests_properties(b PROPERTIES TIMEOUT 5 LABELS slow COLOUR red)\n",
-        ),
-        told: None,
-        fails_files: None,
-        fails_put: None,
-        output: b"ctest: test 2: LABELS: not built yet\n",
-        status: 2,
-        asked: 0,
-        unstarted: 0,
-    },
-];
+100% tests passed, 0 tests failed out of 1
+=== there is no test file
+>>> status 0, asked 0, unstarted 0
+Test project .
+No tests were found!!!
+=== the second of three tests is not started
+told 2 unstarted 0
+---
+add_test(a true)
+add_test(b true)
+add_test(c true)
+>>> status 8, asked 3, unstarted 1
+Test project .
+1/3 Test #1: a ... Passed 0.00 sec
+2/3 Test #2: b ... ***Not Run (Unable to start) 0.00 sec
+3/3 Test #3: c ... Passed 0.00 sec
 
-fn numbers(alloc: Global, number: Option<u64>) -> Result<List<u64>, Fail> {
-    let mut numbers = List::new(alloc);
-    if let Some(number) = number {
-        numbers.push(number)?;
-    }
-    Ok(numbers)
-}
+66% tests passed, 1 tests failed out of 3
 
-fn files(alloc: Global, case: &Case) -> Result<MemFiles, Fail> {
+The following tests FAILED:
+\t2 - b (Not Run)
+Errors while running CTest
+=== a program is killed by a signal, one lacks a file, and the next test runs
+told 1 signalled 2500000
+told 2 lacks 0
+---
+add_test(a true)
+add_test(b true)
+add_test(c true)
+>>> status 8, asked 3, unstarted 0
+Test project .
+1/3 Test #1: a ... ***Exception 2.50 sec
+2/3 Test #2: b ... ***Not Run (Required file 1) 0.00 sec
+3/3 Test #3: c ... Passed 0.00 sec
+
+33% tests passed, 2 tests failed out of 3
+
+The following tests FAILED:
+\t1 - a (Exception)
+\t2 - b (Not Run)
+Errors while running CTest
+=== two folders, of which one has labels
+---
+# CMake generated Testfile for 
+# Source directory: /home/u/demo
+# Build directory: /home/u/demo/build
+add_test([=[unit one]=] \"/home/u/demo/build/unit\" \"--fast\" \"a;b\")
+set_tests_properties([=[unit one]=] PROPERTIES  LABELS \"core;fast\" _BACKTRACE_TRIPLES \"/home/u/demo/CMakeLists.txt;9;add_test;/home/u/demo/CMakeLists.txt;0;\")
+subdirs(\"lib\")
+subdirs(\"none\")
+--- ./lib/CTestTestfile.cmake
+add_test(lib_t \"/home/u/demo/build/lib/t\")
+>>> status 0, asked 2, unstarted 0
+Test project .
+1/2 Test #1: unit one ... Passed 0.00 sec
+2/2 Test #2: lib_t ... Passed 0.00 sec
+
+100% tests passed, 0 tests failed out of 2
+
+Label Summary:
+core = 1/1
+fast = 1/1
+=== a configuration is not built
+---
+if(CTEST_CONFIGURATION_TYPE MATCHES \"^([Dd][Ee][Bb][Uu][Gg])$\")
+add_test(u \"/b/Debug/u\")
+else()
+add_test(u NOT_AVAILABLE)
+endif()
+>>> status 8, asked 0, unstarted 0
+Test project .
+1/1 Test #1: u ... ***Not Run (Not available) 0.00 sec
+
+0% tests passed, 1 tests failed out of 1
+
+The following tests FAILED:
+\t1 - u (Not Run)
+Errors while running CTest
+=== the tests of a program are not listed yet
+told 1 unstarted 0
+---
+include(\"/b/x_include.cmake\")
+--- /b/x_include.cmake
+if(EXISTS \"/b/x_tests.cmake\")
+include(\"/b/x_tests.cmake\")
+else()
+add_test(x_NOT_BUILT x_NOT_BUILT)
+endif()
+>>> status 8, asked 1, unstarted 1
+Test project .
+1/1 Test #1: x_NOT_BUILT ... ***Not Run (Unable to start) 0.00 sec
+
+0% tests passed, 1 tests failed out of 1
+
+The following tests FAILED:
+\t1 - x_NOT_BUILT (Not Run)
+Errors while running CTest
+=== patterns in the output count before exit codes, and a timeout before them
+told 1 3 0 all done
+told 2 timeout 0 all done
+told 3 3 0 all done
+told 4 3 0 all done
+told 6 77 0
+---
+add_test(pass p)
+add_test(limit p)
+add_test(fail p)
+add_test(wanted p)
+add_test(silent p)
+add_test(skip p)
+set_tests_properties(pass limit fail wanted silent PROPERTIES PASS_REGULAR_EXPRESSION done)
+set_tests_properties(fail PROPERTIES FAIL_REGULAR_EXPRESSION all)
+set_tests_properties(wanted PROPERTIES WILL_FAIL ON)
+set_tests_properties(skip PROPERTIES SKIP_RETURN_CODE 77)
+>>> status 8, asked 6, unstarted 0
+Test project .
+1/6 Test #1: pass ... Passed 0.00 sec
+2/6 Test #2: limit ... ***Timeout 0.00 sec
+3/6 Test #3: fail ... ***Failed 0.00 sec
+4/6 Test #4: wanted ... ***Failed 0.00 sec
+5/6 Test #5: silent ... ***Failed 0.00 sec
+6/6 Test #6: skip ... ***Skipped 0.00 sec
+
+33% tests passed, 4 tests failed out of 6
+
+The following tests did not run:
+\t6 - skip (Skipped)
+
+The following tests FAILED:
+\t2 - limit (Timeout)
+\t3 - fail (Failed)
+\t4 - wanted (Failed)
+\t5 - silent (Failed)
+Errors while running CTest
+=== a test is disabled, and counts nowhere
+---
+add_test(s setup)
+add_test(u user)
+set_tests_properties(s PROPERTIES DISABLED ON LABELS \"slow\")
+set_tests_properties(u PROPERTIES LABELS \"slow;net\")
+>>> status 0, asked 1, unstarted 0
+Test project .
+1/1 Test #2: u ... Passed 0.00 sec
+
+100% tests passed, 0 tests failed out of 1
+
+Label Summary:
+net = 1/1
+slow = 1/1
+
+The following tests did not run:
+\t1 - s (Disabled)
+=== an environment has an operation that there is not
+---
+add_test(e true)
+set_tests_properties(e PROPERTIES ENVIRONMENT_MODIFICATION A=plus:1)
+>>> status 8, asked 0, unstarted 0
+Test project .
+1/1 Test #1: e ... ***Not Run (Bad environment) 0.00 sec
+
+0% tests passed, 1 tests failed out of 1
+
+The following tests FAILED:
+\t1 - e (Not Run)
+Errors while running CTest
+";
+
+/// Runs that are refused, or that the files or the sink do not let come to an end.
+const HALTS: &str = "
+=== a word is no option
+word --nope
+---
+add_test(ok \"true\")
+>>> status 1, asked 0, unstarted 0
+ctest: word 1: unknown option
+=== a quoted argument is not closed
+---
+add_test(a \"b
+>>> status 2, asked 0, unstarted 0
+ctest: ./CTestTestfile.cmake:1: unclosed quoted argument
+=== a test has no command
+---
+add_test(a)
+>>> status 2, asked 0, unstarted 0
+ctest: ./CTestTestfile.cmake:1: bad arguments
+=== the second line has an unknown command
+---
+add_test(ok \"true\")
+add_tests(a b)
+>>> status 2, asked 0, unstarted 0
+ctest: ./CTestTestfile.cmake:2: unknown command
+=== a count is a word
+---
+add_test(a true)
+set_tests_properties(a PROPERTIES PROCESSORS two)
+>>> status 2, asked 0, unstarted 0
+ctest: test 1: PROCESSORS: bad number
+=== a resource has no slots
+---
+add_test(a true)
+set_tests_properties(a PROPERTIES RESOURCE_GROUPS gpus)
+>>> status 2, asked 0, unstarted 0
+ctest: test 1: RESOURCE_GROUPS: bad resource groups
+=== a pattern has an open group
+---
+add_test(a true)
+set_tests_properties(a PROPERTIES PASS_REGULAR_EXPRESSION \"(\")
+>>> status 2, asked 0, unstarted 0
+ctest: test 1: PASS_REGULAR_EXPRESSION: bad pattern
+=== the second test has two bad values
+---
+add_test(a true)
+add_test(b true)
+set_tests_properties(a PROPERTIES COLOUR red)
+set_tests_properties(b PROPERTIES TIMEOUT soon PROCESSORS many COLOUR red)
+>>> status 2, asked 0, unstarted 0
+ctest: test 2: PROCESSORS: bad number
+=== the first call of the files fails
+call 1 fails
+---
+add_test(ok \"true\")
+>>> status 3, asked 0, unstarted 0
+ctest: cannot use file ./CTestTestfile.cmake
+=== the sink fails at the header
+put 1 fails
+---
+add_test(ok true)
+>>> status 4, asked 0, unstarted 0
+=== the sink fails at the line of the second of three tests
+put 3 fails
+---
+add_test(a true)
+add_test(b true)
+add_test(c true)
+>>> status 4, asked 2, unstarted 0
+Test project .
+1/3 Test #1: a ... Passed 0.00 sec
+=== the sink fails inside the summary
+put 4 fails
+---
+add_test(ok true)
+>>> status 4, asked 1, unstarted 0
+Test project .
+1/1 Test #1: ok ... Passed 0.00 sec
+
+=== the sink fails at the line on a word
+word --nope
+put 1 fails
+---
+add_test(ok true)
+>>> status 1, asked 0, unstarted 0
+=== the sink fails at the line on a test file
+put 1 fails
+---
+add_tests(a b)
+>>> status 2, asked 0, unstarted 0
+";
+
+/// Runs and the requests in them: name, folder, command, environment, microseconds at most and
+/// the files that have to be there, with a space behind each item of a list.
+const REQUESTS: &str = "
+=== the tests of two folders
+---
+add_test([=[unit one]=] \"/home/u/demo/build/unit\" \"--fast\" \"a;b\")
+subdirs(\"lib\")
+--- ./lib/CTestTestfile.cmake
+add_test(lib_t \"/home/u/demo/build/lib/t\")
+>>> unit one|.|/home/u/demo/build/unit --fast a;b |PATH=/bin |1500000000|
+lib_t|./lib|/home/u/demo/build/lib/t |PATH=/bin |1500000000|
+=== a test that a program has listed
+---
+include(\"/b/x_include.cmake\")
+--- /b/x_include.cmake
+if(EXISTS \"/b/x_tests.cmake\")
+include(\"/b/x_tests.cmake\")
+else()
+add_test(x_NOT_BUILT x_NOT_BUILT)
+endif()
+--- /b/x_tests.cmake
+add_test([=[S.A]=] /b/x [==[--gtest_filter=S.A]==])
+set_tests_properties([=[S.A]=] PROPERTIES WORKING_DIRECTORY [==[/b]==])
+set(x_TESTS [==[S.A]==])
+>>> S.A|/b|/b/x --gtest_filter=S.A |PATH=/bin |1500000000|
+=== an environment of its own
+---
+add_test(e env)
+set_tests_properties(e PROPERTIES ENVIRONMENT \"A=1;B=x\" ENVIRONMENT_MODIFICATION \"A=string_append:2;B=unset:;PATH=path_list_prepend:/opt;C=cmake_list_append:q;A=reset:;A=string_prepend:0\")
+>>> e|.|env |A=01 C=q PATH=/opt:/bin |1500000000|
+=== limits and files, and no disabled test
+---
+add_test(a p)
+add_test(b p)
+add_test(off p)
+set_tests_properties(a PROPERTIES TIMEOUT 1.5 REQUIRED_FILES \"f;/g\" WORKING_DIRECTORY w)
+set_tests_properties(b PROPERTIES TIMEOUT 0)
+set_tests_properties(off PROPERTIES DISABLED 1)
+>>> a|./w|p |PATH=/bin |1500000|./w/f /g 
+b|.|p |PATH=/bin |none|
+";
+
+/// A run whose only test is to write a word.
+const WRITES: &str = "=== a word in two pieces
+---
+add_test(t p)
+set_tests_properties(t PROPERTIES PASS_REGULAR_EXPRESSION \"^done$\")";
+
+/// The files of a run, each from its path on, where there are some.
+fn held(alloc: Global, files: Option<&str>) -> Result<List<Pair>, NoMemory> {
     let mut held = List::new(alloc);
-    if let Some(text) = case.text {
-        held.push(Pair {
-            name: Name::of(alloc, b"./CTestTestfile.cmake")?,
-            value: Name::of(alloc, text)?,
-        })?;
+    let Some(files) = files else {
+        return Ok(held);
+    };
+    for file in files.split("\n---") {
+        let (path, text) = file.split_once('\n').unwrap_or((file, ""));
+        let path = path.strip_prefix(' ').unwrap_or("./CTestTestfile.cmake");
+        held.push(pair(alloc, path, text)?)?;
     }
-    Ok(MemFiles::new(held, numbers(alloc, case.fails_files)?))
+    Ok(held)
 }
 
-fn gate(alloc: Global, case: &Case) -> Result<ScriptGate, Fail> {
+fn pair(alloc: Global, name: &str, value: &str) -> Result<Pair, NoMemory> {
+    Ok(Pair {
+        name: Name::of(alloc, name.as_bytes())?,
+        value: Name::of(alloc, value.as_bytes())?,
+    })
+}
+
+/// The calls of a kind that fail, by their numbers from 1.
+fn failing(alloc: Global, facts: &str, kind: &str) -> Result<List<u64>, NoMemory> {
+    let mut failing = List::new(alloc);
+    for fact in facts.lines() {
+        let number = fact.strip_prefix(kind);
+        if let Some(number) = number.and_then(|rest| rest.strip_suffix(" fails")) {
+            failing.push(number.parse().unwrap_or(0))?;
+        }
+    }
+    Ok(failing)
+}
+
+/// The words behind the program's name.
+fn words(alloc: Global, facts: &str) -> Result<List<Name>, NoMemory> {
+    let mut words = List::new(alloc);
+    for fact in facts.lines() {
+        if let Some(word) = fact.strip_prefix("word ") {
+            words.push(Name::of(alloc, word.as_bytes())?)?;
+        }
+    }
+    Ok(words)
+}
+
+/// A gate that tells what the facts say of each first attempt.
+fn gate(alloc: Global, facts: &str) -> Result<ScriptGate, NoMemory> {
     let mut world = List::new(alloc);
-    if let Some((test, how, micros)) = case.told {
-        world.push(Told {
-            test,
-            attempt: 1,
-            heard: Blob::new(alloc),
-            ended: Ended { how, micros },
-        })?;
+    for fact in facts.lines() {
+        if let Some(cells) = fact.strip_prefix("told ") {
+            world.push(told(alloc, cells)?)?;
+        }
     }
     Ok(ScriptGate::new(alloc, world))
 }
 
-/// The environment of each run: one variable.
-fn environment(alloc: Global) -> Result<List<Pair>, Fail> {
-    let mut env = List::new(alloc);
-    env.push(Pair {
-        name: Name::of(alloc, b"LANG")?,
-        value: Name::of(alloc, b"C")?,
-    })?;
-    Ok(env)
-}
-
-fn run(alloc: Global, case: &Case) -> Result<Finished<MemFiles, ScriptGate, MemSink>, Fail> {
-    let mut words = Vec::new(alloc);
-    if let Some(word) = case.word {
-        words
-            .push(Name::of(alloc, word)?)
-            .map_err(AllocError::from)?;
-    }
-    let mut gates = Vec::new(alloc);
-    gates.push(gate(alloc, case)?).map_err(AllocError::from)?;
-    gates.push(gate(alloc, case)?).map_err(AllocError::from)?;
-    let env = environment(alloc)?;
-    let sink = MemSink::new(alloc, numbers(alloc, case.fails_put)?);
-    Ok(ctest_main(
-        alloc,
-        words.as_slice(),
-        env.as_slice(),
-        files(alloc, case)?,
-        gates,
-        sink,
-    ))
-}
-
-/// Whether the call came as far as a plan.
-fn is_planned(outcome: &Outcome) -> bool {
-    !matches!(
-        outcome,
-        Outcome::Usage { .. } | Outcome::Refused(_) | Outcome::FilesFault { .. }
-    )
-}
-
-/// Whether the request has the environment of each run.
-fn has_environment(request: &Request) -> bool {
-    match request.env.as_slice() {
-        [pair] => pair.name.bytes() == b"LANG".as_slice() && pair.value.bytes() == b"C".as_slice(),
-        _ => false,
-    }
-}
-
-fn expect_gate(rt: &impl Abort, case: &Case, gate: &ScriptGate, asked: usize) {
-    assert_eq!(rt; gate.asked().len(), asked, "{}", case.shows);
-    assert_eq!(rt; gate.sent().len(), asked, "{}", case.shows);
-    for request in gate.sent().as_slice() {
-        assert!(rt; has_environment(request), "{}", case.shows);
-    }
-}
-
-fn expect_output(rt: &impl Abort, case: &Case, sink: &MemSink) {
-    let written = sink.written().bytes();
-    assert!(rt; written == case.output, "{}", case.shows);
-}
-
-fn expect_case(rt: &(impl Abort + AllocGlobal), case: &Case) -> Result<(), Fail> {
-    let finished = run(rt.alloc(), case)?;
-    expect_output(rt, case, &finished.sink);
-    assert_eq!(rt; finished.status, case.status, "{}", case.shows);
-    if let [first, second] = finished.gates.as_slice() {
-        expect_gate(rt, case, first, case.asked);
-        assert_eq!(rt; first.faults(), case.unstarted, "{}", case.shows);
-        expect_gate(rt, case, second, 0);
-    }
-    let planned = is_planned(&finished.outcome);
-    assert_eq!(rt; finished.plan.is_some(), planned, "{}", case.shows);
-    assert_eq!(rt; finished.history.is_some(), planned, "{}", case.shows);
-    Ok(())
-}
-
-/// A discovered list of tests that is not built yet, as CMake includes it.
-fn unbuilt_list(alloc: Global) -> Result<MemFiles, Fail> {
-    let mut held = List::new(alloc);
-    held.push(Pair {
-        name: Name::of(alloc, b"./CTestTestfile.cmake")?,
-        value: Name::of(alloc, b"include(\"/b/x_include.cmake\")\n")?,
-    })?;
-    held.push(Pair {
-        name: Name::of(alloc, b"/b/x_include.cmake")?,
-        value: Name::of(
-            alloc,
-            b"if(EXISTS \"/b/x_tests.cmake\")\n  include(\"/b/x_tests.cmake\")\nelse()\n  add_test(x_NOT_BUILT x_NOT_BUILT)\nendif()\n",
-        )?,
-    })?;
-    Ok(MemFiles::new(held, List::new(alloc)))
-}
-
-#[test]
-fn runs_the_placeholder_of_a_list_that_is_not_built(rt: HostRuntime) -> Result<(), Fail> {
-    let alloc = rt.alloc();
-    let mut world = List::new(alloc);
-    world.push(Told {
-        test: 1,
+/// What is told of a test: its number, how it ended, its microseconds, and what was heard.
+fn told(alloc: Global, cells: &str) -> Result<Told, NoMemory> {
+    let mut cells = cells.splitn(4, ' ');
+    Ok(Told {
+        test: cells.next().unwrap_or("").parse().unwrap_or(0),
         attempt: 1,
-        heard: Blob::new(alloc),
         ended: Ended {
-            how: How::NotStarted,
-            micros: 0,
+            how: how(cells.next().unwrap_or("")),
+            micros: cells.next().unwrap_or("").parse().unwrap_or(0),
         },
-    })?;
+        heard: Blob::of(alloc, cells.next().unwrap_or("").as_bytes())?,
+    })
+}
+
+fn how(word: &str) -> How {
+    match word {
+        "signalled" => How::Signalled,
+        "timeout" => How::TimedOut,
+        "unstarted" => How::NotStarted,
+        "lacks" => How::Lacks(1),
+        code => How::Exited(code.parse().unwrap_or(0)),
+    }
+}
+
+/// Runs on a gate, with one variable in the environment.
+fn run_on<G: Gate + Send + Drop>(
+    alloc: Global,
+    given: &str,
+    gate: G,
+) -> Result<Finished<MemFiles, G, MemSink>, Fail> {
+    let (facts, files) = match given.split_once("\n---") {
+        Some((facts, files)) => (facts, Some(files)),
+        None => (given, None),
+    };
+    let files = MemFiles::new(held(alloc, files)?, failing(alloc, facts, "call ")?);
+    let sink = MemSink::new(alloc, failing(alloc, facts, "put ")?);
+    let words = words(alloc, facts)?;
+    let env = [pair(alloc, "PATH", "/bin")?];
     let mut gates = Vec::new(alloc);
-    gates
-        .push(ScriptGate::new(alloc, world))
-        .map_err(AllocError::from)?;
-    let sink = MemSink::new(alloc, List::new(alloc));
-    let finished = ctest_main(alloc, &[], &[], unbuilt_list(alloc)?, gates, sink);
-    let output =
-        b"Test project .\n1/1 Test #1: x_NOT_BUILT ... ***Not Run (Unable to start) 0.00 sec\n\n0% tests passed, 1 tests failed out of 1\n\nThe following tests FAILED:\n\t1 - x_NOT_BUILT (Not Run)\nErrors while running CTest\n";
-    assert!(&rt; finished.sink.written().bytes() == output.as_slice());
-    assert_eq!(&rt; finished.status, 8);
+    gates.push(gate).map_err(AllocError::from)?;
+    Ok(ctest_main(alloc, words.as_slice(), &env, files, gates, sink))
+}
+
+type Ran = Finished<MemFiles, ScriptGate, MemSink>;
+
+/// Runs on a gate that tells what the facts say.
+fn run(alloc: Global, given: &str) -> Result<Ran, Fail> {
+    let facts = given.split("\n---").next().unwrap_or("");
+    run_on(alloc, given, gate(alloc, facts)?)
+}
+
+fn written(sink: &MemSink) -> &str {
+    str::from_utf8(sink.written().bytes()).unwrap_or("?")
+}
+
+/// How a run ended, how many attempts it asked for, how many of them were not started, and what
+/// was written.
+fn ending(alloc: Global, ran: &Ran) -> Result<String, AllocError> {
+    let (asked, unstarted) = match ran.gates.first() {
+        Some(gate) => (gate.asked().len(), gate.faults()),
+        None => (0, 0),
+    };
+    let status = ran.status;
+    let written = written(&ran.sink);
+    format!(in alloc; "status {status}, asked {asked}, unstarted {unstarted}\n{written}")
+}
+
+/// Compares what comes of each run of a table.
+fn end_as_told(rt: &(impl Abort + AllocGlobal), table: &str) -> Result<(), Fail> {
+    for run_of in table.split("\n===").skip(1) {
+        let (given, want) = run_of.split_once("\n>>> ").unwrap_or((run_of, ""));
+        let ending = ending(rt.alloc(), &run(rt.alloc(), given)?)?;
+        assert_eq!(rt; ending.trim_end(), want.trim_end(), "{given}");
+    }
     Ok(())
 }
 
 #[test]
 fn reports_what_the_tests_came_to(rt: HostRuntime) -> Result<(), Fail> {
-    for case in &CASES {
-        expect_case(&rt, case)?;
+    end_as_told(&rt, RUNS)
+}
+
+#[test]
+fn tells_why_there_is_no_whole_report(rt: HostRuntime) -> Result<(), Fail> {
+    end_as_told(&rt, HALTS)
+}
+
+#[test]
+fn puts_each_line_by_itself(rt: HostRuntime) -> Result<(), Fail> {
+    for given in RUNS.split("\n===").skip(1) {
+        let ran = run(rt.alloc(), given)?;
+        let report = written(&ran.sink);
+        let pieces = ran.sink.pieces();
+        assert_eq!(rt; pieces.len(), report.lines().count(), "{given}");
+        for (piece, line) in pieces.iter().zip(report.split_inclusive('\n')) {
+            assert_eq!(rt; piece.bytes(), line.as_bytes(), "{given}");
+        }
     }
+    Ok(())
+}
+
+fn text_of(name: &Name) -> &str {
+    str::from_utf8(name.bytes()).unwrap_or("?")
+}
+
+fn names(alloc: Global, names: &List<Name>) -> Result<String, AllocError> {
+    let mut text = String::new(alloc);
+    for name in names.as_slice() {
+        text = format!(in alloc; "{text}{} ", text_of(name))?;
+    }
+    Ok(text)
+}
+
+fn pairs(alloc: Global, pairs: &List<Pair>) -> Result<String, AllocError> {
+    let mut text = String::new(alloc);
+    for pair in pairs.as_slice() {
+        text = format!(in alloc; "{text}{}={} ", text_of(&pair.name), text_of(&pair.value))?;
+    }
+    Ok(text)
+}
+
+/// The requests that a gate was sent, each on its line.
+fn requests(alloc: Global, requests: &List<Request>) -> Result<String, AllocError> {
+    let mut text = String::new(alloc);
+    for request in requests.as_slice() {
+        let limit = match request.limit {
+            Some(micros) => micros.to_string(alloc)?,
+            None => format!(in alloc; "none")?,
+        };
+        text = format!(in alloc;
+            "{text}{}|{}|{}|{}|{limit}|{}\n",
+            text_of(&request.name),
+            text_of(&request.dir),
+            names(alloc, &request.command)?,
+            pairs(alloc, &request.env)?,
+            names(alloc, &request.required)?,
+        )?;
+    }
+    Ok(text)
+}
+
+#[test]
+fn asks_for_what_a_test_is_defined_with(rt: HostRuntime) -> Result<(), Fail> {
+    for run_of in REQUESTS.split("\n===").skip(1) {
+        let (given, want) = run_of.split_once("\n>>> ").unwrap_or((run_of, ""));
+        let ran = run(rt.alloc(), given)?;
+        for gate in &ran.gates {
+            let sent = requests(rt.alloc(), gate.sent())?;
+            assert_eq!(rt; sent.trim_end(), want.trim_end(), "{given}");
+        }
+    }
+    Ok(())
+}
+
+/// A gate whose programs write `done` in two pieces. It tells nothing.
+#[derive(Drop)]
+struct Halves;
+
+impl Gate for Halves {
+    ghost tells = { λ _. record { world = None; asked = None; sent = None; faults = 0 } };
+
+    fn run<E: Ear>(
+        &mut self,
+        _alloc: Global,
+        _ticket: &Ticket,
+        _request: &Request,
+        ear: &mut E,
+    ) -> Ended {
+        ear.hear(b"do");
+        ear.hear(b"ne");
+        Ended {
+            how: How::Exited(0),
+            micros: 0,
+        }
+    }
+}
+
+#[test]
+fn finds_a_pattern_that_is_cut_in_two(rt: HostRuntime) -> Result<(), Fail> {
+    let ran = run_on(rt.alloc(), WRITES, Halves)?;
+    let second = written(&ran.sink).lines().nth(1);
+    assert_eq!(rt; second, Some("1/1 Test #1: t ... Passed 0.00 sec"));
     Ok(())
 }

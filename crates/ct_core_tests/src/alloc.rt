@@ -2,6 +2,7 @@
 
 ghost use Rattle.std.specs.Prelude.{◌<◌};
 
+use crate::dice::Dice;
 use ct_alloc::{Free, Placement};
 use ct_base::{List, Name, Need, NoMemory, Resource};
 use std::alloc::Global;
@@ -90,36 +91,15 @@ fn places_two_needs_on_each_of_thirteen_cards(rt: HostRuntime) -> Result<(), Fai
     Ok(())
 }
 
-/// Numbers that look drawn by chance, the same at each run.
-#[derive(Drop)]
-struct Dice {
-    state: u64,
-}
-
-impl Dice {
-    /// Draws one of the numbers from 0 on, so many.
-    fn roll(&mut self, sides: u32) -> u32
-        requires { 0 < sides }
-        ensures { result < sides }
-    {
-        self.state = self
-            .state
-            .wrapping_mul(6_364_136_223_846_793_005)
-            .wrapping_add(1_442_695_040_888_963_407);
-        let drawn = (self.state >> 33) as u32;
-        drawn % sides
+/// Draws amounts, up to so many, each below 7.
+fn amounts(alloc: Global, dice: &mut Dice, most: u32) -> Result<Vec<u32>, NoMemory>
+    requires { 0 < most }
+{
+    let mut amounts = Vec::new(alloc);
+    for _ in 0..=dice.roll(most) {
+        amounts.push(dice.roll(7))?;
     }
-
-    /// Draws amounts, up to so many, each below 7.
-    fn amounts(&mut self, alloc: Global, most: u32) -> Result<Vec<u32>, NoMemory>
-        requires { 0 < most }
-    {
-        let mut amounts = Vec::new(alloc);
-        for _ in 0..=self.roll(most) {
-            amounts.push(self.roll(7))?;
-        }
-        Ok(amounts)
-    }
+    Ok(amounts)
 }
 
 /// The ways to place five needs on four cards.
@@ -151,10 +131,10 @@ fn fits(free: &[u32], wanted: &[u32], way: u32) -> bool {
 
 #[test]
 fn finds_a_placement_exactly_where_one_of_all_ways_fits(rt: HostRuntime) -> Result<(), Fail> {
-    let mut dice = Dice { state: 2026 };
+    let mut dice = Dice::new(2026);
     for round in 0..60 {
-        let free = dice.amounts(rt.alloc(), 4)?;
-        let wanted = dice.amounts(rt.alloc(), 5)?;
+        let free = amounts(rt.alloc(), &mut dice, 4)?;
+        let wanted = amounts(rt.alloc(), &mut dice, 5)?;
         let found = placed(&rt, &free, &wanted)?.is_some();
         let fits_some_way = (0..WAYS).any(|way| fits(&free, &wanted, way));
         assert_eq!(rt;

@@ -1,0 +1,2 @@
+-- The definitions that the tests' helpers cite.
+pub mod Held

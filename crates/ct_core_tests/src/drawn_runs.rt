@@ -1,0 +1,332 @@
+//! The core over plans and lists of calls that are drawn, and the histories with a change in them.
+
+ghost use Rattle.std.specs.Prelude.{◌<◌};
+
+use crate::dice::Dice;
+use crate::plans::{enabled_numbers, free, list_of};
+use crate::workers::{Run, Step, close, end, next, open, seen};
+use ct_base::{List, Name, NoMemory};
+use ct_history::{Entry, History, Plan, PlanParts, PlanTest, judge};
+use ct_verdict::{Cause, How, Mode, Repeat, Seen};
+use std::alloc::Global;
+use std::process::Abort;
+use std::test::Fail;
+
+/// Draws the parts of a plan of up to eight tests.
+fn drawn_parts(alloc: Global, dice: &mut Dice) -> Result<PlanParts, NoMemory> {
+    let level = 1 + dice.roll(4);
+    let count = 1 + dice.roll(8);
+    let mut tests = List::new(alloc);
+    for number in 1..count + 1 {
+        let test = drawn_test(alloc, dice, number, level, tests.as_slice())?;
+        tests.push(test)?;
+    }
+    let queue = drawn_queue(alloc, dice, tests.as_slice())?;
+    Ok(PlanParts {
+        dir: Name::of(alloc, b".")?,
+        tests,
+        queue,
+        resources: None,
+        level,
+        repeat: Repeat {
+            mode: drawn_mode(dice),
+            times: 1 + dice.roll(3),
+        },
+        stop_on_failure: dice.is_one_in(2),
+    })
+}
+
+fn drawn_mode(dice: &mut Dice) -> Mode {
+    match dice.roll(4) {
+        0 => Mode::UntilFail,
+        1 => Mode::UntilPass,
+        2 => Mode::AfterTimeout,
+        _ => Mode::Once,
+    }
+}
+
+/// Draws a test that may wait for earlier ones.
+fn drawn_test(
+    alloc: Global,
+    dice: &mut Dice,
+    number: u32,
+    level: u32,
+    earlier: &[PlanTest],
+) -> Result<PlanTest, NoMemory>
+    requires { 0 < level }
+{
+    let mut test = free(alloc, number)?;
+    test.disabled = dice.is_one_in(8);
+    test.serial = dice.is_one_in(10);
+    let drawn = dice.roll(level);
+    test.processors = drawn.saturating_add(1);
+    if dice.is_one_in(10) {
+        test.fixed = Some(Cause::NotAvailable);
+    }
+    test.locks = drawn_locks(alloc, dice)?;
+    for other in earlier {
+        if !other.disabled && dice.is_one_in(4) {
+            test.before.push(other.number)?;
+            if dice.is_one_in(2) {
+                test.setups.push(other.number)?;
+            }
+        }
+    }
+    Ok(test)
+}
+
+fn drawn_locks(alloc: Global, dice: &mut Dice) -> Result<List<Name>, NoMemory> {
+    let mut locks = List::new(alloc);
+    if dice.is_one_in(4) {
+        locks.push(Name::of(alloc, b"disk")?)?;
+    }
+    if dice.is_one_in(4) {
+        locks.push(Name::of(alloc, b"port")?)?;
+    }
+    Ok(locks)
+}
+
+fn drawn_queue(alloc: Global, dice: &mut Dice, tests: &[PlanTest]) -> Result<List<u32>, NoMemory> {
+    let mut numbers = enabled_numbers(alloc, tests)?;
+    for at in 0..numbers.len() {
+        let other = dice.roll(8) as usize;
+        if other < numbers.len() {
+            numbers.swap(at, other);
+        }
+    }
+    list_of(alloc, numbers.as_slice())
+}
+
+fn drawn_seen(dice: &mut Dice) -> Seen {
+    seen(match dice.roll(8) {
+        0 => How::Exited(1),
+        1 => How::TimedOut,
+        2 => How::Signalled,
+        3 => How::NotStarted,
+        4 => How::Exited(77),
+        _ => How::Exited(0),
+    })
+}
+
+/// Takes one drawn step, and tells whether the run goes on.
+fn draw_step(rt: &impl Abort, dice: &mut Dice, run: &mut Run) -> bool {
+    let worker = dice.roll(4);
+    if !run.hands.is_free(worker) {
+        if dice.is_one_in(2) {
+            end(rt, run, worker, drawn_seen(dice));
+        }
+        return true;
+    }
+    if dice.is_one_in(200) {
+        run.core.abort();
+    }
+    match next(rt, run, worker) {
+        Step::Waits { .. } => {
+            assert!(rt; !run.hands.are_free(), "it waits for nothing");
+            true
+        }
+        Step::IsDone | Step::IsAborted => false,
+        _ => true,
+    }
+}
+
+/// Runs a drawn plan by drawn steps, to its end or up to an abort.
+fn drawn_run(rt: &impl Abort, alloc: Global, dice: &mut Dice) -> Result<(Plan, History), NoMemory> {
+    let parts = drawn_parts(alloc, dice)?;
+    let mut run = open(rt, alloc, parts)?;
+    for _ in 0..1000 {
+        if !draw_step(rt, dice, &mut run) {
+            break;
+        }
+    }
+    close(rt, run)
+}
+
+/// How a history is changed at one of its entries.
+#[derive(Clone, Copy, Debug, PartialEq, Eq)]
+enum Change {
+    LeavesOut,
+    Doubles,
+    Exchanges,
+    OtherTest,
+    OtherAttempt,
+    OtherWorker,
+    OtherCause,
+}
+
+const CHANGES: [Change; 7] = [
+    Change::LeavesOut,
+    Change::Doubles,
+    Change::Exchanges,
+    Change::OtherTest,
+    Change::OtherAttempt,
+    Change::OtherWorker,
+    Change::OtherCause,
+];
+
+impl Change {
+    /// Tells whether no history is legal any more that is so changed at such an entry, where each
+    /// start in it is ended: a second time nothing is allowed, and an end fits no other start.
+    fn is_always_wrong(self, entry: &Entry) -> bool {
+        match self {
+            Change::Doubles => true,
+            Change::OtherAttempt | Change::OtherWorker | Change::OtherCause => true,
+            Change::LeavesOut => matches!(entry, Entry::Start { .. }),
+            Change::OtherTest => matches!(entry, Entry::Start { .. } | Entry::End { .. }),
+            Change::Exchanges => false,
+        }
+    }
+}
+
+fn copy_of(entry: &Entry) -> Entry {
+    match entry {
+        Entry::Start {
+            test,
+            attempt,
+            worker,
+            ..
+        } => Entry::Start {
+            test: *test,
+            attempt: *attempt,
+            worker: *worker,
+            placement: None,
+        },
+        Entry::End {
+            test,
+            attempt,
+            worker,
+            seen,
+        } => Entry::End {
+            test: *test,
+            attempt: *attempt,
+            worker: *worker,
+            seen: *seen,
+        },
+        Entry::Settle { test, cause } => Entry::Settle {
+            test: *test,
+            cause: *cause,
+        },
+        Entry::Stop => Entry::Stop,
+    }
+}
+
+/// Changes an entry in place, and tells whether there was something to change.
+fn alter(entry: &mut Entry, change: Change) -> bool {
+    match (entry, change) {
+        (
+            Entry::Start { test, .. } | Entry::End { test, .. } | Entry::Settle { test, .. },
+            Change::OtherTest,
+        ) => {
+            *test = *test % 8 + 1;
+            true
+        }
+        (Entry::Start { attempt, .. } | Entry::End { attempt, .. }, Change::OtherAttempt) => {
+            *attempt = attempt.wrapping_add(1);
+            true
+        }
+        (Entry::Start { worker, .. } | Entry::End { worker, .. }, Change::OtherWorker) => {
+            *worker = worker.wrapping_add(1);
+            true
+        }
+        (Entry::Settle { cause, .. }, Change::OtherCause) => {
+            *cause = other_cause(*cause);
+            true
+        }
+        _ => false,
+    }
+}
+
+fn other_cause(cause: Cause) -> Cause {
+    match cause {
+        Cause::Stopped => Cause::NotAvailable,
+        Cause::Fixture(number) => Cause::Fixture(number.wrapping_add(1)),
+        _ => Cause::Stopped,
+    }
+}
+
+/// The history with a change at a place, where that changes something.
+fn changed(
+    alloc: Global,
+    entries: &[Entry],
+    at: usize,
+    change: Change,
+) -> Result<Option<History>, NoMemory> {
+    let mut copies = Vec::new(alloc);
+    let mut changes = false;
+    for place in 0..entries.len() {
+        let mut copy = copy_of(&entries[place]);
+        if place == at {
+            match change {
+                Change::LeavesOut => {
+                    changes = true;
+                    continue;
+                }
+                Change::Doubles => {
+                    changes = true;
+                    copies.push(copy_of(&copy))?;
+                }
+                Change::Exchanges => {}
+                _ => changes = alter(&mut copy, change),
+            }
+        }
+        copies.push(copy)?;
+    }
+    if change == Change::Exchanges && at < copies.len() && 0 < at {
+        copies.swap(at - 1, at);
+        changes = true;
+    }
+    Ok(changes.then_some(History { entries: copies }))
+}
+
+/// How often a change left a history legal, and how often it did not.
+#[derive(Drop)]
+struct Counts {
+    legal: [u32; 7],
+    refused: [u32; 7],
+}
+
+/// Judges the history with a drawn change at a drawn place.
+fn judge_change(
+    rt: &impl Abort,
+    alloc: Global,
+    dice: &mut Dice,
+    plan: &Plan,
+    entries: &[Entry],
+    counts: &mut Counts,
+) -> Result<(), NoMemory> {
+    if entries.is_empty() {
+        return Ok(());
+    }
+    let at = dice.roll(1000) as usize % entries.len();
+    let kind = dice.roll(7) as usize;
+    let change = CHANGES[kind];
+    if let Some(other) = changed(alloc, entries, at, change)? {
+        if judge(plan, &other)? {
+            assert!(rt; !change.is_always_wrong(&entries[at]), "{change:?} at {at}");
+            counts.legal[kind] = counts.legal[kind].saturating_add(1);
+        } else {
+            counts.refused[kind] = counts.refused[kind].saturating_add(1);
+        }
+    }
+    Ok(())
+}
+
+#[test]
+fn drawn_runs_are_legal_and_changed_ones_are_not(rt: HostRuntime) -> Result<(), Fail> {
+    let mut dice = Dice::new(2026);
+    let mut counts = Counts {
+        legal: [0; 7],
+        refused: [0; 7],
+    };
+    for _ in 0..10_000 {
+        let (plan, history) = drawn_run(&rt, rt.alloc(), &mut dice)?;
+        let entries = history.entries.as_slice();
+        judge_change(&rt, rt.alloc(), &mut dice, &plan, entries, &mut counts)?;
+    }
+    for kind in 0..7 {
+        assert!(rt; 0 < counts.refused[kind], "{:?}", CHANGES[kind]);
+    }
+    assert!(rt; 0 < counts.legal[0], "the last entry can be left out");
+    assert!(rt; 0 < counts.legal[2], "two ends can change places");
+    Ok(())
+}

@@ -1,0 +1,231 @@
+//! Plans of tests that need nothing, and whether parts are a plan.
+
+ghost use Rattle.std.specs.Prelude.{◌≡◌, ◌==◌, IfOk, IsPermutation, None, map};
+ghost use Rattle.std.specs.Bool.{OnTrue};
+ghost use Rattle.std.specs.List.{list_all, list_any};
+ghost use Rattle.ct_history.specs.Plan.{AllAscend, IsAscendingFrom, IsSound, has_sound_links, has_sound_processors, is_before_rank, is_fixed_cause, enabled, test_at as planned_test};
+
+use ct_base::{List, Name, NoMemory};
+use ct_history::{Plan, PlanParts, PlanTest, test_at};
+use ct_verdict::{Cause, Mode, Repeat, Rules};
+use std::alloc::Global;
+use std::process::Abort;
+
+/// Makes a plan of sound parts.
+pub(crate) fn plan_of(rt: &impl Abort, alloc: Global, parts: PlanParts) -> Result<Plan, NoMemory> {
+    let sound = is_sound(alloc, &parts)?;
+    assert!(rt; sound, "the parts are no plan");
+    assert!(rt; parts.resources.is_none());
+    Ok(Plan::new(parts))
+}
+
+/// A test that takes one processor and waits for none.
+pub(crate) fn free(alloc: Global, number: u32) -> Result<PlanTest, NoMemory> {
+    Ok(PlanTest {
+        number,
+        name: Name::of(alloc, b"t")?,
+        disabled: false,
+        processors: 1,
+        locks: List::new(alloc),
+        serial: false,
+        rules: Rules {
+            pass_wanted: false,
+            skip_code: Some(77),
+            will_fail: false,
+        },
+        needs: List::new(alloc),
+        before: List::new(alloc),
+        setups: List::new(alloc),
+        rank: number,
+        fixed: None,
+        labels: List::new(alloc),
+    })
+}
+
+pub(crate) fn list_of(alloc: Global, numbers: &[u32]) -> Result<List<u32>, NoMemory> {
+    let mut list = List::new(alloc);
+    for number in numbers {
+        list.push(*number)?;
+    }
+    Ok(list)
+}
+
+/// Parts with these tests, queued in their order, each run once.
+pub(crate) fn parts_of(
+    alloc: Global,
+    level: u32,
+    tests: List<PlanTest>,
+) -> Result<PlanParts, NoMemory> {
+    let numbers = enabled_numbers(alloc, tests.as_slice())?;
+    Ok(PlanParts {
+        dir: Name::of(alloc, b".")?,
+        queue: list_of(alloc, numbers.as_slice())?,
+        tests,
+        resources: None,
+        level,
+        repeat: Repeat {
+            mode: Mode::Once,
+            times: 1,
+        },
+        stop_on_failure: false,
+    })
+}
+
+/// Tells whether a plan can be made of the parts, which have no resources.
+fn is_sound(alloc: Global, parts: &PlanParts) -> Result<bool, NoMemory>
+    ensures { IfOk result (λ yes. OnTrue yes (IsSound parts.now)) }
+{
+    let tests = parts.tests.as_slice();
+    Ok(
+        parts.resources.is_none()
+            && parts.repeat.times >= 1
+            && are_numbered(tests)
+            && befores_ascend(tests)
+            && setups_ascend(tests)
+            && are_linked(tests)
+            && have_processors(tests, parts.level)
+            && have_causes(tests)
+            && is_queued(alloc, parts)?,
+    )
+}
+
+fn are_numbered(tests: &[PlanTest]) -> bool
+    ensures { OnTrue result (IsAscendingFrom 1 (map (λ t. t.number) tests.now)) }
+{
+    let mut least: u64 = 1;
+    for test in tests {
+        if u64::from(test.number) < least {
+            return false;
+        }
+        least = u64::from(test.number) + 1;
+    }
+    true
+}
+
+fn ascend(numbers: &[u32]) -> bool
+    ensures { OnTrue result (IsAscendingFrom 1 numbers.now) }
+{
+    let mut least: u64 = 1;
+    for number in numbers {
+        if u64::from(*number) < least {
+            return false;
+        }
+        least = u64::from(*number) + 1;
+    }
+    true
+}
+
+fn befores_ascend(tests: &[PlanTest]) -> bool
+    ensures { OnTrue result (AllAscend (λ t. t.before) tests.now) }
+{
+    for test in tests {
+        if !ascend(test.before.as_slice()) {
+            return false;
+        }
+    }
+    true
+}
+
+fn setups_ascend(tests: &[PlanTest]) -> bool
+    ensures { OnTrue result (AllAscend (λ t. t.setups) tests.now) }
+{
+    for test in tests {
+        if !ascend(test.setups.as_slice()) {
+            return false;
+        }
+    }
+    true
+}
+
+fn are_linked(tests: &[PlanTest]) -> bool
+    ensures { result ≡ list_all (has_sound_links tests.now) tests.now }
+{
+    tests.iter().all(|test| is_linked(tests, test))
+}
+
+fn is_linked(tests: &[PlanTest], test: &PlanTest) -> bool
+    ensures { result ≡ has_sound_links tests.now test.now }
+{
+    are_before(tests, test) && are_setups(test)
+}
+
+fn are_before(tests: &[PlanTest], test: &PlanTest) -> bool
+    ensures { result ≡ list_all (λ j. is_before_rank test.now.rank (planned_test tests.now j)) test.now.before }
+{
+    test.before
+        .as_slice()
+        .iter()
+        .all(|number| is_before(tests, test.rank, *number))
+}
+
+fn are_setups(test: &PlanTest) -> bool
+    ensures { result ≡ list_all (λ s. list_any (λ j. j == s) test.now.before) test.now.setups }
+{
+    let before = test.before.as_slice();
+    test.setups
+        .as_slice()
+        .iter()
+        .all(|setup| is_among(*setup, before))
+}
+
+fn is_among(number: u32, numbers: &[u32]) -> bool
+    ensures { result ≡ list_any (λ j. j == number) numbers.now }
+{
+    numbers.iter().any(|other| *other == number)
+}
+
+fn is_before(tests: &[PlanTest], rank: u32, number: u32) -> bool
+    ensures { result ≡ is_before_rank rank (planned_test tests.now number) }
+{
+    match test_at(tests, number) {
+        Some(test) => !test.disabled && test.rank < rank,
+        None => false,
+    }
+}
+
+fn have_processors(tests: &[PlanTest], level: u32) -> bool
+    ensures { result ≡ list_all (has_sound_processors level) tests.now }
+{
+    tests
+        .iter()
+        .all(|test| 1 <= test.processors && test.processors <= level)
+}
+
+fn have_causes(tests: &[PlanTest]) -> bool
+    ensures { result ≡ list_all (λ t. is_fixed_cause None t.fixed) tests.now }
+{
+    tests.iter().all(|test| is_fixed(test.fixed))
+}
+
+fn is_fixed(cause: Option<Cause>) -> bool
+    ensures { result ≡ is_fixed_cause None cause }
+{
+    match cause {
+        None => true,
+        Some(Cause::NotAvailable) | Some(Cause::BadOperation(_)) => true,
+        Some(_) => false,
+    }
+}
+
+/// Tells whether each test that is not disabled stands in the queue once.
+fn is_queued(alloc: Global, parts: &PlanParts) -> Result<bool, NoMemory>
+    ensures { IfOk result (λ yes. OnTrue yes
+        (IsPermutation parts.now.queue (map (λ t. t.number) (enabled parts.now.tests)))) }
+{
+    let numbers = enabled_numbers(alloc, parts.tests.as_slice())?;
+    let mut queue = Vec::from_slice(alloc, parts.queue.as_slice())?;
+    queue.sort()?;
+    Ok(queue.as_slice() == numbers.as_slice())
+}
+
+pub(crate) fn enabled_numbers(alloc: Global, tests: &[PlanTest]) -> Result<Vec<u32>, NoMemory>
+    ensures { IfOk result (λ numbers. numbers.items ≡ map (λ t. t.number) (enabled tests.now)) }
+{
+    let mut numbers = Vec::new(alloc);
+    for test in tests {
+        if !test.disabled {
+            numbers.push(test.number)?;
+        }
+    }
+    Ok(numbers)
+}

@@ -1,0 +1,234 @@
+//! The environment of a test's program, and what an entry has to be.
+
+use ct_alloc::{Pick, Placement};
+use ct_base::{List, Name, NoMemory, Pair, TestDef};
+use ct_env::{bad_operation, environment};
+use ct_props::{PropFault, Props};
+use std::alloc::{AllocError, Global};
+use std::process::Abort;
+use std::str;
+use std::test::Fail;
+
+/// The run's own variables, ENVIRONMENT and ENVIRONMENT_MODIFICATION, and the environment. `-` is
+/// an empty text.
+const CHANGES: &str = "\
+X=a | - | X=reset: is X=a
+X= | - | X=reset: is X=
+- | - | X=reset: is -
+X=a | - | X=set:v is X=v
+X= | - | X=set:v is X=v
+- | - | X=set:v is X=v
+X=a | - | X=set: is X=
+X=a | - | X=unset: is -
+X= | - | X=unset: is -
+- | - | X=unset: is -
+X=a | - | X=unset:v is -
+X=a | - | X=string_append:v is X=av
+X= | - | X=string_append:v is X=v
+- | - | X=string_append:v is X=v
+X=a | - | X=string_prepend:v is X=va
+X= | - | X=string_prepend:v is X=v
+- | - | X=string_prepend:v is X=v
+X=a | - | X=path_list_append:v is X=a:v
+X= | - | X=path_list_append:v is X=v
+- | - | X=path_list_append:v is X=v
+X=a | - | X=path_list_prepend:v is X=v:a
+X= | - | X=path_list_prepend:v is X=v
+- | - | X=path_list_prepend:v is X=v
+X=a | - | X=cmake_list_append:v is X=a;v
+X= | - | X=cmake_list_append:v is X=v
+- | - | X=cmake_list_append:v is X=v
+X=a | - | X=cmake_list_prepend:v is X=v;a
+X= | - | X=cmake_list_prepend:v is X=v
+- | - | X=cmake_list_prepend:v is X=v
+X=a | - | X=path_list_append: is X=a:
+- | - | X=path_list_append: is X=
+- | - | X=string_append: is X=
+X=a | - | X=set:b;X=reset: is X=a
+X=a | X=c | X=set:b;X=reset: is X=c
+X=a | X=c | X=unset:;X=reset: is X=c
+- | - | X=set:b;X=reset: is -
+X=a | - | X=unset:;X=string_append:v is X=v
+X=a | - | X=unset:;X=path_list_append:v is X=v
+X=a | - | X=set:;X=path_list_append:v is X=v
+- | - | X=path_list_append:v;X=path_list_append:w is X=v:w
+- | - | X=path_list_prepend:v;X=path_list_prepend:w is X=w:v
+X=a | - | X=cmake_list_append:v;X=cmake_list_prepend:w is X=w;a;v
+- | - | X=set:b;Y=string_append:c;X=string_append:d is X=bd Y=c
+- | - | X=set:a:b;Y=set:a=b;Z=set:a\\;b is X=a:b Y=a=b Z=a;b
+X=a X=b | - | - is X=b
+X=a | X=1;X=2 | - is X=2
+- | X;=1;Y==1;Z= | - is Y==1 Z=
+b=1 a=2 B=3 A=4 ab=5 | - | - is A=4 B=3 a=2 ab=5 b=1
+b=1 | a=2 | B=set:3 is B=3 a=2 b=1
+CTEST_RESOURCE_GROUP_COUNT=7 X=a | - | - is X=a
+CTEST_RESOURCE_GROUP_COUNT=7 | - | CTEST_RESOURCE_GROUP_COUNT=reset: is -
+CTEST_RESOURCE_GROUP_COUNT=7 | CTEST_RESOURCE_GROUP_COUNT=5 | - is CTEST_RESOURCE_GROUP_COUNT=5
+PATH=/bin | A=1;B=x | A=string_append:2;B=unset:;PATH=path_list_prepend:/opt;C=cmake_list_append:q;A=reset:;A=string_prepend:0 is A=01 C=q PATH=/opt:/bin
+";
+
+/// RESOURCE_GROUPS and the picks, as `group:type:id:slots`, and the variables without the
+/// `CTEST_RESOURCE_GROUP_` in front of each.
+const GIVEN: &str = "\
+2,gpus:2;gpus:4,crypto_chips:2 | 0:gpus:0:2 1:gpus:2:2 2:gpus:1:4 2:crypto_chips:card0:2 is 0=gpus 0_GPUS=id:0,slots:2 1=gpus 1_GPUS=id:2,slots:2 2=crypto_chips,gpus 2_CRYPTO_CHIPS=id:card0,slots:2 2_GPUS=id:1,slots:4 COUNT=3
+a:1,b_9:2,a:3 | 0:a:x:1 0:b_9:y:2 0:a:z:3 is 0=a,b_9 0_A=id:x,slots:1;id:z,slots:3 0_B_9=id:y,slots:2 COUNT=1
+2;a:1 | 2:a:x:1 is 0= 1= 2=a 2_A=id:x,slots:1 COUNT=3
+3 | - is 0= 1= 2= COUNT=3
+";
+
+/// ENVIRONMENT_MODIFICATION, and the place of its first entry that names no operation.
+const OPERATIONS: &str = "\
+- is None
+X=set:1 is None
+X=plus:1 is Some(0)
+X=set:1;X=plus:1;Y=set:2;Z is Some(1)
+X=unset:;Y=cmake_list_prepend:;Z=path_list:a is Some(2)
+X is Some(0)
+X=set is Some(0)
+X=:1 is Some(0)
+=set:1 is Some(0)
+X=Set:1 is Some(0)
+X=sett:1 is Some(0)
+X:set=1 is Some(0)
+";
+
+fn pair(alloc: Global, name: &str, value: &str) -> Result<Pair, NoMemory> {
+    Ok(Pair {
+        name: Name::of(alloc, name.as_bytes())?,
+        value: Name::of(alloc, value.as_bytes())?,
+    })
+}
+
+/// The text, and an empty one for `-`.
+fn cell(text: Option<&str>) -> &str {
+    match text {
+        None => "",
+        Some(text) => { if text == "-" { "" } else { text } }
+    }
+}
+
+fn own_pairs(alloc: Global, text: &str) -> Result<List<Pair>, NoMemory> {
+    let mut pairs = List::new(alloc);
+    for word in text.split(' ') {
+        if let Some((name, value)) = word.split_once('=') {
+            pairs.push(pair(alloc, name, value)?)?;
+        }
+    }
+    Ok(pairs)
+}
+
+/// The properties of a test with these values.
+fn props(
+    alloc: Global,
+    environment: &str,
+    modification: &str,
+    groups: &str,
+) -> Result<Props, PropFault> {
+    let mut props = List::new(alloc);
+    props.push(pair(alloc, "ENVIRONMENT", environment)?)?;
+    props.push(pair(alloc, "ENVIRONMENT_MODIFICATION", modification)?)?;
+    props.push(pair(alloc, "RESOURCE_GROUPS", groups)?)?;
+    Props::of(
+        alloc,
+        &TestDef {
+            name: Name::of(alloc, b"t")?,
+            command: List::new(alloc),
+            dir: Name::of(alloc, b".")?,
+            props,
+            dir_labels: List::new(alloc),
+        },
+    )
+}
+
+fn number(text: Option<&str>) -> u32 {
+    text.unwrap_or("").parse().unwrap_or(0)
+}
+
+fn placement(alloc: Global, text: &str) -> Result<Placement, NoMemory> {
+    let mut picks = List::new(alloc);
+    for word in text.split(' ') {
+        let mut parts = word.split(':');
+        let group = number(parts.next());
+        if let Some(kind) = parts.next() {
+            let id = parts.next().unwrap_or("");
+            picks.push(Pick {
+                group,
+                kind: Name::of(alloc, kind.as_bytes())?,
+                id: Name::of(alloc, id.as_bytes())?,
+                slots: number(parts.next()),
+                resource: 0,
+            })?;
+        }
+    }
+    Ok(Placement { picks })
+}
+
+/// The pairs in a row with a space between, without a text that stands in front of a name.
+fn told(alloc: Global, front: &str, pairs: &[Pair]) -> Result<String, AllocError> {
+    let mut told = format!(in alloc; "")?;
+    for pair in pairs {
+        let name = str::from_utf8(pair.name.bytes()).unwrap_or("?");
+        let name = name.strip_prefix(front).unwrap_or(name);
+        let value = str::from_utf8(pair.value.bytes()).unwrap_or("?");
+        let between = if told.is_empty() { "" } else { " " };
+        told = format!(in alloc; "{told}{between}{name}={value}")?;
+    }
+    Ok(told)
+}
+
+#[test]
+fn changes_variables_in_turn(rt: HostRuntime) -> Result<(), Fail> {
+    let alloc = rt.alloc();
+    for row in CHANGES.lines() {
+        let (given, want) = row.split_once(" is ").unwrap_or((row, ""));
+        let mut cells = given.split(" | ");
+        let own = own_pairs(alloc, cell(cells.next()))?;
+        let environment_of = cell(cells.next());
+        let Ok(props) = props(alloc, environment_of, cell(cells.next()), "") else {
+            panic!(rt; "{row}");
+        };
+        let pairs = environment(alloc, own.as_slice(), &props, None)?;
+        let told = told(alloc, "", pairs.as_slice())?;
+        assert_eq!(rt; told.as_str(), cell(Some(want)), "{row}");
+    }
+    Ok(())
+}
+
+#[test]
+fn tells_what_was_given(rt: HostRuntime) -> Result<(), Fail> {
+    let alloc = rt.alloc();
+    let own = own_pairs(alloc, "CTEST_RESOURCE_GROUP_COUNT=9")?;
+    for row in GIVEN.lines() {
+        let (given, want) = row.split_once(" is ").unwrap_or((row, ""));
+        let mut cells = given.split(" | ");
+        let Ok(props) = props(
+            alloc,
+            "",
+            "CTEST_RESOURCE_GROUP_0=set:x",
+            cell(cells.next()),
+        ) else {
+            panic!(rt; "{row}");
+        };
+        let placement = placement(alloc, cell(cells.next()))?;
+        let pairs = environment(alloc, own.as_slice(), &props, Some(&placement))?;
+        let told = told(alloc, "CTEST_RESOURCE_GROUP_", pairs.as_slice())?;
+        assert_eq!(rt; told.as_str(), want, "{row}");
+    }
+    Ok(())
+}
+
+#[test]
+fn finds_the_first_bad_operation(rt: HostRuntime) -> Result<(), Fail> {
+    for row in OPERATIONS.lines() {
+        let (text, want) = row.split_once(" is ").unwrap_or((row, ""));
+        let Ok(props) = props(rt.alloc(), "", cell(Some(text)), "") else {
+            panic!(rt; "{row}");
+        };
+        if props.modification.len() < 10 {
+            let found = bad_operation(&props);
+            let told = format!(in rt.alloc(); "{found:?}")?;
+            assert_eq!(rt; told.as_str(), want, "{row}");
+        }
+    }
+    Ok(())
+}

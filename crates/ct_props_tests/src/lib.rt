@@ -1,0 +1,15 @@
+//! The tests of what reads the properties of a test, its environment and the resources of a machine.
+//!
+//! Hands up: nothing. A crate with tests of its own is proved twice, so they stand here.
+//! Stands on: ct_groups, ct_props, ct_env, ct_spec and what is below them.
+//! Read first: a module is named after the crate that it tests.
+#![tactic(auto)]
+
+#[cfg(test)]
+mod env;
+#[cfg(test)]
+mod groups;
+#[cfg(test)]
+mod props;
+#[cfg(test)]
+mod spec;

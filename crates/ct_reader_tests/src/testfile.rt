@@ -1,0 +1,316 @@
+//! Whole trees of test files: what they define, and what is refused where.
+//!
+//! A row has the text of the file `./CTestTestfile.cmake`, behind each ` + ` the path and the text
+//! of another file, and behind ` => ` what is read of them. That is each test, as
+//! `folder|name|command,|key=value,|label,`, or the line of a refusal and its kind, behind the
+//! path of another file. A `~` stands for a line feed, and behind each test.
+
+ghost use Rattle.ct_testfile.specs.Says.{AreBounded};
+
+use ct_base::{CalmFiles, List, MemFiles, Name, NoMemory, Pair, TestDef};
+use ct_testfile::{LIMITS, Limits, ReadFault, read_tree, read_tree_within};
+use std::alloc::{AllocError, Global};
+use std::process::Abort;
+use std::str;
+use std::test::Fail;
+
+const COMMANDS: &str = "\
+ADD_TEST(a b) => .|a|b,||~
+ => 
+add_test(a b;c d\\;e \"f;g\") => .|a|b,c,d;e,f;g,||~
+add_test(a \"\") => .|a|,||~
+add_test(a x)~add_test(a y)~add_test(b z)~set_tests_properties(a PROPERTIES K v)~add_test(a w) => .|a|x,|K=v,|~.|a|y,|K=v,|~.|b|z,||~.|a|w,||~
+add_test(a x)~set_tests_properties(a PROPERTIES K 1 L 2 K 3)~set_tests_properties(a PROPERTIES L 4 M 5) => .|a|x,|K=3,L=4,M=5,|~
+set_tests_properties(none PROPERTIES K v) => 
+add_test(a x)~add_test(b y)~set_tests_properties(a b a PROPERTIES K v) => .|a|x,|K=v,|~.|b|y,|K=v,|~
+add_test(a x)~set_directory_properties(PROPERTIES LABELS \"l;m\" OTHER o)~add_test(b y) => .|a|x,||l,m,~.|b|y,||~
+set(V p)~add_test(a ${V} \"${V}q\" ${W}) => .|a|p,pq,||~
+set(V p q)~add_test(a ${V} \"${V}\") => .|a|p,q,p;q,||~
+set(V p)~set(V)~add_test(a x${V}y) => .|a|xy,||~
+set(V p)~set(V \"\")~add_test(a x${V}y) => .|a|xy,||~
+subdirs(none)~subdirs() => 
+";
+
+/// Branches that are taken. Nothing is looked at in the others, nor are the conditions behind.
+const BRANCHES: &str = "\
+if(EXISTS f)~add_test(a x)~endif() + ./f: # => .|a|x,||~
+if(EXISTS f)~add_test(a x)~else()~add_test(b y)~endif() + ./f: # => .|a|x,||~
+if(EXISTS CTestTestfile.cmake)~add_test(a x)~endif() => .|a|x,||~
+if(EXISTS none)~add_test(a x)~elseif(EXISTS f)~add_test(b y)~else()~add_test(c z)~endif() + ./f: # => .|b|y,||~
+if(EXISTS f)~add_test(a x)~elseif(NONSENSE)~add_test(b y)~elseif(V MATCHES \"(\")~endif() + ./f: # => .|a|x,||~
+if(EXISTS none)~if(NONSENSE)~unknown()~endif()~add_test()~include(none)~endif()~add_test(a x) => .|a|x,||~
+if(word MATCHES \"^w\")~add_test(a x)~endif() => .|a|x,||~
+set(word v)~if(word MATCHES \"^w\")~add_test(a x)~endif() => 
+set(V word)~set(word v)~if(V MATCHES \"^w\")~add_test(a x)~endif() => .|a|x,||~
+set(V p)~set(V)~if(V MATCHES \"^V$\")~add_test(a x)~endif() => .|a|x,||~
+";
+
+/// The first refusal in reading order.
+const REFUSALS: &str = "\
+add_test(a \"b => 1 OpenString
+~add_test(a [[b => 2 OpenBracket
+~~add_test(a b => 3 OpenCall
+add_test(a \"\\q\") => 1 BadEscape
++ => 1 BadChar
+add_test(a ${b) => 1 BadReference
+add_test(a b)~add_tests(a b) => 2 UnknownCommand
+add_test() => 1 BadCall
+add_test(a) => 1 BadCall
+add_test(\"\" b) => 1 BadCall
+add_test(\"a~b\" c) => 1 BadCall
+set_tests_properties(a) => 1 BadCall
+set_tests_properties(a PROPERTIES K) => 1 BadCall
+set_directory_properties(K v) => 1 BadCall
+set_directory_properties(PROPERTIES K) => 1 BadCall
+set() => 1 BadCall
+include() => 1 BadCall
+include(a b) => 1 BadCall
+~include(none) => 2 MissingInclude
+endif() => 1 UnpairedIf
+else() => 1 UnpairedIf
+elseif(EXISTS a) => 1 UnpairedIf
+if(EXISTS a)~else()~else()~endif() => 3 UnpairedIf
+if(EXISTS a)~else()~elseif(EXISTS b)~endif() => 3 UnpairedIf
+~if(EXISTS a)~~ => 2 UnpairedIf
+if(EXISTS a)~endif()~if(EXISTS a)~if(EXISTS b)~endif()~ => 3 UnpairedIf
+if(a)~endif() => 1 BadCondition
+if()~endif() => 1 BadCondition
+if(EXISTS a)~elseif(a b c)~endif() => 2 BadCondition
+if(a MATCHES \"(\")~endif() => 1 BadPattern
+add_test(a)~add_test(\"b => 1 BadCall
+";
+
+const INNER_FILES: &str = "\
+set(V top)~subdirs(one two)~add_test(last ${V}) + ./one/CTestTestfile.cmake: include(more.cmake)~add_test(b ${V}) + ./one/more.cmake: add_test(a ${V})~set(V more)~set_directory_properties(PROPERTIES LABELS l) + ./two/CTestTestfile.cmake: add_test(c ${V})~set_tests_properties(a PROPERTIES K v) => ./one|a|top,|K=v,|l,~./one|b|more,||~./two|c|more,||~.|last|more,||~
+subdirs(one)~add_test() + ./one/CTestTestfile.cmake: ~if(EXISTS a) => ./one/CTestTestfile.cmake:2 UnpairedIf
+~include(CTestTestfile.cmake) => 2 TooDeep
+";
+
+/// A limit and its least value with which the files are read, and the refusal one below.
+const LIMITED: &str = "\
+file_bytes 13 add_test(a b) => 0 TooLong
+all_file_bytes 23 subdirs(d) + ./d/CTestTestfile.cmake: add_test(x y) => ./d/CTestTestfile.cmake:0 TooLong
+all_file_bytes 38 subdirs(d d) + ./d/CTestTestfile.cmake: add_test(x y) => ./d/CTestTestfile.cmake:0 TooLong
+open_files 2 ~subdirs(none d) + ./d/CTestTestfile.cmake: add_test(x y) => 2 TooDeep
+commands 2 add_test(a b)~add_test(a b) => 2 TooManyCommands
+commands 4 if(EXISTS z)~elseif(EXISTS z)~add_test()~else()~add_test(a b)~endif() => 5 TooManyCommands
+commands 2 if(EXISTS f)~add_test(a b)~elseif(z)~else()~add_test()~endif() + ./f: # => 2 TooManyCommands
+tests 2 add_test(a b)~add_test(a b) => 2 TooManyTests
+value_bytes 3 add_test(a bcd) => 1 TooLong
+value_bytes 3 add_test(a \"b;c\") => 1 TooLong
+value_bytes 3 add_test(a b\\;c) => 1 TooLong
+value_bytes 4 set(V ab)~add_test(a \"${V}${V}\") => 2 TooLong
+value_bytes 4 set(V ab)~add_test(a ${V}${V}) => 2 TooLong
+value_bytes 3 set(V a bc)~add_test(a ${V}${V}) => 2 TooLong
+value_bytes 4 set(V a bc)~add_test(a \"${V}\") => 2 TooLong
+all_value_bytes 5 add_test(a bcd) => 1 TooLong
+all_value_bytes 19 add_test(a b)~set_tests_properties(a PROPERTIES K vv) => 2 TooLong
+all_value_bytes 20 add_test(a b)~set_tests_properties(a a PROPERTIES K vv) => 2 TooLong
+all_value_bytes 24 add_test(a b)~add_test(a b)~set_tests_properties(a PROPERTIES K vv) => 3 TooLong
+all_value_bytes 25 add_test(a b)~set_directory_properties(PROPERTIES LABELS \"l;m\") => 2 TooLong
+all_value_bytes 16 add_test(a b)~set_directory_properties(PROPERTIES K vv) => 2 TooLong
+all_value_bytes 8 if(EXISTS zz)~add_test(aaaa bbbb)~endif() => 1 TooLong
+";
+
+/// What CMake writes for several configurations.
+const CONFIGURED: &str =
+    "if(CTEST_CONFIGURATION_TYPE MATCHES \"^([Dd][Ee][Bb][Uu][Gg])$\")~  add_test(u \"/b/Debug/u\")~else()~  add_test(u NOT_AVAILABLE)~endif()~";
+
+const TOP: &str = "./CTestTestfile.cmake";
+
+/// The files of a row.
+fn held(alloc: Global, files: &str) -> Result<List<Pair>, NoMemory> {
+    let mut held = List::new(alloc);
+    for file in files.split(" + ") {
+        let (path, text) = file.split_once(": ").unwrap_or((TOP, file));
+        held.push(Pair {
+            name: Name::of(alloc, path.as_bytes())?,
+            value: lines(alloc, text)?,
+        })?;
+    }
+    Ok(held)
+}
+
+/// Changes each `~` to a line feed.
+fn lines(alloc: Global, text: &str) -> Result<Name, NoMemory> {
+    let mut bytes = Vec::new(alloc);
+    for byte in text.bytes() {
+        bytes.push(if byte == b'~' { b'\n' } else { byte })?;
+    }
+    Name::of(alloc, &bytes)
+}
+
+fn text_of(name: &Name) -> &str {
+    str::from_utf8(name.bytes()).unwrap_or("?")
+}
+
+/// The items of a list, each with a comma behind.
+fn items(alloc: Global, names: &List<Name>) -> Result<String, AllocError> {
+    let mut told = String::new(alloc);
+    for name in names.as_slice() {
+        told = format!(in alloc; "{told}{},", text_of(name))?;
+    }
+    Ok(told)
+}
+
+fn test_told(alloc: Global, test: &TestDef) -> Result<String, AllocError> {
+    let dir = text_of(&test.dir);
+    let name = text_of(&test.name);
+    let command = items(alloc, &test.command)?;
+    let mut told = format!(in alloc; "{dir}|{name}|{command}|")?;
+    for prop in test.props.as_slice() {
+        told = format!(in alloc; "{told}{}={},", text_of(&prop.name), text_of(&prop.value))?;
+    }
+    format!(in alloc; "{told}|{}~", items(alloc, &test.dir_labels)?)
+}
+
+/// What is read of some files, as a row tells it.
+fn told(alloc: Global, read: Result<List<TestDef>, ReadFault>) -> Result<String, AllocError> {
+    let tests = match read {
+        Ok(tests) => tests,
+        Err(fault) => return fault_told(alloc, fault),
+    };
+    let mut told = String::new(alloc);
+    for test in tests.as_slice() {
+        told = format!(in alloc; "{told}{}", test_told(alloc, test)?)?;
+    }
+    Ok(told)
+}
+
+fn fault_told(alloc: Global, fault: ReadFault) -> Result<String, AllocError> {
+    match fault {
+        ReadFault::At { file, line, kind } => {
+            if text_of(&file) == TOP {
+                format!(in alloc; "{line} {kind:?}")
+            } else {
+                format!(in alloc; "{}:{line} {kind:?}", text_of(&file))
+            }
+        }
+        ReadFault::FilesFailed { path } => format!(in alloc; "failed {}", text_of(&path)),
+        ReadFault::NoMemory => format!(in alloc; "no memory"),
+    }
+}
+
+/// Reads the files of each row, and compares.
+fn check(rt: &(impl Abort + AllocGlobal), rows: &str) -> Result<(), Fail> {
+    let alloc = rt.alloc();
+    let dir = Name::of(alloc, b".")?;
+    let config = Name::of(alloc, b"")?;
+    for row in rows.lines() {
+        let (files, want) = row.split_once(" => ").unwrap_or((row, ""));
+        let mut files = CalmFiles::new(held(alloc, files)?);
+        let told = told(alloc, read_tree(alloc, &mut files, &dir, &config))?;
+        assert_eq!(rt; told.as_str(), want, "{row}");
+    }
+    Ok(())
+}
+
+#[test]
+fn carries_out_each_command(rt: HostRuntime) -> Result<(), Fail> {
+    check(&rt, COMMANDS)
+}
+
+#[test]
+fn takes_the_first_branch_that_holds(rt: HostRuntime) -> Result<(), Fail> {
+    check(&rt, BRANCHES)
+}
+
+#[test]
+fn refuses_at_its_line(rt: HostRuntime) -> Result<(), Fail> {
+    check(&rt, REFUSALS)
+}
+
+#[test]
+fn reads_files_inside_one_another(rt: HostRuntime) -> Result<(), Fail> {
+    check(&rt, INNER_FILES)
+}
+
+#[test]
+fn reads_what_cmake_writes_for_configurations(rt: HostRuntime) -> Result<(), Fail> {
+    let alloc = rt.alloc();
+    let dir = Name::of(alloc, b".")?;
+    for (config, want) in [
+        ("Debug", ".|u|/b/Debug/u,||~"),
+        ("dEBUG", ".|u|/b/Debug/u,||~"),
+        ("Release", ".|u|NOT_AVAILABLE,||~"),
+        ("", ".|u|NOT_AVAILABLE,||~"),
+    ] {
+        let mut files = CalmFiles::new(held(alloc, CONFIGURED)?);
+        let name = Name::of(alloc, config.as_bytes())?;
+        let told = told(alloc, read_tree(alloc, &mut files, &dir, &name))?;
+        assert_eq!(rt; told.as_str(), want, "{config}");
+    }
+    Ok(())
+}
+
+/// The limits of reading, but for this one.
+fn limits_with(limit: &str, most: u16) -> Limits
+    ensures { AreBounded result }
+{
+    let mut limits = LIMITS;
+    let most = u32::from(most);
+    match limit {
+        "file_bytes" => limits.file_bytes = most,
+        "all_file_bytes" => limits.all_file_bytes = most,
+        "value_bytes" => limits.value_bytes = most,
+        "all_value_bytes" => limits.all_value_bytes = most,
+        "open_files" => limits.open_files = most,
+        "commands" => limits.commands = most,
+        "tests" => limits.tests = most,
+        _ => {}
+    }
+    limits
+}
+
+fn read_with(
+    alloc: Global,
+    files: &str,
+    limits: &Limits,
+) -> Result<Result<List<TestDef>, ReadFault>, NoMemory>
+    requires { AreBounded limits.now }
+{
+    let mut files = CalmFiles::new(held(alloc, files)?);
+    let dir = Name::of(alloc, b".")?;
+    let config = Name::of(alloc, b"")?;
+    Ok(read_tree_within(alloc, &mut files, limits, &dir, &config))
+}
+
+#[test]
+fn reads_up_to_each_limit(rt: HostRuntime) -> Result<(), Fail> {
+    let alloc = rt.alloc();
+    for row in LIMITED.lines() {
+        let (given, want) = row.split_once(" => ").unwrap_or((row, ""));
+        let mut cells = given.splitn(3, ' ');
+        let limit = cells.next().unwrap_or("");
+        let most: u16 = cells.next().unwrap_or("").parse().unwrap_or(0);
+        let files = cells.next().unwrap_or("");
+        assert!(rt;
+            read_with(alloc, files, &limits_with(limit, most))?.is_ok(),
+            "{row}"
+        );
+        let below = limits_with(limit, most.saturating_sub(1));
+        let told = told(alloc, read_with(alloc, files, &below)?)?;
+        assert_eq!(rt; told.as_str(), want, "{row}");
+    }
+    Ok(())
+}
+
+#[test]
+fn names_the_path_that_the_files_refused(rt: HostRuntime) -> Result<(), Fail> {
+    let alloc = rt.alloc();
+    let dir = Name::of(alloc, b".")?;
+    let config = Name::of(alloc, b"")?;
+    for (number, want) in [
+        (1, "failed ./CTestTestfile.cmake"),
+        (2, "failed ./a"),
+        (3, "failed ./b"),
+    ] {
+        let mut fail_at = List::new(alloc);
+        fail_at.push(number)?;
+        let held = held(alloc, "if(EXISTS a)~endif()~include(b) + ./b: #")?;
+        let mut files = MemFiles::new(held, fail_at);
+        let told = told(alloc, read_tree(alloc, &mut files, &dir, &config))?;
+        assert_eq!(rt; told.as_str(), want);
+    }
+    Ok(())
+}
