@@ -1,0 +1,2 @@
+mod StrideLemmas
+mod ChosenLemmas

@@ -1,0 +1,66 @@
+-- Which tests are chosen. Source: CMake manual, ctest(1), -R, -E, -L, -LE, -I, -U. The rule of -U is this project's own.
+use Rattle.std.specs.Prelude.{ℕ, ◌+◌, ◌-◌, ◌*◌, nat_le, ◌==◌, Bool, true, false, not, ◌&&◌, ◌||◌, List, length, filter, Option, Some, None, unwrap_or, option_map, slice_get, if◌then◌else◌}
+use Rattle.std.specs.List.{list_any, list_all, range_with_len}
+use Rattle.ct_base.specs.declared.defs.TestDef.{TestDef}
+use Rattle.ct_regex.specs.declared.pattern.Regex.{Regex}
+use Rattle.ct_regex.specs.Ends.{hits}
+use Rattle.ct_regex.specs.TreeOf.{regex_tree}
+use Rattle.ct_props.specs.declared.props.Props.{Props}
+use Rattle.ct_props.specs.declared.wanted.Numbers.{Numbers}
+use Rattle.ct_props.specs.declared.wanted.Choice.{Choice}
+
+-- the number is start + k * stride for some k from 0; a k above the number never serves
+abbrev pub is_on_stride : ℕ → ℕ → ℕ → Bool
+is_on_stride start stride number = list_any (λ k. start + k * stride == number) (range_with_len 0 (number + 1))
+
+-- -I admits the number, where there are so many tests: it is on the stride and at most the end, or stands among the others
+abbrev pub is_numbered : ℕ → Numbers → ℕ → Bool
+is_numbered count numbers number =
+    is_on_stride numbers.start numbers.stride number && nat_le number (unwrap_or numbers.end count) || list_any (λ other. number == other) numbers.more
+
+-- whether -I admits the number, where it was given
+abbrev pub by_number : Choice → ℕ → ℕ → Option Bool
+by_number choice count number = option_map (λ (numbers : Numbers). is_numbered count numbers number) choice.numbers
+
+-- whether a pattern hits the name, where it was given
+abbrev pub by_name : Option Regex → List ℕ → Option Bool
+by_name pattern name = option_map (λ (p : Regex). hits (regex_tree p) name) pattern
+
+-- -R and -I admit the test, by what each says where it was given: both of them, and with -U one of two that were given
+abbrev pub admit : Bool → Option Bool → Option Bool → Bool
+admit union None None = true
+admit union (Some named) None = named
+admit union None (Some numbered) = numbered
+admit union (Some named) (Some numbered) = if union then named || numbered else named && numbered
+
+-- the pattern hits some label
+abbrev pub hits_label : List (List ℕ) → Regex → Bool
+hits_label labels pattern = list_any (λ label. hits (regex_tree pattern) label) labels
+
+-- each pattern hits some label
+abbrev pub hit_labels : List Regex → List (List ℕ) → Bool
+hit_labels patterns labels = list_all (hits_label labels) patterns
+
+-- -LE was given, and each of its patterns hits some label
+abbrev pub is_left_out : List Regex → List (List ℕ) → Bool
+is_left_out patterns labels = not (length patterns == 0) && hit_labels patterns labels
+
+-- a test is chosen where -R and -I admit it, -E does not hit its name, each -L hits some label, and -LE does not leave it out
+abbrev pub is_chosen : Choice → Option Bool → TestDef → Props → Bool
+is_chosen choice numbered def own =
+    admit choice.union (by_name choice.name def.name) numbered && not (unwrap_or (by_name choice.not_name def.name) false) && hit_labels choice.labels own.labels && not (is_left_out choice.not_labels own.labels)
+
+-- the test is there and chosen
+abbrev pub is_chosen_there : Choice → Option Bool → Option TestDef → Option Props → Bool
+is_chosen_there choice numbered None own = false
+is_chosen_there choice numbered (Some def) None = false
+is_chosen_there choice numbered (Some def) (Some own) = is_chosen choice numbered def own
+
+-- the test with this number is chosen; numbers count from 1
+abbrev pub is_chosen_at : List TestDef → List Props → Choice → ℕ → Bool
+is_chosen_at defs props choice number =
+    is_chosen_there choice (by_number choice (length defs) number) (slice_get defs (number - 1)) (slice_get props (number - 1))
+
+-- the numbers of the chosen tests, which ascend
+abbrev pub chosen_tests : List TestDef → List Props → Choice → List ℕ
+chosen_tests defs props choice = filter (is_chosen_at defs props choice) (range_with_len 1 (length defs))
