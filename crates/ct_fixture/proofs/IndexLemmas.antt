@@ -1,0 +1,50 @@
+-- Which tests fixtures have once those of one fixture were changed.
+use Rattle.std.proofs.Common.{◌≡◌, ℕ, Bool, true, false, cond, eqb, ◌&&◌, ◌||◌, bytes_eq, List, [], ◌∷◌, ◌++◌, Option, refl, sym, ap, ◌∙◌}
+use Rattle.std.specs.Map.{AreApart, IsKeyTest, KeepsOthers, lookup}
+use Rattle.std.specs.declared.vec.Vec.{Vec}
+use Rattle.std.proofs.lemmas.List.Folds.{list_any-append}
+use Rattle.std.proofs.lemmas.Slice.Eq.{bytes_eq-Decides}
+use Rattle.indexmap.specs.IndexMap.{IndexMap, UpdatesBy}
+use Rattle.ct_fixture.specs.Drawing.{is_one_of}
+use Rattle.ct_fixture.specs.Kept.{found, tests_of}
+
+and_all : (a : Bool) → (a || false) ≡ (a && true)
+and_all true = refl
+and_all false = refl
+
+or_nothing : (a b : Bool) → a ≡ (a || (b && false))
+or_nothing true b = refl
+or_nothing false true = refl
+or_nothing false false = refl
+
+module _ {Y : Type 0} where
+  key_test : (asked : List ℕ) → IsKeyTest (λ (one other : Vec ℕ Y). bytes_eq one.items other.items) (λ (name : Vec ℕ Y). bytes_eq asked name.items)
+  key_test asked = λ one other at_one. ap (λ bytes. bytes_eq bytes other.items) ((bytes_eq-Decides asked one.items).0 at_one)
+
+  apart : (fixture asked : List ℕ) → bytes_eq asked fixture ≡ false → AreApart (λ (name : Vec ℕ Y). bytes_eq fixture name.items) (λ (name : Vec ℕ Y). bytes_eq asked name.items)
+  apart fixture asked differ = λ name at_it. ap (bytes_eq asked) (sym ((bytes_eq-Decides fixture name.items).0 at_it)) ∙ differ
+
+module _ {Y Z : Type 0} where
+  kept_apart : (fixture asked : List ℕ) (before now : List (Vec ℕ Y × Vec ℕ Z)) → bytes_eq asked fixture ≡ false → KeepsOthers (λ (one other : Vec ℕ Y). bytes_eq one.items other.items) (λ (name : Vec ℕ Y). bytes_eq fixture name.items) before now → lookup (λ (name : Vec ℕ Y). bytes_eq asked name.items) now ≡ lookup (λ (name : Vec ℕ Y). bytes_eq asked name.items) before
+  unfolding KeepsOthers
+  kept_apart fixture asked before now differ kept = kept (λ (name : Vec ℕ Y). bytes_eq asked name.items) (key_test asked) (apart fixture asked differ)
+
+  module _ {S : Type 0} where
+    updated_by : (before now : IndexMap (Vec ℕ Y) (Vec ℕ Z) S) (fixture asked : List ℕ) (tests : Option (Vec ℕ Z)) → UpdatesBy (λ (one other : Vec ℕ Y). bytes_eq one.items other.items) (λ (name : Vec ℕ Y). bytes_eq fixture name.items) before now tests → (is : Bool) → bytes_eq asked fixture ≡ is → tests_of now asked ≡ cond is (found tests) (tests_of before asked)
+    updated_by before now fixture asked tests updates true is = ap (tests_of now) ((bytes_eq-Decides asked fixture).0 is) ∙ ap found updates.1
+    updated_by before now fixture asked tests updates false is = ap found (kept_apart fixture asked before.entries now.entries is updates.3)
+
+    -- those of one fixture were changed
+    pub updated : (before now : IndexMap (Vec ℕ Y) (Vec ℕ Z) S) (fixture : List ℕ) (tests : Option (Vec ℕ Z)) → UpdatesBy (λ (one other : Vec ℕ Y). bytes_eq one.items other.items) (λ (name : Vec ℕ Y). bytes_eq fixture name.items) before now tests → (asked : List ℕ) → tests_of now asked ≡ cond (bytes_eq asked fixture) (found tests) (tests_of before asked)
+    updated before now fixture tests updates asked = updated_by before now fixture asked tests updates (bytes_eq asked fixture) refl
+
+    noted_by : (before rest now : IndexMap (Vec ℕ Y) (Vec ℕ Z) S) (fixture asked tests : List ℕ) (number test : ℕ) (is : Bool) → bytes_eq asked fixture ≡ is → tests_of rest asked ≡ cond is [] (tests_of before asked) → tests ≡ tests_of before fixture ++ number ∷ [] → tests_of now asked ≡ cond is tests (tests_of rest asked) → is_one_of test (tests_of now asked) ≡ (is_one_of test (tests_of before asked) || (eqb test number && is))
+    noted_by before rest now fixture asked tests number test true is out pushed put =
+        ap (is_one_of test) (put ∙ pushed ∙ ap (λ f. tests_of before f ++ number ∷ []) (sym ((bytes_eq-Decides asked fixture).0 is)))
+        ∙ list_any-append (λ n. eqb test n) (tests_of before asked) (number ∷ [])
+        ∙ ap (λ here. is_one_of test (tests_of before asked) || here) (and_all (eqb test number))
+    noted_by before rest now fixture asked tests number test false is out pushed put = ap (is_one_of test) (put ∙ out) ∙ or_nothing (is_one_of test (tests_of before asked)) (eqb test number)
+
+    -- the tests of a fixture were taken out, and put back with one more
+    pub noted : (before rest now : IndexMap (Vec ℕ Y) (Vec ℕ Z) S) (fixture tests : List ℕ) (number : ℕ) → ((asked : List ℕ) → tests_of rest asked ≡ cond (bytes_eq asked fixture) [] (tests_of before asked)) → tests ≡ tests_of before fixture ++ number ∷ [] → ((asked : List ℕ) → tests_of now asked ≡ cond (bytes_eq asked fixture) tests (tests_of rest asked)) → (asked : List ℕ) (test : ℕ) → is_one_of test (tests_of now asked) ≡ (is_one_of test (tests_of before asked) || (eqb test number && bytes_eq asked fixture))
+    noted before rest now fixture tests number out pushed put asked test = noted_by before rest now fixture asked tests number test (bytes_eq asked fixture) refl (out asked) pushed (put asked)

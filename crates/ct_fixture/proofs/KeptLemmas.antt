@@ -1,0 +1,252 @@
+-- The tests that fixtures have left: while they are found, and while they are taken.
+use Rattle.std.proofs.Common.{◌≡◌, ℕ, suc, ◌+◌, ◌-◌, ◌<◌, ◌≤◌, Bool, true, false, cond, eqb, leb, not, ◌&&◌, ◌||◌, bytes_eq, List, [], ◌∷◌, length, get_or, take, All, Option, Some, None, inl, inr, refl, sym, ap, ◌∙◌, subst, arith}
+use Rattle.std.proofs.lemmas.Bool.{false≢true, eqb-true, eq-eqb, ne_eqb, le-leb, lt-leb, or_left, or_right, or_cases, cases_eq, cases_lt}
+use Rattle.std.proofs.lemmas.List.Elements.{All-nil}
+use Rattle.std.proofs.lemmas.List.Folds.{list_any_at, list_any_more}
+use Rattle.std.proofs.lemmas.Option.{slice_get_read}
+use Rattle.std.proofs.lemmas.Slice.Eq.{bytes_eq-Decides}
+use Rattle.indexmap.specs.IndexMap.{IndexMap}
+use Rattle.std.specs.declared.vec.Vec.{Vec}
+use Rattle.ct_props.specs.declared.props.Props.{Props}
+use Rattle.ct_props.specs.declared.wanted.Choice.{Choice}
+use Rattle.ct_fixture.specs.declared.fixtures.Fixtures.{Fixtures}
+use Rattle.ct_fixture.specs.declared.members.Members.{Members}
+use Rattle.ct_fixture.specs.Drawing.{is_among, is_one_of, is_drawn, draws, props_at, required_by, keeps_cleanups, keeps_setups}
+use Rattle.ct_fixture.specs.Kept.{AddsTests, AreLeft, AreNamed, Draws, Extends, HaveMarks, IsLeft, given, is_member, names, tests_of}
+use Rattle.ct_fixture.proofs.MemberLemmas.{adds_same, extends_on, or_behind, or_none}
+use Rattle.ct_fixture.proofs.RoundLemmas.{there_number}
+
+-- what is said of each number in a list
+pub all_in : (P : ℕ → Type 0) (numbers : List ℕ) → ((number : ℕ) → is_one_of number numbers ≡ true → P number) → All P numbers
+all_in P numbers each = λ k d within. each (get_or numbers k d) (list_any_at (λ n. eqb (get_or numbers k d) n) numbers k d within (eq-eqb (get_or numbers k d) (get_or numbers k d) refl))
+
+-- what holds of all is said of each number in the list
+pub in_all : (P : ℕ → Type 0) (numbers : List ℕ) → All P numbers → (number : ℕ) → is_one_of number numbers ≡ true → P number
+in_all P [] all number there = absurd (false≢true there)
+in_all P (first ∷ numbers) all number there =
+    elim (or_cases (eqb number first) (is_one_of number numbers) there) [
+      | inl here ↦ subst P (sym (eqb-true number first here)) (all 0 first (omega arith))
+      | inr later ↦ in_all P numbers (λ k d within. all (suc k) d (omega (arith, within))) number later
+    ]
+
+-- the properties at a place are those of its number
+pub props_here : (props : List Props) (at : ℕ) (own : Props) → at < length props → own ≡ get_or props at own → props_at props (at + 1) ≡ Some own
+props_here props at own within is = let next : at + 1 ≡ suc at = omega arith in ap (props_at props) next ∙ slice_get_read props (length props) at own refl within is
+
+names_there : (property : Props → List (List ℕ)) (props : List Props) (fixture : List ℕ) (number : ℕ) (own : Option Props) → props_at props number ≡ own → names property fixture own ≡ true → (1 ≤ number) × (number ≤ length props)
+names_there property props fixture number None is named = absurd (false≢true named)
+names_there property props fixture number (Some own) is named = there_number props number own is
+
+-- a test that names a fixture has a number
+pub named_number : (property : Props → List (List ℕ)) (props : List Props) (fixture : List ℕ) (number : ℕ) → names property fixture (props_at props number) ≡ true → (1 ≤ number) × (number ≤ length props)
+named_number property props fixture number named = names_there property props fixture number (props_at props number) refl named
+
+and_none : (a : Bool) → (a && false) ≡ false
+and_none true = refl
+and_none false = refl
+
+same_low : (at number : ℕ) → (number ≡ at + 1 → ⊥) → leb number at ≡ leb number (at + 1)
+same_low at number other =
+    elim (cases_lt at number) [
+      | inl above ↦ lt-leb number at above ∙ sym (lt-leb number (at + 1) (omega (arith, above, other)))
+      | inr below ↦ le-leb number at below ∙ sym (le-leb number (at + 1) (omega (arith, below)))
+    ]
+
+step_by : (at number : ℕ) (names_now among : Bool) → (number ≡ at + 1 → names_now ≡ among) → ((leb number at && names_now) || (eqb number (at + 1) && among)) ≡ (leb number (at + 1) && names_now)
+step_by at number names_now among here =
+    elim (cases_eq number (at + 1)) [
+      | inl same ↦
+          ap (λ low. (low && names_now) || (eqb number (at + 1) && among)) (lt-leb number at (omega (arith, same)))
+          ∙ ap (λ is. is && among) (eq-eqb number (at + 1) same)
+          ∙ sym (here same)
+          ∙ sym (ap (λ low. low && names_now) (le-leb number (at + 1) (omega (arith, same))))
+      | inr other ↦
+          ap (λ is. (leb number at && names_now) || (is && among)) (ne_eqb number (at + 1) other)
+          ∙ or_none (leb number at && names_now)
+          ∙ ap (λ low. low && names_now) (same_low at number other)
+    ]
+
+names_here : (property : Props → List (List ℕ)) (fixture : List ℕ) (own : Props) (disabled : Bool) → own.disabled ≡ disabled → names property fixture (Some own) ≡ (not disabled && is_among fixture (property own))
+names_here property fixture own disabled is = ap (λ d. not d && is_among fixture (property own)) is
+
+low_within : (count number : ℕ) (named : Bool) → (named ≡ true → number ≤ count) → (leb number count && named) ≡ named
+low_within count number true within = ap (λ low. low && true) (le-leb number count (within refl))
+low_within count number false within = and_none (leb number count)
+
+drawn_by_side : (there named member keeps : Bool) (tests : List ℕ) (number : ℕ) → is_one_of number tests ≡ there → (there ≡ true → named ≡ true) → (named ≡ true → keeps ≡ false → (there || member) ≡ true) → (member || is_one_of number (given keeps tests)) ≡ (member || (named && not keeps))
+drawn_by_side there named true keeps tests number is sound left = refl
+drawn_by_side there true false true tests number is sound left = refl
+drawn_by_side there false false true tests number is sound left = refl
+drawn_by_side true named false false tests number is sound left = is ∙ sym (ap (λ n. n && true) (sound refl))
+drawn_by_side false true false false tests number is sound left = absurd (false≢true (left refl refl))
+drawn_by_side false false false false tests number is sound left = is
+
+-- what is said of the tests of a fixture is said of those that are given
+pub given_all : (P : ℕ → Type 0) (kept : Bool) (tests : List ℕ) → All P tests → All P (given kept tests)
+given_all P true tests all = All-nil P
+given_all P false tests all = all
+
+module _ {Y Z S : Type 0} where
+  -- each fixture has those of the first tests that name it in this property
+  abbrev pub AreNamedTo : ℕ → (Props → List (List ℕ)) → List Props → IndexMap (Vec ℕ Y) (Vec ℕ Z) S → Type 0
+  AreNamedTo at property props tests = (fixture : List ℕ) (number : ℕ) → is_one_of number (tests_of tests fixture) ≡ (leb number at && names property fixture (props_at props number))
+
+  -- one more test that is not disabled
+  pub named_more : (property : Props → List (List ℕ)) (props : List Props) (at number : ℕ) (own : Props) (fixtures : List (List ℕ)) (before now : IndexMap (Vec ℕ Y) (Vec ℕ Z) S) → at < length props → own ≡ get_or props at own → own.disabled ≡ false → number ≡ at + 1 → fixtures ≡ property own
+      → ((asked : List ℕ) (test : ℕ) → is_one_of test (tests_of now asked) ≡ (is_one_of test (tests_of before asked) || (eqb test number && is_among asked fixtures))) → AreNamedTo at property props before → AreNamedTo (at + 1) property props now
+  named_more property props at number own fixtures before now within is enabled is_number are_fixtures noted named = λ fixture test.
+      noted fixture test
+      ∙ ap (λ n. is_one_of test (tests_of before fixture) || (eqb test n && is_among fixture fixtures)) is_number
+      ∙ ap (λ fs. is_one_of test (tests_of before fixture) || (eqb test (at + 1) && is_among fixture fs)) are_fixtures
+      ∙ ap (λ was. was || (eqb test (at + 1) && is_among fixture (property own))) (named fixture test)
+      ∙ step_by at test (names property fixture (props_at props test)) (is_among fixture (property own)) (λ same. ap (λ n. names property fixture (props_at props n)) same ∙ ap (names property fixture) (props_here props at own within is) ∙ names_here property fixture own false enabled)
+
+  -- one more test that is disabled
+  pub named_still : (property : Props → List (List ℕ)) (props : List Props) (at : ℕ) (own : Props) (tests : IndexMap (Vec ℕ Y) (Vec ℕ Z) S) → at < length props → own ≡ get_or props at own → own.disabled ≡ true → AreNamedTo at property props tests → AreNamedTo (at + 1) property props tests
+  named_still property props at own tests within is disabled named = λ fixture number.
+      named fixture number
+      ∙ sym (or_none (leb number at && names property fixture (props_at props number)))
+      ∙ ap (λ none. (leb number at && names property fixture (props_at props number)) || none) (sym (and_none (eqb number (at + 1))))
+      ∙ step_by at number (names property fixture (props_at props number)) false (λ same. ap (λ n. names property fixture (props_at props n)) same ∙ ap (names property fixture) (props_here props at own within is) ∙ names_here property fixture own true disabled)
+
+  -- the same tests
+  pub named_as : (at : ℕ) (property : Props → List (List ℕ)) (props : List Props) (tests others : IndexMap (Vec ℕ Y) (Vec ℕ Z) S) → others ≡ tests → AreNamedTo at property props tests → AreNamedTo at property props others
+  named_as at property props tests others same named = subst (AreNamedTo at property props) (sym same) named
+
+  -- all tests
+  pub named_all : (property : Props → List (List ℕ)) (props : List Props) (at : ℕ) (tests : IndexMap (Vec ℕ Y) (Vec ℕ Z) S) → at ≡ length props → AreNamedTo at property props tests → AreNamed property props tests
+  named_all property props at tests end named = λ fixture number.
+      named fixture number
+      ∙ low_within at number (names property fixture (props_at props number)) (λ is. let there = named_number property props fixture number is in omega (arith, there.1, end))
+
+  -- ---- taking
+  -- before anything is taken
+  pub left_first : (property : Props → List (List ℕ)) (keeps : List ℕ → Bool) (props : List Props) (tests : IndexMap (Vec ℕ Y) (Vec ℕ Z) S) (members : Members) → AreNamed property props tests → IsLeft property keeps props tests members
+  left_first property keeps props tests members are = record {
+    named = λ fixture number there. sym (are fixture number) ∙ there;
+    left = λ fixture number named kept. or_left (is_one_of number (tests_of tests fixture)) (is_member members number) (are fixture number ∙ named);
+  }
+
+  -- with more tests that are in
+  pub left_on : (property : Props → List (List ℕ)) (keeps : List ℕ → Bool) (props : List Props) (tests : IndexMap (Vec ℕ Y) (Vec ℕ Z) S) (before now : Members) → Extends before now → IsLeft property keeps props tests before → IsLeft property keeps props tests now
+  left_on property keeps props tests before now more is = record {
+    named = is.named;
+    left = λ fixture number named kept. elim (or_cases (is_one_of number (tests_of tests fixture)) (is_member before number) (is.left fixture number named kept)) [
+      | inl there ↦ or_left (is_one_of number (tests_of tests fixture)) (is_member now number) there
+      | inr was ↦ or_right (is_one_of number (tests_of tests fixture)) (is_member now number) (more.kept number was)
+    ];
+  }
+
+  taken_named : (property : Props → List (List ℕ)) (props : List Props) (tests : IndexMap (Vec ℕ Y) (Vec ℕ Z) S) (asked : List ℕ) (number : ℕ) (is : Bool) → is_one_of number (cond is [] (tests_of tests asked)) ≡ true → (is_one_of number (tests_of tests asked) ≡ true → names property asked (props_at props number) ≡ true) → names property asked (props_at props number) ≡ true
+  taken_named property props tests asked number true there named = absurd (false≢true there)
+  taken_named property props tests asked number false there named = named there
+
+  taken_left : (keeps : List ℕ → Bool) (tests : IndexMap (Vec ℕ Y) (Vec ℕ Z) S) (fixture asked : List ℕ) (number : ℕ) (before now : Members) (is : Bool) → bytes_eq asked fixture ≡ is → keeps asked ≡ false → ((test : ℕ) → is_member now test ≡ (is_member before test || is_one_of test (given (keeps fixture) (tests_of tests fixture)))) → (is_one_of number (tests_of tests asked) || is_member before number) ≡ true → (is_one_of number (cond is [] (tests_of tests asked)) || is_member now number) ≡ true
+  taken_left keeps tests fixture asked number before now true at_it kept is was =
+      let same : asked ≡ fixture = (bytes_eq-Decides asked fixture).0 at_it in
+      let open_now : keeps fixture ≡ false = ap keeps (sym same) ∙ kept in
+      let gives : given (keeps fixture) (tests_of tests fixture) ≡ tests_of tests asked = ap (λ k. given k (tests_of tests fixture)) open_now ∙ ap (tests_of tests) (sym same) in
+      is number
+      ∙ ap (λ taken. is_member before number || is_one_of number taken) gives
+      ∙ elim (or_cases (is_one_of number (tests_of tests asked)) (is_member before number) was) [
+        | inl there ↦ or_right (is_member before number) (is_one_of number (tests_of tests asked)) there
+        | inr before_now ↦ or_left (is_member before number) (is_one_of number (tests_of tests asked)) before_now
+      ]
+  taken_left keeps tests fixture asked number before now false at_it kept is was =
+      elim (or_cases (is_one_of number (tests_of tests asked)) (is_member before number) was) [
+        | inl there ↦ or_left (is_one_of number (tests_of tests asked)) (is_member now number) there
+        | inr before_now ↦ or_right (is_one_of number (tests_of tests asked)) (is_member now number) (is number ∙ or_left (is_member before number) (is_one_of number (given (keeps fixture) (tests_of tests fixture))) before_now)
+      ]
+
+  -- where the tests of a fixture are taken out, and are in now unless they are kept out
+  pub left_taken : (property : Props → List (List ℕ)) (keeps : List ℕ → Bool) (props : List Props) (tests rest : IndexMap (Vec ℕ Y) (Vec ℕ Z) S) (fixture : List ℕ) (before now : Members) → ((asked : List ℕ) → tests_of rest asked ≡ cond (bytes_eq asked fixture) [] (tests_of tests asked)) → AddsTests (given (keeps fixture) (tests_of tests fixture)) before now → IsLeft property keeps props tests before → IsLeft property keeps props rest now
+  left_taken property keeps props tests rest fixture before now taken added is = record {
+    named = λ asked number there. taken_named property props tests asked number (bytes_eq asked fixture) (ap (is_one_of number) (sym (taken asked)) ∙ there) (is.named asked number);
+    left = λ asked number named kept. ap (λ numbers. is_one_of number numbers || is_member now number) (taken asked) ∙ taken_left keeps tests fixture asked number before now (bytes_eq asked fixture) refl kept added.is (is.left asked number named kept);
+  }
+
+  -- what one side of a fixture draws in is what names it and is not kept out
+  pub side_drawn : (property : Props → List (List ℕ)) (keeps : List ℕ → Bool) (props : List Props) (tests : IndexMap (Vec ℕ Y) (Vec ℕ Z) S) (members : Members) (fixture : List ℕ) (number : ℕ) → IsLeft property keeps props tests members → (is_member members number || is_one_of number (given (keeps fixture) (tests_of tests fixture))) ≡ (is_member members number || (names property fixture (props_at props number) && not (keeps fixture)))
+  side_drawn property keeps props tests members fixture number is =
+      drawn_by_side (is_one_of number (tests_of tests fixture)) (names property fixture (props_at props number)) (is_member members number) (keeps fixture) (tests_of tests fixture) number refl (is.named fixture number) (is.left fixture number)
+
+  left_marks : (property : Props → List (List ℕ)) (keeps : List ℕ → Bool) (props : List Props) (tests : IndexMap (Vec ℕ Y) (Vec ℕ Z) S) (members : Members) (long : ℕ) → long ≡ length props + 1 → IsLeft property keeps props tests members → (fixture : List ℕ) → All (λ number. number < long) (tests_of tests fixture)
+  left_marks property keeps props tests members long is left fixture =
+      all_in (λ number. number < long) (tests_of tests fixture) (λ number there. let has = named_number property props fixture number (left.named fixture number there) in omega (arith, has.1, is))
+
+-- each test that is left has a mark
+pub have_marks : (choice : Choice) (props : List Props) (fixtures : Fixtures) (members : Members) → AreLeft choice props fixtures members → HaveMarks fixtures members
+have_marks choice props fixtures members left = record {
+  setups = left_marks (λ own. own.setup) (keeps_setups choice) props fixtures.setups members (length members.marks.items) left.long left.setups;
+  cleanups = left_marks (λ own. own.cleanup) (keeps_cleanups choice) props fixtures.cleanups members (length members.marks.items) left.long left.cleanups;
+}
+
+none_joined : (member : Bool) → member ≡ (member || false)
+none_joined true = refl
+none_joined false = refl
+
+joined : (member disabled up kept clean kept_clean : Bool) → ((member || ((not disabled && up) && not kept)) || ((not disabled && clean) && not kept_clean)) ≡ (member || ((not disabled && ((up && not kept) || (clean && not kept_clean))) || false))
+joined true disabled up kept clean kept_clean = refl
+joined false true up kept clean kept_clean = refl
+joined false false up kept clean kept_clean = none_joined ((up && not kept) || (clean && not kept_clean))
+
+both_sides : (choice : Choice) (fixture : List ℕ) (member : Bool) (own : Option Props) → ((member || (names (λ p. p.setup) fixture own && not (keeps_setups choice fixture))) || (names (λ p. p.cleanup) fixture own && not (keeps_cleanups choice fixture))) ≡ (member || is_drawn choice (fixture ∷ []) own)
+both_sides choice fixture member None = sym (none_joined (member || false))
+both_sides choice fixture member (Some own) = joined member own.disabled (is_among fixture own.setup) (keeps_setups choice fixture) (is_among fixture own.cleanup) (keeps_cleanups choice fixture)
+
+-- the setups and then the cleanups of a fixture are taken out and added: what it draws in is in now
+pub drawn_one : (choice : Choice) (props : List Props) (fixture : List ℕ) (before now : Fixtures) (setups cleanups : List ℕ) (first second third : Members) → AreLeft choice props before first
+    → ((asked : List ℕ) → tests_of now.setups asked ≡ cond (bytes_eq asked fixture) [] (tests_of before.setups asked)) → setups ≡ given (keeps_setups choice fixture) (tests_of before.setups fixture) → AddsTests setups first second
+    → ((asked : List ℕ) → tests_of now.cleanups asked ≡ cond (bytes_eq asked fixture) [] (tests_of before.cleanups asked)) → cleanups ≡ given (keeps_cleanups choice fixture) (tests_of before.cleanups fixture) → AddsTests cleanups second third
+    → AreLeft choice props now third × Draws choice props (fixture ∷ []) first third
+drawn_one choice props fixture before now setups cleanups first second third left setups_out are_setups added_first cleanups_out are_cleanups added_second =
+    let added = adds_same setups (given (keeps_setups choice fixture) (tests_of before.setups fixture)) first second are_setups added_first in
+    let added_too = adds_same cleanups (given (keeps_cleanups choice fixture) (tests_of before.cleanups fixture)) second third are_cleanups added_second in
+    let cleanups_on = left_on (λ own. own.cleanup) (keeps_cleanups choice) props before.cleanups first second added.extends left.cleanups in
+    let setups_on = left_taken (λ own. own.setup) (keeps_setups choice) props before.setups now.setups fixture first second setups_out added left.setups in (
+      record {
+        long = added_too.extends.long ∙ added.extends.long ∙ left.long;
+        setups = left_on (λ own. own.setup) (keeps_setups choice) props now.setups second third added_too.extends setups_on;
+        cleanups = left_taken (λ own. own.cleanup) (keeps_cleanups choice) props before.cleanups now.cleanups fixture second third cleanups_out added_too cleanups_on;
+      },
+      record {
+        extends = extends_on first second third added.extends added_too.extends;
+        is = λ number.
+            added_too.is number
+            ∙ side_drawn (λ own. own.cleanup) (keeps_cleanups choice) props before.cleanups second fixture number cleanups_on
+            ∙ ap (λ m. m || (names (λ own. own.cleanup) fixture (props_at props number) && not (keeps_cleanups choice fixture))) (added.is number ∙ side_drawn (λ own. own.setup) (keeps_setups choice) props before.setups first fixture number left.setups)
+            ∙ both_sides choice fixture (is_member first number) (props_at props number);
+      },
+    )
+
+-- the properties of a test are those at its number
+pub props_there : (props : List Props) (number : ℕ) (own : Props) → 1 ≤ number → number ≤ length props → own ≡ get_or props (number - 1) own → props_at props number ≡ Some own
+props_there props number own low there is =
+    let same : number ≡ suc (number - 1) = omega (arith, low) in
+    ap (props_at props) same ∙ slice_get_read props (length props) (number - 1) own refl (omega (arith, low, there)) is
+
+-- a test that is not disabled requires its fixtures
+pub requires_own : (own : Props) → own.disabled ≡ false → required_by (Some own) ≡ own.required
+requires_own own enabled = ap (λ d. cond d [] own.required) enabled
+
+drawn_by_more : (choice : Choice) (fixtures : List (List ℕ)) (at : ℕ) (fixture : List ℕ) (own : Option Props) → at < length fixtures → fixture ≡ get_or fixtures at fixture → (is_drawn choice (take at fixtures) own || is_drawn choice (fixture ∷ []) own) ≡ is_drawn choice (take (at + 1) fixtures) own
+drawn_by_more choice fixtures at fixture None within is = refl
+drawn_by_more choice fixtures at fixture (Some own) within is =
+    ap (λ here. is_drawn choice (take at fixtures) (Some own) || here) (or_none (draws choice own fixture))
+    ∙ ap (λ f. is_drawn choice (take at fixtures) (Some own) || draws choice own f) is
+    ∙ sym (list_any_more (draws choice own) fixtures at fixture within)
+
+-- one fixture more
+pub drawn_more : (choice : Choice) (props : List Props) (fixtures : List (List ℕ)) (at : ℕ) (fixture : List ℕ) (first second third : Members) → at < length fixtures → fixture ≡ get_or fixtures at fixture → Draws choice props (take at fixtures) first second → Draws choice props (fixture ∷ []) second third → Draws choice props (take (at + 1) fixtures) first third
+drawn_more choice props fixtures at fixture first second third within is one two = record {
+  extends = extends_on first second third one.extends two.extends;
+  is = λ number.
+      two.is number
+      ∙ ap (λ m. m || is_drawn choice (fixture ∷ []) (props_at props number)) (one.is number)
+      ∙ or_behind (is_member first number) (is_drawn choice (take at fixtures) (props_at props number)) (is_drawn choice (fixture ∷ []) (props_at props number))
+      ∙ ap (λ drawn. is_member first number || drawn) (drawn_by_more choice fixtures at fixture (props_at props number) within is);
+}
+
+-- the same fixtures
+pub drawn_same : (choice : Choice) (props : List Props) (fixtures others : List (List ℕ)) (first second : Members) → fixtures ≡ others → Draws choice props fixtures first second → Draws choice props others first second
+drawn_same choice props fixtures others first second same drawn = subst (λ fs. Draws choice props fs first second) same drawn

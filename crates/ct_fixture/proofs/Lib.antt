@@ -1,0 +1,6 @@
+mod NumberLemmas
+pub mod RoundLemmas
+mod IndexLemmas
+mod MemberLemmas
+mod KeptLemmas
+mod PartwayLemmas

@@ -1,0 +1,72 @@
+-- Tests that are added to those that are in, and the list of those.
+use Rattle.std.proofs.Common.{◌≡◌, ℕ, ◌+◌, ◌-◌, ◌<◌, ◌≤◌, Bool, true, false, cond, eqb, ◌||◌, List, [], ◌∷◌, ◌++◌, length, get_or, take, filter, inl, inr, refl, sym, ap, ◌∙◌, subst, arith, append-nil}
+use Rattle.std.specs.List.{range_with_len}
+use Rattle.std.proofs.lemmas.Bool.{cases_Bool}
+use Rattle.std.proofs.lemmas.List.{map-id}
+use Rattle.std.proofs.lemmas.List.Folds.{list_any-append, list_any_more}
+use Rattle.std.proofs.lemmas.List.FromFn.{filter_of_map_range_with_len_more}
+use Rattle.ct_fixture.specs.declared.members.Members.{Members}
+use Rattle.ct_fixture.specs.Drawing.{is_one_of}
+use Rattle.ct_fixture.specs.Kept.{AddsTests, Extends, is_member}
+
+-- what false adds to a test
+pub or_none : (a : Bool) → (a || false) ≡ a
+or_none true = refl
+or_none false = refl
+
+-- tests are joined from either end
+pub or_behind : (a b c : Bool) → ((a || b) || c) ≡ (a || (b || c))
+or_behind true b c = refl
+or_behind false b c = refl
+
+-- what waits, with one test more
+pub waits_more : (waiting : List ℕ) (number : ℕ) (test : ℕ) → is_one_of test (waiting ++ number ∷ []) ≡ (is_one_of test waiting || (eqb test number || false))
+waits_more waiting number test = list_any-append (λ n. eqb test n) waiting (number ∷ [])
+
+-- two additions, one behind the other
+pub extends_on : (first second third : Members) → Extends first second → Extends second third → Extends first third
+extends_on first second third one two = record {
+  long = two.long ∙ one.long;
+  kept = λ number was. two.kept number (one.kept number was);
+  waits = λ number in_now was. elim (cases_Bool (is_member second number)) [
+    | inl between ↦ two.waits_still number (one.waits number between was)
+    | inr between ↦ two.waits number in_now between
+  ];
+  waits_still = λ number was. two.waits_still number (one.waits_still number was);
+  waits_in = λ all_in number waits. two.waits_in (λ n w. one.waits_in all_in n w) number waits;
+  count = two.count ∙ one.count;
+}
+
+-- one more test of a list
+pub adds_more : (tests : List ℕ) (at : ℕ) (first second third : Members) → at < length tests → AddsTests (take at tests) first second → AddsTests (get_or tests at 0 ∷ []) second third → AddsTests (take (at + 1) tests) first third
+adds_more tests at first second third within one two = record {
+  extends = extends_on first second third one.extends two.extends;
+  is = λ number.
+      two.is number
+      ∙ ap (λ m. m || (eqb number (get_or tests at 0) || false)) (one.is number)
+      ∙ or_behind (is_member first number) (is_one_of number (take at tests)) (eqb number (get_or tests at 0) || false)
+      ∙ ap (λ later. is_member first number || (is_one_of number (take at tests) || later)) (or_none (eqb number (get_or tests at 0)))
+      ∙ ap (λ later. is_member first number || later) (sym (list_any_more (λ n. eqb number n) tests at 0 within));
+}
+
+-- a list of the tests that are in with one number more
+listed_more : (test : ℕ → Bool) (number : ℕ) → 1 ≤ number → filter test (range_with_len 1 (number + 1 - 1)) ≡ filter test (range_with_len 1 (number - 1)) ++ cond (test number) (number ∷ []) []
+listed_more test number low =
+    let front : number + 1 - 1 ≡ number - 1 + 1 = omega (arith, low) in
+    let here : 1 + (number - 1) ≡ number = omega (arith, low) in
+    ap (λ count. filter test (range_with_len 1 count)) front
+    ∙ ap (filter test) (sym (map-id (range_with_len 1 (number - 1 + 1))))
+    ∙ filter_of_map_range_with_len_more test (λ n. n) 1 (number - 1) number here
+    ∙ ap (λ numbers. filter test numbers ++ cond (test number) (number ∷ []) []) (map-id (range_with_len 1 (number - 1)))
+
+-- a test that is in is listed
+pub listed : (test : ℕ → Bool) (number : ℕ) (members : List ℕ) → 1 ≤ number → members ≡ filter test (range_with_len 1 (number - 1)) → test number ≡ true → members ++ number ∷ [] ≡ filter test (range_with_len 1 (number + 1 - 1))
+listed test number members low is passes = ap (λ numbers. numbers ++ number ∷ []) is ∙ sym (listed_more test number low ∙ ap (λ b. filter test (range_with_len 1 (number - 1)) ++ cond b (number ∷ []) []) passes)
+
+-- one that is not is passed over
+pub passed_over : (test : ℕ → Bool) (number : ℕ) (members : List ℕ) → 1 ≤ number → members ≡ filter test (range_with_len 1 (number - 1)) → test number ≡ false → members ≡ filter test (range_with_len 1 (number + 1 - 1))
+passed_over test number members low is fails = is ∙ sym (listed_more test number low ∙ ap (λ b. filter test (range_with_len 1 (number - 1)) ++ cond b (number ∷ []) []) fails ∙ append-nil (filter test (range_with_len 1 (number - 1))))
+
+-- the same tests
+pub adds_same : (tests others : List ℕ) (before now : Members) → tests ≡ others → AddsTests tests before now → AddsTests others before now
+adds_same tests others before now same added = subst (λ ts. AddsTests ts before now) same added

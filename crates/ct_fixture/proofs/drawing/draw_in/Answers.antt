@@ -1,0 +1,47 @@
+use Rattle.std.proofs.Common.{◌≡◌, ℕ, ◌-◌, List, length, filter, sym, ap, ◌∙◌, subst}
+use Rattle.std.specs.List.{range_with_len}
+use Rattle.std.proofs.lemmas.Result.{IfOk-weaker}
+use Rattle.ct_props.specs.declared.props.Props.{Props}
+use Rattle.ct_fixture.specs.Drawing.{members_of}
+use Rattle.ct_fixture.specs.Kept.{is_member}
+use Rattle.ct_fixture.proofs.MemberLemmas.{adds_same}
+use Rattle.ct_fixture.proofs.PartwayLemmas.{AreNumbers, begun, ended, next_number, stepped}
+use Rattle.ct_fixture.proofs.drawing.draw_in.Goals as goal
+
+-- the numbers of the chosen tests, by the slice of the properties
+numbers_in : (props slice : List Props) (chosen : List ℕ) → slice ≡ props → AreNumbers props chosen → AreNumbers slice chosen
+numbers_in props slice chosen same numbers = subst (λ ps. AreNumbers ps chosen) (sym same) numbers
+
+pub loop-number-init : goal.loop-number-init
+loop-number-init c =
+    let props = c.as_slice-props.result.now in
+    let chosen = c.args.chosen.now in
+    begun c.args.choice.now props chosen c.in_ok-fixtures.fixtures c.in_ok-members.members c.add_all.new.self (numbers_in c.args.props.now props chosen c.as_slice-props.ensures c.requires.within) c.in_ok-fixtures.ensures c.in_ok-members.ensures.long c.in_ok-members.ensures.none c.in_ok-members.ensures.waits
+    (adds_same c.as_slice.result.now chosen c.in_ok-members.members c.add_all.new.self c.as_slice.ensures c.in_ok-add_all.ensures)
+
+pub draw_for-requires-clause-low : goal.draw_for-requires-clause-low
+draw_for-requires-clause-low c =
+    let props = c.as_slice-props.result.now in
+    let chosen = c.args.chosen.now in
+    (next_number c.args.choice.now props chosen c.loop-number.fixtures c.loop-number.members c.next.new.self.waiting.items c.in-Some.number (numbers_in c.args.props.now props chosen c.as_slice-props.ensures c.requires.within) c.in-Some.ensures.waiting c.loop-number.invariant).0
+
+pub draw_for-requires-clause-there : goal.draw_for-requires-clause-there
+draw_for-requires-clause-there c =
+    let props = c.as_slice-props.result.now in
+    let chosen = c.args.chosen.now in
+    (next_number c.args.choice.now props chosen c.loop-number.fixtures c.loop-number.members c.next.new.self.waiting.items c.in-Some.number (numbers_in c.args.props.now props chosen c.as_slice-props.ensures c.requires.within) c.in-Some.ensures.waiting c.loop-number.invariant).1
+
+pub loop-number-preserved : goal.loop-number-preserved
+loop-number-preserved c =
+    stepped c.args.choice.now c.as_slice-props.result.now c.args.chosen.now c.loop-number.fixtures c.draw_for.new.fixtures c.loop-number.members c.next.new.self c.draw_for.new.members c.in-Some.number c.in-Some.ensures.marks c.in-Some.ensures.waiting c.in_ok-draw_for.ensures.left c.in_ok-draw_for.ensures.drawn c.loop-number.invariant
+
+pub returns : goal.returns
+returns c =
+    let choice = c.args.choice.now in
+    let props = c.as_slice-props.result.now in
+    let chosen = c.args.chosen.now in
+    let taken = c.next.new.self in
+    let all : filter (is_member taken) (range_with_len 1 (length taken.marks.items - 1)) ≡ members_of choice c.args.props.now chosen =
+    ended choice props chosen c.loop-number.fixtures c.loop-number.members taken (numbers_in c.args.props.now props chosen c.as_slice-props.ensures c.requires.within) c.in_default.ensures.marks c.in_default.ensures.waiting c.loop-number.invariant
+    ∙ ap (λ ps. members_of choice ps chosen) c.as_slice-props.ensures in
+    IfOk-weaker c.into_list.result (λ members. members ≡ filter (is_member taken) (range_with_len 1 (length taken.marks.items - 1))) (λ members. members ≡ members_of choice c.args.props.now chosen) (λ members is. is ∙ all) c.into_list.ensures

@@ -1,0 +1,83 @@
+-- What is kept while fixtures are looked at: the tests by the fixtures that they name, and the tests that are in. This project's own.
+use Rattle.std.specs.Prelude.{◌≡◌, ℕ, ◌+◌, Bool, true, false, not, ◌&&◌, ◌||◌, ◌<◌, bytes_eq, All, List, [], ◌∷◌, length, slice_index_or, count_by, Option, Some, None, if◌then◌else◌}
+use Rattle.std.specs.declared.vec.Vec.{Vec}
+use Rattle.indexmap.specs.IndexMap.{IndexMap, get_by}
+use Rattle.ct_props.specs.declared.props.Props.{Props}
+use Rattle.ct_props.specs.declared.wanted.Choice.{Choice}
+use Rattle.ct_fixture.specs.declared.fixtures.Fixtures.{Fixtures}
+use Rattle.ct_fixture.specs.declared.members.Members.{Members}
+use Rattle.ct_fixture.specs.Drawing.{is_among, is_one_of, is_drawn, props_at, keeps_setups, keeps_cleanups}
+
+-- the tests that a look-up found
+abbrev pub found : {Z : Type 0} → Option (Vec ℕ Z) → List ℕ
+found None = []
+found (Some tests) = tests.items
+
+-- the tests that are kept for a fixture
+abbrev pub tests_of : {Y Z S : Type 0} → IndexMap (Vec ℕ Y) (Vec ℕ Z) S → List ℕ → List ℕ
+tests_of {Y} tests fixture = found (get_by (λ (name : Vec ℕ Y). bytes_eq fixture name.items) tests)
+
+-- a test that is not disabled names the fixture in this property
+abbrev pub names : (Props → List (List ℕ)) → List ℕ → Option Props → Bool
+names property fixture None = false
+names property fixture (Some own) = not own.disabled && is_among fixture (property own)
+
+-- each fixture has those tests that name it in this property
+abbrev pub AreNamed : {Y Z S : Type 0} → (Props → List (List ℕ)) → List Props → IndexMap (Vec ℕ Y) (Vec ℕ Z) S → Type 0
+AreNamed property props tests = (fixture : List ℕ) (number : ℕ) → is_one_of number (tests_of tests fixture) ≡ names property fixture (props_at props number)
+
+-- neither the setups nor the cleanups of a fixture have been taken yet
+pub record AreWhole (props : List Props) (fixtures : Fixtures) : Type 0 where
+  pub setups : AreNamed (λ own. own.setup) props fixtures.setups
+  pub cleanups : AreNamed (λ own. own.cleanup) props fixtures.cleanups
+
+-- the test with this number is in
+abbrev pub is_member : Members → ℕ → Bool
+is_member members number = slice_index_or members.marks.items number false
+
+-- how many tests are not in, and how many wait
+abbrev pub open_count : Members → ℕ
+open_count members = count_by not members.marks.items + length members.waiting.items
+
+-- more tests are in, and those wait; what waited still waits
+pub record Extends (before now : Members) : Type 0 where
+  pub long : length now.marks.items ≡ length before.marks.items
+  pub kept : (number : ℕ) → is_member before number ≡ true → is_member now number ≡ true
+  pub waits : (number : ℕ) → is_member now number ≡ true → is_member before number ≡ false → is_one_of number now.waiting.items ≡ true
+  pub waits_still : (number : ℕ) → is_one_of number before.waiting.items ≡ true → is_one_of number now.waiting.items ≡ true
+  pub waits_in : ((number : ℕ) → is_one_of number before.waiting.items ≡ true → is_member before number ≡ true) → (number : ℕ) → is_one_of number now.waiting.items ≡ true → is_member now number ≡ true
+  pub count : open_count now ≡ open_count before
+
+-- these tests are added
+pub record AddsTests (tests : List ℕ) (before now : Members) : Type 0 where
+  pub extends : Extends before now
+  pub is : (number : ℕ) → is_member now number ≡ (is_member before number || is_one_of number tests)
+
+-- what a side of the fixtures has left: tests that name the fixture, and each of them that is not in, unless it is kept out
+pub record IsLeft {Y Z S : Type 0} (property : Props → List (List ℕ)) (keeps : List ℕ → Bool) (props : List Props) (tests : IndexMap (Vec ℕ Y) (Vec ℕ Z) S) (members : Members) : Type 0 where
+  pub named : (fixture : List ℕ) (number : ℕ) → is_one_of number (tests_of tests fixture) ≡ true → names property fixture (props_at props number) ≡ true
+  pub left : (fixture : List ℕ) (number : ℕ) → names property fixture (props_at props number) ≡ true → keeps fixture ≡ false → (is_one_of number (tests_of tests fixture) || is_member members number) ≡ true
+
+-- there is a mark for each number, and the fixtures have left what is not in
+pub record AreLeft (choice : Choice) (props : List Props) (fixtures : Fixtures) (members : Members) : Type 0 where
+  pub long : length members.marks.items ≡ length props + 1
+  pub setups : IsLeft (λ own. own.setup) (keeps_setups choice) props fixtures.setups members
+  pub cleanups : IsLeft (λ own. own.cleanup) (keeps_cleanups choice) props fixtures.cleanups members
+
+-- the tests that these fixtures draw in are added
+pub record Draws (choice : Choice) (props : List Props) (fixtures : List (List ℕ)) (before now : Members) : Type 0 where
+  pub extends : Extends before now
+  pub is : (number : ℕ) → is_member now number ≡ (is_member before number || is_drawn choice fixtures (props_at props number))
+
+-- the tests of a fixture, unless they are kept out
+abbrev pub given : Bool → List ℕ → List ℕ
+given keeps tests = if keeps then [] else tests
+
+-- each test that a fixture has left has a mark
+pub record HaveMarks (fixtures : Fixtures) (members : Members) : Type 0 where
+  pub setups : (fixture : List ℕ) → All (λ number. number < length members.marks.items) (tests_of fixtures.setups fixture)
+  pub cleanups : (fixture : List ℕ) → All (λ number. number < length members.marks.items) (tests_of fixtures.cleanups fixture)
+
+-- by whatever properties the fixtures have left what is not in: they still have, and what a fixture draws in is added
+abbrev pub TakesFixture : Choice → List ℕ → Fixtures → Members → Fixtures → Members → Type 0
+TakesFixture choice fixture before members now more = (props : List Props) → AreLeft choice props before members → AreLeft choice props now more × Draws choice props (fixture ∷ []) members more

@@ -1,0 +1,45 @@
+ghost use Rattle.std.specs.Prelude.{◌≡◌, ◌==◌, ◌&&◌, ◌||◌, ℕ, List, [], OnOk, bytes_eq, if◌then◌else◌};
+ghost use Rattle.ct_fixture.specs.Drawing.{is_among, is_one_of};
+ghost use Rattle.ct_fixture.specs.Kept.{tests_of};
+
+use ct_base::{Name, NoMemory};
+use indexmap::IndexMap;
+use std::alloc::Global;
+
+/// The numbers of tests, by a fixture that they name.
+pub(crate) type ByFixture = IndexMap<Vec<u8>, Vec<u32>>;
+
+/// Notes a test for each of these fixtures.
+pub(crate) fn note_each(
+    alloc: Global,
+    tests: &mut ByFixture,
+    fixtures: &[Name],
+    number: u32,
+) -> Result<(), NoMemory>
+    ensures { OnOk result ((asked : List ℕ) (test : ℕ) → is_one_of test (tests_of tests.new asked)
+        ≡ (is_one_of test (tests_of tests.old asked) || test == number && is_among asked fixtures.now)) }
+{
+    for fixture in fixtures {
+        note(alloc, tests, fixture.bytes(), number)?;
+    }
+    Ok(())
+}
+
+fn note(alloc: Global, tests: &mut ByFixture, fixture: &[u8], number: u32) -> Result<(), NoMemory>
+    ensures { OnOk result ((asked : List ℕ) (test : ℕ) → is_one_of test (tests_of tests.new asked)
+        ≡ (is_one_of test (tests_of tests.old asked) || test == number && bytes_eq asked fixture.now)) }
+{
+    let mut here = take(alloc, tests, fixture);
+    here.push(number)?;
+    tests.insert(Vec::from_slice(alloc, fixture)?, here)?;
+    Ok(())
+}
+
+/// Takes the tests of a fixture out; it then has none.
+pub(crate) fn take(alloc: Global, tests: &mut ByFixture, fixture: &[u8]) -> Vec<u32>
+    ensures gives { result.items ≡ tests_of tests.old fixture.now }
+    ensures leaves { (asked : List ℕ) → tests_of tests.new asked
+        ≡ (if bytes_eq asked fixture.now then [] else tests_of tests.old asked) }
+{
+    tests.swap_remove(fixture).unwrap_or(Vec::new(alloc))
+}

@@ -1,0 +1,125 @@
+ghost use Rattle.std.specs.Prelude.{◌≡◌, ◌<◌, ◌≤◌, ◌-◌, ◌^◌, ◌||◌, ℕ, [], length, All, IfOk, OnOk, bytes_eq, ◌∷◌, if◌then◌else◌};
+ghost use Rattle.ct_fixture.specs.Drawing.{is_hit as is_hit_by, members_of, props_at, required_by};
+ghost use Rattle.ct_fixture.specs.Kept.{AreLeft, Draws, HaveMarks, TakesFixture, given, tests_of};
+
+use crate::by_fixture::{ByFixture, take};
+use crate::fixtures::Fixtures;
+use crate::members::Members;
+use ct_base::{List, Name, NoMemory};
+use ct_props::{Choice, Props};
+use ct_regex::Regex;
+use std::alloc::Global;
+
+/// Draws in the setups and the cleanups of the fixtures that tests require, and of the fixtures that
+/// these require in turn. Gives the numbers of all tests that are in, in order.
+///
+/// A disabled test is not drawn in, and draws none in; where it is chosen it stays. Numbers count
+/// from 1, in the order of definition.
+///
+/// Source: CMake manual, cmake-properties(7), FIXTURES_REQUIRED; ctest(1), -FA, -FC, -FS.
+pub fn draw_in(
+    alloc: Global,
+    props: &List<Props>,
+    chosen: &List<u32>,
+    choice: &Choice,
+) -> Result<List<u32>, NoMemory>
+    requires few { length props.now < 2 ^ 32 - 1 }
+    requires within { All (λ number. (1 ≤ number) × (number ≤ length props.now)) chosen.now }
+    ensures { IfOk result (λ members. members ≡ members_of choice.now props.now chosen.now) }
+{
+    let props = props.as_slice();
+    let mut fixtures = Fixtures::of(alloc, props)?;
+    let mut members = Members::none(alloc, props.len())?;
+    members.add_all(chosen.as_slice())?;
+    while let Some(number) = members.next() {
+        draw_for(alloc, props, choice, &mut fixtures, &mut members, number)?;
+    }
+    members.into_list(alloc)
+}
+
+/// Adds the tests that the fixtures required by a test draw in.
+fn draw_for(
+    alloc: Global,
+    props: &[Props],
+    choice: &Choice,
+    fixtures: &mut Fixtures,
+    members: &mut Members,
+    number: u32,
+) -> Result<(), NoMemory>
+    requires low { 1 ≤ number }
+    requires there { number ≤ length props.now }
+    requires left { AreLeft choice.now props.now fixtures.old members.old }
+    ensures left { OnOk result (AreLeft choice.now props.now fixtures.new members.new) }
+    ensures drawn { OnOk result (Draws choice.now props.now (required_by (props_at props.now number)) members.old members.new) }
+{
+    let own = &props[number as usize - 1];
+    if own.disabled {
+        return Ok(());
+    }
+    for fixture in own.required.as_slice() {
+        draw(alloc, choice, fixtures, members, fixture)?;
+    }
+    Ok(())
+}
+
+/// Adds the tests that a fixture draws in.
+fn draw(
+    alloc: Global,
+    choice: &Choice,
+    fixtures: &mut Fixtures,
+    members: &mut Members,
+    fixture: &Name,
+) -> Result<(), NoMemory>
+    requires { HaveMarks fixtures.old members.old }
+    ensures { OnOk result (TakesFixture choice.now fixture.now fixtures.old members.old fixtures.new members.new) }
+{
+    let setups = take_unless(
+        alloc,
+        &mut fixtures.setups,
+        fixture,
+        choice,
+        &choice.keep_setup,
+    )?;
+    members.add_all(&setups)?;
+    let cleanups = take_unless(
+        alloc,
+        &mut fixtures.cleanups,
+        fixture,
+        choice,
+        &choice.keep_cleanup,
+    )?;
+    members.add_all(&cleanups)?;
+    Ok(())
+}
+
+/// Takes the tests of a fixture out, and gives them unless -FA or this pattern hits the fixture.
+fn take_unless(
+    alloc: Global,
+    tests: &mut ByFixture,
+    fixture: &Name,
+    choice: &Choice,
+    keep: &Option<Regex>,
+) -> Result<Vec<u32>, NoMemory>
+    ensures gives { IfOk result (λ taken. taken.items ≡ given (is_hit_by choice.now.keep_any fixture.now || is_hit_by keep.now fixture.now) (tests_of tests.old fixture.now)) }
+    ensures leaves { (asked : List ℕ) → tests_of tests.new asked
+        ≡ (if bytes_eq asked fixture.now then [] else tests_of tests.old asked) }
+{
+    let taken = take(alloc, tests, fixture.bytes());
+    if taken.is_empty() {
+        return Ok(taken);
+    }
+    if is_hit(alloc, &choice.keep_any, fixture)? || is_hit(alloc, keep, fixture)? {
+        return Ok(Vec::new(alloc));
+    }
+    Ok(taken)
+}
+
+/// Tells whether a pattern hits a fixture; where there is none, it does not.
+fn is_hit(alloc: Global, pattern: &Option<Regex>, fixture: &Name) -> Result<bool, NoMemory>
+    ensures { IfOk result (λ hit. hit ≡ is_hit_by pattern.now fixture.now) }
+{
+    match pattern {
+        Some(pattern) => pattern.hit(alloc, fixture.bytes()),
+        None => Ok(false),
+    }
+}
