@@ -1,0 +1,6 @@
+pub mod TestLemmas
+pub mod WalkLemmas
+pub mod NameLemmas
+pub mod IndexLemmas
+pub mod RowLemmas
+pub mod OrderLemmas

@@ -1,0 +1,71 @@
+-- Tests that are kept in a map by names: what it has for each name once a test was added, and what it finds by names.
+use Rattle.std.proofs.Common.{ℕ, ◌≡◌, Bool, true, false, cond, ◌&&◌, ◌||◌, bytes_eq, List, [], ◌∷◌, map, Option, Some, None, refl, sym, ap, ◌∙◌, subst, eqb}
+use Rattle.std.specs.List.{list_any, dedup, dedup_from}
+use Rattle.std.specs.Map.{lookup}
+use Rattle.std.specs.BTreeMap.{BTreeMap, UpdatesBy}
+use Rattle.std.specs.Ordering.{nat_cmp, is_eq}
+use Rattle.std.specs.Cmp.Lexicographic.{slice_cmp}
+use Rattle.std.specs.Borrow.{Bor}
+use Rattle.std.specs.declared.vec.Vec.{Vec}
+use Rattle.std.proofs.lemmas.Map.Text.{is_eq-slice_cmp}
+use Rattle.std.proofs.lemmas.Slice.Eq.{bytes_eq-Decides}
+use Rattle.ct_graph.specs.Cycle.{is_in}
+use Rattle.ct_graph.specs.ByName.{or_none, tests_at, is_found_in}
+use Rattle.ct_graph.proofs.TestLemmas.{same_truth}
+
+-- names are the same either way round
+pub bytes_eq_comm : (name other : List ℕ) → bytes_eq name other ≡ bytes_eq other name
+bytes_eq_comm name other =
+    same_truth (bytes_eq name other) (bytes_eq other name)
+    (λ is. (bytes_eq-Decides other name).1 (sym ((bytes_eq-Decides name other).0 is)))
+    (λ is. (bytes_eq-Decides name other).1 (sym ((bytes_eq-Decides other name).0 is)))
+
+or_none-cond : {Y : Type 0} (b : Bool) (tests : Vec ℕ Y) (found : Option (Vec ℕ Y)) → or_none (cond b (Some tests) found) ≡ cond b tests.items (or_none found)
+or_none-cond true tests found = refl
+or_none-cond false tests found = refl
+
+-- a reference to a name
+abbrev key : List ℕ → Bor (List ℕ)
+key name = record { ref_ptr = (0, 0); now = name }
+
+-- what a map has once a name was given these tests
+pub tests_at-updated : {Y : Type 0} (name : Bor (List ℕ)) (before now : BTreeMap (Bor (List ℕ)) (Vec ℕ Y)) (tests : Vec ℕ Y) → UpdatesBy (λ (x y : Bor (List ℕ)). slice_cmp nat_cmp x.now y.now) (λ (k : Bor (List ℕ)). slice_cmp nat_cmp name.now k.now) before now (Some tests) → (other : List ℕ) → tests_at now.entries other ≡ cond (bytes_eq other name.now) tests.items (tests_at before.entries other)
+tests_at-updated name before now tests updates other =
+    ap or_none (updates.0 (key other))
+    ∙ or_none-cond (is_eq (slice_cmp nat_cmp name.now other)) tests (lookup (λ (k : Bor (List ℕ)). is_eq (slice_cmp nat_cmp other k.now)) before.entries)
+    ∙ ap (λ b. cond b tests.items (tests_at before.entries other)) (is_eq-slice_cmp name.now other ∙ bytes_eq_comm name.now other)
+
+pub or_same : (b : Bool) → b ≡ (b || false)
+or_same true = refl
+or_same false = refl
+
+-- the tests of each name, where one name has one test more
+pub is_in-updated : (name other : List ℕ) (tests here there : List ℕ) (test n : ℕ) → (name ≡ other → here ≡ there) → is_in tests n ≡ (is_in here n || eqb test n) → is_in (cond (bytes_eq other name) tests there) n ≡ (is_in there n || (bytes_eq other name && eqb test n))
+is_in-updated name other tests here there test n same more = by (bytes_eq other name) refl
+  where
+    by : (b : Bool) → bytes_eq other name ≡ b → is_in (cond b tests there) n ≡ (is_in there n || (b && eqb test n))
+    by true is = more ∙ ap (λ ts. is_in ts n || eqb test n) (same (sym ((bytes_eq-Decides other name).0 is)))
+    by false is = or_same (is_in there n)
+
+once_more : (b c : Bool) → (b || c) ≡ (b || (b || c))
+once_more true c = refl
+once_more false c = refl
+
+dedup_by : {X : Type 0} (same : X → X → Bool) (p : X → Bool) (k x : X) (xs : List X) → (same x k ≡ true → p x ≡ p k) → list_any p (dedup_from same k xs) ≡ (p k || list_any p xs) → list_any p (dedup_from same x xs) ≡ (p x || list_any p xs) → (b : Bool) → same x k ≡ b → list_any p (cond b (dedup_from same k xs) (k ∷ dedup_from same x xs)) ≡ (p k || (p x || list_any p xs))
+dedup_by same p k x xs alike first second true is =
+    first ∙ once_more (p k) (list_any p xs) ∙ ap (λ b. p k || (b || list_any p xs)) (sym (alike is))
+dedup_by same p k x xs alike first second false is = ap (λ b. p k || b) second
+
+dedup_any : {X : Type 0} (same : X → X → Bool) (p : X → Bool) → ((x y : X) → same x y ≡ true → p x ≡ p y) → (k : X) (xs : List X) → list_any p (dedup_from same k xs) ≡ (p k || list_any p xs)
+dedup_any same p alike k [] = refl
+dedup_any same p alike k (x ∷ xs) =
+    dedup_by same p k x xs (alike x k) (dedup_any same p alike k xs) (dedup_any same p alike x xs) (same x k) refl
+
+-- a test that treats what is the same alike finds as much once repeats are gone
+pub list_any-dedup : {X : Type 0} (same : X → X → Bool) (p : X → Bool) → ((x y : X) → same x y ≡ true → p x ≡ p y) → (xs : List X) → list_any p (dedup same xs) ≡ list_any p xs
+list_any-dedup same p alike [] = refl
+list_any-dedup same p alike (x ∷ xs) = dedup_any same p alike x xs
+
+pub list_any-map : {X Y : Type 0} (h : X → Y) (p : Y → Bool) (xs : List X) → list_any p (map h xs) ≡ list_any (λ x. p (h x)) xs
+list_any-map h p [] = refl
+list_any-map h p (x ∷ xs) = ap (λ b. p (h x) || b) (list_any-map h p xs)

@@ -1,0 +1,9 @@
+use Rattle.std.proofs.Common.{◌≡◌, ◌≤◌, take, length, sum_by}
+use Rattle.ct_graph.specs.Rows.{AreRows, before_in}
+use Rattle.ct_graph.proofs.rows.rows.Given as goal
+
+abbrev pub invariant-loop-number : goal.invariant-loop-number
+invariant-loop-number l =
+    AreRows (before_in l.index) (length l.index.props.now) (take l.number-index l.index.members.now) l.rows.items
+    × (l.edges ≡ sum_by (λ number. length (before_in l.index number)) (take l.number-index l.index.members.now))
+    × (l.edges ≤ l.most)

@@ -1,0 +1,54 @@
+-- Which tests come before a test. Source: CMake manual, cmake-properties(7), DEPENDS, FIXTURES_SETUP, FIXTURES_REQUIRED,
+-- FIXTURES_CLEANUP. That a cleanup waits for the setups too is this project's choice.
+use Rattle.std.specs.Prelude.{ℕ, ◌-◌, bytes_eq, Bool, false, not, ◌&&◌, ◌||◌, List, filter, Option, Some, slice_get}
+use Rattle.std.specs.List.{list_any}
+use Rattle.ct_base.specs.declared.defs.TestDef.{TestDef}
+use Rattle.ct_props.specs.declared.props.Props.{Props}
+
+-- the name is one of these
+abbrev pub is_among : List ℕ → List (List ℕ) → Bool
+is_among name others = list_any (λ other. bytes_eq name other) others
+
+-- some name stands in both lists
+abbrev pub shares_name : List (List ℕ) → List (List ℕ) → Bool
+shares_name names others = list_any (λ name. is_among name others) names
+
+-- the later test depends on the name of the earlier one
+abbrev pub depends_on : TestDef → Props → Bool
+depends_on earlier later = is_among earlier.name later.depends
+
+-- the later test requires a fixture that the earlier one sets up
+abbrev pub is_set_up_by : Props → Props → Bool
+is_set_up_by earlier later = shares_name later.required earlier.setup
+
+-- the later test cleans a fixture that the earlier one requires or sets up
+abbrev pub cleans_behind : Props → Props → Bool
+cleans_behind earlier later = shares_name later.cleanup earlier.required || shares_name later.cleanup earlier.setup
+
+-- neither of two tests is disabled
+abbrev pub are_enabled : Props → Props → Bool
+are_enabled earlier later = not earlier.disabled && not later.disabled
+
+-- what a list has for the test with this number, counted from 1
+abbrev pub at_number : {X : Type 0} → List X → ℕ → Option X
+at_number items number = slice_get items (number - 1)
+
+-- a test that is not disabled comes before another: that one depends on its name, requires what it sets up, or cleans behind it
+abbrev pub comes_before : Option TestDef → Option Props → Option Props → Bool
+comes_before (Some def) (Some earlier) (Some later) =
+    are_enabled earlier later && (depends_on def later || is_set_up_by earlier later || cleans_behind earlier later)
+comes_before _ _ _ = false
+
+-- a test that is not disabled sets up a fixture that another one requires
+abbrev pub sets_up : Option Props → Option Props → Bool
+sets_up (Some earlier) (Some later) = are_enabled earlier later && is_set_up_by earlier later
+sets_up _ _ = false
+
+-- the members that come before a test, in order
+abbrev pub before_of : List TestDef → List Props → List ℕ → ℕ → List ℕ
+before_of defs props members number =
+    filter (λ j. comes_before (at_number defs j) (at_number props j) (at_number props number)) members
+
+-- the members that set up a fixture that a test requires, in order
+abbrev pub setups_of : List Props → List ℕ → ℕ → List ℕ
+setups_of props members number = filter (λ j. sets_up (at_number props j) (at_number props number)) members

@@ -1,0 +1,27 @@
+-- The tests that are kept by names. This project's own.
+use Rattle.std.specs.Prelude.{◌≡◌, ℕ, Bool, List, [], Option, Some, None}
+use Rattle.std.specs.List.{list_any}
+use Rattle.std.specs.Map.{lookup}
+use Rattle.std.specs.Ordering.{nat_cmp, is_eq}
+use Rattle.std.specs.Cmp.Lexicographic.{slice_cmp}
+use Rattle.std.specs.Borrow.{Bor}
+use Rattle.std.specs.declared.vec.Vec.{Vec}
+use Rattle.ct_graph.specs.Cycle.{is_in}
+use Rattle.ct_graph.specs.declared.by_name.ByName.{ByName}
+
+-- the numbers, where there are any
+abbrev pub or_none : {Y : Type 0} → Option (Vec ℕ Y) → List ℕ
+or_none None = []
+or_none (Some tests) = tests.items
+
+-- the tests that stand with a name in a map
+abbrev pub tests_at : {Y : Type 0} → List (Bor (List ℕ) × Vec ℕ Y) → List ℕ → List ℕ
+tests_at entries name = or_none (lookup (λ (key : Bor (List ℕ)). is_eq (slice_cmp nat_cmp name key.now)) entries)
+
+-- the tests that are kept by a name
+abbrev pub tests_of : ByName → List ℕ → List ℕ
+tests_of kept name = tests_at kept.tests.entries name
+
+-- the test is found by one of these names
+abbrev pub is_found_in : (List ℕ → List ℕ) → List (List ℕ) → ℕ → Bool
+is_found_in tests names n = list_any (λ name. is_in (tests name) n) names

@@ -1,0 +1,115 @@
+ghost use Rattle.std.specs.Prelude.{◌≡◌, ℕ, ◌||◌, ◌&&◌, ◌==◌, [], List as Bytes, Bool, IfOk, OnOk, bytes_eq};
+ghost use Rattle.std.specs.List.{list_any};
+ghost use Rattle.std.specs.List.Sorted.{IsStrictlyIncreasing};
+ghost use Rattle.ct_graph.specs.Before.{is_among};
+ghost use Rattle.ct_graph.specs.Cycle.{is_in};
+ghost use Rattle.ct_graph.specs.ByName.{tests_of, is_found_in};
+
+use ct_base::{List, Name, NoMemory};
+use std::alloc::Global;
+use std::collections::BTreeMap;
+
+/// Numbers of tests by names.
+#[derive(Drop)]
+pub(crate) struct ByName<'a> {
+    tests: BTreeMap<&'a [u8], Vec<u32>>,
+}
+
+impl<'a> ByName<'a> {
+    /// Makes the list without a name.
+    pub(crate) fn new(alloc: Global) -> ByName<'a>
+        ensures { (name : Bytes ℕ) → tests_of result name ≡ [] }
+    {
+        ByName {
+            tests: BTreeMap::new(alloc),
+        }
+    }
+
+    /// Looks up the tests of a name.
+    fn tests(&self, name: &'a [u8]) -> &[u32]
+        ensures { result.now ≡ tests_of self.now name.now }
+    {
+        match self.tests.get(&name) {
+            Some(tests) => tests.as_slice(),
+            None => &[],
+        }
+    }
+
+    /// Puts a test behind the others of a name, unless it is the last of them.
+    pub(crate) fn add(&mut self, alloc: Global, name: &'a [u8], test: u32) -> Result<(), NoMemory>
+        ensures { OnOk result ((other : Bytes ℕ) (n : ℕ) → is_in (tests_of self.new other) n ≡ (is_in (tests_of self.old other) n || (bytes_eq other name.now && test == n))) }
+    {
+        if let Some(tests) = self.tests.get_mut(&name) {
+            push_once(tests, test)?;
+            return Ok(());
+        }
+        let mut tests = Vec::new(alloc);
+        tests.push(test)?;
+        self.tests.insert(name, tests)?;
+        Ok(())
+    }
+
+    /// Puts a test behind the others of some names.
+    pub(crate) fn add_all(
+        &mut self,
+        alloc: Global,
+        names: &'a [Name],
+        test: u32,
+    ) -> Result<(), NoMemory>
+        ensures { OnOk result ((other : Bytes ℕ) (n : ℕ) → is_in (tests_of self.new other) n ≡ (is_in (tests_of self.old other) n || (is_among other names.now && test == n))) }
+    {
+        for name in names {
+            self.add(alloc, name.bytes(), test)?;
+        }
+        Ok(())
+    }
+
+    /// Puts the tests of some names behind those that were found.
+    pub(crate) fn find_all(
+        &self,
+        alloc: Global,
+        names: &'a [Name],
+        found: &mut Vec<u32>,
+    ) -> Result<(), NoMemory>
+        ensures { OnOk result ((n : ℕ) → is_in found.new.items n ≡ (is_in found.old.items n || is_found_in (tests_of self.now) names.now n)) }
+    {
+        let sorted = each_once(alloc, names)?;
+        for name in &sorted {
+            found.extend_from_slice(self.tests(name))?;
+        }
+        Ok(())
+    }
+}
+
+fn push_once(tests: &mut Vec<u32>, test: u32) -> Result<(), NoMemory>
+    ensures { OnOk result ((n : ℕ) → is_in tests.new.items n ≡ (is_in tests.old.items n || test == n)) }
+{
+    if tests.last() != Some(&test) {
+        tests.push(test)?;
+    }
+    Ok(())
+}
+
+/// Gives the names in order of bytes, a repeated one once.
+fn each_once(alloc: Global, names: &[Name]) -> Result<Vec<&[u8]>, NoMemory>
+    ensures { IfOk result (λ sorted. (p : Bytes ℕ → Bool) → list_any (λ name. p name.now) sorted.items ≡ list_any p names.now) }
+{
+    let mut sorted = Vec::new(alloc);
+    for name in names {
+        sorted.push(name.bytes())?;
+    }
+    sorted.sort_unstable();
+    sorted.dedup();
+    Ok(sorted)
+}
+
+/// Puts numbers of tests in order, a repeated one once.
+pub(crate) fn in_order(tests: Vec<u32>) -> List<u32>
+    ensures ascending { IsStrictlyIncreasing result }
+    ensures same { (n : ℕ) → is_in result n ≡ is_in tests.items n }
+{
+    let mut tests = tests;
+    tests.sort_unstable();
+    tests.dedup();
+    List::from_vec(tests)
+}
