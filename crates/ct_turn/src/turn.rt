@@ -6,6 +6,7 @@ use crate::{Pass, View};
 use atomic_table::{Refused, Seat, Table};
 use ct_history::Board;
 use std::alloc::Global;
+use std::hint::spin_loop;
 use std::marker::Model;
 use std::snapshot::Snapshot;
 use std::sync::Wait;
@@ -18,7 +19,11 @@ const ROUND: usize = 1;
 
 const FREE: u64 = 0;
 
+/// A pass has it, and no taker sleeps.
 const HELD: u64 = 1;
+
+/// A pass has it, and a taker may sleep until it is free.
+const AWAITED: u64 = 2;
 
 /// The slot with the state.
 const STATE: usize = 0;
@@ -118,19 +123,24 @@ impl<T: Board> Turn<T> {
         let shared = &self.table.shared;
         let mut spins: u32 = 0;
         for _ in rt.forever() {
-            if shared.compare_exchange::<Take<T>>(seat, TURN, FREE, HELD) == FREE {
-                return;
-            }
             if spins < SPINS {
+                if shared.compare_exchange::<Take<T>>(seat, TURN, FREE, HELD) == FREE {
+                    return;
+                }
                 spins += 1;
+                spin_loop();
             } else {
-                shared.park(rt, TURN, 1);
+                // Who slept says that others may sleep: it cannot know that it was the only one.
+                if shared.swap::<Take<T>>(seat, TURN, AWAITED) == FREE {
+                    return;
+                }
+                shared.park(rt, TURN, 2);
             }
         }
         unreachable!()
     }
 
-    /// Gives the turn back with this state, and wakes who waits for it.
+    /// Gives the turn back with this state, and wakes one that waits for it, if any does.
     pub fn give(&self, pass: &mut Pass, state: T)
         requires turn { pass.old.turn ≡ self.now.id }
         requires continues { IsSomeAnd pass.old.taken (λ taken.
@@ -147,10 +157,12 @@ impl<T: Board> Turn<T> {
             Some(_) => unreachable!(),
             None => {}
         }
-        let _ = shared.swap::<Free<T>>(&mut seat, TURN, FREE);
+        let found = shared.swap::<Free<T>>(&mut seat, TURN, FREE);
         pass.badge = seat.into_badge();
         pass.round = low_half(round.wrapping_add(u64::from(grown)));
-        shared.wake_one(TURN);
+        if found == AWAITED {
+            shared.wake_one(TURN);
+        }
         if grown {
             shared.wake_all(ROUND);
         }

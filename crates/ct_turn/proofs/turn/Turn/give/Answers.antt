@@ -24,8 +24,8 @@ fetch_add-round-requires g c =
           (counts-round see opened seat.id (away (known_in views) (taken_in views)) t.0 by seat.me c.sit-seat.ensures.1 has (ap is_some has)),
     )
 
-pub swap-requires : goal.swap-requires
-swap-requires g c =
+pub swap-found-requires : goal.swap-found-requires
+swap-found-requires g c =
     let see = sight g.T.Board.plan g.T.Board.base g.T.Board.history g.T.Board.halted in
     let opened = c.self.inside.table.shared.key.value in
     let seat = c.exchange-empty.new.seat in
