@@ -1,0 +1,2 @@
+-- What the functions' proofs rest on.
+pub mod RaceLemmas
