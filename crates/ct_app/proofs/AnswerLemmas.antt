@@ -10,10 +10,11 @@ use Rattle.ct_history.specs.declared.history.Entry.{Entry}
 use Rattle.ct_core.specs.Gate.{GateTell}
 use Rattle.ct_app.specs.declared.outcome.Outcome.{Outcome}
 use Rattle.ct_app.specs.declared.outcome.Outcome.TheVariants.{Completed, Usage, Refused, FilesFault, OutputFault, Memory}
-use Rattle.ct_app.specs.Answers.{Answers, HasRunWith, IsCutOff, IsGivenUp, IsReadFault, IsRefusal, IsReported, IsRun, IsShort, IsUnrun, IsUsage, PutsOrFails, ThenLine, Tries, sides}
-use Rattle.ct_app.specs.Ends.{Ends, PlanEnds, TellsEnd, Told}
+use Rattle.ct_app.specs.Answers.{Answers, HasRunWith, IsCutOff, IsLeft, IsReadFault, IsRefusal, IsReported, IsRun, IsShort, IsShortRun, IsUnrun, IsUsage, IsWriteFault, PutsOrFails, ThenLine, Tries, sides}
+use Rattle.ct_app.specs.Ends.{Ends, RunLeaves, TellsEnd, Told}
 use Rattle.ct_app.specs.Gates.{AreAsked, are_below}
 use Rattle.ct_app.specs.Outcome.{fault_line, fault_status, status_of}
+use Rattle.ct_app.specs.RunFiles.{FilesStay}
 use Rattle.ct_app.proofs.GateLemmas.{asked_first}
 
 -- what holds of a plan and a history that are there
@@ -68,42 +69,49 @@ module _ (words : List (List ℕ)) (env : List Pair) (files files_now : FilesTel
   -- an outcome whose line is put behind nothing
   line_told : (o outcome : Outcome) (status : ℕ) → mid ≡ sink → Told o outcome mid now → status ≡ fault_status outcome → (PutsOrFails (fault_line o) sink now → Answers (sides words env files files_now gates gates_now sink now plan history) o (fault_status o)) → (Puts (fault_line o) sink now (Err Sinks.NoMemory) → IsShort (sides words env files files_now gates gates_now sink now plan history) o) → Answers (sides words env files files_now gates gates_now sink now plan history) outcome status
   line_told o outcome status unput (inl (is, puts)) status_is answers short = at o outcome status is status_is (answers (subst (λ (t : SinkTell). PutsOrFails (fault_line o) t now) unput puts))
-  line_told o outcome status unput (inr (is, puts)) status_is answers short = at Memory outcome status is status_is (inl (o, short (subst (λ (t : SinkTell). Puts (fault_line o) t now (Err Sinks.NoMemory)) unput puts)), refl)
+  line_told o outcome status unput (inr (is, puts)) status_is answers short = at Memory outcome status is status_is ((o, inl (short (subst (λ (t : SinkTell). Puts (fault_line o) t now (Err Sinks.NoMemory)) unput puts))), refl)
 
   memory_tried : (outcome : Outcome) → Told Memory outcome mid now → (outcome ≡ Memory) × Tries (fault_line Memory) mid now
   memory_tried outcome (inl (is, puts)) = (is, tried (fault_line Memory) mid now puts)
   memory_tried outcome (inr (is, puts)) = (is, (Err Sinks.NoMemory, puts))
 
+  -- the files failed behind the report
+  write_fault_told : (path : List ℕ) (outcome : Outcome) (status : ℕ) → HasRunWith (sides words env files files_now gate gate_now sink mid plan history) (λ p es. RunLeaves (sides words env files files_now gate gate_now sink mid plan history) p es (Err (FilesFault path))) → Told (FilesFault path) outcome mid now → status ≡ fault_status outcome → Answers (sides words env files files_now gates gates_now sink now plan history) outcome status
+  write_fault_told path outcome status run (inl (is, puts)) status_is =
+      at (FilesFault path) outcome status is status_is (inr (ran_late (λ p es. RunLeaves (sides words env files files_now gate gate_now sink mid plan history) p es (Err (FilesFault path))) (λ p es. IsWriteFault (sides words env files files_now gates gates_now sink now plan history) path p es × ThenLine (IsReported p es sink) (λ middle. PutsOrFails (fault_line (FilesFault path)) middle now)) (λ p es was. (was.0, record { middle = mid; first = was.1; line = puts })) run), refl)
+  write_fault_told path outcome status run (inr (is, puts)) status_is =
+      at Memory outcome status is status_is ((FilesFault path, inr (ran_late (λ p es. RunLeaves (sides words env files files_now gate gate_now sink mid plan history) p es (Err (FilesFault path))) (IsShortRun (sides words env files files_now gates gates_now sink now plan history) (FilesFault path)) (λ p es was. (was.0, record { middle = mid; first = was.1; line = puts })) run)), refl)
+
   pub told_answer : (ended : Result ℕ Outcome) (outcome : Outcome) (status : ℕ) → Ends (sides words env files files_now gate gate_now sink mid plan history) ended → TellsEnd ended outcome status mid now → Answers (sides words env files files_now gates gates_now sink now plan history) outcome status
-  told_answer (Ok st) outcome status (inl (run, stay)) (is, status_is, unput) =
-      let reports = ran_late (λ p es. PlanEnds p es sink mid (Ok st)) (λ p es. IsReported p es sink now × (st ≡ status_of p es)) (λ p es was. (subst (λ (t : SinkTell). IsReported p es sink t) (sym unput) was.0, was.1)) run in
-      subst (λ (n : ℕ). Answers (sides words env files files_now gates gates_now sink now plan history) outcome n) (sym status_is) (subst (λ (x : Outcome). Answers (sides words env files files_now gates gates_now sink now plan history) x st) (sym is) (reports, stay))
+  told_answer (Ok st) outcome status (inl run) (is, status_is, unput) =
+      let reports = ran_late (λ p es. RunLeaves (sides words env files files_now gate gate_now sink mid plan history) p es (Ok st)) (λ p es. IsReported p es sink now × IsLeft (sides words env files files_now gates gates_now sink now plan history) p es × (st ≡ status_of p es)) (λ p es was. (subst (λ (t : SinkTell). IsReported p es sink t) (sym unput) was.0, was.1, was.2)) run in
+      subst (λ (n : ℕ). Answers (sides words env files files_now gates gates_now sink now plan history) outcome n) (sym status_is) (subst (λ (x : Outcome). Answers (sides words env files files_now gates gates_now sink now plan history) x st) (sym is) reports)
   told_answer (Ok st) outcome status (inr (never, unput)) told = absurd never
-  told_answer (Err Completed) outcome status (inl (run, stay)) told = absurd (none_ran (λ p es. PlanEnds p es sink mid (Err Completed)) (λ p es none. none) run)
+  told_answer (Err Completed) outcome status (inl run) told = absurd (none_ran (λ p es. RunLeaves (sides words env files files_now gate gate_now sink mid plan history) p es (Err Completed)) (λ p es none. none) run)
   told_answer (Err Completed) outcome status (inr (never, unput)) told = absurd never
-  told_answer (Err (Usage word kind)) outcome status (inl (run, stay)) told = absurd (none_ran (λ p es. PlanEnds p es sink mid (Err (Usage word kind))) (λ p es none. none) run)
+  told_answer (Err (Usage word kind)) outcome status (inl run) told = absurd (none_ran (λ p es. RunLeaves (sides words env files files_now gate gate_now sink mid plan history) p es (Err (Usage word kind))) (λ p es none. none) run)
   told_answer (Err (Usage word kind)) outcome status (inr (usage, unput)) told =
       let late_usage : IsUsage (sides words env files files_now gates gates_now sink now plan history) word = record { some_words = usage.some_words; first = usage.first; files = usage.files; unrun = unrun_late usage.unrun } in
       line_told (Usage word kind) outcome status unput told.0 told.1 (λ puts. (late_usage, puts, refl)) (λ puts. (late_usage, puts))
-  told_answer (Err (Refused refusal)) outcome status (inl (run, stay)) told = absurd (none_ran (λ p es. PlanEnds p es sink mid (Err (Refused refusal))) (λ p es none. none) run)
+  told_answer (Err (Refused refusal)) outcome status (inl run) told = absurd (none_ran (λ p es. RunLeaves (sides words env files files_now gate gate_now sink mid plan history) p es (Err (Refused refusal))) (λ p es none. none) run)
   told_answer (Err (Refused refusal)) outcome status (inr (refused, unput)) told =
       let late_refusal : IsRefusal (sides words env files files_now gates gates_now sink now plan history) refusal = record { no_words = refused.no_words; read = refused.read; files = refused.files; unrun = unrun_late refused.unrun } in
       line_told (Refused refusal) outcome status unput told.0 told.1 (λ puts. (late_refusal, puts, refl)) (λ puts. (late_refusal, puts))
-  told_answer (Err (FilesFault path)) outcome status (inl (run, stay)) told = absurd (none_ran (λ p es. PlanEnds p es sink mid (Err (FilesFault path))) (λ p es none. none) run)
+  told_answer (Err (FilesFault path)) outcome status (inl run) told = write_fault_told path outcome status run told.0 told.1
   told_answer (Err (FilesFault path)) outcome status (inr (fault, unput)) told =
-      let late_fault : IsReadFault (sides words env files files_now gates gates_now sink now plan history) path = record { no_words = fault.no_words; failed = fault.failed; kept = fault.kept; unrun = unrun_late fault.unrun } in
+      let late_fault : IsReadFault (sides words env files files_now gates gates_now sink now plan history) path = record { no_words = fault.no_words; files = fault.files; unrun = unrun_late fault.unrun } in
       line_told (FilesFault path) outcome status unput told.0 told.1 (λ puts. (inl (late_fault, puts), refl)) (λ puts. (late_fault, puts))
-  told_answer (Err OutputFault) outcome status (inl (run, stay)) told =
-      let cut = ran_late (λ p es. PlanEnds p es sink mid (Err OutputFault)) (λ p es. IsCutOff p es sink now) (λ p es was. subst (λ (t : SinkTell). IsCutOff p es sink t) (sym told.0.1) was) run in
-      at OutputFault outcome status told.0.0 told.1 (cut, stay, refl)
+  told_answer (Err OutputFault) outcome status (inl run) told =
+      let cut = ran_late (λ p es. RunLeaves (sides words env files files_now gate gate_now sink mid plan history) p es (Err OutputFault)) (λ p es. IsCutOff p es sink now × FilesStay files files_now) (λ p es was. (subst (λ (t : SinkTell). IsCutOff p es sink t) (sym told.0.1) was.0, was.1)) run in
+      at OutputFault outcome status told.0.0 told.1 (cut, refl)
   told_answer (Err OutputFault) outcome status (inr (never, unput)) told = absurd never
-  told_answer (Err Memory) outcome status (inl (run, stay)) told =
+  told_answer (Err Memory) outcome status (inl run) told =
       let tries = memory_tried outcome told.0 in
-      let given_up = ran_late (λ p es. PlanEnds p es sink mid (Err Memory)) (λ p es. ThenLine (λ middle. IsGivenUp p es sink middle) (λ middle. Tries (fault_line Memory) middle now)) (λ p es was. record { middle = mid; first = was; line = tries.1 }) run in
-      at Memory outcome status tries.0 told.1 (inr (given_up, stay), refl)
+      let short = ran_late (λ p es. RunLeaves (sides words env files files_now gate gate_now sink mid plan history) p es (Err Memory)) (IsShortRun (sides words env files files_now gates gates_now sink now plan history) Memory) (λ p es was. record { middle = mid; first = was; line = tries.1 }) run in
+      at Memory outcome status tries.0 told.1 ((Memory, inr short), refl)
   told_answer (Err Memory) outcome status (inr (unrun, unput)) told =
       let tries = memory_tried outcome told.0 in
-      at Memory outcome status tries.0 told.1 (inl (Memory, (unrun_late unrun.0, unrun.1, subst (λ (t : SinkTell). Tries (fault_line Memory) t now) unput tries.1)), refl)
+      at Memory outcome status tries.0 told.1 ((Memory, inl (unrun_late unrun.0, unrun.1, subst (λ (t : SinkTell). Tries (fault_line Memory) t now) unput tries.1)), refl)
 
 -- what all gates tell, from what the first does
 module _ {G : Type 0} (tells : G → GateTell) (gates : List G) (gate new : G) (some : 0 < length gates) (is : gate ≡ get_or gates 0 gate) where

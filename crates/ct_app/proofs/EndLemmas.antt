@@ -30,40 +30,40 @@ ends_as plan es sink now (Ok tt) put ends = (record { complete = ends.0; memory 
 ends_as plan es sink now (Err Sinks.Failed) put ends = record { memory = ends; put = put }
 ends_as plan es sink now (Err Sinks.NoMemory) put ends = record { why = ends; put = put }
 
--- the run of a core
 -- a legal history stays within the plan at each moment
 legal_stays_within : (plan : PlanParts) (es : List Entry) → is_legal plan es ≡ true → StaysWithin plan es
 legal_stays_within plan es legal = stays_within plan es (and_parts (is_allowed_so_far plan es) (not (is_stop_due plan es)) legal).0
 
-module _ (env : List Pair) (tests : Tests) (gate new : GateTell) (sink now : SinkTell) (core : CoreValue) (ran : Result (Unit {0}) SinkFault) where
-  pub core_ends : (p : PlanParts) (es : List Entry) (ended : Result ℕ Outcome) → p ≡ core.plan → es ≡ core.entries → core.plan ≡ plan_of here tests → is_legal core.plan core.entries ≡ true → IsBetween tests core → IsAsked env tests 0 gate new core.entries → Puts (report_text core.plan core.entries) sink now ran → RunEnds (header_line core.plan) core.plan core.entries sink now ran → ended ≡ ended_as ran core.plan core.entries → IsRunOf env tests (gate ∷ []) (new ∷ []) p es × PlanEnds p es sink now ended
-  core_ends p es ended plan_is entries_are planned legal between asked put ends is =
-      subst (λ (q : PlanParts). IsRunOf env tests (gate ∷ []) (new ∷ []) q es × PlanEnds q es sink now ended) (sym plan_is)
-      (subst (λ (xs : List Entry). IsRunOf env tests (gate ∷ []) (new ∷ []) core.plan xs × PlanEnds core.plan xs sink now ended) (sym entries_are)
-      (run, subst (λ (o : Result ℕ Outcome). PlanEnds core.plan core.entries sink now o) (sym is) (ends_as core.plan core.entries sink now ran put ends)))
-    where
-      run : IsRunOf env tests (gate ∷ []) (new ∷ []) core.plan core.entries
-      run = record {
-        planned = planned;
-        legal = legal;
-        within = legal_stays_within core.plan core.entries legal;
-        closed = between.closed;
-        workers = between.workers;
-        asked = (asked, tt);
-      }
+pub core_ran : (env : List Pair) (tests : Tests) (gate new : GateTell) (core : CoreValue) (p : PlanParts) (es : List Entry) → p ≡ core.plan → es ≡ core.entries → core.plan ≡ plan_of here tests → is_legal core.plan core.entries ≡ true → IsBetween tests core → IsAsked env tests 0 gate new core.entries → IsRunOf env tests (gate ∷ []) (new ∷ []) p es
+core_ran env tests gate new core p es plan_is entries_are planned legal between asked =
+    subst (λ (q : PlanParts). IsRunOf env tests (gate ∷ []) (new ∷ []) q es) (sym plan_is)
+    (subst (λ (xs : List Entry). IsRunOf env tests (gate ∷ []) (new ∷ []) core.plan xs) (sym entries_are) (record {
+      planned = planned;
+      legal = legal;
+      within = legal_stays_within core.plan core.entries legal;
+      closed = between.closed;
+      workers = between.workers;
+      asked = (asked, tt);
+    }))
+
+pub core_ends : (sink now : SinkTell) (core : CoreValue) (ran : Result (Unit {0}) SinkFault) (p : PlanParts) (es : List Entry) (ended : Result ℕ Outcome) → p ≡ core.plan → es ≡ core.entries → Puts (report_text core.plan core.entries) sink now ran → RunEnds (header_line core.plan) core.plan core.entries sink now ran → ended ≡ ended_as ran core.plan core.entries → PlanEnds p es sink now ended
+core_ends sink now core ran p es ended plan_is entries_are put ends is =
+    subst (λ (q : PlanParts). PlanEnds q es sink now ended) (sym plan_is)
+    (subst (λ (xs : List Entry). PlanEnds core.plan xs sink now ended) (sym entries_are)
+    (subst (λ (o : Result ℕ Outcome). PlanEnds core.plan core.entries sink now o) (sym is) (ends_as core.plan core.entries sink now ran put ends)))
 
 -- the run of a plan that could not be opened
-pub unopened : (env : List Pair) (tests : Tests) (gate : GateTell) (sink : SinkTell) (p : PlanParts) (es : List Entry) → p ≡ plan_of here tests → es ≡ [] → IsRunOf env tests (gate ∷ []) (gate ∷ []) p es × IsGivenUp p es sink sink
-unopened env tests gate sink p es planned none =
-    subst (λ (xs : List Entry). IsRunOf env tests (gate ∷ []) (gate ∷ []) p xs × IsGivenUp p xs sink sink) (sym none)
-    (subst (λ (q : PlanParts). IsRunOf env tests (gate ∷ []) (gate ∷ []) q [] × IsGivenUp q [] sink sink) (sym planned) (
-      record {
-        planned = refl;
-        legal = legal-nil (plan_of here tests);
-        within = legal_stays_within (plan_of here tests) [] (legal-nil (plan_of here tests));
-        closed = refl;
-        workers = refl;
-        asked = (asked_none env tests 0 gate, tt);
-      },
-      record { why = inl refl; put = puts_none sink (report_text (plan_of here tests) []) },
-    ))
+pub unopened_ran : (env : List Pair) (tests : Tests) (gate : GateTell) (p : PlanParts) (es : List Entry) → p ≡ plan_of here tests → es ≡ [] → IsRunOf env tests (gate ∷ []) (gate ∷ []) p es
+unopened_ran env tests gate p es planned none =
+    subst (λ (xs : List Entry). IsRunOf env tests (gate ∷ []) (gate ∷ []) p xs) (sym none)
+    (subst (λ (q : PlanParts). IsRunOf env tests (gate ∷ []) (gate ∷ []) q []) (sym planned) (record {
+      planned = refl;
+      legal = legal-nil (plan_of here tests);
+      within = legal_stays_within (plan_of here tests) [] (legal-nil (plan_of here tests));
+      closed = refl;
+      workers = refl;
+      asked = (asked_none env tests 0 gate, tt);
+    }))
+
+pub unopened_ends : (sink : SinkTell) (p : PlanParts) (es : List Entry) → es ≡ [] → IsGivenUp p es sink sink
+unopened_ends sink p es none = subst (λ (xs : List Entry). IsGivenUp p xs sink sink) (sym none) (record { why = inl refl; put = puts_none sink (report_text p []) })

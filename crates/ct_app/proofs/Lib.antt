@@ -7,6 +7,9 @@ pub mod AskLemmas
 pub mod StepLemmas
 pub mod AlongLemmas
 pub mod ReportLemmas
+pub mod ChangeLemmas
+pub mod RunFilesLemmas
 pub mod ReadLemmas
 pub mod EndLemmas
+pub mod LeaveLemmas
 pub mod AnswerLemmas

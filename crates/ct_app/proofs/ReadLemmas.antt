@@ -7,8 +7,9 @@ use Rattle.ct_testfile.specs.Tree.{tree_of}
 use Rattle.ct_app.specs.declared.outcome.Outcome.{Outcome}
 use Rattle.ct_app.specs.declared.outcome.Outcome.TheVariants.{Completed, Usage, Refused, FilesFault, OutputFault, Memory}
 use Rattle.ct_app.specs.declared.outcome.Refusal.TheVariants.{TestFile, Prop}
-use Rattle.ct_app.specs.Answers.{FilesStay, here}
+use Rattle.ct_app.specs.Answers.{here}
 use Rattle.ct_app.specs.Ends.{IsUnread}
+use Rattle.ct_app.specs.RunFiles.{FilesStay}
 use Rattle.ct_app.specs.Tests.{RefusesTests}
 
 pub unread_props : (before now : FilesTell) (defs : List TestDef) (outcome : Outcome) → RefusesTests defs outcome → IfSome before.held (λ held. tree_of held here [] ≡ Ok defs) → FilesStay before now → IsUnread before now outcome

@@ -1,10 +1,10 @@
 -- What each outcome of a top call says: all that was read, run, asked, written. This project's own.
-use Rattle.std.specs.Prelude.{◌≡◌, ◌⊎◌, ℕ, ◌<◌, true, List, [], ◌∷◌, length, Option, Some, None, Result, Ok, Err, IfSome, IsSomeAnd, Contains, codes}
+use Rattle.std.specs.Prelude.{◌≡◌, ◌⊎◌, ℕ, ◌<◌, true, List, [], ◌∷◌, length, Option, Some, None, Result, Ok, Err, IfSome, IsSomeAnd, codes}
 use Rattle.ct_base.specs.declared.defs.Pair.{Pair}
 use Rattle.ct_base.specs.declared.defs.TestDef.{TestDef}
 use Rattle.ct_base.specs.declared.sink.SinkFault.{SinkFault}
 use Rattle.ct_base.specs.declared.sink.SinkFault.TheVariants as Sinks
-use Rattle.ct_base.specs.Outside.{Becomes, FilesTell, Held, Puts, Rose, SameHeld, SinkTell}
+use Rattle.ct_base.specs.Outside.{FilesTell, Held, Puts, SameHeld, SinkTell}
 use Rattle.ct_testfile.specs.declared.fault.ReadFault.TheVariants as Read
 use Rattle.ct_testfile.specs.Tree.{tree_of}
 use Rattle.ct_history.specs.declared.plan.PlanParts.{PlanParts}
@@ -23,6 +23,7 @@ use Rattle.ct_app.specs.Gates.{AreAsked, are_below, had_memory}
 use Rattle.ct_app.specs.Outcome.{fault_line, status_of}
 use Rattle.ct_app.specs.PlanOf.{plan_of}
 use Rattle.ct_app.specs.Run.{RunEnds}
+use Rattle.ct_app.specs.RunFiles.{FilesFail, FilesServe, FilesStay, Leaves, LeavesPart, LeavesTorn, WithLast}
 
 -- the folder of a run without options
 abbrev pub here : List ℕ
@@ -55,25 +56,6 @@ sides words env files_before files_now gates_before gates_now sink_before sink_n
   plan = plan;
   history = history;
 }
-
--- no call on the files failed, and each path holds what it held
-pub record FilesStay (before now : FilesTell) : Type 0 where
-  pub kept : Becomes before.held now.held SameHeld
-  pub unrefused : now.refused ≡ before.refused
-  pub unfailed : now.faults ≡ before.faults
-
--- the last call on the files that failed was one on this path, and their count rose
-pub record FilesFail (path : List ℕ) (before now : FilesTell) : Type 0 where
-  pub rose : Rose before.faults now.faults
-  pub last : IfSome now.refused (λ last. last ≡ Some path)
-
--- the paths that a run of this plan writes: none yet
-abbrev pub paths_written : PlanParts → List (List ℕ)
-paths_written plan = []
-
--- each path but these holds what it held
-abbrev pub SameHeldBut : List (List ℕ) → Held → Held → Type 0
-SameHeldBut paths before now = (path : List ℕ) → (Contains paths path → ⊥) → now path ≡ before path
 
 -- the whole text was put and no put failed, or one failed and a beginning of it was written
 abbrev pub PutsOrFails : List ℕ → SinkTell → SinkTell → Type 0
@@ -151,19 +133,24 @@ pub record IsRefusal (s : Sides) (refusal : Refusal) : Type 0 where
   pub files : FilesStay s.files_before s.files_now
   pub unrun : IsUnrun s
 
--- the files failed at a path while the tests were read
+-- the files failed at a path while the tests and the cost data were read
 pub record IsReadFault (s : Sides) (path : List ℕ) : Type 0 where
   pub no_words : s.words ≡ []
-  pub failed : FilesFail path s.files_before s.files_now
-  pub kept : Becomes s.files_before.held s.files_now.held SameHeld
+  pub files : FilesFail path SameHeld s.files_before s.files_now
   pub unrun : IsUnrun s
 
--- the files failed at a path that the run writes, behind the whole report of a complete history
-pub record IsWriteFault (s : Sides) (path : List ℕ) (plan : PlanParts) (entries : List Entry) : Type 0 where
-  pub named : Contains (paths_written plan) path
-  pub failed : FilesFail path s.files_before s.files_now
-  pub kept : Becomes s.files_before.held s.files_now.held (SameHeldBut (paths_written plan))
-  pub report : ThenLine (λ middle. IsReported plan entries s.sink_before middle) (λ middle. PutsOrFails (fault_line (FilesFault path)) middle s.sink_now)
+-- the files of a complete run were written
+abbrev pub IsLeft : Sides → PlanParts → List Entry → Type 0
+IsLeft s plan entries = FilesServe (WithLast plan.dir (Leaves plan entries)) s.files_before s.files_now
+
+-- the files failed at a path that a complete run writes
+abbrev pub IsWriteFault : Sides → List ℕ → PlanParts → List Entry → Type 0
+IsWriteFault s path plan entries = FilesFail path (WithLast plan.dir (LeavesTorn plan entries path)) s.files_before s.files_now
+
+-- a run had come so far when memory was wanting: it was given up and the files stay, or it was reported and memory was wanting
+-- for its files
+abbrev pub IsCutShort : Sides → PlanParts → List Entry → SinkTell → Type 0
+IsCutShort s plan entries middle = (IsGivenUp plan entries s.sink_before middle × FilesStay s.files_before s.files_now) ⊎ (IsReported plan entries s.sink_before middle × FilesServe (WithLast plan.dir (LeavesPart plan entries)) s.files_before s.files_now)
 
 -- memory was wanting where no plan was made: for anything before the line of this outcome, or for that line
 abbrev pub IsShort : Sides → Outcome → Type 0
@@ -174,11 +161,20 @@ IsShort s (FilesFault path) = IsReadFault s path × Puts (fault_line (FilesFault
 IsShort s OutputFault = ⊥
 IsShort s Memory = IsUnrun s × FilesStay s.files_before s.files_now × Tries (fault_line Memory) s.sink_before s.sink_now
 
+-- memory was wanting where a plan was made: for anything before the line of this outcome, or for that line
+abbrev pub IsShortRun : Sides → Outcome → PlanParts → List Entry → Type 0
+IsShortRun s Completed plan entries = ⊥
+IsShortRun s (Usage word kind) plan entries = ⊥
+IsShortRun s (Refused refusal) plan entries = ⊥
+IsShortRun s (FilesFault path) plan entries = IsWriteFault s path plan entries × ThenLine (IsReported plan entries s.sink_before) (λ middle. Puts (fault_line (FilesFault path)) middle s.sink_now (Err Sinks.NoMemory))
+IsShortRun s OutputFault plan entries = ⊥
+IsShortRun s Memory plan entries = ThenLine (IsCutShort s plan entries) (λ middle. Tries (fault_line Memory) middle s.sink_now)
+
 -- what each outcome says; want of memory alone is free
 abbrev pub Answers : Sides → Outcome → ℕ → Type 0
-Answers s Completed status = HasRunWith s (λ plan entries. IsReported plan entries s.sink_before s.sink_now × (status ≡ status_of plan entries)) × FilesStay s.files_before s.files_now
+Answers s Completed status = HasRunWith s (λ plan entries. IsReported plan entries s.sink_before s.sink_now × IsLeft s plan entries × (status ≡ status_of plan entries))
 Answers s (Usage word kind) status = IsUsage s word × PutsOrFails (fault_line (Usage word kind)) s.sink_before s.sink_now × (status ≡ 1)
 Answers s (Refused refusal) status = IsRefusal s refusal × PutsOrFails (fault_line (Refused refusal)) s.sink_before s.sink_now × (status ≡ 2)
-Answers s (FilesFault path) status = ((IsReadFault s path × PutsOrFails (fault_line (FilesFault path)) s.sink_before s.sink_now) ⊎ HasRunWith s (IsWriteFault s path)) × (status ≡ 3)
-Answers s OutputFault status = HasRunWith s (λ plan entries. IsCutOff plan entries s.sink_before s.sink_now) × FilesStay s.files_before s.files_now × (status ≡ 4)
-Answers s Memory status = (((outcome : Outcome) × IsShort s outcome) ⊎ (HasRunWith s (λ plan entries. ThenLine (λ middle. IsGivenUp plan entries s.sink_before middle) (λ middle. Tries (fault_line Memory) middle s.sink_now)) × FilesStay s.files_before s.files_now)) × (status ≡ 5)
+Answers s (FilesFault path) status = ((IsReadFault s path × PutsOrFails (fault_line (FilesFault path)) s.sink_before s.sink_now) ⊎ HasRunWith s (λ plan entries. IsWriteFault s path plan entries × ThenLine (IsReported plan entries s.sink_before) (λ middle. PutsOrFails (fault_line (FilesFault path)) middle s.sink_now))) × (status ≡ 3)
+Answers s OutputFault status = HasRunWith s (λ plan entries. IsCutOff plan entries s.sink_before s.sink_now × FilesStay s.files_before s.files_now) × (status ≡ 4)
+Answers s Memory status = ((outcome : Outcome) × (IsShort s outcome ⊎ HasRunWith s (IsShortRun s outcome))) × (status ≡ 5)

@@ -3,17 +3,19 @@ use Rattle.std.specs.Prelude.{◌≡◌, ◌⊎◌, ℕ, ◌-◌, ◌^◌, ◌<�
 use Rattle.ct_base.specs.declared.defs.Pair.{Pair}
 use Rattle.ct_base.specs.declared.sink.SinkFault.{SinkFault}
 use Rattle.ct_base.specs.declared.sink.SinkFault.TheVariants as Sinks
-use Rattle.ct_base.specs.Outside.{Becomes, FilesTell, Puts, SameHeld, SinkTell}
+use Rattle.ct_base.specs.Outside.{FilesTell, Puts, SameHeld, SinkTell}
 use Rattle.ct_testfile.specs.Tree.{tree_of}
 use Rattle.ct_history.specs.declared.plan.PlanParts.{PlanParts}
 use Rattle.ct_history.specs.declared.history.Entry.{Entry}
 use Rattle.ct_history.specs.declared.history.History.{History}
 use Rattle.ct_core.specs.Gate.{GateTell}
+use Rattle.ct_cost.specs.declared.cost_data.CostData.{CostData}
 use Rattle.ct_app.specs.declared.outcome.Outcome.{Outcome}
 use Rattle.ct_app.specs.declared.outcome.Outcome.TheVariants.{Completed, Usage, Refused, FilesFault, OutputFault, Memory}
-use Rattle.ct_app.specs.Answers.{FilesFail, FilesStay, HasRunWith, IsRefusedBy, here, IsCutOff, IsGivenUp, IsReadFault, IsRefusal, IsReported, IsRunOf, IsUnrun, IsUsage, PutsOrFails, Sides}
+use Rattle.ct_app.specs.Answers.{HasRunWith, IsCutOff, IsCutShort, IsGivenUp, IsLeft, IsReadFault, IsRefusal, IsRefusedBy, IsReported, IsRunOf, IsUnrun, IsUsage, IsWriteFault, PutsOrFails, Sides, here}
 use Rattle.ct_app.specs.Outcome.{fault_line, fault_status, outcome_of_sink, status_of}
 use Rattle.ct_app.specs.PlanOf.{plan_of}
+use Rattle.ct_app.specs.RunFiles.{FilesFail, FilesServe, FilesStay, Leaves, LeavesPart, LeavesTorn, last_costs}
 use Rattle.ct_app.specs.Tests.{HaveProps}
 use Rattle.ct_app.specs.declared.props.Tests.{Tests}
 
@@ -36,15 +38,33 @@ abbrev pub ended_as : Result (Unit {0}) SinkFault → PlanParts → List Entry �
 ended_as (Ok done) plan entries = Ok (status_of plan entries)
 ended_as (Err fault) plan entries = Err (outcome_of_sink fault)
 
--- plan and history are there, of a run of these tests that ended so
-abbrev pub RanPlan : List Pair → Tests → List GateTell → List GateTell → Option PlanParts → Option (List Entry) → SinkTell → SinkTell → Result ℕ Outcome → Type 0
-RanPlan env tests gates_before gates_now plan history before now ended = IsSomeAnd plan (λ p. IsSomeAnd history (λ es. IsRunOf env tests gates_before gates_now p es × PlanEnds p es before now ended))
+-- how a run ended, its files too: it is complete and they were written or could not be, or it ended early and they stay
+abbrev pub RunLeaves : Sides → PlanParts → List Entry → Result ℕ Outcome → Type 0
+RunLeaves s plan entries (Ok status) = IsReported plan entries s.sink_before s.sink_now × IsLeft s plan entries × (status ≡ status_of plan entries)
+RunLeaves s plan entries (Err Completed) = ⊥
+RunLeaves s plan entries (Err (Usage word kind)) = ⊥
+RunLeaves s plan entries (Err (Refused refusal)) = ⊥
+RunLeaves s plan entries (Err (FilesFault path)) = IsWriteFault s path plan entries × IsReported plan entries s.sink_before s.sink_now
+RunLeaves s plan entries (Err OutputFault) = IsCutOff plan entries s.sink_before s.sink_now × FilesStay s.files_before s.files_now
+RunLeaves s plan entries (Err Memory) = IsCutShort s plan entries s.sink_now
 
--- the tests of the folder were read and planned, and the files stay
-pub record IsReadFolder (before now : FilesTell) (tests : Tests) (plan : PlanParts) : Type 0 where
+-- what a run that ended so came to with its files: where it is complete they were written or could not be, and else they stay
+abbrev pub EndsWithFiles : PlanParts → List Entry → CostData → FilesTell → FilesTell → Result ℕ Outcome → Result ℕ Outcome → Type 0
+EndsWithFiles plan entries costs before now (Err outcome) ended = (ended ≡ Err outcome) × (now ≡ before)
+EndsWithFiles plan entries costs before now (Ok status) (Ok given) = FilesServe (Leaves plan entries costs) before now × (given ≡ status)
+EndsWithFiles plan entries costs before now (Ok status) (Err Completed) = ⊥
+EndsWithFiles plan entries costs before now (Ok status) (Err (Usage word kind)) = ⊥
+EndsWithFiles plan entries costs before now (Ok status) (Err (Refused refusal)) = ⊥
+EndsWithFiles plan entries costs before now (Ok status) (Err (FilesFault path)) = FilesFail path (LeavesTorn plan entries path costs) before now
+EndsWithFiles plan entries costs before now (Ok status) (Err OutputFault) = ⊥
+EndsWithFiles plan entries costs before now (Ok status) (Err Memory) = FilesServe (LeavesPart plan entries costs) before now
+
+-- the tests and the cost data of the folder were read, the tests were planned, and the files stay
+pub record IsReadFolder (before now : FilesTell) (tests : Tests) (costs : CostData) (plan : PlanParts) : Type 0 where
   pub read : IfSome before.held (λ held. tree_of held here [] ≡ Ok tests.defs)
   pub few : length tests.defs < 2 ^ 32 - 1
   pub props : HaveProps tests.defs tests.props
+  pub last : IfSome before.held (λ held. costs ≡ last_costs here held)
   pub planned : plan ≡ plan_of here tests
   pub files : FilesStay before now
 
@@ -53,7 +73,7 @@ abbrev pub IsUnread : FilesTell → FilesTell → Outcome → Type 0
 IsUnread before now Completed = ⊥
 IsUnread before now (Usage word kind) = ⊥
 IsUnread before now (Refused refusal) = IsRefusedBy before.held refusal × FilesStay before now
-IsUnread before now (FilesFault path) = FilesFail path before now × Becomes before.held now.held SameHeld
+IsUnread before now (FilesFault path) = FilesFail path SameHeld before now
 IsUnread before now OutputFault = ⊥
 IsUnread before now Memory = FilesStay before now
 
@@ -67,9 +87,9 @@ IsUnplanned s (Err (FilesFault path)) = IsReadFault s path
 IsUnplanned s (Err OutputFault) = ⊥
 IsUnplanned s (Err Memory) = IsUnrun s × FilesStay s.files_before s.files_now
 
--- how a call ended before its outcome is told: a plan was run and the files stay, or none was made and nothing was put
+-- how a call ended before its outcome is told: a plan was run, or none was made and nothing was put
 abbrev pub Ends : Sides → Result ℕ Outcome → Type 0
-Ends s ended = (HasRunWith s (λ plan entries. PlanEnds plan entries s.sink_before s.sink_now ended) × FilesStay s.files_before s.files_now) ⊎ (IsUnplanned s ended × (s.sink_now ≡ s.sink_before))
+Ends s ended = HasRunWith s (λ plan entries. RunLeaves s plan entries ended) ⊎ (IsUnplanned s ended × (s.sink_now ≡ s.sink_before))
 
 -- the line of an outcome was put, or memory was wanting for it and that is told in its place
 abbrev pub Told : Outcome → Outcome → SinkTell → SinkTell → Type 0

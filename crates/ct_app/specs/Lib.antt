@@ -5,5 +5,6 @@ pub mod Gates
 pub mod Run
 pub mod Attempt
 pub mod Outcome
+pub mod RunFiles
 pub mod Answers
 pub mod Ends

@@ -13,6 +13,8 @@ use Rattle.ct_props.specs.declared.fault.PropFault.TheVariants as Props
 use Rattle.ct_history.specs.declared.plan.PlanParts.{PlanParts}
 use Rattle.ct_history.specs.declared.history.Entry.{Entry}
 use Rattle.ct_history.specs.Legal.{has_failing}
+use Rattle.ct_app.specs.declared.run_files.RunFileFault.{RunFileFault}
+use Rattle.ct_app.specs.declared.run_files.RunFileFault.TheVariants as Files
 use Rattle.ct_app.specs.declared.outcome.UsageKind.{UsageKind}
 use Rattle.ct_app.specs.declared.outcome.UsageKind.TheVariants.{UnknownOption}
 use Rattle.ct_app.specs.declared.outcome.Refusal.{Refusal}
@@ -30,6 +32,11 @@ outcome_of Read.NoMemory = Memory
 abbrev pub outcome_of_prop : ℕ → PropFault → Outcome
 outcome_of_prop test (Props.Bad key kind) = Refused (Prop test key kind)
 outcome_of_prop test Props.NoMemory = Memory
+
+-- what a fault of a file that is read or left is to a run
+abbrev pub outcome_of_file : RunFileFault → Outcome
+outcome_of_file (Files.Failed path) = FilesFault path
+outcome_of_file Files.NoMemory = Memory
 
 -- what a fault of the sink is to a run
 abbrev pub outcome_of_sink : SinkFault → Outcome

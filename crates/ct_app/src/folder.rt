@@ -1,16 +1,19 @@
-ghost use Rattle.std.specs.Prelude.{◌≡◌, ◌<◌, ◌-◌, ◌^◌, [], ◌∷◌, IfOk, IfErr, length, option_map};
-ghost use Rattle.ct_app.specs.Answers.{here, sides};
-ghost use Rattle.ct_app.specs.Ends.{Ends, IsReadFolder, IsUnread, RanPlan, ended_as, history_entries};
+ghost use Rattle.std.specs.Prelude.{◌≡◌, ◌<◌, ◌-◌, ◌^◌, [], ◌∷◌, true, IfOk, IfErr, length, option_map};
+ghost use Rattle.ct_app.specs.Answers.{IsRunOf, here, sides};
+ghost use Rattle.ct_app.specs.Ends.{Ends, EndsWithFiles, IsReadFolder, IsUnread, PlanEnds, ended_as, history_entries};
 ghost use Rattle.ct_app.specs.Outcome.{status_of};
 ghost use Rattle.ct_app.specs.PlanOf.{plan_of};
 ghost use Rattle.ct_app.specs.Tests.{HaveProps};
+ghost use Rattle.ct_history.specs.Verdicts.{are_all_final};
 
 use crate::Outcome;
 use crate::planning::plan;
 use crate::props::{Tests, read_props};
 use crate::run::run;
+use crate::run_files::{read_costs, write_files};
 use ct_base::{Files, Name, Pair, Sink, SinkFault};
 use ct_core::{Core, Gate};
+use ct_cost::CostData;
 use ct_history::{History, Plan, has_failing};
 use ct_testfile::read_tree;
 use std::alloc::Global;
@@ -26,14 +29,24 @@ pub(crate) struct Ran {
     pub(crate) history: Option<History>,
 }
 
-/// The tests that the folder defines, and the plan of their run.
+/// The tests that the folder defines, what the last run tells of them, and the plan of their run.
 #[derive(Drop)]
 struct Folder {
     tests: Tests,
+    costs: CostData,
     plan: Plan,
 }
 
-/// Reads the tests of the folder `.` and runs them.
+/// What the run of a plan came to, before its files are written.
+#[derive(Drop)]
+struct PlanRun {
+    ended: Result<u8, Outcome>,
+    plan: Plan,
+    history: History,
+}
+
+/// Reads the tests of the folder `.` and what the last run tells of them, runs them, and leaves the
+/// same for the next run.
 pub(crate) fn run_folder<F: Files, G: Gate, S: Sink>(
     alloc: Global,
     env: &[Pair],
@@ -44,7 +57,19 @@ pub(crate) fn run_folder<F: Files, G: Gate, S: Sink>(
     ensures { Ends (sides [] env.now (F.tells files.old) (F.tells files.new) (G.tells gate.old ∷ []) (G.tells gate.new ∷ []) (S.tells sink.old) (S.tells sink.new) result.plan (option_map history_entries result.history)) result.ended }
 {
     match read_folder(alloc, files) {
-        Ok(Folder { tests, plan }) => run_plan(alloc, plan, env, &tests, gate, sink),
+        Ok(Folder { tests, costs, plan }) => {
+            let PlanRun {
+                ended,
+                plan,
+                history,
+            } = run_plan(alloc, plan, env, &tests, gate, sink);
+            let ended = leave_files(alloc, files, &costs, &plan, &history, ended);
+            Ran {
+                ended,
+                plan: Some(plan),
+                history: Some(history),
+            }
+        }
         Err(outcome) => unplanned(outcome),
     }
 }
@@ -60,19 +85,20 @@ pub(crate) fn unplanned(outcome: Outcome) -> Ran
     }
 }
 
-/// Reads the tests of the folder `.` and their properties, and plans them.
+/// Reads the tests of the folder `.`, their properties and the cost data, and plans the tests.
 #[tactic(auto, using(crate::proofs::ReadLemmas::unread_props))]
 fn read_folder<F: Files>(alloc: Global, files: &mut F) -> Result<Folder, Outcome>
-    ensures ok { IfOk result (λ folder. IsReadFolder (F.tells files.old) (F.tells files.new) folder.tests folder.plan) }
+    ensures ok { IfOk result (λ folder. IsReadFolder (F.tells files.old) (F.tells files.new) folder.tests folder.costs folder.plan) }
     ensures err { IfErr result (IsUnread (F.tells files.old) (F.tells files.new)) }
 {
     let dir = Name::of(alloc, b".")?;
     let config = Name::of(alloc, b"")?;
     let defs = read_tree(alloc, files, &dir, &config)?;
     let props = read_props(alloc, defs.as_slice())?;
+    let costs = read_costs(alloc, files, &dir)?;
     let tests = Tests { defs, props };
     let plan = plan(alloc, dir, &tests)?;
-    Ok(Folder { tests, plan })
+    Ok(Folder { tests, costs, plan })
 }
 
 /// Runs the plan of these tests.
@@ -83,29 +109,30 @@ fn run_plan<G: Gate, S: Sink>(
     tests: &Tests,
     gate: &mut G,
     sink: &mut S,
-) -> Ran
+) -> PlanRun
     requires planned { plan ≡ plan_of here tests.now }
     requires props { HaveProps tests.now.defs tests.now.props }
     requires few { length tests.now.defs < 2 ^ 32 - 1 }
-    ensures { RanPlan env.now tests.now (G.tells gate.old ∷ []) (G.tells gate.new ∷ []) result.plan (option_map history_entries result.history) (S.tells sink.old) (S.tells sink.new) result.ended }
+    ensures ran { IsRunOf env.now tests.now (G.tells gate.old ∷ []) (G.tells gate.new ∷ []) result.plan (history_entries result.history) }
+    ensures ends { PlanEnds result.plan (history_entries result.history) (S.tells sink.old) (S.tells sink.new) result.ended }
 {
     match Core::open(alloc, plan) {
         Ok(mut core) => {
             let run = run(alloc, &mut core, env, tests, gate, sink);
             let ended = ended(run, &core);
             let (plan, history) = core.into_parts();
-            Ran {
+            PlanRun {
                 ended,
-                plan: Some(plan),
-                history: Some(history),
+                plan,
+                history,
             }
         }
-        Err(plan) => Ran {
+        Err(plan) => PlanRun {
             ended: Err(Outcome::Memory),
-            plan: Some(plan),
-            history: Some(History {
+            plan,
+            history: History {
                 entries: Vec::new(alloc),
-            }),
+            },
         },
     }
 }
@@ -118,6 +145,24 @@ fn ended(run: Result<(), SinkFault>, core: &Core) -> Result<u8, Outcome>
         Ok(()) => Ok(status(core)),
         Err(fault) => Err(Outcome::from(fault)),
     }
+}
+
+/// Writes the files of a run that is complete, and gives its status; one that ended early leaves
+/// none.
+fn leave_files<F: Files>(
+    alloc: Global,
+    files: &mut F,
+    costs: &CostData,
+    plan: &Plan,
+    history: &History,
+    ended: Result<u8, Outcome>,
+) -> Result<u8, Outcome>
+    requires complete { IfOk ended (λ status. are_all_final plan.now (history_entries history.now) ≡ true) }
+    ensures { EndsWithFiles plan.now (history_entries history.now) costs.now (F.tells files.old) (F.tells files.new) ended result }
+{
+    let status = ended?;
+    write_files(alloc, files, costs, plan, history)?;
+    Ok(status)
 }
 
 /// The status of a run that is completed: 8 where some test failed.

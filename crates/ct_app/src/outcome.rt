@@ -1,6 +1,7 @@
 ghost use Rattle.ct_app.specs.declared.outcome.Outcome.TheVariants as Ends;
 ghost use Rattle.std.specs.Prelude.{◌≡◌};
 
+use crate::run_files::RunFileFault;
 use ct_base::{Name, NoMemory, SinkFault};
 use ct_history::{History, Plan};
 use ct_props::PropKind;
@@ -33,13 +34,15 @@ pub enum Refusal {
 /// What a call of the top came to.
 #[derive(Debug, Drop)]
 pub enum Outcome {
-    /// The test file was read to its end, and every test is final.
+    /// The test files were read to their ends, every test is final, and the files of the run were
+    /// written.
     Completed,
     /// A word of the command line, counted from 1, is refused.
     Usage { word: u32, kind: UsageKind },
     /// A test file or a property is refused.
     Refused(Refusal),
-    /// The files could not give what the path holds.
+    /// The files could not give or take what the path holds. With a history, it is complete and was
+    /// reported.
     FilesFault { path: Name },
     /// The sink did not take the report.
     OutputFault,
@@ -82,6 +85,19 @@ impl From<ReadFault> for Outcome {
             }
             ReadFault::FilesFailed { path } => Outcome::FilesFault { path },
             ReadFault::NoMemory => Outcome::Memory,
+        }
+    }
+}
+
+impl From<RunFileFault> for Outcome {
+    ghost use Rattle.ct_app.specs.Outcome.{outcome_of_file};
+
+    ghost from_gives = { λ fault e. e ≡ outcome_of_file fault };
+
+    fn from(fault: RunFileFault) -> Outcome {
+        match fault {
+            RunFileFault::Failed { path } => Outcome::FilesFault { path },
+            RunFileFault::NoMemory => Outcome::Memory,
         }
     }
 }

@@ -9,11 +9,14 @@ use ct_base::{Files, Name, Pair, Sink};
 use ct_core::Gate;
 use std::alloc::Global;
 
-/// Runs the tests of the folder `.` and reports on them: all that the program `ctest` does.
+/// Runs the tests of the folder `.`, reports on them, and leaves what they cost and which of them
+/// failed for the next run: all that the program `ctest` does.
 ///
 /// It takes the words of the command line behind the program's name, the environment of the tests,
 /// and what stands for the machine. The tests run one after the other on the first gate; the other
-/// gates come back untouched. The call may wait for the programs that its gate runs.
+/// gates come back untouched. Behind the report of a complete run that has tests, the cost data is
+/// written, and then, where some test failed, the log of the failed tests; nothing else is written
+/// but the path of a write that failed. The call may wait for the programs that its gate runs.
 ///
 /// Source: CMake manual, ctest(1), Run Tests. Statuses other than 0 and 8 are this project's choice.
 pub fn ctest_main<F: Files, G: Gate + Send, S: Sink + Send>(

@@ -7,3 +7,5 @@
 
 #[cfg(test)]
 mod app;
+#[cfg(test)]
+mod run_files;

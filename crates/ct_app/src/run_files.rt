@@ -1,0 +1,121 @@
+ghost use Rattle.std.specs.Prelude.{◌≡◌, ◌∷◌, true, IfOk, codes};
+ghost use Rattle.ct_base.specs.Path.{joined};
+ghost use Rattle.ct_history.specs.Verdicts.{are_all_final};
+ghost use Rattle.ct_app.specs.RunFiles.{ReadsCosts, WritesFiles, WritesText, costs_of, fault_at as fault_of_files};
+ghost use Rattle.ct_app.specs.declared.run_files.RunFileFault.TheVariants as Cause;
+
+use ct_base::{Blob, Files, FilesFault, Name, NoMemory, join_path};
+use ct_cost::{CostData, failed_log};
+use ct_history::{History, Plan};
+use std::alloc::Global;
+
+/// Where the cost data stands in the folder of a run, as in one of ctest's.
+const COSTS: &[u8] = b"Testing/Temporary/CTestCostData.txt";
+
+/// Where the log of the failed tests stands in the folder of a run.
+///
+/// Source: CMake manual, ctest(1), --rerun-failed. The place is that of ctest's.
+const LOG: &[u8] = b"Testing/Temporary/LastTestsFailed.log";
+
+/// How many bytes of cost data are read at most: 64 MiB. This project's choice.
+const MOST_COST_BYTES: u64 = 67_108_864;
+
+/// Why a file that a run reads or leaves could not be used.
+#[derive(Drop)]
+pub(crate) enum RunFileFault {
+    /// The files could not give or take what the path holds.
+    Failed { path: Name },
+    /// Memory was wanting.
+    NoMemory,
+}
+
+impl From<NoMemory> for RunFileFault {
+    ghost from_gives = { λ _ e. e ≡ Cause.NoMemory };
+
+    fn from(_e: NoMemory) -> RunFileFault {
+        RunFileFault::NoMemory
+    }
+}
+
+/// Reads the cost data that the last run left in a folder; an absent file, or one above 64 MiB,
+/// counts as empty.
+///
+/// Source: this project's choice.
+pub(crate) fn read_costs<F: Files>(
+    alloc: Global,
+    files: &mut F,
+    dir: &Name,
+) -> Result<CostData, RunFileFault>
+    ensures { ReadsCosts dir.now (F.tells files.old) (F.tells files.new) result }
+{
+    let path = join_path(alloc, dir, &Name::of(alloc, COSTS)?)?;
+    match files.read(alloc, &path, MOST_COST_BYTES) {
+        Ok(held) => Ok(costs_of(alloc, held)?),
+        Err(fault) => Err(fault_at(path, fault)),
+    }
+}
+
+/// The cost data in what a path holds, of which at most one byte more than counts was read.
+fn costs_of(alloc: Global, held: Option<Blob>) -> Result<CostData, NoMemory>
+    ensures { IfOk result (λ costs. costs ≡ costs_of held) }
+{
+    match held {
+        Some(text) if text.bytes().len() as u64 <= MOST_COST_BYTES => {
+            CostData::read(alloc, text.bytes())
+        }
+        _ => CostData::read(alloc, b""),
+    }
+}
+
+/// Writes what a complete run leaves for the next one: the cost data, and then, where some test
+/// failed, the log of the failed tests. A run without tests leaves nothing.
+///
+/// Source: CMake manual, ctest(1), --rerun-failed; cmake-properties(7), COST.
+pub(crate) fn write_files<F: Files>(
+    alloc: Global,
+    files: &mut F,
+    costs: &CostData,
+    plan: &Plan,
+    history: &History,
+) -> Result<(), RunFileFault>
+    requires ended { are_all_final plan.now history.now.entries.items ≡ true }
+    ensures { WritesFiles plan.now history.now.entries.items costs.now (F.tells files.old) (F.tells files.new) result }
+{
+    if plan.parts().tests.is_empty() {
+        return Ok(());
+    }
+    let text = costs.after(alloc, plan, history)?.text(alloc)?;
+    let log = failed_log(alloc, plan, history)?;
+    write(alloc, files, &plan.parts().dir, COSTS, text.bytes())?;
+    if log.bytes().is_empty() {
+        return Ok(());
+    }
+    write(alloc, files, &plan.parts().dir, LOG, log.bytes())
+}
+
+/// Writes a text to the file of this name in a folder.
+fn write<F: Files>(
+    alloc: Global,
+    files: &mut F,
+    dir: &Name,
+    name: &[u8],
+    text: &[u8],
+) -> Result<(), RunFileFault>
+    ensures { WritesText (joined dir.now name.now) text.now (F.tells files.old) (F.tells files.new) result }
+{
+    let path = join_path(alloc, dir, &Name::of(alloc, name)?)?;
+    match files.write(alloc, &path, text) {
+        Ok(()) => Ok(()),
+        Err(fault) => Err(fault_at(path, fault)),
+    }
+}
+
+/// Why a call on the files, about this path, gave no answer.
+fn fault_at(path: Name, fault: FilesFault) -> RunFileFault
+    ensures { result ≡ fault_of_files path fault }
+{
+    match fault {
+        FilesFault::Failed => RunFileFault::Failed { path },
+        FilesFault::NoMemory => RunFileFault::NoMemory,
+    }
+}
