@@ -1,2 +1,4 @@
 pub mod TransferLemmas
 pub mod EnvLemmas
+pub mod HeardLemmas
+pub mod RequiredLemmas

@@ -1,4 +1,6 @@
 pub mod Start
 pub mod Machine
 pub mod Process
+pub mod Required
+pub mod Heard
 pub mod Transfer

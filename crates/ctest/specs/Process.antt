@@ -3,8 +3,9 @@ use Rattle.std.specs.Prelude.{◌≡◌, ◌↔◌, ℕ, Bool, List, [], ◌∷�
 use Rattle.std.specs.IoError.{error_kind}
 use Rattle.std.specs.declared.io.Error.{Error}
 use Rattle.std.specs.declared.io.ErrorKind.TheVariants as ErrorKind
-use Rattle.std.specs.Process.{clears_env, command_var}
+use Rattle.std.specs.Process.{clears_env, command_var, exit_code}
 use Rattle.std.specs.declared.process.command.Command.{Command}
+use Rattle.std.specs.declared.process.status.ExitStatus.{ExitStatus}
 use Rattle.ct_base.specs.declared.defs.Pair.{Pair}
 use Rattle.ct_base.specs.Memory.{held_by}
 use Rattle.ct_verdict.specs.declared.attempt.How.{How}
@@ -16,6 +17,11 @@ use Rattle.ctest.specs.declared.fault.StartFault.TheVariants as Fault
 abbrev pub how_of_code : Option ℤ → How
 how_of_code (Some code) = Ends.Exited code
 how_of_code None = Ends.Signalled
+
+-- how a program ended, or that it was stopped at its limit
+abbrev pub how_of_end : Option ExitStatus → How
+how_of_end (Some status) = how_of_code (exit_code status)
+how_of_end None = Ends.TimedOut
 
 -- what an error of the system comes to: want of memory exactly where it says so
 abbrev pub IsFaultOf : Error → StartFault → Type 0

@@ -1,17 +1,19 @@
-ghost use Rattle.std.specs.Prelude.{◌≡◌, IfOk, false};
+ghost use Rattle.std.specs.Prelude.{◌≡◌, IfOk, IsSome, false};
 ghost use Rattle.ct_core.specs.Gate.{HasStartCause, is_not_started};
+ghost use Rattle.ct_verdict.specs.declared.attempt.How.TheVariants as Ends;
 ghost use Rattle.ctest.specs.Machine.{gate_tell};
 ghost use Rattle.ctest.specs.Process.{how_of_run};
 
 use crate::command::{command_of, is_beside};
 use crate::fault::StartFault;
-use crate::real_files::is_there;
-use crate::watched::{micros_of, watched};
-use ct_base::{Ear, Name};
+use crate::limit::{Limit, micros_of};
+use crate::real_files::RealFiles;
+use crate::required::first_missing;
+use crate::watch::attend;
+use ct_base::Ear;
 use ct_core::{Ended, Gate, Request, Ticket};
 use ct_verdict::How;
 use std::alloc::Global;
-use std::rt::Files;
 use std::thread::Threads;
 use std::time::Instant;
 
@@ -20,7 +22,7 @@ use std::time::Instant;
 /// It tells nothing of them. A program has no input.
 #[derive(Drop)]
 pub struct ProcessGate<T> {
-    /// Where the threads are made that watch a program and keep its standard error.
+    /// Where the threads come from that watch programs.
     threads: T,
     rt: HostRuntime,
     /// The starts and waits that failed. It stands still at its last value.
@@ -57,16 +59,17 @@ impl<T> ProcessGate<T> {
 }
 
 impl<T: Threads> ProcessGate<T> {
-    /// Runs the program, and takes the time that this took.
+    /// Runs the program, and takes the time that this took; 0 where the clock failed.
     fn attempt<E: Ear>(&mut self, alloc: Global, request: &Request, ear: &mut E) -> Ended
         ensures cause { HasStartCause self.old.faults self.new.faults result.how }
+        ensures unlimited { result.how ≡ Ends.TimedOut → IsSome request.now.limit }
     {
         let began = Instant::now(&self.rt);
         let outcome = run_program(&self.threads, self.rt, alloc, request, ear);
         let passed = began.and_then(|began| began.elapsed(&self.rt));
         Ended {
             how: self.count(outcome),
-            micros: micros_of(passed),
+            micros: passed.map_or(0, micros_of),
         }
     }
 }
@@ -85,7 +88,7 @@ impl<T: Threads> Gate for ProcessGate<T> {
     }
 }
 
-/// Runs the program of a request to its end, and hands what it writes to the ear; without one of the
+/// Runs the program of a request to its end, and hands what it writes to the ear. Without one of the
 /// required files it is not started.
 fn run_program<T: Threads, E: Ear>(
     threads: &T,
@@ -94,40 +97,27 @@ fn run_program<T: Threads, E: Ear>(
     request: &Request,
     ear: &mut E,
 ) -> Result<How, StartFault>
-    ensures { IfOk result (λ how. is_not_started how ≡ false) }
+    ensures started { IfOk result (λ how. is_not_started how ≡ false) }
+    ensures unlimited { IfOk result (λ how. how ≡ Ends.TimedOut → IsSome request.now.limit) }
 {
-    if let Some(place) = first_missing(&rt, request.required.as_slice())? {
-        return Ok(How::Lacks(place));
+    let required = request.required.as_slice();
+    if let Some(place) = first_missing(&mut RealFiles::new(rt), alloc, required)? {
+        return Ok(How::Lacks(u32::try_from(place).unwrap_or(u32::MAX)));
     }
+    let limit = Limit::from_now(&rt, request.limit)?;
     let beside = is_beside(&rt, alloc, request)?;
     let child = command_of(alloc, request, beside)?.spawn(&rt)?;
-    watched(threads, rt, alloc, child, request.limit, ear)
-}
-
-/// The place, from 0, of the first file that is missing.
-fn first_missing<R: Files>(rt: &R, files: &[Name]) -> Result<Option<u32>, StartFault> {
-    let mut place: u32 = 0;
-    for file in files {
-        if !is_there(rt, file)? {
-            return Ok(Some(place));
-        }
-        place = place.saturating_add(1);
-    }
-    Ok(None)
+    attend(threads, rt, alloc, child, limit, ear)
 }
 
 #[cfg(test)]
 mod tests {
     use super::*;
-    use ct_base::{Collect, List, NoMemory, Pair};
+    use ct_base::{Collect, List, Name, NoMemory, Pair};
     use std::test::Fail;
 
-    /// Asks for the words of the line, which one space parts, in the root folder with A=b alone.
-    fn request(alloc: Global, line: &[u8]) -> Result<Request, NoMemory> {
-        let mut command = List::new(alloc);
-        for word in line.split(|b| *b == b' ') {
-            command.push(Name::of(alloc, word)?)?;
-        }
+    /// Asks for the words of the line, which one space parts, with A=b alone, in a folder.
+    fn request(alloc: Global, dir: &str, line: &str) -> Result<Request, NoMemory> {
         let mut env = List::new(alloc);
         env.push(Pair {
             name: Name::of(alloc, b"A")?,
@@ -137,48 +127,134 @@ mod tests {
             test: 1,
             attempt: 1,
             name: Name::of(alloc, b"t")?,
-            command,
-            dir: Name::of(alloc, b"/")?,
+            command: names(alloc, line, ' ')?,
+            dir: Name::of(alloc, dir.as_bytes())?,
             env,
             limit: None,
             required: List::new(alloc),
         })
     }
 
-    #[test]
-    fn tells_how_each_program_ended(rt: HostRuntime) -> Result<(), Fail> {
-        for (line, how, faults) in [
-            (b"/bin/true".as_slice(), How::Exited(0), 0),
-            (b"/bin/false", How::Exited(1), 0),
-            (b"bin/true", How::Exited(0), 0),
-            (b"sh -c exit\t7", How::Exited(7), 0),
-            (b"sh -c kill\t-9\t$$", How::Signalled, 0),
-            (b"sh -c test\t$A:$HOME:$PWD\t=\tb::/", How::Exited(0), 0),
-            (b"/no/such/program", How::NotStarted, 1),
-            (b"no-such-program", How::NotStarted, 1),
-            (b"/bin/true \xff", How::NotStarted, 1),
-            (b"", How::NotStarted, 1),
-        ] {
-            let mut gate = ProcessGate::new(rt, rt);
-            let ended = gate.attempt(
-                rt.alloc(),
-                &request(rt.alloc(), line)?,
-                &mut Collect::new(rt.alloc()),
-            );
-            assert_eq!(rt; ended.how, how, "at {line:?}");
-            assert_eq!(rt; gate.faults, faults, "at {line:?}");
+    fn names(alloc: Global, text: &str, between: char) -> Result<List<Name>, NoMemory> {
+        let mut names = List::new(alloc);
+        for name in text.split(between) {
+            names.push(Name::of(alloc, name.as_bytes())?)?;
         }
+        Ok(names)
+    }
+
+    /// Runs a request, and tells how it ended, the faults of its gate, and what was heard.
+    fn told<T: Threads + Copy + Drop>(
+        threads: T,
+        rt: HostRuntime,
+        request: &Request,
+    ) -> Result<String, Fail> {
+        let mut gate = ProcessGate::new(threads, rt);
+        let mut ear = Collect::new(rt.alloc());
+        let how = gate.attempt(rt.alloc(), request, &mut ear).how;
+        let heard = std::str::from_utf8(ear.heard().bytes()).unwrap_or("no text");
+        Ok(format!(in rt.alloc(); "{how:?} {} [{heard}]", gate.faults)?)
+    }
+
+    /// The folder and the words, in which a tab stands for a space inside a word, and what is told.
+    const RUNS: &str = "\
+/ /bin/true is Exited(0) 0 []
+/ /bin/false is Exited(1) 0 []
+/ bin/true is Exited(0) 0 []
+/ sh -c exit\t7 is Exited(7) 0 []
+/ sh -c printf\tcut;kill\t-9\t$$ is Signalled 0 [cut]
+/dev sh -c printf\t$A:$HOME:$PWD is Exited(0) 0 [b::/dev]
+/ sh -c printf\tsecond\t>&2;printf\tfirst is Exited(0) 0 [firstsecond]
+/ sh -c cat;printf\tend is Exited(0) 0 [end]
+/ sh -c (sleep\t0.1;printf\tlate)&\tprintf\tearly is Exited(0) 0 [earlylate]
+/ sh -c exec\t>&-\t2>&-;sleep\t0.1;exit\t4 is Exited(4) 0 []
+/ /no/such/program is NotStarted 1 []
+/ no-such-program is NotStarted 1 []
+/bin dir/true is NotStarted 1 []
+/no/such/folder /bin/true is NotStarted 1 []
+/no/such/folder true is NotStarted 1 []
+/bin/sh true is NotStarted 1 []
+ true is NotStarted 1 []
+/  is NotStarted 1 []
+";
+
+    #[test]
+    fn tells_how_each_program_ended_and_what_it_wrote(rt: HostRuntime) -> Result<(), Fail> {
+        for row in RUNS.lines() {
+            let (asked, want) = row.split_once(" is ").unwrap_or((row, ""));
+            let (dir, line) = asked.split_once(' ').unwrap_or(("", asked));
+            let told = told(rt, rt, &request(rt.alloc(), dir, line)?)?;
+            assert_eq!(rt; told.as_str(), want, "{row}");
+        }
+        Ok(())
+    }
+
+    #[test]
+    fn starts_no_program_whose_name_is_no_text(rt: HostRuntime) -> Result<(), Fail> {
+        let mut request = request(rt.alloc(), "/", "/bin/true")?;
+        request.command.push(Name::of(rt.alloc(), b"\xff")?)?;
+        assert_eq!(rt; told(rt, rt, &request)?.as_str(), "NotStarted 1 []");
+        Ok(())
+    }
+
+    #[test]
+    fn starts_no_program_without_its_files(rt: HostRuntime) -> Result<(), Fail> {
+        for (files, want) in [
+            ("/bin/sh,/", "Exited(0) 0 []"),
+            ("/bin/sh,/no/such/file,/none", "Lacks(1) 0 []"),
+            ("/bin/sh/below", "Lacks(0) 0 []"),
+        ] {
+            let mut request = request(rt.alloc(), "/", "true")?;
+            request.required = names(rt.alloc(), files, ',')?;
+            assert_eq!(rt; told(rt, rt, &request)?.as_str(), want, "{files}");
+        }
+        Ok(())
+    }
+
+    /// The words of programs that run into a limit of a fifth of a second, and what is told.
+    const LIMITS: &str = "\
+sleep 20 is TimedOut 0 []
+sh -c printf\tout;printf\terror\t>&2;exec\tsleep\t20 is TimedOut 0 [outerror]
+sh -c sleep\t20;true is TimedOut 0 []
+sh -c sleep\t20\t&\tprintf\tout is TimedOut 0 [out]
+sh -c exec\t>&-\t2>&-;exec\tsleep\t20 is TimedOut 0 []
+sh -c trap\t''\tTERM;sleep\t20 is TimedOut 0 []
+true is Exited(0) 0 []
+";
+
+    #[test]
+    fn stops_a_program_at_its_limit_whatever_holds_its_outputs(
+        rt: HostRuntime,
+    ) -> Result<(), Fail> {
+        let began = Instant::now(&rt)?;
+        for row in LIMITS.lines() {
+            let (line, want) = row.split_once(" is ").unwrap_or((row, ""));
+            let mut request = request(rt.alloc(), "/", line)?;
+            request.limit = Some(200_000);
+            assert_eq!(rt; told(rt, rt, &request)?.as_str(), want, "{row}");
+        }
+        let passed = micros_of(began.elapsed(&rt)?);
+        assert!(rt; passed >= 1_200_000 && passed < 19_000_000, "{passed}");
+        Ok(())
+    }
+
+    #[test]
+    fn reads_both_outputs_in_turns(rt: HostRuntime) -> Result<(), Fail> {
+        let line =
+            "sh -c i=0;\twhile\t[\t$i\t-lt\t160\t];\tdo\thead\t-c\t65536\t/dev/zero;\thead\t-c\t65536\t/dev/zero\t>&2;\ti=$((i+1));\tdone";
+        let mut ear = Collect::new(rt.alloc());
+        let mut gate = ProcessGate::new(rt, rt);
+        let ended = gate.attempt(rt.alloc(), &request(rt.alloc(), "/", line)?, &mut ear);
+        assert_eq!(rt; ended.how, How::Exited(0));
+        assert_eq!(rt; ear.heard().bytes().len(), 2 * 160 * 65_536);
         Ok(())
     }
 
     #[test]
     fn takes_the_time_of_an_attempt(rt: HostRuntime) -> Result<(), Fail> {
         let mut gate = ProcessGate::new(rt, rt);
-        let ended = gate.attempt(
-            rt.alloc(),
-            &request(rt.alloc(), b"sleep 0.1")?,
-            &mut Collect::new(rt.alloc()),
-        );
+        let request = request(rt.alloc(), "/", "sleep 0.1")?;
+        let ended = gate.attempt(rt.alloc(), &request, &mut Collect::new(rt.alloc()));
         assert!(rt; ended.micros >= 100_000 && ended.micros < 50_000_000);
         Ok(())
     }

@@ -78,7 +78,7 @@ fn read_file<R: rt::Files>(
     }
 }
 
-pub(crate) fn is_there<R: rt::Files>(rt: &R, path: &Name) -> Result<bool, FilesFault> {
+fn is_there<R: rt::Files>(rt: &R, path: &Name) -> Result<bool, FilesFault> {
     answer(fs::exists(rt, path_of(path)?))
 }
 

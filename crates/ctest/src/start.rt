@@ -1,20 +1,21 @@
-ghost use Rattle.std.specs.Prelude.{◌≡◌, ◌↔◌, ◌<◌, ◌≤◌, ◌^◌, ◌-◌, IfOk, IsErrOf, length, map, option_map, replicate, vec_len};
+ghost use Rattle.std.specs.Prelude.{◌≡◌, ◌↔◌, ◌<◌, ◌≤◌, ◌^◌, ◌-◌, IfOk, IsErrOf, length, map, vec_len};
 ghost use Rattle.std.specs.IoError.{error_kind};
 ghost use Rattle.std.specs.Process.{exit_status};
 ghost use Rattle.std.specs.declared.env.VarError.TheVariants as VarCause;
 ghost use Rattle.std.specs.declared.io.ErrorKind.TheVariants as ErrorKind;
 ghost use Rattle.ctest.specs.declared.start.BeginFault.TheVariants as BeginCause;
-ghost use Rattle.ctest.specs.Machine.{gate_tell, gates_tell};
-ghost use Rattle.ctest.specs.Start.{gate_count, pairs_in, status_of_fault, status_of_run, words_in};
-ghost use Rattle.ct_app.specs.Answers.{Answers, sides};
-ghost use Rattle.ct_app.specs.Ends.{history_entries};
+ghost use Rattle.ctest.specs.Machine.{gates_tell};
+ghost use Rattle.ctest.specs.Start.{RunsOnMachine, pairs_in, status_of_fault, status_of_run, unused_gates, words_in};
 
 use crate::process_gate::ProcessGate;
+use crate::real_files::RealFiles;
+use crate::real_sink::RealSink;
 use ct_app::{Finished, ctest_main};
-use ct_base::{Files, Name, NoMemory, Pair, Sink};
+use ct_base::{Name, NoMemory, Pair};
 use ct_core::Gate;
 use std::alloc::{AllocError, AllocFailed, Global};
 use std::env::VarError;
+use std::io::Stdout;
 use std::process::ExitCode;
 use std::{env, io};
 
@@ -99,49 +100,43 @@ impl From<VarError> for BeginFault {
     }
 }
 
-/// Runs the tests of the folder that the process is in, with its words and its environment.
+/// What a run on the machine gives back.
+pub type Run<G> = Finished<RealFiles<HostRuntime>, G, RealSink<Stdout>>;
+
+/// Runs the tests of the folder that the process is in, with its words and its environment, through
+/// these gates.
 ///
 /// Where it cannot begin, it writes nothing.
-pub fn begin<F: Files + Drop, G: Gate + Send + Drop, S: Sink + Send + Drop>(
-    rt: HostRuntime,
-    files: F,
-    gates: Vec<G>,
-    sink: S,
-) -> Result<Finished<F, G, S>, BeginFault>
-    requires { 0 < vec_len gates }
+pub fn begin<G: Gate + Send + Drop>(rt: HostRuntime, gates: Vec<G>) -> Result<Run<G>, BeginFault>
+    requires { map G.tells gates.items ≡ unused_gates }
 {
     let args: Vec<String> = env::args(&rt)?.collect(rt.alloc())?;
     let vars: Vec<(String, String)> = env::vars(&rt)?.collect(rt.alloc())?;
-    run(
-        rt.alloc(),
-        args.as_slice(),
-        vars.as_slice(),
-        files,
-        gates,
-        sink,
-    )
+    run(rt, args.as_slice(), vars.as_slice(), gates)
 }
 
-/// Hands the words, the variables and what stands for the machine to the top call.
+/// Hands the words, the variables and the machine to the top call.
 //
-// The host's runtime has threads in `main` alone, so `main` makes the gates, and this takes any.
-fn run<F: Files + Drop, G: Gate + Send + Drop, S: Sink + Send + Drop>(
-    alloc: Global,
+// The gates come from `main`, which alone has the threads of the host's runtime.
+fn run<G: Gate + Send + Drop>(
+    rt: HostRuntime,
     args: &[String],
     vars: &[(String, String)],
-    files: F,
     gates: Vec<G>,
-    sink: S,
-) -> Result<Finished<F, G, S>, BeginFault>
-    requires { 0 < vec_len gates }
-    ensures { IfOk result (λ run. Answers (sides (words_in args.now) (pairs_in vars.now)
-        (F.tells files) (F.tells run.files)
-        (map G.tells gates.items) (map G.tells run.gates.items) (S.tells sink) (S.tells run.sink)
-        run.plan (option_map history_entries run.history)) run.outcome run.status) }
+) -> Result<Run<G>, BeginFault>
+    requires { map G.tells gates.items ≡ unused_gates }
+    ensures { IfOk result (λ run. RunsOnMachine G.tells (words_in args.now) (pairs_in vars.now) run) }
 {
-    let words = words_of(alloc, args)?;
-    let env = pairs_of(alloc, vars)?;
-    Ok(ctest_main(alloc, words.as_slice(), env.as_slice(), files, gates, sink))
+    let words = words_of(rt.alloc(), args)?;
+    let env = pairs_of(rt.alloc(), vars)?;
+    Ok(ctest_main(
+        rt.alloc(),
+        words.as_slice(),
+        env.as_slice(),
+        RealFiles::new(rt),
+        gates,
+        RealSink::new(rt.stdout()),
+    ))
 }
 
 /// The exit status of the program.
@@ -195,8 +190,7 @@ pub fn gates_of<T: Copy + Drop>(
     threads: T,
     rt: HostRuntime,
 ) -> Result<Vec<ProcessGate<T>>, NoMemory>
-    ensures count { IfOk result (λ gates. vec_len gates ≡ gate_count) }
-    ensures unfailed { IfOk result (λ gates. gates_tell gates.items ≡ replicate gate_count (gate_tell 0)) }
+    ensures { IfOk result (λ gates. gates_tell gates.items ≡ unused_gates) }
 {
     let mut gates = Vec::new(alloc);
     for _ in 0..GATES {

@@ -1,0 +1,46 @@
+ghost use Rattle.std.specs.Prelude.{◌≡◌, ◌/◌, ◌^◌, ◌-◌, ◌≤◌, min, IfOk, None, OnErr};
+ghost use Rattle.std.specs.Duration.{as_nanos};
+
+use std::io;
+use std::rt::Clock;
+use std::time::{Duration, Instant};
+
+/// How long a program may run, and from when on.
+#[derive(Clone, Copy)]
+pub struct Limit {
+    began: Instant,
+    /// In microseconds; `None` is no limit.
+    micros: Option<u64>,
+}
+
+impl Limit {
+    /// Makes the limit of a program that is about to start, in microseconds.
+    pub fn from_now<R: Clock>(rt: &R, micros: Option<u64>) -> io::Result<Limit>
+        ensures { IfOk result (λ limit. limit.micros ≡ micros) }
+    {
+        Ok(Limit {
+            began: Instant::now(rt)?,
+            micros,
+        })
+    }
+
+    /// The microseconds up to the limit, or as many as these where there are more; 0 once the time
+    /// is up.
+    pub fn left<R: Clock>(&self, rt: &R, most: u64) -> io::Result<u64>
+        ensures most { IfOk result (λ left. left ≤ most) }
+        ensures none { IfOk result (λ left. self.now.micros ≡ None → left ≡ most) }
+    {
+        let Some(limit) = self.micros else {
+            return Ok(most);
+        };
+        let passed = micros_of(self.began.elapsed(rt)?);
+        Ok(limit.saturating_sub(passed).min(most))
+    }
+}
+
+/// The whole microseconds of a time, at most the greatest u64.
+pub fn micros_of(time: Duration) -> u64
+    ensures { result ≡ min (as_nanos time / 1000) (2 ^ 64 - 1) }
+{
+    u64::try_from(time.as_micros()).unwrap_or(u64::MAX)
+}
