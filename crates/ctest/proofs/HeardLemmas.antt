@@ -1,9 +1,9 @@
 -- What an ear has heard when one more piece came, and when nothing is left.
 use Rattle.std.specs.Prelude.{◌≡◌, ℕ, List, [], ◌++◌, Option, Some, None}
-use Rattle.std.specs.Io.KnownBytes.{Consumes, IsAtEnd}
+use Rattle.std.specs.Io.KnownBytes.{Consumes}
 use Rattle.std.proofs.Common.{refl, sym, ap, subst, ◌∙◌, append_assoc, append-nil}
 use Rattle.ct_base.specs.Outside.{Becomes}
-use Rattle.ctest.specs.Heard.{Hears, HearsAll}
+use Rattle.ctest.specs.Heard.{Hears}
 
 -- bytes that moved from what was left to what was heard
 abbrev pub Parts : List ℕ → Option (List ℕ) → Option (List ℕ) → Type 0
@@ -40,14 +40,3 @@ hears-more left mid now before between after was is = record {
   moved = more-moved was.heard is.heard left mid now was.moved is.moved;
   said = λ text so. subst after (append_assoc text was.heard is.heard) (is.said (text ++ was.heard) (was.said text so));
 }
-
-all-heard : (left now : Option (List ℕ)) (heard : List ℕ) (before after : List ℕ → Type 0) → Parts heard left now → IsAtEnd now → ((text : List ℕ) → before text → after (text ++ heard)) → HearsAll left before after
-all-heard None now heard before after moved end said = tt
-all-heard (Some xs) None heard before after moved end said = absurd moved
-all-heard (Some xs) (Some ys) heard before after moved end said =
-    let whole = moved ∙ ap (λ (rest : List ℕ). heard ++ rest) end ∙ append-nil heard in
-    λ text so. subst (λ (all : List ℕ). after (text ++ all)) (sym whole) (said text so)
-
--- nothing is left, so all was heard
-pub hears-all : (left now : Option (List ℕ)) (before after : List ℕ → Type 0) → Hears left now before after → IsAtEnd now → HearsAll left before after
-hears-all left now before after is end = all-heard left now is.heard before after is.moved end is.said

@@ -2,3 +2,4 @@ pub mod TransferLemmas
 pub mod EnvLemmas
 pub mod HeardLemmas
 pub mod RequiredLemmas
+pub mod TextLemmas

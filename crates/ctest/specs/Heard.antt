@@ -1,5 +1,5 @@
 -- What an ear hears of what a reader has left, where the reader tells that. This project's own.
-use Rattle.std.specs.Prelude.{◌≡◌, ℕ, List, ◌++◌, Option, IfSome}
+use Rattle.std.specs.Prelude.{◌≡◌, ℕ, List, ◌++◌, Option}
 use Rattle.ct_base.specs.Outside.{Becomes}
 
 -- bytes moved from the front of what was left to the ear, and none was lost
@@ -8,6 +8,14 @@ pub record Hears (left left_now : Option (List ℕ)) (before now : List ℕ → 
   pub moved : Becomes left left_now (λ all rest. all ≡ heard ++ rest)
   pub said : (text : List ℕ) → before text → now (text ++ heard)
 
--- all that was left was heard, behind what was heard before
-abbrev pub HearsAll : Option (List ℕ) → (List ℕ → Type 0) → (List ℕ → Type 0) → Type 0
-HearsAll left before now = IfSome left (λ all. (text : List ℕ) → before text → now (text ++ all))
+-- bytes moved from the front of an output to the ear, and behind them bytes from the front of the other, and none was lost
+pub record HearsBoth (output output_now errors errors_now : Option (List ℕ)) (before now : List ℕ → Type 0) : Type 0 where
+  pub first : List ℕ
+  pub second : List ℕ
+  pub first_moved : Becomes output output_now (λ all rest. all ≡ first ++ rest)
+  pub second_moved : Becomes errors errors_now (λ all rest. all ≡ second ++ rest)
+  pub said : (text : List ℕ) → before text → now ((text ++ first) ++ second)
+
+-- nothing was heard
+abbrev pub HearsNothing : (List ℕ → Type 0) → (List ℕ → Type 0) → Type 0
+HearsNothing before now = (text : List ℕ) → before text → now text

@@ -9,7 +9,3 @@ ReadsUpTo most left bytes = IfSome left (λ all. bytes ≡ take (most + 1) all)
 -- bytes moved from the front of what was left to the end of what was read, and none was lost
 abbrev pub Moves : Option (List ℕ) → List ℕ → Option (List ℕ) → List ℕ → Type 0
 Moves left before left_now now = Becomes left left_now (λ rest rest_now. before ++ rest ≡ now ++ rest_now)
-
--- all that was left was read, behind what was there before
-abbrev pub ReadsAll : Option (List ℕ) → List ℕ → List ℕ → Type 0
-ReadsAll left before now = IfSome left (λ all. now ≡ before ++ all)

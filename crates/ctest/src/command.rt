@@ -1,6 +1,7 @@
-ghost use Rattle.std.specs.Prelude.{◌≡◌, ◌++◌, ◌∷◌, IfOk, OnOk, Some};
+ghost use Rattle.std.specs.Prelude.{◌≡◌, ◌++◌, ◌∷◌, All, IfErr, IfOk, IsSomeAnd, IsUtf8, OnErr, OnOk, Some, slice_get, true};
 ghost use Rattle.std.specs.Process.{SameDir, SameProgramAndArgs, command_args, command_dir, command_program};
-ghost use Rattle.ctest.specs.Process.{HasEnv, found_as, program_as};
+ghost use Rattle.ctest.specs.declared.fault.StartFault.TheVariants as StartCause;
+ghost use Rattle.ctest.specs.Process.{AreTexts, HasEnv, IsTextPair, found_as, is_bare, program_as};
 
 use crate::fault::StartFault;
 use crate::text::text_of;
@@ -18,15 +19,24 @@ pub(crate) fn is_beside<R: rt::Files>(
     rt: &R,
     alloc: Global,
     request: &Request,
-) -> Result<bool, NoMemory> {
+) -> Result<bool, NoMemory>
+    ensures { IfOk result (λ beside. beside ≡ true → IsSomeAnd (slice_get request.now.command 0) (λ program. is_bare program ≡ true)) }
+{
     let Some(program) = request.command.get(0) else {
         return Ok(false);
     };
-    if program.bytes().contains(&b'/') {
+    if !is_bare(program) {
         return Ok(false);
     }
     let path = join_path(alloc, &request.dir, program)?;
     Ok(is_file(rt, &path))
+}
+
+/// Tells whether a program is named without a `/`.
+fn is_bare(program: &Name) -> bool
+    ensures { result ≡ is_bare program.now }
+{
+    !program.bytes().contains(&b'/')
 }
 
 /// What the system does not tell of is no file.
@@ -50,6 +60,7 @@ pub(crate) fn command_of(
     ensures call { IfOk result (λ command. command_program command ∷ command_args command ≡ found_as beside request.now.command) }
     ensures dir { IfOk result (λ command. command_dir command ≡ Some request.now.dir) }
     ensures env { IfOk result (λ command. HasEnv request.now.env command) }
+    ensures texts { IfErr result (λ fault. AreTexts request.now → fault ≡ StartCause.NoMemory) }
 {
     let Some((program, args)) = request.command.as_slice().split_first() else {
         return Err(StartFault::Failed);
@@ -80,6 +91,7 @@ fn program_of(alloc: Global, program: &Name, beside: bool) -> Result<Name, NoMem
 fn add_arguments(command: &mut Command, args: &[Name]) -> Result<(), StartFault>
     ensures args { OnOk result (command_args command.new ≡ command_args command.old ++ args.now) }
     ensures program { OnOk result (command_program command.new ≡ command_program command.old) }
+    ensures texts { IfErr result (λ fault. All IsUtf8 args.now → fault ≡ StartCause.NoMemory) }
 {
     for arg in args {
         command.arg(word_of(arg)?)?;
@@ -92,6 +104,7 @@ fn set_environment(command: &mut Command, env: &[Pair]) -> Result<(), StartFault
     ensures env { OnOk result (HasEnv env.now command.new) }
     ensures call { OnOk result (SameProgramAndArgs command.old command.new) }
     ensures dir { OnOk result (SameDir command.old command.new) }
+    ensures texts { IfErr result (λ fault. All IsTextPair env.now → fault ≡ StartCause.NoMemory) }
 {
     command.env_clear();
     for pair in env {
@@ -102,7 +115,8 @@ fn set_environment(command: &mut Command, env: &[Pair]) -> Result<(), StartFault
 
 /// The word as text; one that is not UTF-8 is a start that failed.
 fn word_of(word: &Name) -> Result<&str, StartFault>
-    ensures { IfOk result (λ text. text.now ≡ word.entry.now) }
+    ensures ok { IfOk result (λ text. text.now ≡ word.entry.now) }
+    ensures text { OnErr result (IsUtf8 word.entry.now → ⊥) }
 {
     text_of(word).ok_or(StartFault::Failed)
 }

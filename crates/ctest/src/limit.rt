@@ -1,4 +1,4 @@
-ghost use Rattle.std.specs.Prelude.{◌≡◌, ◌/◌, ◌^◌, ◌-◌, ◌≤◌, min, IfOk, None, OnErr};
+ghost use Rattle.std.specs.Prelude.{◌≡◌, ◌/◌, ◌^◌, ◌-◌, ◌≤◌, min, IfOk, IfSome, None, Ok};
 ghost use Rattle.std.specs.Duration.{as_nanos};
 
 use std::io;
@@ -28,7 +28,8 @@ impl Limit {
     /// is up.
     pub fn left<R: Clock>(&self, rt: &R, most: u64) -> io::Result<u64>
         ensures most { IfOk result (λ left. left ≤ most) }
-        ensures none { IfOk result (λ left. self.now.micros ≡ None → left ≡ most) }
+        ensures limit { IfOk result (λ left. IfSome self.now.micros (λ limit. left ≤ limit)) }
+        ensures none { self.now.micros ≡ None → result ≡ Ok most }
     {
         let Some(limit) = self.micros else {
             return Ok(most);

@@ -1,6 +1,6 @@
 ghost use Rattle.std.specs.Prelude.{◌≡◌, IfOk, None, OnOk, false, true};
 ghost use Rattle.std.specs.Io.KnownBytes.{IsAtEnd};
-ghost use Rattle.ctest.specs.Heard.{Hears, HearsAll};
+ghost use Rattle.ctest.specs.Heard.{Hears};
 
 use crate::limit::Limit;
 use ct_base::Ear;
@@ -59,7 +59,8 @@ pub fn hear_all<C: Clock, P: Pipe, E: Ear>(
     pipe: &mut P,
     ear: &mut E,
 ) -> io::Result<bool>
-    ensures whole { IfOk result (λ whole. whole ≡ true → HearsAll (P.remaining pipe.old) (E.stands_for ear.old) (E.stands_for ear.new)) }
+    ensures heard { OnOk result (Hears (P.remaining pipe.old) (P.remaining pipe.new) (E.stands_for ear.old) (E.stands_for ear.new)) }
+    ensures end { IfOk result (λ whole. whole ≡ true → IsAtEnd (P.remaining pipe.new)) }
     ensures unlimited { IfOk result (λ whole. limit.now.micros ≡ None → whole ≡ true) }
 {
     for _ in 0..u64::MAX {

@@ -1,15 +1,16 @@
 ghost use Rattle.std.specs.Prelude.{◌≡◌, IfOk, IsSome, false};
 ghost use Rattle.ct_core.specs.Gate.{HasStartCause, is_not_started};
 ghost use Rattle.ct_verdict.specs.declared.attempt.How.TheVariants as Ends;
+ghost use Rattle.ctest.specs.Heard.{HearsNothing};
 ghost use Rattle.ctest.specs.Machine.{gate_tell};
-ghost use Rattle.ctest.specs.Process.{how_of_run};
+ghost use Rattle.ctest.specs.Process.{has_run, how_of_run};
 
 use crate::command::{command_of, is_beside};
 use crate::fault::StartFault;
 use crate::limit::{Limit, micros_of};
 use crate::real_files::RealFiles;
 use crate::required::first_missing;
-use crate::watch::attend;
+use crate::watch::{Running, attend};
 use ct_base::Ear;
 use ct_core::{Ended, Gate, Request, Ticket};
 use ct_verdict::How;
@@ -98,6 +99,7 @@ fn run_program<T: Threads, E: Ear>(
     ear: &mut E,
 ) -> Result<How, StartFault>
     ensures started { IfOk result (λ how. is_not_started how ≡ false) }
+    ensures unheard { IfOk result (λ how. has_run how ≡ false → HearsNothing (E.stands_for ear.old) (E.stands_for ear.new)) }
     ensures unlimited { IfOk result (λ how. how ≡ Ends.TimedOut → IsSome request.now.limit) }
 {
     let required = request.required.as_slice();
@@ -107,7 +109,7 @@ fn run_program<T: Threads, E: Ear>(
     let limit = Limit::from_now(&rt, request.limit)?;
     let beside = is_beside(&rt, alloc, request)?;
     let child = command_of(alloc, request, beside)?.spawn(&rt)?;
-    attend(threads, rt, alloc, child, limit, ear)
+    attend(threads, rt, alloc, &limit, &mut Running::of(child)?, ear)
 }
 
 #[cfg(test)]

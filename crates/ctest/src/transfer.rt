@@ -1,4 +1,4 @@
-ghost use Rattle.std.specs.Prelude.{◌≡◌, ◌+◌, ◌≤◌, IfOk, OnErr, OnOk, false, length};
+ghost use Rattle.std.specs.Prelude.{◌≡◌, ◌+◌, ◌<◌, ◌≤◌, IfOk, OnErr, OnOk, false, length, true};
 ghost use Rattle.std.specs.Io.KnownBytes.{IsAtEnd};
 ghost use Rattle.ct_base.specs.Outside.{Adds, AddsPrefix, Becomes};
 ghost use Rattle.ctest.specs.Transfer.{Moves, ReadsUpTo};
@@ -29,6 +29,7 @@ pub fn read_up_to<R: Read>(alloc: Global, reader: &mut R, most: u64) -> Result<B
 pub fn read_piece<R: Read>(reader: &mut R, bytes: &mut Blob, most: u64) -> Result<bool, FilesFault>
     ensures moved { OnOk result (Moves (R.remaining reader.old) bytes.old (R.remaining reader.new) bytes.new) }
     ensures end { IfOk result (λ more. more ≡ false → IsAtEnd (R.remaining reader.new)) }
+    ensures more { IfOk result (λ more. more ≡ true → length bytes.old < length bytes.new) }
     ensures bound { OnOk result (length bytes.new ≤ length bytes.old + most + 1) }
 {
     let mut room = [0u8; 8192];

@@ -1,8 +1,10 @@
-ghost use Rattle.std.specs.Prelude.{◌≡◌, [], false, IfOk, IfSome, IsSome, None};
+ghost use Rattle.std.specs.Prelude.{◌≡◌, ◌≢◌, false, IfOk, IfSome, IsOk, IsSome, None, OnOk, Some, true};
+ghost use Rattle.std.specs.Io.KnownBytes.{IsAtEnd};
 ghost use Rattle.ct_core.specs.Gate.{is_not_started};
 ghost use Rattle.ct_verdict.specs.declared.attempt.How.TheVariants as Ends;
-ghost use Rattle.ctest.specs.Process.{how_of_end};
-ghost use Rattle.ctest.specs.Transfer.{ReadsAll};
+ghost use Rattle.ctest.specs.Heard.{HearsBoth};
+ghost use Rattle.ctest.specs.Process.{has_run, how_of_end};
+ghost use Rattle.ctest.specs.Transfer.{Moves};
 
 use crate::fault::StartFault;
 use crate::limit::Limit;
@@ -11,10 +13,9 @@ use crate::transfer::read_piece;
 use ct_base::{Blob, Ear};
 use ct_verdict::How;
 use std::alloc::Global;
-use std::process::{Child, ExitStatus};
-use std::rt::Clock;
+use std::process::{Child, ChildStderr, ChildStdout, ExitStatus};
 use std::thread;
-use std::thread::{Threads, join};
+use std::thread::{Threads, join_mut};
 use std::time::Duration;
 
 /// The first pause and the longest one, in microseconds, between two looks at a program.
@@ -22,33 +23,66 @@ const SHORTEST_PAUSE: u64 = 100;
 
 const LONGEST_PAUSE: u64 = 20_000;
 
+/// A program that runs, and the ends of its two outputs.
+#[derive(Drop)]
+pub struct Running<O, P> {
+    pub child: Child,
+    pub output: O,
+    pub errors: P,
+}
+
+impl Running<ChildStdout, ChildStderr> {
+    /// Takes the outputs of a program that was started; one without them is stopped.
+    pub fn of(mut child: Child) -> Result<Running<ChildStdout, ChildStderr>, StartFault>
+        ensures ok { IsSome child.stdout → IsSome child.stderr → IsOk result }
+        ensures output { IfOk result (λ program. child.stdout ≡ Some program.output) }
+        ensures errors { IfOk result (λ program. child.stderr ≡ Some program.errors) }
+    {
+        let (Some(output), Some(errors)) = (child.stdout.take(), child.stderr.take()) else {
+            stop(&mut child)?;
+            return Err(StartFault::Failed);
+        };
+        Ok(Running {
+            child,
+            output,
+            errors,
+        })
+    }
+}
+
 /// Hands on what a program writes, its standard output while it runs and then its standard error,
 /// and tells how it ended.
 ///
 /// It returns when the program has ended and nothing holds its outputs any more, or else at the
 /// limit, when the program is stopped and its outputs are read no further.
-pub fn attend<T: Threads, E: Ear>(
+pub fn attend<T: Threads, O: Pipe + Send, P: Pipe + Send, E: Ear>(
     threads: &T,
     rt: HostRuntime,
     alloc: Global,
-    mut child: Child,
-    limit: Limit,
+    limit: &Limit,
+    program: &mut Running<O, P>,
     ear: &mut E,
 ) -> Result<How, StartFault>
+    ensures heard { OnOk result (HearsBoth (O.remaining program.old.output) (O.remaining program.new.output)
+        (P.remaining program.old.errors) (P.remaining program.new.errors) (E.stands_for ear.old) (E.stands_for ear.new)) }
+    ensures output { IfOk result (λ how. how ≢ Ends.TimedOut → IsAtEnd (O.remaining program.new.output)) }
+    ensures errors { IfOk result (λ how. how ≢ Ends.TimedOut → IsAtEnd (P.remaining program.new.errors)) }
+    ensures ran { IfOk result (λ how. has_run how ≡ true) }
     ensures started { IfOk result (λ how. is_not_started how ≡ false) }
-    ensures unlimited { IfOk result (λ how. how ≡ Ends.TimedOut → IsSome limit.micros) }
+    ensures unlimited { IfOk result (λ how. how ≡ Ends.TimedOut → IsSome limit.now.micros) }
 {
-    let (Some(mut output), Some(errors)) = (child.stdout.take(), child.stderr.take()) else {
-        stop(&mut child)?;
-        return Err(StartFault::Failed);
-    };
-    let listener = &mut *ear;
-    let (watched, heard) = join(
+    let Running {
+        child,
+        output,
+        errors,
+    } = program;
+    let mut kept = Blob::new(alloc);
+    let (watched, heard) = join_mut(
         threads,
-        move || watch(&rt, alloc, limit, child, errors),
-        move || hear_all(&rt, &limit, &mut output, listener),
+        &mut || watch(&rt, limit, child, errors, &mut kept),
+        &mut || hear_all(&rt, limit, output, ear),
     );
-    let (ended, kept) = watched?;
+    let ended = watched?;
     let whole = heard?;
     ear.hear(kept.bytes());
     Ok(how_of(if whole { ended } else { None }))
@@ -56,22 +90,22 @@ pub fn attend<T: Threads, E: Ear>(
 
 /// Waits for a program and for the end of its standard error, which it keeps, and stops the program
 /// at the limit, or where something fails. `None` is the limit.
-fn watch<P: Pipe + Drop>(
+fn watch<P: Pipe>(
     rt: &HostRuntime,
-    alloc: Global,
-    limit: Limit,
-    mut child: Child,
-    mut errors: P,
-) -> Result<(Option<ExitStatus>, Blob), StartFault>
-    ensures unlimited { IfOk result (λ watched. watched.0 ≡ None → IsSome limit.micros) }
-    ensures kept { IfOk result (λ watched. IfSome watched.0 (λ _. ReadsAll (P.remaining errors) [] watched.1)) }
+    limit: &Limit,
+    child: &mut Child,
+    errors: &mut P,
+    kept: &mut Blob,
+) -> Result<Option<ExitStatus>, StartFault>
+    ensures unlimited { IfOk result (λ ended. ended ≡ None → IsSome limit.now.micros) }
+    ensures moved { OnOk result (Moves (P.remaining errors.old) kept.old (P.remaining errors.new) kept.new) }
+    ensures end { IfOk result (λ ended. IfSome ended (λ _. IsAtEnd (P.remaining errors.new))) }
 {
-    let mut kept = Blob::new(alloc);
-    let ended = both_end(rt, &limit, &mut child, &mut errors, &mut kept);
+    let ended = both_end(rt, limit, child, errors, kept);
     if !matches!(ended, Ok(Some(_))) {
-        stop(&mut child)?;
+        stop(child)?;
     }
-    Ok((ended?, kept))
+    ended
 }
 
 /// Waits for the end of a program and of its standard error, which it keeps. `None` is the limit.
@@ -83,7 +117,8 @@ fn both_end<P: Pipe>(
     kept: &mut Blob,
 ) -> Result<Option<ExitStatus>, StartFault>
     ensures unlimited { IfOk result (λ ended. ended ≡ None → IsSome limit.now.micros) }
-    ensures kept { IfOk result (λ ended. IfSome ended (λ _. ReadsAll (P.remaining errors.old) kept.old kept.new)) }
+    ensures moved { OnOk result (Moves (P.remaining errors.old) kept.old (P.remaining errors.new) kept.new) }
+    ensures end { IfOk result (λ ended. IfSome ended (λ _. IsAtEnd (P.remaining errors.new))) }
 {
     let mut open = true;
     let mut pause = SHORTEST_PAUSE;

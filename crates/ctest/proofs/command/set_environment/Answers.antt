@@ -1,5 +1,6 @@
-use Rattle.std.proofs.Common.{◌+◌, ◌∷◌, ◌++◌, [], take, sym, ap, ◌∙◌, rules}
+use Rattle.std.proofs.Common.{◌≡◌, ◌+◌, ◌∷◌, ◌++◌, [], Err, take, sym, ap, subst, ◌∙◌, rules}
 use Rattle.std.proofs.lemmas.List.{take_more}
+use Rattle.ctest.specs.Process.{IsTextPair}
 use Rattle.ctest.proofs.EnvLemmas.{has_env-more}
 use Rattle.ctest.proofs.command.set_environment.Goals as goal
 
@@ -14,3 +15,15 @@ loop-pair-preserved c =
       call = search rules;
       dir = search rules;
     }
+
+pub returns-in_err-word_of-clause-texts : goal.returns-in_err-word_of-clause-texts
+returns-in_err-word_of-clause-texts c =
+    let pair = c.pair-item.result in
+    let gave : c.from_residual.result ≡ Err c.in_err-word_of.field-0.0 = search rules in
+    rw gave (λ texts. absurd (c.in_err-word_of.ensures.text (subst IsTextPair (sym c.pair-item.is) (texts c.loop-pair.pair-index pair c.loop-pair-test.true)).0))
+
+pub returns-in_err-word_of-2-clause-texts : goal.returns-in_err-word_of-2-clause-texts
+returns-in_err-word_of-2-clause-texts c =
+    let pair = c.pair-item.result in
+    let gave : c.from_residual-in_err-word_of-2.result ≡ Err c.in_err-word_of-2.field-0.0 = search rules in
+    rw gave (λ texts. absurd (c.in_err-word_of-2.ensures.text (subst IsTextPair (sym c.pair-item.is) (texts c.loop-pair.pair-index pair c.loop-pair-test.true)).1))

@@ -1,4 +1,4 @@
-use Rattle.ctest.proofs.HeardLemmas.{hears-none, hears-more, hears-all}
+use Rattle.ctest.proofs.HeardLemmas.{hears-none, hears-more}
 use Rattle.ctest.proofs.pipe.hear_all.Goals.{else-branch-via-then-branch+in_ok-hear_piece+else-not-branch, else-branch-via-else-branch}
 use Rattle.ctest.proofs.pipe.hear_all.Goals as goal
 
@@ -15,9 +15,8 @@ loop-preserved g c =
       | else-branch-via-else-branch w ↦ rw w.pipe-is (rw w.ear-is c.loop.invariant)
     ]
 
-pub returns-then-not-branch-clause-whole : goal.returns-then-not-branch-clause-whole
-returns-then-not-branch-clause-whole g c =
+pub returns-then-not-branch-clause-heard : goal.returns-then-not-branch-clause-heard
+returns-then-not-branch-clause-heard g c =
     let left = g.P.Read.remaining in
     let ear = g.E.Ear.stands_for in
-    let heard = hears-more (left c.args.pipe.now) (left c.loop.pipe) (left c.hear_piece.new.pipe) (ear c.args.ear.now) (ear c.loop.ear) (ear c.hear_piece.new.ear) c.loop.invariant c.in_ok-hear_piece.ensures.moved in
-    λ _. hears-all (left c.args.pipe.now) (left c.hear_piece.new.pipe) (ear c.args.ear.now) (ear c.hear_piece.new.ear) heard (c.in_ok-hear_piece.ensures.end c.if-not-branch.true)
+    hears-more (left c.args.pipe.now) (left c.loop.pipe) (left c.hear_piece.new.pipe) (ear c.args.ear.now) (ear c.loop.ear) (ear c.hear_piece.new.ear) c.loop.invariant c.in_ok-hear_piece.ensures.moved
