@@ -16,6 +16,8 @@ mod dice;
 #[cfg(test)]
 mod drawn_runs;
 #[cfg(test)]
+mod lists;
+#[cfg(test)]
 mod plans;
 #[cfg(test)]
 mod report;

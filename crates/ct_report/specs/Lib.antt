@@ -1,4 +1,5 @@
 -- The definitions that contracts cite, in reading order.
 pub mod Report
+pub mod Lists
 pub mod Labels
 pub mod Totals

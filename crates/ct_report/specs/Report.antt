@@ -84,9 +84,13 @@ micros_by test Stop = 0
 abbrev pub micros_of : ℕ → List Entry → ℕ
 micros_of test entries = min (sum_by (micros_by test) entries) (10 ^ 18)
 
+-- the line that names the folder of the tests
+abbrev pub project_line : List ℕ → List ℕ
+project_line dir = codes "Test project " ++ dir ++ codes "\n"
+
 -- the first line of a report
 abbrev pub header_line : PlanParts → List ℕ
-header_line plan = codes "Test project " ++ plan.dir ++ codes "\n"
+header_line plan = project_line plan.dir
 
 -- the line of a test with this verdict, which is the place-th to become final
 abbrev pub verdict_line : PlanParts → List Entry → ℕ → PlanTest → Verdict → List ℕ
@@ -151,9 +155,13 @@ under heading (line ∷ lines) = codes "\n" ∷ heading ∷ line ∷ lines
 abbrev pub has_label : List ℕ → PlanTest → Bool
 has_label label t = list_any (bytes_eq label) t.labels
 
+-- these labels, each once, in byte order
+abbrev pub in_order : List (List ℕ) → List (List ℕ)
+in_order labels = fold (insert_key (slice_cmp nat_cmp)) [] labels
+
 -- the labels of the tests that are not disabled, each once, in byte order
 abbrev pub labels_in_order : List PlanTest → List (List ℕ)
-labels_in_order tests = fold (insert_key (slice_cmp nat_cmp)) [] (flat_map (λ (t : PlanTest). t.labels) (enabled tests))
+labels_in_order tests = in_order (flat_map (λ (t : PlanTest). t.labels) (enabled tests))
 
 -- how many tests that are not disabled have the label
 abbrev pub labelled_count : PlanParts → List ℕ → ℕ

@@ -4,7 +4,7 @@ ghost use Rattle.std.specs.Ordering.{nat_cmp};
 ghost use Rattle.std.specs.Cmp.Lexicographic.{slice_cmp};
 ghost use Rattle.std.specs.BTreeSet.{insert_key};
 ghost use Rattle.ct_report.specs.Labels.{CountsLabel, CountsLabels, CountsTest, HasRoom, count_at, kept_labels};
-ghost use Rattle.ct_report.specs.Report.{label_line, labels_in_order};
+ghost use Rattle.ct_report.specs.Report.{in_order, label_line, labels_in_order};
 
 use crate::numbers::append_number;
 use ct_base::{Blob, List, Name, NoMemory};
@@ -27,6 +27,15 @@ pub(crate) fn labels_in_order(alloc: Global, tests: &[PlanTest]) -> Result<List<
         }
     }
     names_of(alloc, labels)
+}
+
+/// Gathers these labels, each once, in byte order.
+pub(crate) fn in_order(alloc: Global, labels: &[Name]) -> Result<List<Name>, NoMemory>
+    ensures { IfOk result (λ ordered. ordered ≡ in_order labels.now) }
+{
+    let mut kept = BTreeSet::new(alloc);
+    put_labels(alloc, &mut kept, labels)?;
+    names_of(alloc, kept)
 }
 
 fn put_labels(alloc: Global, labels: &mut BTreeSet<Vec<u8>>, names: &[Name]) -> Result<(), NoMemory>

@@ -1,11 +1,12 @@
 //! The texts of a run, put to a sink line by line.
 //!
-//! Hands up: `header`, `line`, `summary` and `no_tests`.
+//! Hands up: `header`, `line`, `summary` and `no_tests`; the lists, `label_list` and `test_list`.
 //! Stands on: ct_base, ct_verdict, ct_history.
 //! Read first: `specs/Report.antt`, then `report.rt`.
 #![tactic(auto)]
 
 mod labels;
+mod lists;
 mod numbers;
 mod puts;
 mod report;
@@ -14,4 +15,5 @@ mod test_lines;
 mod totals;
 mod verdict_texts;
 
+pub use lists::{ListedTest, label_list, test_list};
 pub use report::{header, line, no_tests, summary};

@@ -2,12 +2,12 @@ ghost use Rattle.std.specs.Prelude.{◌≡◌, ◌<◌, ◌^◌, ◌∷◌, [], 
 ghost use Rattle.ct_base.specs.Outside.{Puts, PutsEach};
 ghost use Rattle.ct_history.specs.Plan.{test_at};
 ghost use Rattle.ct_history.specs.Verdicts.{verdict_of_test};
-ghost use Rattle.ct_report.specs.Report.{header_line, summary_lines, test_line, text_of};
+ghost use Rattle.ct_report.specs.Report.{header_line, project_line, summary_lines, test_line, text_of};
 
 use crate::puts::put_lines;
 use crate::summaries::summary_lines;
 use crate::test_lines::test_line;
-use ct_base::{Blob, NoMemory, Sink, SinkFault};
+use ct_base::{Blob, Name, NoMemory, Sink, SinkFault};
 use ct_history::{History, Plan, PlanParts};
 use std::alloc::Global;
 
@@ -75,8 +75,15 @@ pub fn no_tests<S: Sink>(sink: &mut S) -> Result<(), SinkFault>
 fn header_line(alloc: Global, plan: &PlanParts) -> Result<Blob, NoMemory>
     ensures { IfOk result (λ text. text ≡ header_line plan.now) }
 {
+    project_line(alloc, &plan.dir)
+}
+
+/// Writes the line that names the folder of the tests.
+pub(crate) fn project_line(alloc: Global, dir: &Name) -> Result<Blob, NoMemory>
+    ensures { IfOk result (λ text. text ≡ project_line dir.now) }
+{
     let mut text = Blob::of(alloc, b"Test project ")?;
-    text.append(plan.dir.bytes())?;
+    text.append(dir.bytes())?;
     text.append(b"\n")?;
     Ok(text)
 }
