@@ -1,7 +1,7 @@
 -- What files come to hold by one call behind another.
-use Rattle.std.proofs.Common.{◌≡◌, ◌≢◌, ◌∙◌, sym, subst, ℕ, List, inl, inr, refl}
+use Rattle.std.proofs.Common.{◌≡◌, ◌∙◌, subst, ℕ, List, inl, inr, refl}
 use Rattle.std.specs.Prelude.{Option, Some, None, IfSome}
-use Rattle.ct_base.specs.Outside.{Becomes, FailsToWrite, FilesTell, Held, Rose, SameHeld, Tears, Writes}
+use Rattle.ct_base.specs.Outside.{Becomes, FailsToWrite, FilesTell, Held, Rose, SameHeld, Writes}
 use Rattle.ct_cost.specs.declared.cost_data.CostData.{CostData}
 use Rattle.ct_app.specs.RunFiles.{FilesFail, FilesServe, FilesStay, WithLast, last_costs}
 

@@ -1,6 +1,6 @@
 -- What the gate of a worker was asked, with one attempt more, and what stands of the workers that ran none.
 use Rattle.std.proofs.Common.{◌≡◌, ◌∙◌, sym, ap, subst, Bool, true, false, ℕ, ◌+◌, ◌≤◌, List, [], ◌∷◌, ◌++◌, refl, arith, inl, inr, append_assoc}
-use Rattle.std.specs.Prelude.{◌⊎◌, Option, Some, None, IfSome, IsSomeAnd, map, filter_map, nat_lt, not, ◌==◌, ◌&&◌, ◌||◌, cond}
+use Rattle.std.specs.Prelude.{◌⊎◌, Option, Some, None, IfSome, IsSomeAnd, map, nat_lt, ◌==◌, ◌&&◌, ◌||◌, cond}
 use Rattle.std.specs.List.{list_any, cons_option}
 use Rattle.std.proofs.lemmas.Bool.{cases_Bool}
 use Rattle.std.proofs.lemmas.Bool.Decides.{nat_tests}
@@ -25,7 +25,7 @@ use Rattle.ct_core.specs.declared.gate.Told.{Told}
 use Rattle.ct_core.specs.Gate.{GateTell, is_no_memory, is_not_started, told}
 use Rattle.ct_report.proofs.PutLemmas.{adds_none, adds_then_adds}
 use Rattle.ct_app.specs.declared.props.Tests.{Tests}
-use Rattle.ct_app.specs.Tests.{def_at, props_at}
+use Rattle.ct_props.specs.Numbered.{at_number}
 use Rattle.ct_app.specs.Attempt.{AsksNone, AsksOnce, RunsAttempt}
 use Rattle.ct_app.specs.Gates.{AreAsked, AreRequests, AreTold, CountsUnstarted, IsAsked, IsRequestFor, IsRequestOf, MayMiss, SawTold, Sends, are_below, asked_run, ended_lacking, is_below, is_unstarted, is_unsure, lacks_for, seen_of, started_by, starts_of, unstarted_count, unsure_count}
 
@@ -116,7 +116,7 @@ module _ (t a w : ℕ) (p : Option Placement) (seen : Seen) (es : List Entry) wh
 
 -- one attempt more
 module _ (env : List Pair) (tests : Tests) (w : ℕ) (start old new : GateTell) (es : List Entry) (t a : ℕ) (p : Option Placement) (seen : Seen) (def : TestDef) (own : Props) where
-  counts_more : CountsUnstarted (unstarted_count w es) (unsure_count w es) start.faults old.faults → RunsAttempt env def own (record { test = t; attempt = a; worker = w; placement = p }) seen old new → CountsUnstarted (unstarted_count w (es ++ Start t a w p ∷ End t a w seen ∷ [])) (unsure_count w (es ++ Start t a w p ∷ End t a w seen ∷ [])) start.faults new.faults
+  counts_more : CountsUnstarted (unstarted_count w es) (unsure_count w es) start.faults old.faults → RunsAttempt env tests.limit def own (record { test = t; attempt = a; worker = w; placement = p }) seen old new → CountsUnstarted (unstarted_count w (es ++ Start t a w p ∷ End t a w seen ∷ [])) (unsure_count w (es ++ Start t a w p ∷ End t a w seen ∷ [])) start.faults new.faults
   counts_more before runs = elim (cases_Bool (is_not_started seen.how)) [
     | inl failed ↦
         let count : unstarted_count w (es ++ Start t a w p ∷ End t a w seen ∷ []) ≡ unstarted_count w es + 1 = unstarted-both t a w p seen es ∙ ap (λ (b : Bool). unstarted_count w es + cond b 1 0) failed in
@@ -147,7 +147,7 @@ module _ (env : List Pair) (tests : Tests) (w : ℕ) (start old new : GateTell) 
   ]
 
   -- with what was recorded of it
-  grown : (more : List Running) (requests : List Request) → MayMiss (ended_lacking (es ++ Start t a w p ∷ End t a w seen ∷ [])) (record { test = t; attempt = a; worker = w; placement = p } ∷ []) more → AreRequests env tests more requests → Becomes old.asked new.asked (Adds (map asked_run more)) → Becomes old.sent new.sent (Adds requests) → props_at tests.props t ≡ Some own → IsAsked env tests w start old es → RunsAttempt env def own (record { test = t; attempt = a; worker = w; placement = p }) seen old new → IsAsked env tests w start new (es ++ Start t a w p ∷ End t a w seen ∷ [])
+  grown : (more : List Running) (requests : List Request) → MayMiss (ended_lacking (es ++ Start t a w p ∷ End t a w seen ∷ [])) (record { test = t; attempt = a; worker = w; placement = p } ∷ []) more → AreRequests env tests more requests → Becomes old.asked new.asked (Adds (map asked_run more)) → Becomes old.sent new.sent (Adds requests) → at_number tests.props t ≡ Some own → IsAsked env tests w start old es → RunsAttempt env tests.limit def own (record { test = t; attempt = a; worker = w; placement = p }) seen old new → IsAsked env tests w start new (es ++ Start t a w p ∷ End t a w seen ∷ [])
   grown more requests missed are asked sent has was runs =
       let now = es ++ Start t a w p ∷ End t a w seen ∷ [] in
       let left = may_miss-more (ended_lacking es) (ended_lacking now) (λ run is. lacking_stays es (Start t a w p ∷ End t a w seen ∷ []) run is) (starts_of w es) was.runs was.kept in
@@ -171,41 +171,49 @@ module _ (env : List Pair) (tests : Tests) (w : ℕ) (start old new : GateTell) 
       saw : IfSome old.world (λ world. AreTold tests.props world w (Start t a w p ∷ End t a w seen ∷ []))
       saw = by_world old.world runs.told
 
-  pub asked_more : def_at tests.defs t ≡ Some def → props_at tests.props t ≡ Some own → IsAsked env tests w start old es → RunsAttempt env def own (record { test = t; attempt = a; worker = w; placement = p }) seen old new → IsAsked env tests w start new (es ++ Start t a w p ∷ End t a w seen ∷ [])
+  pub asked_more : at_number tests.defs t ≡ Some def → at_number tests.props t ≡ Some own → IsAsked env tests w start old es → RunsAttempt env tests.limit def own (record { test = t; attempt = a; worker = w; placement = p }) seen old new → IsAsked env tests w start new (es ++ Start t a w p ∷ End t a w seen ∷ [])
   asked_more there has was runs = by_calls runs.calls
     where
-      request_for : (request : Request) → IsRequestOf env def own (record { test = t; attempt = a; worker = w; placement = p }) request → IsRequestFor env tests (record { test = t; attempt = a; worker = w; placement = p }) request
+      request_for : (request : Request) → IsRequestOf env tests.limit def own (record { test = t; attempt = a; worker = w; placement = p }) request → IsRequestFor env tests (record { test = t; attempt = a; worker = w; placement = p }) request
       request_for request is =
-          subst (λ (o : Option TestDef). IsSomeAnd o (λ d. IsSomeAnd (props_at tests.props t) (λ x. IsRequestOf env d x (record { test = t; attempt = a; worker = w; placement = p }) request))) (sym there)
-          (subst (λ (o : Option Props). IsSomeAnd o (λ x. IsRequestOf env def x (record { test = t; attempt = a; worker = w; placement = p }) request)) (sym has) is)
+          subst (λ (o : Option TestDef). IsSomeAnd o (λ d. IsSomeAnd (at_number tests.props t) (λ x. IsRequestOf env tests.limit d x (record { test = t; attempt = a; worker = w; placement = p }) request))) (sym there)
+          (subst (λ (o : Option Props). IsSomeAnd o (λ x. IsRequestOf env tests.limit def x (record { test = t; attempt = a; worker = w; placement = p }) request)) (sym has) is)
 
-      by_calls : (AsksOnce env def own (record { test = t; attempt = a; worker = w; placement = p }) old new ⊎ AsksNone seen.how old new) → IsAsked env tests w start new (es ++ Start t a w p ∷ End t a w seen ∷ [])
+      by_calls : (AsksOnce env tests.limit def own (record { test = t; attempt = a; worker = w; placement = p }) old new ⊎ AsksNone seen.how old new) → IsAsked env tests w start new (es ++ Start t a w p ∷ End t a w seen ∷ [])
       by_calls (inl once) = grown (record { test = t; attempt = a; worker = w; placement = p } ∷ []) (once.request ∷ []) (inl (refl, refl)) (request_for once.request once.is, tt) once.asked once.sent has was runs
       by_calls (inr none) = grown [] [] (lacking_now t a w p seen es none.lacks, refl) tt none.asked none.sent has was runs
 
--- a test that was settled is no attempt
-pub asked_settled : (env : List Pair) (tests : Tests) (w : ℕ) (start gate : GateTell) (es : List Entry) (test : ℕ) (cause : Cause) → IsAsked env tests w start gate es → IsAsked env tests w start gate (es ++ Settle test cause ∷ [])
-asked_settled env tests w start gate es test cause was =
-    let now = es ++ Settle test cause ∷ [] in
-    let starts : starts_of w now ≡ starts_of w es = filter_map-append (started_by w) es (Settle test cause ∷ []) ∙ append-nil (starts_of w es) in
-    let unstarted : unstarted_count w now ≡ unstarted_count w es = sum_by-append (λ (e : Entry). cond (is_unstarted w e) 1 0) es (Settle test cause ∷ []) ∙ none (unstarted_count w es) in
-    let unsure : unsure_count w now ≡ unsure_count w es = sum_by-append (λ (e : Entry). cond (is_unsure w e) 1 0) es (Settle test cause ∷ []) ∙ none (unsure_count w es) in
-    record {
-      told = still start.world was.told;
-      runs = was.runs;
-      kept = subst (λ (rs : List Running). MayMiss (ended_lacking now) rs was.runs) (sym starts) (may_miss-more (ended_lacking es) (ended_lacking now) (λ run is. lacking_stays es (Settle test cause ∷ []) run is) (starts_of w es) was.runs was.kept);
-      asked = was.asked;
-      sent = was.sent;
-      world = was.world;
-      unstarted = subst (λ (n : ℕ). CountsUnstarted n (unsure_count w now) start.faults gate.faults) (sym unstarted) (subst (λ (n : ℕ). CountsUnstarted (unstarted_count w es) n start.faults gate.faults) (sym unsure) was.unstarted);
-    }
-  where
-    none : (m : ℕ) → m + (0 + 0) ≡ m
-    none m = omega arith
+-- an entry that starts and ends no attempt
+module _ (env : List Pair) (tests : Tests) (w : ℕ) (start gate : GateTell) (es : List Entry) (e : Entry) (starts_none : started_by w e ≡ None) (fails_none : is_unstarted w e ≡ false) (lacks_none : is_unsure w e ≡ false) (saw : (world : List Told) → SawTold tests.props world w e) where
+  asked_quiet : IsAsked env tests w start gate es → IsAsked env tests w start gate (es ++ e ∷ [])
+  asked_quiet was =
+      let now = es ++ e ∷ [] in
+      let starts : starts_of w now ≡ starts_of w es = filter_map-append (started_by w) es (e ∷ []) ∙ ap (λ (o : Option Running). starts_of w es ++ cons_option o []) starts_none ∙ append-nil (starts_of w es) in
+      let unstarted : unstarted_count w now ≡ unstarted_count w es = sum_by-append (λ (x : Entry). cond (is_unstarted w x) 1 0) es (e ∷ []) ∙ ap (λ (b : Bool). unstarted_count w es + (0 + cond b 1 0)) fails_none ∙ none (unstarted_count w es) in
+      let unsure : unsure_count w now ≡ unsure_count w es = sum_by-append (λ (x : Entry). cond (is_unsure w x) 1 0) es (e ∷ []) ∙ ap (λ (b : Bool). unsure_count w es + (0 + cond b 1 0)) lacks_none ∙ none (unsure_count w es) in
+      record {
+        told = still start.world was.told;
+        runs = was.runs;
+        kept = subst (λ (rs : List Running). MayMiss (ended_lacking now) rs was.runs) (sym starts) (may_miss-more (ended_lacking es) (ended_lacking now) (λ run is. lacking_stays es (e ∷ []) run is) (starts_of w es) was.runs was.kept);
+        asked = was.asked;
+        sent = was.sent;
+        world = was.world;
+        unstarted = subst (λ (n : ℕ). CountsUnstarted n (unsure_count w now) start.faults gate.faults) (sym unstarted) (subst (λ (n : ℕ). CountsUnstarted (unstarted_count w es) n start.faults gate.faults) (sym unsure) was.unstarted);
+      }
+    where
+      none : (m : ℕ) → m + (0 + 0) ≡ m
+      none m = omega arith
 
-    still : (o : Option (List Told)) → IfSome o (λ world. AreTold tests.props world w es) → IfSome o (λ world. AreTold tests.props world w (es ++ Settle test cause ∷ []))
-    still None told = tt
-    still (Some world) told = are_told-append tests.props world w es (Settle test cause ∷ []) told (tt, tt)
+      still : (o : Option (List Told)) → IfSome o (λ world. AreTold tests.props world w es) → IfSome o (λ world. AreTold tests.props world w (es ++ e ∷ []))
+      still None told = tt
+      still (Some world) told = are_told-append tests.props world w es (e ∷ []) told (saw world, tt)
+
+-- a test that was settled is no attempt, nor is a Stop
+pub asked_settled : (env : List Pair) (tests : Tests) (w : ℕ) (start gate : GateTell) (es : List Entry) (test : ℕ) (cause : Cause) → IsAsked env tests w start gate es → IsAsked env tests w start gate (es ++ Settle test cause ∷ [])
+asked_settled env tests w start gate es test cause was = asked_quiet env tests w start gate es (Settle test cause) refl refl refl (λ world. tt) was
+
+pub asked_stop : (env : List Pair) (tests : Tests) (w : ℕ) (start gate : GateTell) (es : List Entry) → IsAsked env tests w start gate es → IsAsked env tests w start gate (es ++ Stop ∷ [])
+asked_stop env tests w start gate es was = asked_quiet env tests w start gate es Stop refl refl refl (λ world. tt) was
 
 -- where nothing ran
 pub asked_none : (env : List Pair) (tests : Tests) (w : ℕ) (tell : GateTell) → IsAsked env tests w tell tell []

@@ -1,84 +1,162 @@
 -- What a run came to with its files, from what its steps say.
-use Rattle.std.proofs.Common.{◌≡◌, ◌∙◌, sym, ap, subst, true, ℕ, List, [], ◌∷◌, refl, inl, inr}
-use Rattle.std.specs.Prelude.{Option, Some, None, Result, Ok, Err, IfOk, IfSome, IsSomeAnd}
-use Rattle.ct_base.specs.Outside.{Becomes, FilesTell, Held, SameHeld, SinkTell}
+use Rattle.std.proofs.Common.{◌≡◌, sym, ap, subst, true, ℕ, ◌≤◌, min, List, [], ◌∷◌, refl, arith, inl, inr}
+use Rattle.std.specs.Prelude.{Option, Some, None, Result, Ok, Err, IfOk, IfSome}
+use Rattle.ct_base.specs.declared.defs.Pair.{Pair}
+use Rattle.ct_base.specs.Outside.{FilesTell, SinkTell}
 use Rattle.ct_history.specs.declared.plan.PlanParts.{PlanParts}
 use Rattle.ct_history.specs.declared.history.Entry.{Entry}
+use Rattle.ct_history.specs.Plan.{IsSound}
 use Rattle.ct_history.specs.Verdicts.{are_all_final}
+use Rattle.ct_core.specs.Gate.{GateTell}
 use Rattle.ct_cost.specs.declared.cost_data.CostData.{CostData}
+use Rattle.ct_args.specs.declared.invocation.Invocation.{Invocation}
+use Rattle.ct_plan.specs.declared.fault.PlanFault.{PlanFault}
+use Rattle.ct_plan.specs.declared.fault.PlanFault.TheVariants as Plans
+use Rattle.ct_plan.specs.PlanOf.{IsPlanAnswer}
+use Rattle.ct_plan.specs.Source.{source}
 use Rattle.ct_app.specs.declared.outcome.Outcome.{Outcome}
-use Rattle.ct_app.specs.declared.outcome.Outcome.TheVariants.{Completed, Usage, Refused, FilesFault, OutputFault, Memory}
+use Rattle.ct_app.specs.declared.outcome.Outcome.TheVariants.{Completed, Listed, Usage, Refused, FilesFault, OutputFault, Memory}
+use Rattle.ct_app.specs.declared.outcome.Refusal.TheVariants.{Cycle, TooManyEdges}
 use Rattle.ct_app.specs.declared.props.Tests.{Tests}
 use Rattle.ct_app.specs.declared.run_files.RunFileFault.{RunFileFault}
 use Rattle.ct_app.specs.declared.run_files.RunFileFault.TheVariants as Fault
-use Rattle.ct_app.specs.Answers.{IsRun, IsRunOf, Sides, here}
-use Rattle.ct_app.specs.Ends.{Ends, EndsWithFiles, IsReadFolder, IsUnread, PlanEnds, RunLeaves}
-use Rattle.ct_app.specs.Outcome.{outcome_of_file, status_of}
-use Rattle.ct_app.specs.PlanOf.{plan_of}
-use Rattle.ct_app.specs.RunFiles.{FilesServe, FilesStay, Leaves, LeavesPart, LeavesTorn, ReadsCosts, WritesFiles, costs_of, costs_path, last_costs}
-use Rattle.ct_app.proofs.ChangeLemmas.{fails_then, fails_with_last, same_then_same, serves_then, serves_with_last}
+use Rattle.ct_app.specs.Calls.{IsUnrun, Sides, sides}
+use Rattle.ct_app.specs.Runs.{IsRunOf}
+use Rattle.ct_app.specs.Ends.{Ends, EndsWithFiles, HasRun, IsReadFolder, IsUnplanned, IsUnread, PlanEnds, RunLeaves, with_status}
+use Rattle.ct_app.specs.Gates.{IsAsked, are_below}
+use Rattle.ct_app.specs.Outcome.{outcome_of_file}
+use Rattle.ct_app.specs.Reading.{AskFor, IsSource, most_edges}
+use Rattle.ct_app.specs.Run.{PlansTests}
+use Rattle.ct_app.specs.RunFiles.{FilesStay, Leaves, LeavesPart, LeavesTorn, WritesFiles, last_costs}
+use Rattle.ct_app.specs.Tests.{tests_of}
+use Rattle.ct_app.proofs.ChangeLemmas.{fails_with_last, serves_with_last}
+use Rattle.ct_app.proofs.PlanLemmas.{plans_tests}
 use Rattle.ct_app.proofs.RunFilesLemmas.{leaves_behind, leaves_part_behind, leaves_torn_behind}
 
--- a run that has a status is complete
-pub final_where_ended : (plan : PlanParts) (entries : List Entry) (before now : SinkTell) (ended : Result ℕ Outcome) → PlanEnds plan entries before now ended → IfOk ended (λ status. are_all_final plan entries ≡ true)
-final_where_ended plan entries before now (Ok status) ends = ends.0.complete.final
+-- a run that ended well is complete
+pub final_where_ended : (plan : PlanParts) (entries : List Entry) (before now : SinkTell) (ended : Result (Unit {0}) Outcome) → PlanEnds plan entries before now ended → IfOk ended (λ done. are_all_final plan entries ≡ true)
+final_where_ended plan entries before now (Ok done) ends = ends.complete.final
 final_where_ended plan entries before now (Err outcome) ends = tt
 
 -- the files of a complete run could not be written
-pub ends_unwritten : (plan : PlanParts) (entries : List Entry) (costs : CostData) (before now : FilesTell) (status : ℕ) (fault : RunFileFault) (outcome : Outcome) → outcome ≡ outcome_of_file fault → WritesFiles plan entries costs before now (Err fault) → EndsWithFiles plan entries costs before now (Ok status) (Err outcome)
-ends_unwritten plan entries costs before now status (Fault.Failed path) outcome is fails = subst (λ (o : Outcome). EndsWithFiles plan entries costs before now (Ok status) (Err o)) (sym is) fails
-ends_unwritten plan entries costs before now status Fault.NoMemory outcome is part = subst (λ (o : Outcome). EndsWithFiles plan entries costs before now (Ok status) (Err o)) (sym is) part
+pub ends_unwritten : (plan : PlanParts) (entries : List Entry) (costs : CostData) (before now : FilesTell) (done : Unit {0}) (fault : RunFileFault) (outcome : Outcome) → outcome ≡ outcome_of_file fault → WritesFiles plan entries costs before now (Err fault) → EndsWithFiles plan entries costs before now (Ok done) (Err outcome)
+ends_unwritten plan entries costs before now done (Fault.Failed path) outcome is fails = subst (λ (o : Outcome). EndsWithFiles plan entries costs before now (Ok done) (Err o)) (sym is) fails
+ends_unwritten plan entries costs before now done Fault.NoMemory outcome is part = subst (λ (o : Outcome). EndsWithFiles plan entries costs before now (Ok done) (Err o)) (sym is) part
 
--- what was read while each path held what it held
-same_last : (dir : List ℕ) (costs : CostData) (before between : Option Held) → Becomes before between SameHeld → IfSome between (λ held. costs ≡ last_costs dir held) → IfSome before (λ held. costs ≡ last_costs dir held)
-same_last dir costs None between same read = tt
-same_last dir costs (Some x) None same read = absurd same
-same_last dir costs (Some x) (Some y) same read = read ∙ ap costs_of (same (costs_path dir))
-
-pub reads_behind : (dir : List ℕ) (before between now : FilesTell) (costs : CostData) → FilesStay before between → ReadsCosts dir between now (Ok costs) → IfSome before.held (λ held. costs ≡ last_costs dir held) × FilesStay before now
-reads_behind dir before between now costs stay read =
-    (same_last dir costs before.held between.held stay.held read.0, serves_then SameHeld SameHeld SameHeld same_then_same before between now stay read.1)
-
--- the cost data could not be read
-pub unread_costs : (dir : List ℕ) (before between now : FilesTell) (fault : RunFileFault) (outcome : Outcome) → outcome ≡ outcome_of_file fault → FilesStay before between → ReadsCosts dir between now (Err fault) → IsUnread before now outcome
-unread_costs dir before between now (Fault.Failed path) outcome is stay fails =
-    subst (λ (o : Outcome). IsUnread before now o) (sym is) (fails_then SameHeld SameHeld SameHeld same_then_same path before between now stay fails)
-unread_costs dir before between now Fault.NoMemory outcome is stay stays =
-    subst (λ (o : Outcome). IsUnread before now o) (sym is) (serves_then SameHeld SameHeld SameHeld same_then_same before between now stay stays)
-
-module _ (s : Sides) (between : FilesTell) (costs : CostData) (plan : PlanParts) (entries : List Entry) (read : IfSome s.files_before.held (λ held. costs ≡ last_costs plan.dir held)) (stay : FilesStay s.files_before between) where
-  early : (outcome : Outcome) → PlanEnds plan entries s.sink_before s.sink_now (Err outcome) → FilesStay s.files_before s.files_now → RunLeaves s plan entries (Err outcome)
+module _ (s : Sides) (invocation : Invocation) (between : FilesTell) (costs : CostData) (plan : PlanParts) (entries : List Entry) (read : IfSome s.files_before.held (λ held. costs ≡ last_costs plan.dir held)) (stay : FilesStay s.files_before between) where
+  early : (outcome : Outcome) → PlanEnds plan entries s.sink_before s.sink_now (Err outcome) → FilesStay s.files_before s.files_now → RunLeaves s invocation plan entries (Err outcome)
   early Completed ends stays = ends
+  early Listed ends stays = ends
   early (Usage word kind) ends stays = ends
   early (Refused refusal) ends stays = ends
   early (FilesFault path) ends stays = absurd ends
   early OutputFault ends stays = (ends, stays)
   early Memory ends stays = inl (ends, stays)
 
-  pub run_leaves : (ended given : Result ℕ Outcome) → PlanEnds plan entries s.sink_before s.sink_now ended → EndsWithFiles plan entries costs between s.files_now ended given → RunLeaves s plan entries given
-  run_leaves (Ok status) (Ok given) ends left =
-      (ends.0, serves_with_last plan.dir (Leaves plan entries) (leaves_behind plan entries) costs s.files_before between s.files_now read stay left.0, left.1 ∙ ends.1)
-  run_leaves (Ok status) (Err Completed) ends left = left
-  run_leaves (Ok status) (Err (Usage word kind)) ends left = left
-  run_leaves (Ok status) (Err (Refused refusal)) ends left = left
-  run_leaves (Ok status) (Err (FilesFault path)) ends left =
-      (fails_with_last plan.dir (LeavesTorn plan entries path) (leaves_torn_behind plan entries path) costs path s.files_before between s.files_now read stay left, ends.0)
-  run_leaves (Ok status) (Err OutputFault) ends left = absurd left
-  run_leaves (Ok status) (Err Memory) ends left =
-      inr (ends.0, serves_with_last plan.dir (LeavesPart plan entries) (leaves_part_behind plan entries) costs s.files_before between s.files_now read stay left)
+  pub run_leaves : (ended given : Result (Unit {0}) Outcome) → PlanEnds plan entries s.sink_before s.sink_now ended → EndsWithFiles plan entries costs between s.files_now ended given → RunLeaves s invocation plan entries (with_status invocation.empty_is_error plan entries given)
+  run_leaves (Ok done) (Ok left_so) ends left =
+      (ends, serves_with_last plan.dir (Leaves plan entries) (leaves_behind plan entries) costs s.files_before between s.files_now read stay left, refl)
+  run_leaves (Ok done) (Err Completed) ends left = left
+  run_leaves (Ok done) (Err Listed) ends left = left
+  run_leaves (Ok done) (Err (Usage word kind)) ends left = left
+  run_leaves (Ok done) (Err (Refused refusal)) ends left = left
+  run_leaves (Ok done) (Err (FilesFault path)) ends left =
+      ((left.0, fails_with_last plan.dir (LeavesTorn plan entries path) (leaves_torn_behind plan entries path) costs path s.files_before between s.files_now read stay left.1), ends)
+  run_leaves (Ok done) (Err OutputFault) ends left = absurd left
+  run_leaves (Ok done) (Err Memory) ends left =
+      inr (ends, serves_with_last plan.dir (LeavesPart plan entries) (leaves_part_behind plan entries) costs s.files_before between s.files_now read stay left)
   run_leaves (Err outcome) given ends left =
-      subst (λ (o : Result ℕ Outcome). RunLeaves s plan entries o) (sym left.0)
+      subst (λ (o : Result (Unit {0}) Outcome). RunLeaves s invocation plan entries (with_status invocation.empty_is_error plan entries o)) (sym left.0)
       (early outcome ends (subst (λ (f : FilesTell). FilesStay s.files_before f) (sym left.1) stay))
 
--- plan and history are there, and this holds of them
-are_there : (told : Option PlanParts) (noted : Option (List Entry)) (plan : PlanParts) (entries : List Entry) (P : PlanParts → List Entry → Type 0) → told ≡ Some plan → noted ≡ Some entries → P plan entries → IsSomeAnd told (λ p. IsSomeAnd noted (λ es. P p es))
-are_there told noted plan entries P plan_is history_is holds =
-    subst (λ (o : Option PlanParts). IsSomeAnd o (λ p. IsSomeAnd noted (λ es. P p es))) (sym plan_is)
-    (subst (λ (h : Option (List Entry)). IsSomeAnd h (λ es. P plan es)) (sym history_is) holds)
+-- the tests that were read are those of the plan's source, within the limit of the invocation
+same_tests : (invocation : Invocation) (tests : Tests) (costs : CostData) → tests.limit ≡ invocation.timeout → tests ≡ tests_of (source tests.defs tests.props invocation.wanted costs) invocation.timeout
+same_tests invocation tests costs limit = ap (λ (l : ℕ). let t : Tests = record { defs = tests.defs; props = tests.props; limit = l } in t) limit
 
--- the tests of a folder were run, and what the run leaves was written where it is complete
-pub folder_ends : (s : Sides) (between : FilesTell) (tests : Tests) (costs : CostData) (planned plan : PlanParts) (entries : List Entry) (ended given : Result ℕ Outcome) → s.words ≡ [] → s.plan ≡ Some plan → s.history ≡ Some entries → IsReadFolder s.files_before between tests costs planned → IsRunOf s.env tests s.gates_before s.gates_now plan entries → PlanEnds plan entries s.sink_before s.sink_now ended → EndsWithFiles plan entries costs between s.files_now ended given → Ends s given
-folder_ends s between tests costs planned plan entries ended given no_words plan_is history_is folder ran ends left =
-    let read = subst (λ (dir : List ℕ). IfSome s.files_before.held (λ held. costs ≡ last_costs dir held)) (sym (ap (λ (p : PlanParts). p.dir) ran.planned)) folder.last in
-    let run : ((of : Tests) × IsRun s of plan entries) × RunLeaves s plan entries given = ((tests, record { no_words = no_words; read = folder.read; props = folder.props; ran = ran }), run_leaves s between costs plan entries read folder.files ended given ends left) in
-    inl (are_there s.plan s.history plan entries (λ p es. ((of : Tests) × IsRun s of p es) × RunLeaves s p es given) plan_is history_is run)
+-- the plan is one of them
+pub plans_read : (invocation : Invocation) (files between : FilesTell) (tests : Tests) (costs : CostData) (plan : PlanParts) → IsReadFolder invocation files between tests costs → IsSound plan → IsPlanAnswer most_edges (source tests.defs tests.props invocation.wanted costs) (Ok plan) → PlansTests tests plan
+plans_read invocation files between tests costs plan read sound planned =
+    subst (λ (t : Tests). PlansTests t plan) (sym (same_tests invocation tests costs read.read.limit))
+    (plans_tests (source tests.defs tests.props invocation.wanted costs) invocation.timeout read.read.read.have plan sound planned.1)
+
+-- a plan was made of the tests of a folder
+module _ (words : List (List ℕ)) (env : List Pair) (invocation : Invocation) (asked : AskFor words invocation) (files between files_now : FilesTell) (tests : Tests) (costs : CostData) (read : IsReadFolder invocation files between tests costs) where
+  is_source : IsSource files.held invocation (source tests.defs tests.props invocation.wanted costs)
+  is_source = record { tests = read.read.read; wanted = refl; resources = refl; costs = read.last }
+
+  -- the plan was run, and what the run leaves was written where it is complete
+  pub folder_ends : (gate gate_now : GateTell) (sink sink_now : SinkTell) (plan : PlanParts) (entries : List Entry) (names : List (List ℕ)) (ended given : Result (Unit {0}) Outcome) → 1 ≤ invocation.wanted.level → IsPlanAnswer most_edges (source tests.defs tests.props invocation.wanted costs) (Ok plan) → HasRun env tests gate gate_now plan entries → PlanEnds plan entries sink sink_now ended → EndsWithFiles plan entries costs between files_now ended given → Ends (sides words env files files_now (gate ∷ []) (gate_now ∷ []) sink sink_now (Some plan) (Some entries)) names (with_status invocation.empty_is_error plan entries given)
+  folder_ends gate gate_now sink sink_now plan entries names ended given level planned ran ends left =
+      let s = sides words env files files_now (gate ∷ []) (gate_now ∷ []) sink sink_now (Some plan) (Some entries) in
+      let made = source tests.defs tests.props invocation.wanted costs in
+      let last = subst (λ (dir : List ℕ). IfSome files.held (λ held. costs ≡ last_costs dir held)) (sym planned.1.dir) read.last in
+      let one : 1 ≡ min plan.level 1 = omega (arith, level, planned.1.level) in
+      let run : IsRunOf env made invocation.timeout (gate ∷ []) (gate_now ∷ []) plan entries = record {
+        few = planned.0;
+        planned = planned.1;
+        legal = ran.legal;
+        within = ran.within;
+        closed = ran.closed;
+        workers = subst (λ (n : ℕ). are_below n entries ≡ true) one ran.workers;
+        asked = (subst (λ (t : Tests). IsAsked env t 0 gate gate_now entries) (same_tests invocation tests costs read.read.limit) ran.asked, tt);
+      } in
+      inl (record {
+        invocation = invocation;
+        source = made;
+        run = record { words = asked; read = is_source; ran = run };
+        holds = run_leaves s invocation between costs plan entries last read.read.files ended given ends left;
+      })
+
+  -- there is no plan
+  pub unplanned_ends : (gate : GateTell) (sink : SinkTell) (plan : Option PlanParts) (history : Option (List Entry)) (names : List (List ℕ)) (ended : Result ℕ Outcome) (fault : PlanFault) → plan ≡ None → history ≡ None → IsPlanAnswer most_edges (source tests.defs tests.props invocation.wanted costs) (Err fault) → IsUnplanned tests.defs fault names ended → Ends (sides words env files between (gate ∷ []) (gate ∷ []) sink sink plan history) names ended
+  unplanned_ends gate sink plan history names ended fault no_plan no_history answer unplanned = by fault answer unplanned
+    where
+      unrun : IsUnrun (sides words env files between (gate ∷ []) (gate ∷ []) sink sink plan history)
+      unrun = record { no_plan = no_plan; no_history = no_history; unasked = refl }
+
+      said : (other : Result ℕ Outcome) → ended ≡ other → Ends (sides words env files between (gate ∷ []) (gate ∷ []) sink sink plan history) names other → Ends (sides words env files between (gate ∷ []) (gate ∷ []) sink sink plan history) names ended
+      said other is ends = subst (λ (o : Result ℕ Outcome). Ends (sides words env files between (gate ∷ []) (gate ∷ []) sink sink plan history) names o) (sym is) ends
+
+      by : (f : PlanFault) → IsPlanAnswer most_edges (source tests.defs tests.props invocation.wanted costs) (Err f) → IsUnplanned tests.defs f names ended → Ends (sides words env files between (gate ∷ []) (gate ∷ []) sink sink plan history) names ended
+      by (Plans.Cycle cycle) refused (inl (is, named)) =
+          said (Err (Refused (Cycle cycle))) is
+          (inr (
+            inr (record {
+              invocation = invocation;
+              words = asked;
+              source = source tests.defs tests.props invocation.wanted costs;
+              read = is_source;
+              refused = (refused.0, refused.1, named);
+              files = read.read.files;
+              unrun = unrun;
+            }),
+            refl,
+          ))
+      by (Plans.Cycle cycle) refused (inr is) = said (Err Memory) is (inr ((unrun, read.read.files), refl))
+      by Plans.TooManyEdges refused is =
+          said (Err (Refused TooManyEdges)) is
+          (inr (
+            inr (record {
+              invocation = invocation;
+              words = asked;
+              source = source tests.defs tests.props invocation.wanted costs;
+              read = is_source;
+              refused = refused;
+              files = read.read.files;
+              unrun = unrun;
+            }),
+            refl,
+          ))
+      by Plans.NoMemory refused is = said (Err Memory) is (inr ((unrun, read.read.files), refl))
+
+-- the tests of a folder were not read
+pub unread_ends : (words : List (List ℕ)) (env : List Pair) (invocation : Invocation) (asked : AskFor words invocation) (files files_now : FilesTell) (gate : GateTell) (sink : SinkTell) (names : List (List ℕ)) (outcome : Outcome) → IsUnread invocation files files_now outcome → Ends (sides words env files files_now (gate ∷ []) (gate ∷ []) sink sink None None) names (Err outcome)
+unread_ends words env invocation asked files files_now gate sink names Completed unread = absurd unread
+unread_ends words env invocation asked files files_now gate sink names Listed unread = absurd unread
+unread_ends words env invocation asked files files_now gate sink names (Usage word kind) unread = absurd unread
+unread_ends words env invocation asked files files_now gate sink names (Refused refusal) unread =
+    inr (inl (record { invocation = invocation; words = asked; refused = unread.0; files = unread.1; unrun = record { no_plan = refl; no_history = refl; unasked = refl } }), refl)
+unread_ends words env invocation asked files files_now gate sink names (FilesFault path) unread =
+    inr (record { invocation = invocation; words = asked; files = unread; unrun = record { no_plan = refl; no_history = refl; unasked = refl } }, refl)
+unread_ends words env invocation asked files files_now gate sink names OutputFault unread = absurd unread
+unread_ends words env invocation asked files files_now gate sink names Memory unread = inr ((record { no_plan = refl; no_history = refl; unasked = refl }, unread), refl)

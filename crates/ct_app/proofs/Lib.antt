@@ -1,7 +1,7 @@
 pub mod TestLemmas
-pub mod PlanningLemmas
+pub mod StopLemmas
+pub mod LackLemmas
 pub mod FallLemmas
-pub mod OnceLemmas
 pub mod GateLemmas
 pub mod AskLemmas
 pub mod StepLemmas
@@ -10,6 +10,8 @@ pub mod ReportLemmas
 pub mod ChangeLemmas
 pub mod RunFilesLemmas
 pub mod ReadLemmas
+pub mod PlanLemmas
 pub mod EndLemmas
 pub mod LeaveLemmas
 pub mod AnswerLemmas
+pub mod ListLemmas

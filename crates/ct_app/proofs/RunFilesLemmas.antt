@@ -1,8 +1,8 @@
 -- What the files of a run come to hold, write by write.
-use Rattle.std.proofs.Common.{◌≡◌, ◌≢◌, ◌∙◌, sym, ap, subst, Bool, true, false, ℕ, ◌+◌, ◌<◌, ◌≤◌, List, [], ◌∷◌, ◌++◌, length, get_or, take, inl, inr, refl, arith}
+use Rattle.std.proofs.Common.{◌≡◌, ◌≢◌, ◌∙◌, sym, ap, subst, Bool, true, false, ℕ, ◌+◌, ◌<◌, List, [], ◌∷◌, ◌++◌, length, get_or, take, inl, inr, refl, arith}
 use Rattle.std.specs.Prelude.{Option, Some, None, Result, Ok, Err, IfSome, IsErrOf, option_map, cond, not, nat_le, codes, decimal, filter, flat_map, ◌==◌}
 use Rattle.std.specs.List.{list_any}
-use Rattle.std.proofs.lemmas.Bool.{le-leb, leb-true, leb-false, lt-leb, ne_eqb}
+use Rattle.std.proofs.lemmas.Bool.{leb-true, leb-false, lt-leb, ne_eqb}
 use Rattle.std.proofs.lemmas.Bool.Decides.{Decides-eqb}
 use Rattle.std.proofs.lemmas.List.{append_cancel_left, length-append, length-take, take_all}
 use Rattle.ct_base.specs.declared.files.FilesFault.{FilesFault}
@@ -18,7 +18,7 @@ use Rattle.ct_cost.specs.declared.cost_data.CostData.{CostData}
 use Rattle.ct_cost.specs.After.{failed_log_text, logged}
 use Rattle.ct_app.specs.declared.run_files.RunFileFault.{RunFileFault}
 use Rattle.ct_app.specs.declared.run_files.RunFileFault.TheVariants as Fault
-use Rattle.ct_app.specs.RunFiles.{FilesFail, FilesServe, FilesStay, Leaves, LeavesBoth, LeavesFor, LeavesPart, LeavesTorn, TearsCosts, TearsLog, WritesFiles, WritesText, costs_of, costs_path, last_costs, log_path, most_cost_bytes, new_costs}
+use Rattle.ct_app.specs.RunFiles.{FilesFail, FilesServe, FilesStay, Leaves, LeavesBoth, LeavesFor, LeavesPart, LeavesTorn, WritesFiles, WritesText, costs_of, costs_path, last_costs, log_path, most_cost_bytes, new_costs}
 use Rattle.ct_app.proofs.ChangeLemmas.{fails_as, fails_then, same_then_fails, same_then_same, same_then_writes, serves_as, serves_then, stays, writes_then_same}
 
 -- the first bytes of a long text are too many too
@@ -132,7 +132,7 @@ module _ (plan : PlanParts) (entries : List Entry) (costs : CostData) (some : (l
 
   -- the cost file could not be written
   pub unwritten_costs : (fault : RunFileFault) (before now : FilesTell) → WritesText (costs_path plan.dir) (new_costs plan entries costs) before now (Err fault) → WritesFiles plan entries costs before now (Err fault)
-  unwritten_costs (Fault.Failed path) before now torn = leaves_torn_costs path before now torn.0 torn.1
+  unwritten_costs (Fault.Failed path) before now torn = (inl (torn.0, some_tests), leaves_torn_costs path before now torn.0 torn.1)
   unwritten_costs Fault.NoMemory before now stay = leaves_nothing plan entries costs before now stay
 
   -- the cost file was written, and no log is due
@@ -184,7 +184,7 @@ module _ (plan : PlanParts) (entries : List Entry) (costs : CostData) (some : (l
     -- the log was written behind the cost file, or could not be
     pub writes_log : (before between now : FilesTell) (result : Result (Unit {0}) RunFileFault) → FilesServe (Writes (costs_path plan.dir) (new_costs plan entries costs)) before between → WritesText (log_path plan.dir) (failed_log_text plan entries) between now result → WritesFiles plan entries costs before now result
     writes_log before between now (Ok done) first second = leaves_log before between now first second
-    writes_log before between now (Err (Fault.Failed path)) first second = leaves_torn_log path before between now second.0 first second.1
+    writes_log before between now (Err (Fault.Failed path)) first second = (inr (second.0, failed), leaves_torn_log path before between now second.0 first second.1)
     writes_log before between now (Err Fault.NoMemory) first second = leaves_costs_alone before between now first second
 
 -- each change leads from what was held before, too

@@ -1,20 +1,22 @@
 -- Tests and their properties, one more of each; and the first property that is refused, where none was before.
 use Rattle.std.proofs.Common.{◌≡◌, ◌∙◌, sym, ap, subst, ℕ, ◌+◌, ◌-◌, ◌<◌, ◌≤◌, List, [], ◌∷◌, ◌++◌, length, take, get_or, refl, arith}
-use Rattle.std.specs.Prelude.{All, Option, Some, slice_get}
+use Rattle.std.specs.Prelude.{All}
 use Rattle.std.proofs.lemmas.List.{take_all, take_more}
 use Rattle.std.proofs.lemmas.List.Elements.{All-append, All-cons, All-nil}
-use Rattle.std.proofs.lemmas.Option.{slice_get_read}
 use Rattle.ct_base.specs.declared.defs.TestDef.{TestDef}
 use Rattle.ct_props.specs.declared.props.Props.{Props}
 use Rattle.ct_props.specs.PropsOf.{HasProps}
 use Rattle.ct_props.specs.Refusal.{IsPropFault}
 use Rattle.ct_props.specs.declared.fault.PropFault.{PropFault}
 use Rattle.ct_props.specs.declared.fault.PropFault.TheVariants.{Bad, NoMemory}
+use Rattle.ct_props.specs.Numbered.{at_number}
+use Rattle.ct_props.proofs.NumberedLemmas.{at_number_here}
+use Rattle.ct_plan.specs.Source.{HaveProps}
 use Rattle.ct_app.specs.declared.outcome.Outcome.{Outcome}
-use Rattle.ct_app.specs.declared.outcome.Outcome.TheVariants.{Completed, Usage, Refused, FilesFault, OutputFault, Memory}
-use Rattle.ct_app.specs.declared.outcome.Refusal.TheVariants.{TestFile, Prop}
+use Rattle.ct_app.specs.declared.outcome.Outcome.TheVariants.{Completed, Listed, Usage, Refused, FilesFault, OutputFault, Memory}
+use Rattle.ct_app.specs.declared.outcome.Refusal.TheVariants.{TestFile, Prop, Cycle, TooManyEdges}
 use Rattle.ct_app.specs.Outcome.{outcome_of_prop}
-use Rattle.ct_app.specs.Tests.{HaveProps, IsUnrefused, RefusesFirst, RefusesTest, RefusesTests, def_at}
+use Rattle.ct_app.specs.Tests.{IsUnrefused, RefusesTest, RefusesTests}
 
 -- there are as many properties as tests
 pub length-have_props : (defs : List TestDef) (owns : List Props) → HaveProps defs owns → length owns ≡ length defs
@@ -62,17 +64,21 @@ module _ (defs : List TestDef) (at : ℕ) (def : TestDef) (within : at < length 
   -- a test that is refused behind none that is
   pub refuses : (number : ℕ) (owns : List Props) (outcome : Outcome) → number ≡ at + 1 → AreRead defs at owns → RefusesTest number def outcome → RefusesTests defs outcome
   refuses number owns Completed numbered read refused = refused
+  refuses number owns Listed numbered read refused = refused
   refuses number owns (Usage word kind) numbered read refused = refused
   refuses number owns (Refused (TestFile file line kind)) numbered read refused = refused
   refuses number owns (Refused (Prop test key kind)) numbered read refused =
       let place : test - 1 ≡ at = omega (arith, refused.0, numbered) in
+      let here : test ≡ at + 1 = omega (arith, refused.0, numbered) in
       record {
         low = omega (arith, refused.0, numbered);
         def = def;
-        there = ap (λ (n : ℕ). slice_get defs n) place ∙ slice_get_read defs (length defs) at def refl within is;
+        there = ap (λ (n : ℕ). at_number defs n) here ∙ at_number_here defs at def within is;
         least = refused.1;
         first = subst (λ (n : ℕ). All IsUnrefused (take n defs)) (sym place) read.unrefused;
       }
+  refuses number owns (Refused (Cycle tests)) numbered read refused = refused
+  refuses number owns (Refused TooManyEdges) numbered read refused = refused
   refuses number owns (FilesFault path) numbered read refused = refused
   refuses number owns OutputFault numbered read refused = refused
   refuses number owns Memory numbered read refused = tt

@@ -17,10 +17,11 @@ use Rattle.ct_history.specs.Verdicts.{are_all_final, verdict_of_test}
 use Rattle.ct_core.specs.declared.gate.Ended.{Ended}
 use Rattle.ct_core.specs.declared.gate.Request.{Request}
 use Rattle.ct_core.specs.declared.ticket.Ticket.{Ticket}
+use Rattle.ct_core.specs.Core.{with_due_stop, with_final}
 use Rattle.ct_core.specs.CoreValue.{CoreValue}
 use Rattle.ct_core.specs.Gate.{GateTell, is_no_memory, is_not_started, told}
 use Rattle.ct_app.specs.declared.props.Tests.{Tests}
-use Rattle.ct_app.specs.Run.{left_count}
+use Rattle.ct_app.specs.Run.{left_count, tries_left}
 use Rattle.ct_app.specs.Gates.{IsAsked, IsRequestOf, asked_run, seen_of}
 
 -- the attempt that a ticket stands for
@@ -28,9 +29,9 @@ abbrev pub run_of : Ticket → Running
 run_of ticket = record { test = ticket.test; attempt = ticket.attempt; worker = ticket.worker; placement = ticket.placement }
 
 -- the gate was asked once, for this attempt
-pub record AsksOnce (env : List Pair) (def : TestDef) (props : Props) (run : Running) (old new : GateTell) : Type 0 where
+pub record AsksOnce (env : List Pair) (limit : ℕ) (def : TestDef) (props : Props) (run : Running) (old new : GateTell) : Type 0 where
   pub request : Request
-  pub is : IsRequestOf env def props run request
+  pub is : IsRequestOf env limit def props run request
   pub asked : Becomes old.asked new.asked (Adds (asked_run run ∷ []))
   pub sent : Becomes old.sent new.sent (Adds (request ∷ []))
 
@@ -47,9 +48,9 @@ pub record HasAttemptCause (before now : ℕ) (how : How) : Type 0 where
   pub unfailed : is_not_started how ≡ false → is_no_memory how ≡ false → now ≡ before
 
 -- an attempt of a test was run on a gate, and was so seen
-pub record RunsAttempt (env : List Pair) (def : TestDef) (props : Props) (run : Running) (seen : Seen) (old new : GateTell) : Type 0 where
+pub record RunsAttempt (env : List Pair) (limit : ℕ) (def : TestDef) (props : Props) (run : Running) (seen : Seen) (old new : GateTell) : Type 0 where
   pub told : is_no_memory seen.how ≡ false → IfSome old.world (λ world. seen ≡ seen_of props (told world run.test run.attempt).heard (told world run.test run.attempt).ended)
-  pub calls : AsksOnce env def props run old new ⊎ AsksNone seen.how old new
+  pub calls : AsksOnce env limit def props run old new ⊎ AsksNone seen.how old new
   pub world : new.world ≡ old.world
   pub cause : HasAttemptCause old.faults new.faults seen.how
 
@@ -57,25 +58,32 @@ pub record RunsAttempt (env : List Pair) (def : TestDef) (props : Props) (run : 
 abbrev pub SeesEnd : Props → CollectValue → Ended → Seen → Type 0
 SeesEnd props ear ended seen = (is_no_memory seen.how ≡ true) ⊎ ((ear.short ≡ false) × (seen ≡ seen_of props ear.heard ended))
 
--- one attempt of a test was started by worker 0 and ended, and was so seen
+-- one attempt of a test was started by worker 0 and ended, and was so seen; a Stop stands behind it where one is due
 pub record RanOnce (test : ℕ) (seen : Seen) (before now : CoreValue) : Type 0 where
   pub attempt : ℕ
   pub placement : Option Placement
-  pub appended : now ≡ record before { entries = before.entries ++ Start test attempt 0 placement ∷ End test attempt 0 seen ∷ [] }
+  pub appended : now ≡ record before { entries = with_due_stop before.plan (before.entries ++ Start test attempt 0 placement ∷ End test attempt 0 seen ∷ []) }
 
--- one test was settled
+-- one test was settled; a Stop stands behind it where one is due
 pub record SettledOne (test : ℕ) (before now : CoreValue) : Type 0 where
   pub cause : Cause
-  pub appended : now ≡ record before { entries = before.entries ++ Settle test cause ∷ [] }
+  pub appended : now ≡ with_final before (Settle test cause)
 
--- a test got its verdict: by an attempt for which memory was there, or without one
-abbrev pub MakesFinal : ℕ → CoreValue → CoreValue → Type 0
-MakesFinal test before now = ((seen : Seen) × RanOnce test seen before now × (is_no_memory seen.how ≡ false)) ⊎ SettledOne test before now
+-- a test was run, with memory for the attempt, or settled
+abbrev pub Tries : ℕ → CoreValue → CoreValue → Type 0
+Tries test before now = ((seen : Seen) × RanOnce test seen before now × (is_no_memory seen.how ≡ false)) ⊎ SettledOne test before now
 
--- what a step says: all is final; or a test got its verdict, and fewer are left; or memory was wanting for an attempt, or before one
+-- so it was, less is left to do, and a test is no longer left where this one got its verdict
+pub record Advances (test : ℕ) (before now : CoreValue) : Type 0 where
+  pub tried : Tries test before now
+  pub less : tries_left now.plan now.entries < tries_left before.plan before.entries
+  pub kept : left_count now.plan now.entries ≤ left_count before.plan before.entries
+  pub fewer : IsSome (verdict_of_test now.plan now.entries test) → left_count now.plan now.entries < left_count before.plan before.entries
+
+-- what a step says: all is final; or a test was run or settled; or memory was wanting for an attempt, or before one
 abbrev pub IsStep : CoreValue → CoreValue → Result (Option ℕ) NoMemory → Type 0
 IsStep before now (Ok None) = (now ≡ before) × (are_all_final now.plan now.entries ≡ true)
-IsStep before now (Ok (Some test)) = MakesFinal test before now × IsSome (verdict_of_test now.plan now.entries test) × (left_count now.plan now.entries < left_count before.plan before.entries)
+IsStep before now (Ok (Some test)) = Advances test before now
 IsStep before now (Err e) = (now ≡ before) ⊎ ((test : ℕ) × (seen : Seen) × RanOnce test seen before now × (is_no_memory seen.how ≡ true))
 
 -- since whatever moment the gate was asked for what the worker ran before, it was also asked for what it ran now

@@ -1,106 +1,171 @@
--- How a run ended, before its outcome is told. This project's own.
-use Rattle.std.specs.Prelude.{◌≡◌, ◌⊎◌, ℕ, ◌-◌, ◌^◌, ◌<◌, List, [], length, Option, None, Result, Ok, Err, IfSome, IsSomeAnd}
+-- How a call ended, before its outcome is told. This project's own.
+use Rattle.std.specs.Prelude.{◌≡◌, ◌⊎◌, ℕ, ◌-◌, ◌^◌, ◌<◌, Bool, true, List, [], length, Result, Ok, Err, IfSome}
 use Rattle.ct_base.specs.declared.defs.Pair.{Pair}
+use Rattle.ct_base.specs.declared.defs.TestDef.{TestDef}
 use Rattle.ct_base.specs.declared.sink.SinkFault.{SinkFault}
 use Rattle.ct_base.specs.declared.sink.SinkFault.TheVariants as Sinks
 use Rattle.ct_base.specs.Outside.{FilesTell, Puts, SameHeld, SinkTell}
-use Rattle.ct_testfile.specs.Tree.{tree_of}
 use Rattle.ct_history.specs.declared.plan.PlanParts.{PlanParts}
 use Rattle.ct_history.specs.declared.history.Entry.{Entry}
 use Rattle.ct_history.specs.declared.history.History.{History}
+use Rattle.ct_history.specs.History.{open_starts}
+use Rattle.ct_history.specs.Legal.{StaysWithin, is_legal}
 use Rattle.ct_core.specs.Gate.{GateTell}
 use Rattle.ct_cost.specs.declared.cost_data.CostData.{CostData}
+use Rattle.ct_args.specs.declared.invocation.Invocation.{Invocation}
+use Rattle.ct_plan.specs.declared.fault.PlanFault.{PlanFault}
+use Rattle.ct_plan.specs.declared.fault.PlanFault.TheVariants as Plans
 use Rattle.ct_app.specs.declared.outcome.Outcome.{Outcome}
-use Rattle.ct_app.specs.declared.outcome.Outcome.TheVariants.{Completed, Usage, Refused, FilesFault, OutputFault, Memory}
-use Rattle.ct_app.specs.Answers.{HasRunWith, IsCutOff, IsCutShort, IsGivenUp, IsLeft, IsReadFault, IsRefusal, IsRefusedBy, IsReported, IsRunOf, IsUnrun, IsUsage, IsWriteFault, PutsOrFails, Sides, here}
-use Rattle.ct_app.specs.Outcome.{fault_line, fault_status, outcome_of_sink, status_of}
-use Rattle.ct_app.specs.PlanOf.{plan_of}
-use Rattle.ct_app.specs.RunFiles.{FilesFail, FilesServe, FilesStay, Leaves, LeavesPart, LeavesTorn, last_costs}
-use Rattle.ct_app.specs.Tests.{HaveProps}
+use Rattle.ct_app.specs.declared.outcome.Outcome.TheVariants.{Completed, Listed, Usage, Refused, FilesFault, OutputFault, Memory}
+use Rattle.ct_app.specs.declared.outcome.Refusal.TheVariants.{Cycle, TooManyEdges}
 use Rattle.ct_app.specs.declared.props.Tests.{Tests}
+use Rattle.ct_app.specs.Calls.{IsReadFault, IsUnreadable, IsUnrun, IsUsage, PutsOrFails, Sides}
+use Rattle.ct_app.specs.Runs.{HasRunWith, IsCutOff, IsCutShort, IsGivenUp, IsLeft, IsRefusal, IsReported, IsWriteFault}
+use Rattle.ct_app.specs.Gates.{IsAsked, are_below}
+use Rattle.ct_app.specs.Lists.{HasList}
+use Rattle.ct_app.specs.Outcome.{fault_line, fault_status, names_at, outcome_of_sink, status_of}
+use Rattle.ct_app.specs.Reading.{AreRead, AskFor, RefusesReading}
+use Rattle.ct_app.specs.RunFiles.{FilesFail, FilesServe, FilesStay, IsWritten, Leaves, LeavesPart, LeavesTorn, last_costs}
 
 -- the entries of a history
 abbrev pub history_entries : History → List Entry
 history_entries history = history.entries.items
 
--- how the run of a plan ended: with its status, or with a fault of the sink or want of memory
-abbrev pub PlanEnds : PlanParts → List Entry → SinkTell → SinkTell → Result ℕ Outcome → Type 0
-PlanEnds plan entries before now (Ok status) = IsReported plan entries before now × (status ≡ status_of plan entries)
+-- how the run of a plan ended: complete, or with a fault of the sink or want of memory
+abbrev pub PlanEnds : PlanParts → List Entry → SinkTell → SinkTell → Result (Unit {0}) Outcome → Type 0
+PlanEnds plan entries before now (Ok done) = IsReported plan entries before now
 PlanEnds plan entries before now (Err Completed) = ⊥
+PlanEnds plan entries before now (Err Listed) = ⊥
 PlanEnds plan entries before now (Err (Usage word kind)) = ⊥
 PlanEnds plan entries before now (Err (Refused refusal)) = ⊥
 PlanEnds plan entries before now (Err (FilesFault path)) = ⊥
 PlanEnds plan entries before now (Err OutputFault) = IsCutOff plan entries before now
 PlanEnds plan entries before now (Err Memory) = IsGivenUp plan entries before now
 
--- the status of a run that is complete, or the outcome of one that ended early
-abbrev pub ended_as : Result (Unit {0}) SinkFault → PlanParts → List Entry → Result ℕ Outcome
-ended_as (Ok done) plan entries = Ok (status_of plan entries)
-ended_as (Err fault) plan entries = Err (outcome_of_sink fault)
+-- a run that is complete, or the outcome of one that ended early
+abbrev pub ended_as : Result (Unit {0}) SinkFault → Result (Unit {0}) Outcome
+ended_as (Ok done) = Ok done
+ended_as (Err fault) = Err (outcome_of_sink fault)
 
 -- how a run ended, its files too: it is complete and they were written or could not be, or it ended early and they stay
-abbrev pub RunLeaves : Sides → PlanParts → List Entry → Result ℕ Outcome → Type 0
-RunLeaves s plan entries (Ok status) = IsReported plan entries s.sink_before s.sink_now × IsLeft s plan entries × (status ≡ status_of plan entries)
-RunLeaves s plan entries (Err Completed) = ⊥
-RunLeaves s plan entries (Err (Usage word kind)) = ⊥
-RunLeaves s plan entries (Err (Refused refusal)) = ⊥
-RunLeaves s plan entries (Err (FilesFault path)) = IsWriteFault s path plan entries × IsReported plan entries s.sink_before s.sink_now
-RunLeaves s plan entries (Err OutputFault) = IsCutOff plan entries s.sink_before s.sink_now × FilesStay s.files_before s.files_now
-RunLeaves s plan entries (Err Memory) = IsCutShort s plan entries s.sink_now
+abbrev pub RunLeaves : Sides → Invocation → PlanParts → List Entry → Result ℕ Outcome → Type 0
+RunLeaves s invocation plan entries (Ok status) = IsReported plan entries s.sink_before s.sink_now × IsLeft s plan entries × (status ≡ status_of invocation.empty_is_error plan entries)
+RunLeaves s invocation plan entries (Err Completed) = ⊥
+RunLeaves s invocation plan entries (Err Listed) = ⊥
+RunLeaves s invocation plan entries (Err (Usage word kind)) = ⊥
+RunLeaves s invocation plan entries (Err (Refused refusal)) = ⊥
+RunLeaves s invocation plan entries (Err (FilesFault path)) = IsWriteFault s path plan entries × IsReported plan entries s.sink_before s.sink_now
+RunLeaves s invocation plan entries (Err OutputFault) = IsCutOff plan entries s.sink_before s.sink_now × FilesStay s.files_before s.files_now
+RunLeaves s invocation plan entries (Err Memory) = IsCutShort s plan entries s.sink_now
 
 -- what a run that ended so came to with its files: where it is complete they were written or could not be, and else they stay
-abbrev pub EndsWithFiles : PlanParts → List Entry → CostData → FilesTell → FilesTell → Result ℕ Outcome → Result ℕ Outcome → Type 0
+abbrev pub EndsWithFiles : PlanParts → List Entry → CostData → FilesTell → FilesTell → Result (Unit {0}) Outcome → Result (Unit {0}) Outcome → Type 0
 EndsWithFiles plan entries costs before now (Err outcome) ended = (ended ≡ Err outcome) × (now ≡ before)
-EndsWithFiles plan entries costs before now (Ok status) (Ok given) = FilesServe (Leaves plan entries costs) before now × (given ≡ status)
-EndsWithFiles plan entries costs before now (Ok status) (Err Completed) = ⊥
-EndsWithFiles plan entries costs before now (Ok status) (Err (Usage word kind)) = ⊥
-EndsWithFiles plan entries costs before now (Ok status) (Err (Refused refusal)) = ⊥
-EndsWithFiles plan entries costs before now (Ok status) (Err (FilesFault path)) = FilesFail path (LeavesTorn plan entries path costs) before now
-EndsWithFiles plan entries costs before now (Ok status) (Err OutputFault) = ⊥
-EndsWithFiles plan entries costs before now (Ok status) (Err Memory) = FilesServe (LeavesPart plan entries costs) before now
+EndsWithFiles plan entries costs before now (Ok done) (Ok left) = FilesServe (Leaves plan entries costs) before now
+EndsWithFiles plan entries costs before now (Ok done) (Err Completed) = ⊥
+EndsWithFiles plan entries costs before now (Ok done) (Err Listed) = ⊥
+EndsWithFiles plan entries costs before now (Ok done) (Err (Usage word kind)) = ⊥
+EndsWithFiles plan entries costs before now (Ok done) (Err (Refused refusal)) = ⊥
+EndsWithFiles plan entries costs before now (Ok done) (Err (FilesFault path)) = IsWritten plan entries path × FilesFail path (LeavesTorn plan entries path costs) before now
+EndsWithFiles plan entries costs before now (Ok done) (Err OutputFault) = ⊥
+EndsWithFiles plan entries costs before now (Ok done) (Err Memory) = FilesServe (LeavesPart plan entries costs) before now
 
--- the tests and the cost data of the folder were read, the tests were planned, and the files stay
-pub record IsReadFolder (before now : FilesTell) (tests : Tests) (costs : CostData) (plan : PlanParts) : Type 0 where
-  pub read : IfSome before.held (λ held. tree_of held here [] ≡ Ok tests.defs)
+-- the status of a run that is complete, or why it is not
+abbrev pub with_status : Bool → PlanParts → List Entry → Result (Unit {0}) Outcome → Result ℕ Outcome
+with_status empty_is_error plan entries (Ok done) = Ok (status_of empty_is_error plan entries)
+with_status empty_is_error plan entries (Err outcome) = Err outcome
+
+-- the tests that an invocation asks for were read, and the files stay
+pub record HasTests (invocation : Invocation) (before now : FilesTell) (tests : Tests) : Type 0 where
+  pub read : AreRead before.held invocation tests.defs tests.props
   pub few : length tests.defs < 2 ^ 32 - 1
-  pub props : HaveProps tests.defs tests.props
-  pub last : IfSome before.held (λ held. costs ≡ last_costs here held)
-  pub planned : plan ≡ plan_of here tests
+  pub limit : tests.limit ≡ invocation.timeout
   pub files : FilesStay before now
 
 -- why they were not: a test file or a property is refused, or the files failed at a path that was read, or memory was wanting
-abbrev pub IsUnread : FilesTell → FilesTell → Outcome → Type 0
-IsUnread before now Completed = ⊥
-IsUnread before now (Usage word kind) = ⊥
-IsUnread before now (Refused refusal) = IsRefusedBy before.held refusal × FilesStay before now
-IsUnread before now (FilesFault path) = FilesFail path SameHeld before now
-IsUnread before now OutputFault = ⊥
-IsUnread before now Memory = FilesStay before now
+abbrev pub IsUnread : Invocation → FilesTell → FilesTell → Outcome → Type 0
+IsUnread invocation before now Completed = ⊥
+IsUnread invocation before now Listed = ⊥
+IsUnread invocation before now (Usage word kind) = ⊥
+IsUnread invocation before now (Refused refusal) = RefusesReading before.held invocation refusal × FilesStay before now
+IsUnread invocation before now (FilesFault path) = FilesFail path SameHeld before now
+IsUnread invocation before now OutputFault = ⊥
+IsUnread invocation before now Memory = FilesStay before now
 
--- no plan was made, for this cause
-abbrev pub IsUnplanned : Sides → Result ℕ Outcome → Type 0
-IsUnplanned s (Ok status) = ⊥
-IsUnplanned s (Err Completed) = ⊥
-IsUnplanned s (Err (Usage word kind)) = IsUsage s word
-IsUnplanned s (Err (Refused refusal)) = IsRefusal s refusal
-IsUnplanned s (Err (FilesFault path)) = IsReadFault s path
-IsUnplanned s (Err OutputFault) = ⊥
-IsUnplanned s (Err Memory) = IsUnrun s × FilesStay s.files_before s.files_now
+-- and what the last run tells of them was read too
+pub record IsReadFolder (invocation : Invocation) (before now : FilesTell) (tests : Tests) (costs : CostData) : Type 0 where
+  pub read : HasTests invocation before now tests
+  pub last : IfSome before.held (λ held. costs ≡ last_costs invocation.wanted.dir held)
 
--- how a call ended before its outcome is told: a plan was run, or none was made and nothing was put
-abbrev pub Ends : Sides → Result ℕ Outcome → Type 0
-Ends s ended = HasRunWith s (λ plan entries. RunLeaves s plan entries ended) ⊎ (IsUnplanned s ended × (s.sink_now ≡ s.sink_before))
+-- why the tests of a folder have no plan, with the names of the tests of a cycle; memory may be wanting for these
+abbrev pub IsUnplanned : List TestDef → PlanFault → List (List ℕ) → Result ℕ Outcome → Type 0
+IsUnplanned defs (Plans.Cycle tests) names ended = ((ended ≡ Err (Refused (Cycle tests))) × (names ≡ names_at defs tests)) ⊎ (ended ≡ Err Memory)
+IsUnplanned defs Plans.TooManyEdges names ended = ended ≡ Err (Refused TooManyEdges)
+IsUnplanned defs Plans.NoMemory names ended = ended ≡ Err Memory
+
+-- the tests of a plan ran on one gate as far as the history goes: it is legal and leaves nothing open, at no moment was more
+-- given than is declared, and it says what the gate was asked and told
+pub record HasRun (env : List Pair) (tests : Tests) (gate_before gate_now : GateTell) (plan : PlanParts) (entries : List Entry) : Type 0 where
+  pub legal : is_legal plan entries ≡ true
+  pub within : StaysWithin plan entries
+  pub closed : open_starts entries ≡ []
+  pub workers : are_below 1 entries ≡ true
+  pub asked : IsAsked env tests 0 gate_before gate_now entries
+
+-- nothing was run, for this cause; the tests of a cycle have these names
+abbrev pub EndsUnrun : Sides → List (List ℕ) → Result ℕ Outcome → Type 0
+EndsUnrun s names (Ok status) = ⊥
+EndsUnrun s names (Err Completed) = ⊥
+EndsUnrun s names (Err Listed) = ⊥
+EndsUnrun s names (Err (Usage word kind)) = IsUsage s word kind
+EndsUnrun s names (Err (Refused refusal)) = IsRefusal s refusal names
+EndsUnrun s names (Err (FilesFault path)) = IsReadFault s path
+EndsUnrun s names (Err OutputFault) = ⊥
+EndsUnrun s names (Err Memory) = IsUnrun s × FilesStay s.files_before s.files_now
+
+-- how a run ended before its outcome is told: a plan was run, or none was made and nothing was put
+abbrev pub Ends : Sides → List (List ℕ) → Result ℕ Outcome → Type 0
+Ends s names ended = HasRunWith s (λ invocation plan entries. RunLeaves s invocation plan entries ended) ⊎ (EndsUnrun s names ended × (s.sink_now ≡ s.sink_before))
+
+-- so did one for an invocation, whatever words asked for that
+abbrev pub EndsFor : Invocation → (List (List ℕ) → Sides) → List (List ℕ) → Result ℕ Outcome → Type 0
+EndsFor invocation sides_of names ended = (words : List (List ℕ)) → AskFor words invocation → Ends (sides_of words) names ended
+
+-- what the end of a list is to a call
+abbrev pub listed_as : Result (Unit {0}) SinkFault → Outcome
+listed_as (Ok done) = Listed
+listed_as (Err fault) = outcome_of_sink fault
+
+-- how a list ended before its outcome is told
+abbrev pub ListEnds : Sides → Outcome → Type 0
+ListEnds s Completed = ⊥
+ListEnds s Listed = HasList s (λ text. Puts text s.sink_before s.sink_now (Ok tt))
+ListEnds s (Usage word kind) = IsUsage s word kind × (s.sink_now ≡ s.sink_before)
+ListEnds s (Refused refusal) = IsUnreadable s refusal × (s.sink_now ≡ s.sink_before)
+ListEnds s (FilesFault path) = IsReadFault s path × (s.sink_now ≡ s.sink_before)
+ListEnds s OutputFault = HasList s (λ text. Puts text s.sink_before s.sink_now (Err Sinks.Failed))
+ListEnds s Memory = IsUnrun s × FilesStay s.files_before s.files_now × ((s.sink_now ≡ s.sink_before) ⊎ HasList s (λ text. Puts text s.sink_before s.sink_now (Err Sinks.NoMemory)))
+
+-- so did one for an invocation, whatever words asked for that
+abbrev pub ListEndsFor : Invocation → (List (List ℕ) → Sides) → Outcome → Type 0
+ListEndsFor invocation sides_of outcome = (words : List (List ℕ)) → AskFor words invocation → ListEnds (sides_of words) outcome
+
+-- a list ended so, and no cycle was told
+abbrev pub EndsList : Sides → List (List ℕ) → Result ℕ Outcome → Type 0
+EndsList s names (Ok status) = ⊥
+EndsList s names (Err outcome) = ListEnds s outcome × (names ≡ [])
 
 -- the line of an outcome was put, or memory was wanting for it and that is told in its place
-abbrev pub Told : Outcome → Outcome → SinkTell → SinkTell → Type 0
-Told outcome told before now = ((told ≡ outcome) × PutsOrFails (fault_line outcome) before now) ⊎ ((told ≡ Memory) × Puts (fault_line outcome) before now (Err Sinks.NoMemory))
+abbrev pub Told : List (List ℕ) → Outcome → Outcome → SinkTell → SinkTell → Type 0
+Told names outcome told before now = ((told ≡ outcome) × PutsOrFails (fault_line names outcome) before now) ⊎ ((told ≡ Memory) × Puts (fault_line names outcome) before now (Err Sinks.NoMemory))
 
--- what becomes of an outcome: where the sink has failed nothing is put
-abbrev pub Tells : Outcome → Outcome → SinkTell → SinkTell → Type 0
-Tells OutputFault told before now = (told ≡ OutputFault) × (now ≡ before)
-Tells outcome told before now = Told outcome told before now
+-- what becomes of an outcome: where the sink has failed, or a list was put, nothing more is
+abbrev pub Tells : List (List ℕ) → Outcome → Outcome → SinkTell → SinkTell → Type 0
+Tells names OutputFault told before now = (told ≡ OutputFault) × (now ≡ before)
+Tells names Listed told before now = (told ≡ Listed) × (now ≡ before)
+Tells names outcome told before now = Told names outcome told before now
 
 -- the outcome and the status of a call, once its end is told
-abbrev pub TellsEnd : Result ℕ Outcome → Outcome → ℕ → SinkTell → SinkTell → Type 0
-TellsEnd (Ok status) outcome told before now = (outcome ≡ Completed) × (told ≡ status) × (now ≡ before)
-TellsEnd (Err fault) outcome told before now = Tells fault outcome before now × (told ≡ fault_status outcome)
+abbrev pub TellsEnd : List (List ℕ) → Result ℕ Outcome → Outcome → ℕ → SinkTell → SinkTell → Type 0
+TellsEnd names (Ok status) outcome told before now = (outcome ≡ Completed) × (told ≡ status) × (now ≡ before)
+TellsEnd names (Err fault) outcome told before now = Tells names fault outcome before now × (told ≡ fault_status outcome)

@@ -10,6 +10,7 @@ use Rattle.ct_regex.specs.Ends.{hits}
 use Rattle.ct_regex.specs.TreeOf.{regex_tree}
 use Rattle.ct_props.specs.declared.props.Props.{Props}
 use Rattle.ct_env.specs.Environment.{IsEnvironment}
+use Rattle.ct_props.specs.Numbered.{at_number}
 use Rattle.ct_verdict.specs.declared.attempt.Seen.{Seen}
 use Rattle.ct_history.specs.declared.history.Entry.{Entry}
 use Rattle.ct_history.specs.declared.history.Entry.TheVariants.{Start, End, Settle, Stop}
@@ -20,7 +21,6 @@ use Rattle.ct_core.specs.declared.gate.Request.{Request}
 use Rattle.ct_core.specs.declared.gate.Told.{Told}
 use Rattle.ct_core.specs.Gate.{GateTell, asked_for, is_no_memory, is_not_started, told}
 use Rattle.ct_app.specs.declared.props.Tests.{Tests}
-use Rattle.ct_app.specs.Tests.{def_at, props_at}
 
 -- the entry ends an attempt for want of memory, for which its gate may not have been asked
 abbrev pub lacks_memory : Entry → Bool
@@ -62,35 +62,32 @@ MayMiss may (run ∷ runs) (first ∷ kept) = ((first ≡ run) × MayMiss may ru
 abbrev pub asked_run : Running → Asked
 asked_run run = asked_for run.test run.attempt
 
--- how long an attempt may run without the property, in microseconds: 1500 seconds
-abbrev pub default_limit : ℕ
-default_limit = 1500000000
-
 -- a limit; 0 is none
 abbrev pub limit_of : ℕ → Option ℕ
 limit_of micros = if micros == 0 then None else Some micros
 
--- what a gate is asked to run for an attempt of this test: its command, in its folder, with this environment
-abbrev pub request_in : List Pair → TestDef → Props → Running → Request
-request_in env def props run = record {
+-- what a gate is asked to run for an attempt of this test: its command, in its folder, with this environment, and for so long
+-- where the test does not say that itself
+abbrev pub request_in : List Pair → ℕ → TestDef → Props → Running → Request
+request_in env limit def props run = record {
   test = run.test;
   attempt = run.attempt;
   name = def.name;
   command = def.command;
   dir = props.working_dir;
   env = env;
-  limit = limit_of (unwrap_or props.timeout default_limit);
+  limit = limit_of (unwrap_or props.timeout limit);
   required = props.required_files;
 }
 
 -- the request is that of an attempt of this test, with the environment that its properties make of the run's own
-pub record IsRequestOf (own : List Pair) (def : TestDef) (props : Props) (run : Running) (request : Request) : Type 0 where
+pub record IsRequestOf (own : List Pair) (limit : ℕ) (def : TestDef) (props : Props) (run : Running) (request : Request) : Type 0 where
   pub env : IsEnvironment own props run.placement request.env
-  pub is : request ≡ request_in request.env def props run
+  pub is : request ≡ request_in request.env limit def props run
 
 -- the request is that of an attempt of one of these tests
 abbrev pub IsRequestFor : List Pair → Tests → Running → Request → Type 0
-IsRequestFor own tests run request = IsSomeAnd (def_at tests.defs run.test) (λ def. IsSomeAnd (props_at tests.props run.test) (λ props. IsRequestOf own def props run request))
+IsRequestFor own tests run request = IsSomeAnd (at_number tests.defs run.test) (λ def. IsSomeAnd (at_number tests.props run.test) (λ props. IsRequestOf own tests.limit def props run request))
 
 -- the requests are those of these attempts, one for each, in order
 abbrev pub AreRequests : List Pair → Tests → List Running → List Request → Type 0
@@ -122,7 +119,7 @@ seen_of props heard ended = record {
 -- an End of the worker saw what the world tells of its attempt, unless memory was wanting
 abbrev pub SawTold : List Props → List Told → ℕ → Entry → Type 0
 SawTold props world worker (Start t a w placement) = ⊤
-SawTold props world worker (End t a w seen) = w ≡ worker → is_no_memory seen.how ≡ false → IsSomeAnd (props_at props t) (λ own. seen ≡ seen_of own (told world t a).heard (told world t a).ended)
+SawTold props world worker (End t a w seen) = w ≡ worker → is_no_memory seen.how ≡ false → IsSomeAnd (at_number props t) (λ own. seen ≡ seen_of own (told world t a).heard (told world t a).ended)
 SawTold props world worker (Settle t cause) = ⊤
 SawTold props world worker Stop = ⊤
 

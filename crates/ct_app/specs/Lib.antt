@@ -1,10 +1,13 @@
 -- The definitions that contracts cite, in reading order.
 pub mod Tests
-pub mod PlanOf
-pub mod Gates
-pub mod Run
-pub mod Attempt
 pub mod Outcome
+pub mod Gates
 pub mod RunFiles
+pub mod Reading
+pub mod Calls
+pub mod Run
+pub mod Runs
+pub mod Lists
 pub mod Answers
+pub mod Attempt
 pub mod Ends

@@ -1,5 +1,6 @@
 -- The outcome of a top call, its status and its line. Source: CMake manual, ctest(1), for 0 and 8; else this project's own.
-use Rattle.std.specs.Prelude.{ℕ, List, [], ◌++◌, codes, decimal, if◌then◌else◌}
+use Rattle.std.specs.Prelude.{ℕ, Bool, List, [], ◌∷◌, ◌++◌, length, map, flat_map, codes, decimal, Option, Some, None, ◌==◌, if◌then◌else◌}
+use Rattle.ct_base.specs.declared.defs.TestDef.{TestDef}
 use Rattle.ct_base.specs.declared.sink.SinkFault.{SinkFault}
 use Rattle.ct_base.specs.declared.sink.SinkFault.TheVariants as Sinks
 use Rattle.ct_testfile.specs.declared.fault.ReadFault.{ReadFault}
@@ -7,49 +8,66 @@ use Rattle.ct_testfile.specs.declared.fault.ReadFault.TheVariants as Read
 use Rattle.ct_testfile.specs.declared.fault.ReadKind.{ReadKind}
 use Rattle.ct_testfile.specs.declared.fault.ReadKind.TheVariants.{OpenString, OpenBracket, OpenCall, BadEscape, BadChar, BadReference, UnknownCommand, BadCall, MissingInclude, UnpairedIf, BadCondition, BadPattern, TooDeep, TooManyTests, TooManyCommands, TooLong}
 use Rattle.ct_props.specs.declared.fault.PropKind.{PropKind}
-use Rattle.ct_props.specs.declared.fault.PropKind.TheVariants.{BadNumber, BadPattern, BadGroups, Unbuilt}
+use Rattle.ct_props.specs.declared.fault.PropKind.TheVariants as Bad
 use Rattle.ct_props.specs.declared.fault.PropFault.{PropFault}
 use Rattle.ct_props.specs.declared.fault.PropFault.TheVariants as Props
+use Rattle.ct_args.specs.declared.usage.UsageKind.{UsageKind}
+use Rattle.ct_args.specs.declared.usage.UsageKind.TheVariants as Word
+use Rattle.ct_args.specs.declared.usage.UsageFault.{UsageFault}
+use Rattle.ct_args.specs.declared.usage.UsageFault.TheVariants as Usages
+use Rattle.ct_props.specs.Numbered.{at_number}
 use Rattle.ct_history.specs.declared.plan.PlanParts.{PlanParts}
 use Rattle.ct_history.specs.declared.history.Entry.{Entry}
 use Rattle.ct_history.specs.Legal.{has_failing}
 use Rattle.ct_app.specs.declared.run_files.RunFileFault.{RunFileFault}
 use Rattle.ct_app.specs.declared.run_files.RunFileFault.TheVariants as Files
-use Rattle.ct_app.specs.declared.outcome.UsageKind.{UsageKind}
-use Rattle.ct_app.specs.declared.outcome.UsageKind.TheVariants.{UnknownOption}
 use Rattle.ct_app.specs.declared.outcome.Refusal.{Refusal}
-use Rattle.ct_app.specs.declared.outcome.Refusal.TheVariants.{TestFile, Prop}
+use Rattle.ct_app.specs.declared.outcome.Refusal.TheVariants.{TestFile, Prop, Cycle, TooManyEdges}
 use Rattle.ct_app.specs.declared.outcome.Outcome.{Outcome}
-use Rattle.ct_app.specs.declared.outcome.Outcome.TheVariants.{Completed, Usage, Refused, FilesFault, OutputFault, Memory}
+use Rattle.ct_app.specs.declared.outcome.Outcome.TheVariants.{Completed, Listed, Usage, Refused, FilesFault, OutputFault, Memory}
 
--- what a fault of reading is to a run
+-- what a fault of the words is to a call
+abbrev pub outcome_of_usage : UsageFault → Outcome
+outcome_of_usage (Usages.At word kind) = Usage word kind
+outcome_of_usage Usages.NoMemory = Memory
+
+-- what a fault of reading is to a call
 abbrev pub outcome_of : ReadFault → Outcome
 outcome_of (Read.At file line kind) = Refused (TestFile file line kind)
 outcome_of (Read.FilesFailed path) = FilesFault path
 outcome_of Read.NoMemory = Memory
 
--- what a fault of the properties of this test is to a run
+-- what a fault of the properties of this test is to a call
 abbrev pub outcome_of_prop : ℕ → PropFault → Outcome
 outcome_of_prop test (Props.Bad key kind) = Refused (Prop test key kind)
 outcome_of_prop test Props.NoMemory = Memory
 
--- what a fault of a file that is read or left is to a run
+-- what a fault of a file that is read or left is to a call
 abbrev pub outcome_of_file : RunFileFault → Outcome
 outcome_of_file (Files.Failed path) = FilesFault path
 outcome_of_file Files.NoMemory = Memory
 
--- what a fault of the sink is to a run
+-- what a fault of the sink is to a call
 abbrev pub outcome_of_sink : SinkFault → Outcome
 outcome_of_sink Sinks.Failed = OutputFault
 outcome_of_sink Sinks.NoMemory = Memory
 
--- the status of a completed run: 8 where some verdict is of the failing class
-abbrev pub status_of : PlanParts → List Entry → ℕ
-status_of plan entries = if has_failing plan entries then 8 else 0
+-- a completed run failed: some verdict is of the failing class, or there is no test and that is an error
+abbrev pub is_failed : Bool → PlanParts → List Entry → Bool
+is_failed empty_is_error plan entries = if length plan.tests == 0 then empty_is_error else has_failing plan entries
+
+-- the status of a completed run
+abbrev pub status_of : Bool → PlanParts → List Entry → ℕ
+status_of empty_is_error plan entries = if is_failed empty_is_error plan entries then 8 else 0
 
 -- what is wrong with a word
 abbrev pub usage_text : UsageKind → List ℕ
-usage_text UnknownOption = codes "unknown option"
+usage_text Word.UnknownOption = codes "unknown option"
+usage_text Word.NoValue = codes "no value"
+usage_text Word.BadNumber = codes "bad number"
+usage_text Word.BadPattern = codes "bad pattern"
+usage_text Word.Twice = codes "given twice"
+usage_text Word.BadMode = codes "bad mode"
 
 -- what is wrong with a line of a test file
 abbrev pub kind_text : ReadKind → List ℕ
@@ -72,32 +90,53 @@ kind_text TooLong = codes "too much text"
 
 -- what is wrong with a property
 abbrev pub prop_text : PropKind → List ℕ
-prop_text BadNumber = codes "bad number"
-prop_text (BadPattern why) = codes "bad pattern"
-prop_text (BadGroups why) = codes "bad resource groups"
-prop_text Unbuilt = codes "not built yet"
+prop_text Bad.BadNumber = codes "bad number"
+prop_text (Bad.BadPattern why) = codes "bad pattern"
+prop_text (Bad.BadGroups why) = codes "bad resource groups"
 
--- what is refused, and why
-abbrev pub refusal_text : Refusal → List ℕ
-refusal_text (TestFile file line kind) = file ++ codes ":" ++ decimal line ++ codes ": " ++ kind_text kind
-refusal_text (Prop test key kind) = codes "test " ++ decimal test ++ codes ": " ++ key ++ codes ": " ++ prop_text kind
+-- the name of a test that was looked up
+abbrev pub name_there : Option TestDef → List ℕ
+name_there None = []
+name_there (Some def) = def.name
 
--- what an outcome says of itself, where it does
-abbrev pub outcome_text : Outcome → List ℕ
-outcome_text Completed = []
-outcome_text (Usage word kind) = codes "word " ++ decimal word ++ codes ": " ++ usage_text kind
-outcome_text (Refused refusal) = refusal_text refusal
-outcome_text (FilesFault path) = codes "cannot use file " ++ path
-outcome_text OutputFault = []
-outcome_text Memory = codes "out of memory"
+-- the names of the tests with these numbers
+abbrev pub names_at : List TestDef → List ℕ → List (List ℕ)
+names_at defs numbers = map (λ number. name_there (at_number defs number)) numbers
 
--- the line of an outcome
-abbrev pub fault_line : Outcome → List ℕ
-fault_line outcome = codes "ctest: " ++ outcome_text outcome ++ codes "\n"
+-- an arrow to each of these names
+abbrev pub arrows_to : List (List ℕ) → List ℕ
+arrows_to names = flat_map (λ name. codes " -> " ++ name) names
+
+-- a cycle of tests with these names: it comes back to the first
+abbrev pub cycle_text : List (List ℕ) → List ℕ
+cycle_text [] = codes "cycle: "
+cycle_text (first ∷ others) = codes "cycle: " ++ first ++ arrows_to others ++ codes " -> " ++ first
+
+-- what is refused, and why; a cycle is told by these names
+abbrev pub refusal_text : List (List ℕ) → Refusal → List ℕ
+refusal_text names (TestFile file line kind) = file ++ codes ":" ++ decimal line ++ codes ": " ++ kind_text kind
+refusal_text names (Prop test key kind) = codes "test " ++ decimal test ++ codes ": " ++ key ++ codes ": " ++ prop_text kind
+refusal_text names (Cycle tests) = cycle_text names
+refusal_text names TooManyEdges = codes "too many dependencies"
+
+-- what an outcome says of itself, where it does; a cycle is told by these names
+abbrev pub outcome_text : List (List ℕ) → Outcome → List ℕ
+outcome_text names Completed = []
+outcome_text names Listed = []
+outcome_text names (Usage word kind) = codes "word " ++ decimal word ++ codes ": " ++ usage_text kind
+outcome_text names (Refused refusal) = refusal_text names refusal
+outcome_text names (FilesFault path) = codes "cannot use file " ++ path
+outcome_text names OutputFault = []
+outcome_text names Memory = codes "out of memory"
+
+-- the line of an outcome; a cycle is told by these names of its tests
+abbrev pub fault_line : List (List ℕ) → Outcome → List ℕ
+fault_line names outcome = codes "ctest: " ++ outcome_text names outcome ++ codes "\n"
 
 -- the exit status of an outcome but Completed
 abbrev pub fault_status : Outcome → ℕ
 fault_status Completed = 0
+fault_status Listed = 0
 fault_status (Usage word kind) = 1
 fault_status (Refused refusal) = 2
 fault_status (FilesFault path) = 3

@@ -86,6 +86,10 @@ pub record TearsLog (plan : PlanParts) (entries : List Entry) (path : List ℕ) 
   pub written : Writes (costs_path plan.dir) (new_costs plan entries costs) before between
   pub torn : FailsToWrite path (failed_log_text plan entries) between now
 
+-- a complete run writes the file at this path: the cost file, where it has tests, or the log, where some test failed
+abbrev pub IsWritten : PlanParts → List Entry → List ℕ → Type 0
+IsWritten plan entries path = ((path ≡ costs_path plan.dir) × (0 < length plan.tests)) ⊎ ((path ≡ log_path plan.dir) × (has_failing plan entries ≡ true))
+
 -- the write of one of the two files failed, in a run that has tests
 abbrev pub LeavesTorn : PlanParts → List Entry → List ℕ → CostData → Held → Held → Type 0
 LeavesTorn plan entries path costs before now = (0 < length plan.tests) × (TearsCosts plan entries path costs before now ⊎ TearsLog plan entries path costs before now)
@@ -118,5 +122,5 @@ WritesText path text before now (Err Fault.NoMemory) = FilesStay before now
 -- the files of a run were written, or one of them could not be
 abbrev pub WritesFiles : PlanParts → List Entry → CostData → FilesTell → FilesTell → Result (Unit {0}) RunFileFault → Type 0
 WritesFiles plan entries costs before now (Ok done) = FilesServe (Leaves plan entries costs) before now
-WritesFiles plan entries costs before now (Err (Fault.Failed path)) = FilesFail path (LeavesTorn plan entries path costs) before now
+WritesFiles plan entries costs before now (Err (Fault.Failed path)) = IsWritten plan entries path × FilesFail path (LeavesTorn plan entries path costs) before now
 WritesFiles plan entries costs before now (Err Fault.NoMemory) = FilesServe (LeavesPart plan entries costs) before now

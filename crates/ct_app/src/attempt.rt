@@ -1,7 +1,7 @@
 ghost use Rattle.std.specs.Prelude.{◌≡◌, true, IfOk, unwrap_or};
 ghost use Rattle.ct_core.specs.Gate.{is_no_memory};
 ghost use Rattle.ct_app.specs.Attempt.{IsStep, RunsAttempt, SeesEnd, StaysAsked, run_of};
-ghost use Rattle.ct_app.specs.Gates.{IsRequestOf, default_limit, limit_of, seen_of, some_hits};
+ghost use Rattle.ct_app.specs.Gates.{IsRequestOf, limit_of, seen_of, some_hits};
 ghost use Rattle.ct_app.specs.Run.{IsBetween};
 
 use crate::props::Tests;
@@ -13,11 +13,8 @@ use ct_regex::Regex;
 use ct_verdict::{How, Seen};
 use std::alloc::Global;
 
-/// How long an attempt of a test without TIMEOUT may run, in microseconds. This project's choice.
-const DEFAULT_LIMIT: u64 = 1_500_000_000;
-
-/// Runs the next attempt on the gate, or settles the next test, and gives the number of the test,
-/// which is final by it; `None` when all tests are.
+/// Runs the next attempt on the gate, or settles the next test, and gives the number of the test;
+/// `None` when all tests are final.
 ///
 /// Where memory is wanting, either nothing was done, or the attempt ended for want of it.
 pub(crate) fn step<G: Gate>(
@@ -39,6 +36,7 @@ pub(crate) fn step<G: Gate>(
                 alloc,
                 &ticket,
                 env,
+                tests.limit,
                 tests.def(test),
                 tests.props(test),
                 gate,
@@ -64,13 +62,14 @@ fn ask<G: Gate>(
     alloc: Global,
     ticket: &Ticket,
     env: &[Pair],
+    run_limit: u64,
     def: &TestDef,
     props: &Props,
     gate: &mut G,
 ) -> Seen
-    ensures { RunsAttempt env.now def.now props.now (run_of ticket.now) result (G.tells gate.old) (G.tells gate.new) }
+    ensures { RunsAttempt env.now run_limit def.now props.now (run_of ticket.now) result (G.tells gate.old) (G.tells gate.new) }
 {
-    match request(alloc, ticket, env, def, props) {
+    match request(alloc, ticket, env, run_limit, def, props) {
         Ok(request) => {
             let mut ear = Collect::new(alloc);
             let ended = gate.run(alloc, ticket, &request, &mut ear);
@@ -83,15 +82,16 @@ fn ask<G: Gate>(
 /// Makes the request for the attempt of a ticket.
 ///
 /// Source: CMake manual, cmake-properties(7), ENVIRONMENT, REQUIRED_FILES, TIMEOUT,
-/// WORKING_DIRECTORY. The limit of a test without TIMEOUT is this project's choice.
+/// WORKING_DIRECTORY; ctest(1), --timeout.
 fn request(
     alloc: Global,
     ticket: &Ticket,
     env: &[Pair],
+    run_limit: u64,
     def: &TestDef,
     props: &Props,
 ) -> Result<Request, NoMemory>
-    ensures { IfOk result (λ request. IsRequestOf env.now def.now props.now (run_of ticket.now) request) }
+    ensures { IfOk result (λ request. IsRequestOf env.now run_limit def.now props.now (run_of ticket.now) request) }
 {
     Ok(Request {
         test: ticket.test(),
@@ -100,16 +100,17 @@ fn request(
         command: copy_names(alloc, def.command.as_slice())?,
         dir: props.working_dir.copy(alloc)?,
         env: environment(alloc, env, props, ticket.placement())?,
-        limit: limit(props.timeout),
+        limit: limit(props.timeout, run_limit),
         required: copy_names(alloc, props.required_files.as_slice())?,
     })
 }
 
-/// How long an attempt may run, in microseconds, by TIMEOUT; `None` is no limit, as is a TIMEOUT of 0.
-fn limit(timeout: Option<u64>) -> Option<u64>
-    ensures { result ≡ limit_of (unwrap_or timeout default_limit) }
+/// How long an attempt may run, in microseconds, by TIMEOUT, or else by the run; `None` is no limit,
+/// as is a limit of 0.
+fn limit(timeout: Option<u64>, run_limit: u64) -> Option<u64>
+    ensures { result ≡ limit_of (unwrap_or timeout run_limit) }
 {
-    let micros = timeout.unwrap_or(DEFAULT_LIMIT);
+    let micros = timeout.unwrap_or(run_limit);
     if micros == 0 { None } else { Some(micros) }
 }
 

@@ -1,6 +1,6 @@
-ghost use Rattle.std.specs.Prelude.{◌≡◌, ◌++◌, codes, decimal, IfOk};
+ghost use Rattle.std.specs.Prelude.{◌≡◌, ◌++◌, codes, decimal, IfOk, OnOk};
 ghost use Rattle.ct_app.specs.Ends.{Tells, TellsEnd};
-ghost use Rattle.ct_app.specs.Outcome.{fault_line, fault_status, kind_text, outcome_text, prop_text, refusal_text, usage_text};
+ghost use Rattle.ct_app.specs.Outcome.{arrows_to, cycle_text, fault_line, fault_status, kind_text, outcome_text, prop_text, refusal_text, usage_text};
 ghost use Rattle.ct_base.specs.Outside.{Puts};
 
 use crate::{Outcome, Refusal, UsageKind};
@@ -11,33 +11,49 @@ use std::alloc::Global;
 
 /// Tells why there is no status of a completed run, and gives outcome and status of the call.
 ///
-/// Where the sink has failed nothing is put; where memory is wanting for the line, the outcome is
-/// that.
+/// A cycle is told by these names of its tests.
 pub(crate) fn tell<S: Sink>(
     alloc: Global,
     sink: &mut S,
+    names: &[Name],
     ended: Result<u8, Outcome>,
 ) -> (Outcome, u8)
-    ensures { TellsEnd ended result.0 result.1 (S.tells sink.old) (S.tells sink.new) }
+    ensures { TellsEnd names.now ended result.0 result.1 (S.tells sink.old) (S.tells sink.new) }
 {
     match ended {
         Ok(status) => (Outcome::Completed, status),
-        Err(outcome) => {
-            let told = tell_fault(alloc, sink, outcome);
-            let status = status(&told);
-            (told, status)
-        }
+        Err(outcome) => tell_outcome(alloc, sink, names, outcome),
     }
 }
 
-/// Puts the line of an outcome but Completed, and gives the outcome back, or want of memory.
-fn tell_fault<S: Sink>(alloc: Global, sink: &mut S, outcome: Outcome) -> Outcome
-    ensures { Tells outcome result (S.tells sink.old) (S.tells sink.new) }
+/// Tells an outcome but Completed, and gives outcome and status of the call.
+///
+/// Where the sink has failed, or a list was put, nothing is put; where memory is wanting for the
+/// line, the outcome is that. A cycle is told by these names of its tests.
+pub(crate) fn tell_outcome<S: Sink>(
+    alloc: Global,
+    sink: &mut S,
+    names: &[Name],
+    outcome: Outcome,
+) -> (Outcome, u8)
+    ensures told { Tells names.now outcome result.0 (S.tells sink.old) (S.tells sink.new) }
+    ensures status { result.1 ≡ fault_status result.0 }
 {
-    if let Outcome::OutputFault = outcome {
-        return outcome;
+    let told = tell_fault(alloc, sink, names, outcome);
+    let status = status(&told);
+    (told, status)
+}
+
+/// Puts the line of an outcome but Completed, and gives the outcome back, or want of memory.
+fn tell_fault<S: Sink>(alloc: Global, sink: &mut S, names: &[Name], outcome: Outcome) -> Outcome
+    ensures { Tells names.now outcome result (S.tells sink.old) (S.tells sink.new) }
+{
+    match outcome {
+        Outcome::OutputFault => return Outcome::OutputFault,
+        Outcome::Listed => return Outcome::Listed,
+        _ => {}
     }
-    match put_fault(alloc, sink, &outcome) {
+    match put_fault(alloc, sink, names, &outcome) {
         Ok(()) => outcome,
         Err(SinkFault::Failed) => outcome,
         Err(SinkFault::NoMemory) => Outcome::Memory,
@@ -49,7 +65,7 @@ fn status(outcome: &Outcome) -> u8
     ensures { result ≡ fault_status outcome.now }
 {
     match outcome {
-        Outcome::Completed => 0,
+        Outcome::Completed | Outcome::Listed => 0,
         Outcome::Usage { .. } => 1,
         Outcome::Refused(_) => 2,
         Outcome::FilesFault { .. } => 3,
@@ -59,30 +75,35 @@ fn status(outcome: &Outcome) -> u8
 }
 
 /// Puts the line of an outcome.
-fn put_fault<S: Sink>(alloc: Global, sink: &mut S, outcome: &Outcome) -> Result<(), SinkFault>
-    ensures { Puts (fault_line outcome.now) (S.tells sink.old) (S.tells sink.new) result }
+fn put_fault<S: Sink>(
+    alloc: Global,
+    sink: &mut S,
+    names: &[Name],
+    outcome: &Outcome,
+) -> Result<(), SinkFault>
+    ensures { Puts (fault_line names.now outcome.now) (S.tells sink.old) (S.tells sink.new) result }
 {
-    let line = fault_line(alloc, outcome)?;
+    let line = fault_line(alloc, names, outcome)?;
     sink.put(line.bytes())?;
     Ok(())
 }
 
-fn fault_line(alloc: Global, outcome: &Outcome) -> Result<Blob, NoMemory>
-    ensures { IfOk result (λ line. line ≡ fault_line outcome.now) }
+fn fault_line(alloc: Global, names: &[Name], outcome: &Outcome) -> Result<Blob, NoMemory>
+    ensures { IfOk result (λ line. line ≡ fault_line names.now outcome.now) }
 {
     let mut line = Blob::of(alloc, b"ctest: ")?;
-    line.append(outcome_text(alloc, outcome)?.bytes())?;
+    line.append(outcome_text(alloc, names, outcome)?.bytes())?;
     line.append(b"\n")?;
     Ok(line)
 }
 
-fn outcome_text(alloc: Global, outcome: &Outcome) -> Result<Blob, NoMemory>
-    ensures { IfOk result (λ text. text ≡ outcome_text outcome.now) }
+fn outcome_text(alloc: Global, names: &[Name], outcome: &Outcome) -> Result<Blob, NoMemory>
+    ensures { IfOk result (λ text. text ≡ outcome_text names.now outcome.now) }
 {
     match outcome {
-        Outcome::Completed | Outcome::OutputFault => Ok(Blob::new(alloc)),
+        Outcome::Completed | Outcome::Listed | Outcome::OutputFault => Ok(Blob::new(alloc)),
         Outcome::Usage { word, kind } => text_of_usage(alloc, *word, *kind),
-        Outcome::Refused(refusal) => text_of_refusal(alloc, refusal),
+        Outcome::Refused(refusal) => text_of_refusal(alloc, names, refusal),
         Outcome::FilesFault { path } => text_of_files_fault(alloc, path),
         Outcome::Memory => Blob::of(alloc, b"out of memory"),
     }
@@ -103,16 +124,46 @@ fn text_of_word_fault(kind: UsageKind) -> &'static [u8]
 {
     match kind {
         UsageKind::UnknownOption => b"unknown option",
+        UsageKind::NoValue => b"no value",
+        UsageKind::BadNumber => b"bad number",
+        UsageKind::BadPattern => b"bad pattern",
+        UsageKind::Twice => b"given twice",
+        UsageKind::BadMode => b"bad mode",
     }
 }
 
-fn text_of_refusal(alloc: Global, refusal: &Refusal) -> Result<Blob, NoMemory>
-    ensures { IfOk result (λ text. text ≡ refusal_text refusal.now) }
+fn text_of_refusal(alloc: Global, names: &[Name], refusal: &Refusal) -> Result<Blob, NoMemory>
+    ensures { IfOk result (λ text. text ≡ refusal_text names.now refusal.now) }
 {
     match refusal {
         Refusal::TestFile { file, line, kind } => text_of_place(alloc, file, *line, *kind),
         Refusal::Prop { test, key, kind } => text_of_prop(alloc, *test, key, kind),
+        Refusal::Cycle(_) => text_of_cycle(alloc, names),
+        Refusal::TooManyEdges => Blob::of(alloc, b"too many dependencies"),
     }
+}
+
+fn text_of_cycle(alloc: Global, names: &[Name]) -> Result<Blob, NoMemory>
+    ensures { IfOk result (λ text. text ≡ cycle_text names.now) }
+{
+    let mut text = Blob::of(alloc, b"cycle: ")?;
+    if let [first, others @ ..] = names {
+        text.append(first.bytes())?;
+        append_arrows(&mut text, others)?;
+        text.append(b" -> ")?;
+        text.append(first.bytes())?;
+    }
+    Ok(text)
+}
+
+fn append_arrows(text: &mut Blob, names: &[Name]) -> Result<(), NoMemory>
+    ensures { OnOk result (text.new ≡ text.old ++ arrows_to names.now) }
+{
+    for name in names {
+        text.append(b" -> ")?;
+        text.append(name.bytes())?;
+    }
+    Ok(())
 }
 
 fn text_of_prop(alloc: Global, test: u32, key: &Name, kind: &PropKind) -> Result<Blob, NoMemory>
@@ -134,7 +185,6 @@ fn text_of_prop_kind(kind: &PropKind) -> &'static [u8]
         PropKind::BadNumber => b"bad number",
         PropKind::BadPattern(_) => b"bad pattern",
         PropKind::BadGroups(_) => b"bad resource groups",
-        PropKind::Unbuilt => b"not built yet",
     }
 }
 

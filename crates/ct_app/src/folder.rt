@@ -1,104 +1,143 @@
-ghost use Rattle.std.specs.Prelude.{◌≡◌, ◌<◌, ◌-◌, ◌^◌, [], ◌∷◌, true, IfOk, IfErr, length, option_map};
-ghost use Rattle.ct_app.specs.Answers.{IsRunOf, here, sides};
-ghost use Rattle.ct_app.specs.Ends.{Ends, EndsWithFiles, IsReadFolder, IsUnread, PlanEnds, ended_as, history_entries};
-ghost use Rattle.ct_app.specs.Outcome.{status_of};
-ghost use Rattle.ct_app.specs.PlanOf.{plan_of};
-ghost use Rattle.ct_app.specs.Tests.{HaveProps};
+ghost use Rattle.std.specs.Prelude.{◌≡◌, ◌<◌, ◌-◌, ◌^◌, [], ◌∷◌, None, true, IfOk, IfErr, length, option_map};
+ghost use Rattle.ct_args.specs.Invocation.{IsBounded};
+ghost use Rattle.ct_app.specs.Calls.{sides};
+ghost use Rattle.ct_app.specs.Ends.{EndsFor, EndsWithFiles, HasRun, IsReadFolder, IsUnplanned, IsUnread, PlanEnds, ended_as, history_entries, with_status as ended_with};
+ghost use Rattle.ct_app.specs.Outcome.{is_failed as has_failed, status_of};
+ghost use Rattle.ct_app.specs.Run.{PlansTests};
+ghost use Rattle.ct_history.specs.Plan.{IsSound};
 ghost use Rattle.ct_history.specs.Verdicts.{are_all_final};
 
-use crate::Outcome;
-use crate::planning::plan;
-use crate::props::{Tests, read_props};
+use crate::props::Tests;
+use crate::reading::{names_at, read_tests};
 use crate::run::run;
 use crate::run_files::{read_costs, write_files};
-use ct_base::{Files, Name, Pair, Sink, SinkFault};
+use crate::{Outcome, Refusal};
+use ct_args::Invocation;
+use ct_base::{Files, List, Name, NoMemory, Pair, Sink, SinkFault, TestDef};
 use ct_core::{Core, Gate};
 use ct_cost::CostData;
-use ct_history::{History, Plan, has_failing};
-use ct_testfile::read_tree;
+use ct_history::{Entry, History, Plan, PlanParts, has_failing};
+use ct_plan::{PlanFault, plan};
 use std::alloc::Global;
 
 /// What a call came to, before its outcome is told.
 #[derive(Drop)]
 pub(crate) struct Ran {
-    /// The status of a run that is completed, or why there is none.
+    /// The status of a run that is completed, or what else the call came to.
     pub(crate) ended: Result<u8, Outcome>,
+    /// The names of the tests of a cycle, where one is refused.
+    pub(crate) names: List<Name>,
     /// The plan of the run, where one was made.
     pub(crate) plan: Option<Plan>,
     /// What happened in the run, where a plan was made.
     pub(crate) history: Option<History>,
 }
 
-/// The tests that the folder defines, what the last run tells of them, and the plan of their run.
+/// The tests that an invocation asks for, and what the last run tells of them.
 #[derive(Drop)]
 struct Folder {
     tests: Tests,
     costs: CostData,
-    plan: Plan,
 }
 
 /// What the run of a plan came to, before its files are written.
 #[derive(Drop)]
 struct PlanRun {
-    ended: Result<u8, Outcome>,
+    ended: Result<(), Outcome>,
     plan: Plan,
     history: History,
 }
 
-/// Reads the tests of the folder `.` and what the last run tells of them, runs them, and leaves the
-/// same for the next run.
+/// Reads the tests of a folder and what the last run tells of them, plans and runs them, and leaves
+/// the same for the next run.
 pub(crate) fn run_folder<F: Files, G: Gate, S: Sink>(
     alloc: Global,
+    invocation: &Invocation,
     env: &[Pair],
     files: &mut F,
     gate: &mut G,
     sink: &mut S,
 ) -> Ran
-    ensures { Ends (sides [] env.now (F.tells files.old) (F.tells files.new) (G.tells gate.old ∷ []) (G.tells gate.new ∷ []) (S.tells sink.old) (S.tells sink.new) result.plan (option_map history_entries result.history)) result.ended }
+    requires { IsBounded invocation.now }
+    ensures { EndsFor invocation.now (λ words. sides words env.now (F.tells files.old) (F.tells files.new) (G.tells gate.old ∷ []) (G.tells gate.new ∷ []) (S.tells sink.old) (S.tells sink.new) result.plan (option_map history_entries result.history)) result.names result.ended }
 {
-    match read_folder(alloc, files) {
-        Ok(Folder { tests, costs, plan }) => {
-            let PlanRun {
-                ended,
-                plan,
-                history,
-            } = run_plan(alloc, plan, env, &tests, gate, sink);
-            let ended = leave_files(alloc, files, &costs, &plan, &history, ended);
-            Ran {
-                ended,
-                plan: Some(plan),
-                history: Some(history),
-            }
-        }
-        Err(outcome) => unplanned(outcome),
+    let Folder { tests, costs } = match read_folder(alloc, files, invocation) {
+        Ok(folder) => folder,
+        Err(outcome) => return unplanned(alloc, outcome),
+    };
+    let wanted = &invocation.wanted;
+    let planned = match plan(alloc, &tests.defs, &tests.props, wanted, None, &costs) {
+        Ok(planned) => planned,
+        Err(fault) => return refused(alloc, tests.defs.as_slice(), fault),
+    };
+    hand_out_sound(&planned);
+    let PlanRun {
+        ended,
+        plan,
+        history,
+    } = run_plan(alloc, planned, env, &tests, gate, sink);
+    let ended = leave_files(alloc, files, &costs, &plan, &history, ended);
+    Ran {
+        ended: with_status(ended, invocation.empty_is_error, &plan, &history),
+        names: List::new(alloc),
+        plan: Some(plan),
+        history: Some(history),
     }
 }
 
+/// Hands out that a plan is sound.
+fn hand_out_sound(plan: &Plan)
+    ensures { IsSound plan.now }
+{
+    let _ = plan.parts();
+}
+
 /// What a call came to that made no plan.
-pub(crate) fn unplanned(outcome: Outcome) -> Ran
-    ensures { result ≡ record { ended = Err outcome; plan = None; history = None } }
+pub(crate) fn unplanned(alloc: Global, outcome: Outcome) -> Ran
+    ensures { result ≡ record { ended = Err outcome; names = []; plan = None; history = None } }
 {
     Ran {
         ended: Err(outcome),
+        names: List::new(alloc),
         plan: None,
         history: None,
     }
 }
 
-/// Reads the tests of the folder `.`, their properties and the cost data, and plans the tests.
-#[tactic(auto, using(crate::proofs::ReadLemmas::unread_props))]
-fn read_folder<F: Files>(alloc: Global, files: &mut F) -> Result<Folder, Outcome>
-    ensures ok { IfOk result (λ folder. IsReadFolder (F.tells files.old) (F.tells files.new) folder.tests folder.costs folder.plan) }
-    ensures err { IfErr result (IsUnread (F.tells files.old) (F.tells files.new)) }
+/// What a call came to that could not plan the tests that it read.
+fn refused(alloc: Global, defs: &[TestDef], fault: PlanFault) -> Ran
+    ensures why { IsUnplanned defs.now fault result.names result.ended }
+    ensures plan { result.plan ≡ None }
+    ensures history { result.history ≡ None }
 {
-    let dir = Name::of(alloc, b".")?;
-    let config = Name::of(alloc, b"")?;
-    let defs = read_tree(alloc, files, &dir, &config)?;
-    let props = read_props(alloc, defs.as_slice())?;
-    let costs = read_costs(alloc, files, &dir)?;
-    let tests = Tests { defs, props };
-    let plan = plan(alloc, dir, &tests)?;
-    Ok(Folder { tests, costs, plan })
+    match fault {
+        PlanFault::Cycle(tests) => match names_at(alloc, defs, tests.as_slice()) {
+            Ok(names) => Ran {
+                ended: Err(Outcome::Refused(Refusal::Cycle(tests))),
+                names,
+                plan: None,
+                history: None,
+            },
+            Err(NoMemory) => unplanned(alloc, Outcome::Memory),
+        },
+        PlanFault::TooManyEdges => unplanned(alloc, Outcome::Refused(Refusal::TooManyEdges)),
+        PlanFault::NoMemory => unplanned(alloc, Outcome::Memory),
+    }
+}
+
+/// Reads the tests of a folder, their properties and the cost data.
+#[tactic(auto, using(crate::proofs::ReadLemmas::unread_costs))]
+fn read_folder<F: Files>(
+    alloc: Global,
+    files: &mut F,
+    invocation: &Invocation,
+) -> Result<Folder, Outcome>
+    ensures ok { IfOk result (λ folder. IsReadFolder invocation.now (F.tells files.old) (F.tells files.new) folder.tests folder.costs) }
+    ensures err { IfErr result (IsUnread invocation.now (F.tells files.old) (F.tells files.new)) }
+{
+    let tests = read_tests(alloc, files, invocation)?;
+    let costs = read_costs(alloc, files, &invocation.wanted.dir)?;
+    Ok(Folder { tests, costs })
 }
 
 /// Runs the plan of these tests.
@@ -110,16 +149,16 @@ fn run_plan<G: Gate, S: Sink>(
     gate: &mut G,
     sink: &mut S,
 ) -> PlanRun
-    requires planned { plan ≡ plan_of here tests.now }
-    requires props { HaveProps tests.now.defs tests.now.props }
+    requires planned { PlansTests tests.now plan }
     requires few { length tests.now.defs < 2 ^ 32 - 1 }
-    ensures ran { IsRunOf env.now tests.now (G.tells gate.old ∷ []) (G.tells gate.new ∷ []) result.plan (history_entries result.history) }
+    ensures plan { result.plan ≡ plan }
+    ensures ran { HasRun env.now tests.now (G.tells gate.old) (G.tells gate.new) result.plan (history_entries result.history) }
     ensures ends { PlanEnds result.plan (history_entries result.history) (S.tells sink.old) (S.tells sink.new) result.ended }
 {
     match Core::open(alloc, plan) {
         Ok(mut core) => {
             let run = run(alloc, &mut core, env, tests, gate, sink);
-            let ended = ended(run, &core);
+            let ended = ended(run);
             let (plan, history) = core.into_parts();
             PlanRun {
                 ended,
@@ -137,44 +176,70 @@ fn run_plan<G: Gate, S: Sink>(
     }
 }
 
-/// The status of a run that is completed, or the outcome of one that is not.
-fn ended(run: Result<(), SinkFault>, core: &Core) -> Result<u8, Outcome>
-    ensures { result ≡ ended_as run core.now.plan core.now.entries }
+/// What the end of a run is to a call.
+fn ended(run: Result<(), SinkFault>) -> Result<(), Outcome>
+    ensures { result ≡ ended_as run }
 {
     match run {
-        Ok(()) => Ok(status(core)),
+        Ok(()) => Ok(()),
         Err(fault) => Err(Outcome::from(fault)),
     }
 }
 
-/// Writes the files of a run that is complete, and gives its status; one that ended early leaves
-/// none.
+/// Writes the files of a run that is complete; one that ended early leaves none.
 fn leave_files<F: Files>(
     alloc: Global,
     files: &mut F,
     costs: &CostData,
     plan: &Plan,
     history: &History,
-    ended: Result<u8, Outcome>,
-) -> Result<u8, Outcome>
-    requires complete { IfOk ended (λ status. are_all_final plan.now (history_entries history.now) ≡ true) }
+    ended: Result<(), Outcome>,
+) -> Result<(), Outcome>
+    requires complete { IfOk ended (λ done. are_all_final plan.now (history_entries history.now) ≡ true) }
     ensures { EndsWithFiles plan.now (history_entries history.now) costs.now (F.tells files.old) (F.tells files.new) ended result }
 {
-    let status = ended?;
+    ended?;
     write_files(alloc, files, costs, plan, history)?;
-    Ok(status)
+    Ok(())
 }
 
-/// The status of a run that is completed: 8 where some test failed.
+/// The status of a run that is completed, or the outcome of one that is not.
+fn with_status(
+    ended: Result<(), Outcome>,
+    empty_is_error: bool,
+    plan: &Plan,
+    history: &History,
+) -> Result<u8, Outcome>
+    ensures { result ≡ ended_with empty_is_error plan.now (history_entries history.now) ended }
+{
+    match ended {
+        Ok(()) => Ok(status(empty_is_error, plan.parts(), history.entries.as_slice())),
+        Err(outcome) => Err(outcome),
+    }
+}
+
+/// The status of a run that is completed: 8 where it failed.
 ///
 /// Source: CMake manual, ctest(1), Description.
-fn status(core: &Core) -> u8
-    ensures { result ≡ status_of core.now.plan core.now.entries }
+fn status(empty_is_error: bool, plan: &PlanParts, entries: &[Entry]) -> u8
+    ensures { result ≡ status_of empty_is_error plan.now entries.now }
 {
-    let entries = core.history().entries.as_slice();
-    if has_failing(core.plan().parts(), entries) {
+    if is_failed(empty_is_error, plan, entries) {
         8
     } else {
         0
+    }
+}
+
+/// Tells whether some test failed, or there is none and that is an error.
+///
+/// Source: CMake manual, ctest(1), --no-tests.
+fn is_failed(empty_is_error: bool, plan: &PlanParts, entries: &[Entry]) -> bool
+    ensures { result ≡ has_failed empty_is_error plan.now entries.now }
+{
+    if plan.tests.is_empty() {
+        empty_is_error
+    } else {
+        has_failing(plan, entries)
     }
 }

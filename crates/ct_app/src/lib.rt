@@ -1,23 +1,27 @@
-//! The top calls of ctest: from the words of a command line to a report, a status and two files.
+//! The top calls of ctest: from the words of a command line to a report, a status and two files, or
+//! to a list.
 //!
-//! Hands up: `ctest_main`, which does all that the program does.
-//! Stands on: ct_base, ct_testfile, ct_regex, ct_props, ct_env, ct_verdict, ct_history, ct_core,
-//! ct_cost, ct_report.
-//! Read first: `specs/Gates.antt`, `specs/RunFiles.antt`, `specs/Answers.antt`, then `top.rt`, and the
-//! five steps of a call: `words.rt`, `folder.rt`, `run.rt`, `attempt.rt`, `run_files.rt`.
+//! Hands up: `ctest_main`, which does all that the program does, and `list_main`, which lists alone.
+//! Stands on: ct_base, ct_testfile, ct_regex, ct_props, ct_env, ct_select, ct_fixture, ct_graph,
+//! ct_verdict, ct_history, ct_core, ct_cost, ct_plan, ct_report, ct_args.
+//! Read first: `specs/Reading.antt`, `specs/Gates.antt`, `specs/RunFiles.antt`, `specs/Answers.antt`,
+//! `specs/Lists.antt`, then `top.rt`, and the steps of a call: `words.rt`, `reading.rt`, `folder.rt`,
+//! `run.rt`, `attempt.rt`, `run_files.rt`, and `list.rt`.
 #![tactic(auto)]
 
 mod attempt;
 mod fault;
 mod folder;
+mod list;
 mod outcome;
-mod planning;
 mod props;
+mod reading;
 mod run;
 mod run_files;
 mod top;
 mod words;
 
+pub use ct_args::UsageKind;
 pub use ct_props::PropKind;
-pub use outcome::{Finished, Outcome, Refusal, UsageKind};
-pub use top::ctest_main;
+pub use outcome::{Finished, Listed, Outcome, Refusal};
+pub use top::{ctest_main, list_main};

@@ -2,19 +2,13 @@ ghost use Rattle.ct_app.specs.declared.outcome.Outcome.TheVariants as Ends;
 ghost use Rattle.std.specs.Prelude.{◌≡◌};
 
 use crate::run_files::RunFileFault;
-use ct_base::{Name, NoMemory, SinkFault};
+use ct_args::{UsageFault, UsageKind};
+use ct_base::{List, Name, NoMemory, SinkFault};
 use ct_history::{History, Plan};
 use ct_props::PropKind;
 use ct_testfile::{ReadFault, ReadKind};
 
-/// What is wrong with a word of the command line.
-#[derive(Clone, Copy, Debug, PartialEq, Eq)]
-pub enum UsageKind {
-    /// The word is no option. No word is one yet.
-    UnknownOption,
-}
-
-/// What a run refuses.
+/// What a call refuses.
 #[derive(Debug, Drop)]
 pub enum Refusal {
     /// A line of a test file, counted from 1, or the file as a whole at line 0.
@@ -29,6 +23,12 @@ pub enum Refusal {
         key: Name,
         kind: PropKind,
     },
+    /// The numbers of the tests of a cycle: each has the next one before it, and the last has the
+    /// first before it. Which cycle is told is left open.
+    Cycle(List<u32>),
+    /// More than `ct_graph::MOST_EDGES` tests come before the tests of the run, counted for each of
+    /// them.
+    TooManyEdges,
 }
 
 /// What a call of the top came to.
@@ -37,20 +37,22 @@ pub enum Outcome {
     /// The test files were read to their ends, every test is final, and the files of the run were
     /// written.
     Completed,
+    /// The list that was asked for was put.
+    Listed,
     /// A word of the command line, counted from 1, is refused.
     Usage { word: u32, kind: UsageKind },
-    /// A test file or a property is refused.
+    /// A test file, a property or the order of the tests is refused.
     Refused(Refusal),
     /// The files could not give or take what the path holds. With a history, it is complete and was
     /// reported.
     FilesFault { path: Name },
-    /// The sink did not take the report.
+    /// The sink did not take the report or the list.
     OutputFault,
     /// Memory was wanting.
     Memory,
 }
 
-/// What a call of the top gives back, with what it was handed.
+/// What a run or a list gives back, with what it was handed.
 #[derive(Drop)]
 pub struct Finished<F, G, S> {
     pub outcome: Outcome,
@@ -65,11 +67,34 @@ pub struct Finished<F, G, S> {
     pub sink: S,
 }
 
+/// What a list gives back, with what it was handed.
+#[derive(Drop)]
+pub struct Listed<F, S> {
+    pub outcome: Outcome,
+    /// The exit status of the program.
+    pub status: u8,
+    pub files: F,
+    pub sink: S,
+}
+
 impl From<NoMemory> for Outcome {
     ghost from_gives = { λ _ e. e ≡ Ends.Memory };
 
     fn from(_e: NoMemory) -> Outcome {
         Outcome::Memory
+    }
+}
+
+impl From<UsageFault> for Outcome {
+    ghost use Rattle.ct_app.specs.Outcome.{outcome_of_usage};
+
+    ghost from_gives = { λ fault e. e ≡ outcome_of_usage fault };
+
+    fn from(fault: UsageFault) -> Outcome {
+        match fault {
+            UsageFault::At { word, kind } => Outcome::Usage { word, kind },
+            UsageFault::NoMemory => Outcome::Memory,
+        }
     }
 }
 

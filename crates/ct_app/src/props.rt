@@ -1,18 +1,23 @@
 ghost use Rattle.std.specs.Prelude.{◌≡◌, ◌≤◌, ◌-◌, ◌^◌, ◌<◌, IfOk, IfErr, Some, length};
+ghost use Rattle.std.specs.Option.{option_copied};
+ghost use Rattle.ct_props.specs.Numbered.{at_number};
+ghost use Rattle.ct_plan.specs.Source.{HaveProps};
 ghost use Rattle.ct_props.specs.PropsOf.{HasProps};
 ghost use Rattle.ct_app.specs.Outcome.{outcome_of_prop};
-ghost use Rattle.ct_app.specs.Tests.{HaveProps, IsUnrefused, RefusesTest, RefusesTests, def_at, props_at};
+ghost use Rattle.ct_app.specs.Tests.{IsUnrefused, RefusesTest, RefusesTests};
 
 use crate::{Outcome, Refusal};
 use ct_base::{List, TestDef};
 use ct_props::{PropFault, Props};
 use std::alloc::Global;
 
-/// The tests of a run and their properties, which belong together by place.
+/// The tests of a call and their properties, which belong together by place.
 #[derive(Drop)]
 pub(crate) struct Tests {
     pub(crate) defs: List<TestDef>,
     pub(crate) props: List<Props>,
+    /// How long an attempt may run of a test that does not say so, in microseconds; 0 is no limit.
+    pub(crate) limit: u64,
 }
 
 impl Tests {
@@ -20,7 +25,7 @@ impl Tests {
     pub(crate) fn def(&self, number: u32) -> &TestDef
         requires low { 1 ≤ number }
         requires there { number ≤ length self.now.defs }
-        ensures { def_at self.now.defs number ≡ Some result.now }
+        ensures { at_number self.now.defs number ≡ Some result.now }
     {
         &self.defs.as_slice()[number as usize - 1]
     }
@@ -29,10 +34,18 @@ impl Tests {
     pub(crate) fn props(&self, number: u32) -> &Props
         requires low { 1 ≤ number }
         requires there { number ≤ length self.now.props }
-        ensures { props_at self.now.props number ≡ Some result.now }
+        ensures { at_number self.now.props number ≡ Some result.now }
     {
         &self.props.as_slice()[number as usize - 1]
     }
+}
+
+/// Looks up what a list has for the test with this number.
+pub(crate) fn at_number<T>(items: &[T], number: u32) -> Option<&T>
+    ensures { option_copied result ≡ at_number items.now number }
+{
+    let place = number.checked_sub(1)?;
+    items.get(place as usize)
 }
 
 /// Reads the properties of each test, or refuses the first test that has a bad one.

@@ -1,17 +1,14 @@
-ghost use Rattle.std.specs.Prelude.{◌≡◌, ◌+◌, ◌-◌, ◌^◌, ◌<◌, [], IsSome, length};
+ghost use Rattle.std.specs.Prelude.{◌≡◌, ◌==◌, ◌+◌, ◌-◌, ◌^◌, ◌<◌, [], Some, OnOk, length};
 ghost use Rattle.ct_app.specs.Gates.{IsAsked};
-ghost use Rattle.ct_app.specs.PlanOf.{plan_of};
-ghost use Rattle.ct_app.specs.Run.{IsBetween, RunEnds, fresh};
-ghost use Rattle.ct_app.specs.Tests.{HaveProps};
+ghost use Rattle.ct_app.specs.Run.{IsBetween, PlansTests, RunEnds, fresh};
 ghost use Rattle.ct_base.specs.Outside.{Puts};
-ghost use Rattle.ct_history.specs.Plan.{test_at};
-ghost use Rattle.ct_history.specs.Verdicts.{verdict_of_test};
-ghost use Rattle.ct_report.specs.Report.{header_line, report_text, summary_lines, test_line, test_lines, text_of};
+ghost use Rattle.ct_report.specs.Report.{header_line, lines_of_test, report_text, summary_lines, test_lines, text_of};
 
 use crate::attempt::step;
 use crate::props::Tests;
 use ct_base::{Pair, Sink, SinkFault};
 use ct_core::{Core, Gate};
+use ct_history::verdict_of;
 use ct_report::{header, line, no_tests, summary};
 use std::alloc::Global;
 
@@ -26,8 +23,8 @@ pub(crate) fn run<G: Gate, S: Sink>(
     gate: &mut G,
     sink: &mut S,
 ) -> Result<(), SinkFault>
-    requires fresh { core.old ≡ fresh (plan_of core.old.plan.dir tests.now) }
-    requires props { HaveProps tests.now.defs tests.now.props }
+    requires fresh { core.old ≡ fresh core.old.plan }
+    requires planned { PlansTests tests.now core.old.plan }
     requires few { length tests.now.defs < 2 ^ 32 - 1 }
     ensures plan { core.new.plan ≡ core.old.plan }
     ensures between { IsBetween tests.now core.new }
@@ -36,13 +33,20 @@ pub(crate) fn run<G: Gate, S: Sink>(
     ensures ends { RunEnds (header_line core.new.plan) core.new.plan core.new.entries (S.tells sink.old) (S.tells sink.new) result }
 {
     header(alloc, sink, core.plan())?;
-    if tests.defs.is_empty() {
+    if is_empty(core) {
         no_tests(sink)?;
         return Ok(());
     }
     run_tests(alloc, core, env, tests, gate, sink)?;
     put_summary(alloc, core, sink)?;
     Ok(())
+}
+
+/// Tells whether the run has no test.
+fn is_empty(core: &Core) -> bool
+    ensures { result ≡ (length core.now.plan.tests == 0) }
+{
+    core.plan().parts().tests.is_empty()
 }
 
 /// Runs the tests one after the other, and puts the line of each.
@@ -54,8 +58,8 @@ fn run_tests<G: Gate, S: Sink>(
     gate: &mut G,
     sink: &mut S,
 ) -> Result<(), SinkFault>
-    requires fresh { core.old ≡ fresh (plan_of core.old.plan.dir tests.now) }
-    requires props { HaveProps tests.now.defs tests.now.props }
+    requires fresh { core.old ≡ fresh core.old.plan }
+    requires planned { PlansTests tests.now core.old.plan }
     requires few { length tests.now.defs < 2 ^ 32 - 1 }
     ensures plan { core.new.plan ≡ core.old.plan }
     ensures between { IsBetween tests.now core.new }
@@ -65,25 +69,29 @@ fn run_tests<G: Gate, S: Sink>(
 {
     let mut lines = 0;
     while let Some(test) = step(alloc, core, env, tests, gate)? {
-        put_line(alloc, core, sink, test, lines)?;
-        lines += 1;
+        put_line(alloc, core, sink, test, &mut lines)?;
     }
     Ok(())
 }
 
-/// Puts the line of a test that is final, behind so many lines of others.
+/// Puts the line of a test where it is final, behind so many lines of others, and counts it.
 fn put_line<S: Sink>(
     alloc: Global,
     core: &Core,
     sink: &mut S,
     test: u32,
-    lines: u32,
+    lines: &mut u32,
 ) -> Result<(), SinkFault>
-    requires known { IsSome (verdict_of_test core.now.plan core.now.entries test) }
-    requires few { lines < 2 ^ 32 - 1 }
-    ensures { Puts (test_line core.now.plan core.now.entries (lines + 1) (test_at core.now.plan.tests test)) (S.tells sink.old) (S.tells sink.new) result }
+    requires few { lines.old < 2 ^ 32 - 1 }
+    ensures puts { Puts (text_of (lines_of_test core.now.plan core.now.entries (lines.old + 1) (Some test))) (S.tells sink.old) (S.tells sink.new) result }
+    ensures count { OnOk result (lines.new ≡ lines.old + length (lines_of_test core.now.plan core.now.entries (lines.old + 1) (Some test))) }
 {
-    line(alloc, sink, core.plan(), core.history(), test, lines + 1)?;
+    let entries = core.history().entries.as_slice();
+    if verdict_of(core.plan().parts(), entries, test).is_none() {
+        return Ok(());
+    }
+    line(alloc, sink, core.plan(), core.history(), test, *lines + 1)?;
+    *lines += 1;
     Ok(())
 }
 

@@ -1,16 +1,21 @@
-ghost use Rattle.std.specs.Prelude.{◌≡◌, ◌<◌, drop, length, map, option_map, vec_len};
-ghost use Rattle.ct_app.specs.Answers.{Answers, sides};
+ghost use Rattle.std.specs.Prelude.{◌≡◌, ◌<◌, ◌-◌, ◌^◌, drop, true, length, map, option_map, vec_len};
+ghost use Rattle.ct_app.specs.Answers.{Answers};
+ghost use Rattle.ct_app.specs.Calls.{list_sides, sides};
 ghost use Rattle.ct_app.specs.Ends.{history_entries};
+ghost use Rattle.ct_app.specs.Lists.{AnswersList};
+ghost use Rattle.ct_app.specs.Reading.{ask_for_list};
 
-use crate::Finished;
-use crate::fault::tell;
-use crate::words::run_words;
+use crate::fault::{tell, tell_outcome};
+use crate::folder::Ran;
+use crate::words::{list_words, run_words};
+use crate::{Finished, Listed};
 use ct_base::{Files, Name, Pair, Sink};
 use ct_core::Gate;
 use std::alloc::Global;
 
-/// Runs the tests of the folder `.`, reports on them, and leaves what they cost and which of them
-/// failed for the next run: all that the program `ctest` does.
+/// Runs the tests that the words ask for, reports on them, and leaves what they cost and which of
+/// them failed for the next run; or puts the list that the words ask for: all that the program
+/// `ctest` does.
 ///
 /// It takes the words of the command line behind the program's name, the environment of the tests,
 /// and what stands for the machine. The tests run one after the other on the first gate; the other
@@ -27,22 +32,55 @@ pub fn ctest_main<F: Files, G: Gate + Send, S: Sink + Send>(
     mut gates: Vec<G>,
     mut sink: S,
 ) -> Finished<F, G, S>
-    requires { 0 < vec_len gates }
+    requires some { 0 < vec_len gates }
+    requires few { length words.now < 2 ^ 32 - 1 }
     ensures answer { Answers (sides words.now env.now (F.tells files) (F.tells result.files)
         (map G.tells gates.items) (map G.tells result.gates.items) (S.tells sink) (S.tells result.sink)
         result.plan (option_map history_entries result.history)) result.outcome result.status }
     ensures all { length result.gates.items ≡ length gates.items }
     ensures others { drop 1 result.gates.items ≡ drop 1 gates.items }
+    ensures unasked { ask_for_list words.now ≡ true → result.gates.items ≡ gates.items }
 {
-    let ran = run_words(alloc, words, env, &mut files, &mut gates[0], &mut sink);
-    let (outcome, status) = tell(alloc, &mut sink, ran.ended);
+    let Ran {
+        ended,
+        names,
+        plan,
+        history,
+    } = run_words(alloc, words, env, &mut files, &mut gates[0], &mut sink);
+    let (outcome, status) = tell(alloc, &mut sink, names.as_slice(), ended);
     Finished {
         outcome,
         status,
-        plan: ran.plan,
-        history: ran.history,
+        plan,
+        history,
         files,
         gates,
+        sink,
+    }
+}
+
+/// Puts the list that the words ask for: of the tests that a run would have, or of their labels.
+/// Where the words ask for a run, its tests are listed.
+///
+/// It reads no cost data, makes no plan and refuses no cycle.
+///
+/// Source: CMake manual, ctest(1), --show-only, --print-labels. Statuses other than 0 are this
+/// project's choice.
+pub fn list_main<F: Files, S: Sink>(
+    alloc: Global,
+    words: &[Name],
+    mut files: F,
+    mut sink: S,
+) -> Listed<F, S>
+    requires { length words.now < 2 ^ 32 - 1 }
+    ensures { AnswersList (list_sides words.now (F.tells files) (F.tells result.files) (S.tells sink) (S.tells result.sink)) result.outcome result.status }
+{
+    let outcome = list_words(alloc, words, &mut files, &mut sink);
+    let (outcome, status) = tell_outcome(alloc, &mut sink, &[], outcome);
+    Listed {
+        outcome,
+        status,
+        files,
         sink,
     }
 }

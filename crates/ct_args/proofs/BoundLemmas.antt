@@ -1,5 +1,5 @@
 -- The bounds of what is read: each value of an option meets what its rule promises.
-use Rattle.std.proofs.Common.{ℕ, ◌+◌, ◌≤◌, ◌≡◌, Bool, true, false, cond, List, [], ◌∷◌, take, drop, min, refl, sym, ap, subst, ◌∙◌, Some, None, Ok, Err, ◌==◌, nat_lt, ◌||◌, arith}
+use Rattle.std.proofs.Common.{ℕ, ◌+◌, ◌≤◌, ◌≡◌, Bool, true, false, cond, List, [], ◌∷◌, take, drop, min, refl, ap, subst, Some, None, Ok, Err, ◌==◌, nat_lt, ◌||◌, arith}
 use Rattle.std.specs.Prelude.{Option, Result, unwrap_or, ok_or, slice_get}
 use Rattle.std.specs.List.{filter_map, cons_option, position}
 use Rattle.std.specs.Result.{result_ok}

@@ -10,7 +10,7 @@ use Rattle.ct_args.specs.declared.spelling.ValuePlace.{ValuePlace}
 use Rattle.ct_args.specs.declared.spelling.ValuePlace.TheVariants.{Nowhere, NextWord, Behind}
 use Rattle.ct_args.specs.declared.spelling.Said.{Said}
 use Rattle.ct_args.specs.Spelling.{said_of}
-use Rattle.ct_args.specs.Given.{Value, Given, value_at, given_by, is_next, takes_next, options_from, end_by, end_of}
+use Rattle.ct_args.specs.Given.{Given, value_at, given_by, is_next, takes_next, options_from, end_by, end_of}
 
 -- the word that a reference lends, where it lends the one at a place
 pub lent_word : (words : List (List ℕ)) (at : ℕ) (lent : Option (Bor (List ℕ))) → IsItemAt words at lent → option_copied lent ≡ slice_get words at

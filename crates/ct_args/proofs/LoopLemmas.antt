@@ -1,5 +1,5 @@
 -- The reader goes on option by option.
-use Rattle.std.proofs.Common.{ℕ, ◌+◌, ◌≤◌, ◌≡◌, List, [], ◌∷◌, length, drop, sym, ap, ◌∙◌, Ok, Err}
+use Rattle.std.proofs.Common.{ℕ, ◌+◌, ◌≤◌, ◌≡◌, List, ◌∷◌, length, drop, sym, ap, ◌∙◌, Ok}
 use Rattle.std.specs.Prelude.{Result}
 use Rattle.ct_args.specs.declared.usage.UsageFault.{UsageFault}
 use Rattle.ct_args.specs.declared.usage.UsageFault.TheVariants.{At, NoMemory}

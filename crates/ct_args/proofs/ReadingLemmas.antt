@@ -1,6 +1,6 @@
 -- The slots of the reader say what the options ask for, or their first fault.
-use Rattle.std.proofs.Common.{ℕ, ◌≡◌, Bool, true, false, cond, not, ◌&&◌, ◌||◌, List, [], ◌∷◌, ◌++◌, refl, sym, ap, subst, ◌∙◌, Some, None, Ok, Err}
-use Rattle.std.specs.Prelude.{Option, Result, is_some, unwrap_or, option_map, option_to_list, slice_get}
+use Rattle.std.proofs.Common.{ℕ, ◌≡◌, Bool, true, false, cond, not, ◌&&◌, ◌||◌, List, [], ◌∷◌, ◌++◌, refl, sym, ap, ◌∙◌, Some, None, Ok, Err}
+use Rattle.std.specs.Prelude.{Option, Result, is_some, option_map, option_to_list, slice_get}
 use Rattle.std.specs.List.{cons_option}
 use Rattle.std.specs.Result.{result_ok, result_err}
 use Rattle.std.proofs.lemmas.List.{append-nil, append_assoc}

@@ -1,6 +1,6 @@
 -- What the words of a command line ask for. Source: CMake manual, ctest(1), Options.
 -- That a test may run 1500 seconds without --timeout is this project's choice.
-use Rattle.std.specs.Prelude.{◌≤◌, ℕ, Bool, false, List, [], ◌∷◌, map, Option, Some, None, unwrap_or, option_map, Result, Ok, Err, codes, if◌then◌else◌}
+use Rattle.std.specs.Prelude.{◌≤◌, ℕ, Bool, false, List, [], ◌∷◌, map, Option, None, unwrap_or, option_map, Result, Ok, Err, codes, if◌then◌else◌}
 use Rattle.ct_regex.specs.Tree.{Tree}
 use Rattle.ct_regex.specs.TreeOf.{regex_tree}
 use Rattle.ct_props.specs.declared.wanted.Numbers.{Numbers}

@@ -1,6 +1,6 @@
 -- The reader's own: what it keeps of the options in front of a word. That this gives what the options ask for, or the first
 -- fault, is shown in proofs/. This project's own.
-use Rattle.std.specs.Prelude.{ℕ, Bool, true, false, ◌||◌, List, [], ◌∷◌, ◌++◌, map, Option, Some, None, is_some, unwrap_or, option_map, option_to_list, Result, Ok, Err, if◌then◌else◌}
+use Rattle.std.specs.Prelude.{ℕ, Bool, false, ◌||◌, List, [], ◌∷◌, ◌++◌, map, Option, Some, None, is_some, unwrap_or, option_map, option_to_list, Result, Ok, Err, if◌then◌else◌}
 use Rattle.std.specs.Result.{result_ok}
 use Rattle.ct_regex.specs.Tree.{Tree}
 use Rattle.ct_regex.specs.TreeOf.{regex_tree}
@@ -11,7 +11,7 @@ use Rattle.ct_args.specs.declared.option.CommandOption.TheVariants.{TestsRegex, 
 use Rattle.ct_args.specs.declared.usage.UsageKind.{UsageKind}
 use Rattle.ct_args.specs.declared.usage.UsageKind.TheVariants.{UnknownOption, NoValue, Twice}
 use Rattle.ct_args.specs.declared.usage.UsageFault.{UsageFault}
-use Rattle.ct_args.specs.declared.usage.UsageFault.TheVariants.{At, NoMemory}
+use Rattle.ct_args.specs.declared.usage.UsageFault.TheVariants.{At}
 use Rattle.ct_args.specs.declared.settings.Settings.{Settings}
 use Rattle.ct_args.specs.Given.{Value, Given, is_same}
 use Rattle.ct_args.specs.Values.{text_in, pattern_in, numbers_in, level_in, limit_in, repeat_in, is_error_in}

@@ -1,6 +1,6 @@
 -- What the value of each option says, or why it is refused. Source: CMake manual, ctest(1), Options.
 -- The bounds, what is refused, and that a zero in -I stands for 1 are this project's choice.
-use Rattle.std.specs.Prelude.{ℕ, ◌+◌, ◌-◌, ◌^◌, min, max, nat_lt, bytes_eq, Bool, true, false, ◌||◌, List, [], ◌∷◌, take, drop, Option, Some, None, slice_get, unwrap_or, option_map, ok_or, Result, Ok, Err, codes, ◌==◌, if◌then◌else◌}
+use Rattle.std.specs.Prelude.{ℕ, ◌+◌, ◌-◌, ◌^◌, min, max, nat_lt, bytes_eq, Bool, true, false, ◌||◌, List, [], ◌∷◌, take, drop, Option, Some, None, slice_get, unwrap_or, ok_or, Result, Ok, Err, codes, ◌==◌, if◌then◌else◌}
 use Rattle.std.specs.List.{position, slice_split, filter_map}
 use Rattle.std.specs.Option.{option_flatten}
 use Rattle.std.specs.Result.{result_or}

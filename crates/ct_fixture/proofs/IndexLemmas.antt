@@ -5,7 +5,7 @@ use Rattle.std.specs.declared.vec.Vec.{Vec}
 use Rattle.std.proofs.lemmas.List.Folds.{list_any-append}
 use Rattle.std.proofs.lemmas.Slice.Eq.{bytes_eq-Decides}
 use Rattle.indexmap.specs.IndexMap.{IndexMap, UpdatesBy}
-use Rattle.ct_fixture.specs.Drawing.{is_one_of}
+use Rattle.ct_props.specs.Numbered.{is_in}
 use Rattle.ct_fixture.specs.Kept.{found, tests_of}
 
 and_all : (a : Bool) → (a || false) ≡ (a && true)
@@ -38,13 +38,13 @@ module _ {Y Z : Type 0} where
     pub updated : (before now : IndexMap (Vec ℕ Y) (Vec ℕ Z) S) (fixture : List ℕ) (tests : Option (Vec ℕ Z)) → UpdatesBy (λ (one other : Vec ℕ Y). bytes_eq one.items other.items) (λ (name : Vec ℕ Y). bytes_eq fixture name.items) before now tests → (asked : List ℕ) → tests_of now asked ≡ cond (bytes_eq asked fixture) (found tests) (tests_of before asked)
     updated before now fixture tests updates asked = updated_by before now fixture asked tests updates (bytes_eq asked fixture) refl
 
-    noted_by : (before rest now : IndexMap (Vec ℕ Y) (Vec ℕ Z) S) (fixture asked tests : List ℕ) (number test : ℕ) (is : Bool) → bytes_eq asked fixture ≡ is → tests_of rest asked ≡ cond is [] (tests_of before asked) → tests ≡ tests_of before fixture ++ number ∷ [] → tests_of now asked ≡ cond is tests (tests_of rest asked) → is_one_of test (tests_of now asked) ≡ (is_one_of test (tests_of before asked) || (eqb test number && is))
+    noted_by : (before rest now : IndexMap (Vec ℕ Y) (Vec ℕ Z) S) (fixture asked tests : List ℕ) (number test : ℕ) (is : Bool) → bytes_eq asked fixture ≡ is → tests_of rest asked ≡ cond is [] (tests_of before asked) → tests ≡ tests_of before fixture ++ number ∷ [] → tests_of now asked ≡ cond is tests (tests_of rest asked) → is_in (tests_of now asked) test ≡ (is_in (tests_of before asked) test || (eqb number test && is))
     noted_by before rest now fixture asked tests number test true is out pushed put =
-        ap (is_one_of test) (put ∙ pushed ∙ ap (λ f. tests_of before f ++ number ∷ []) (sym ((bytes_eq-Decides asked fixture).0 is)))
-        ∙ list_any-append (λ n. eqb test n) (tests_of before asked) (number ∷ [])
-        ∙ ap (λ here. is_one_of test (tests_of before asked) || here) (and_all (eqb test number))
-    noted_by before rest now fixture asked tests number test false is out pushed put = ap (is_one_of test) (put ∙ out) ∙ or_nothing (is_one_of test (tests_of before asked)) (eqb test number)
+        ap (λ tests. is_in tests test) (put ∙ pushed ∙ ap (λ f. tests_of before f ++ number ∷ []) (sym ((bytes_eq-Decides asked fixture).0 is)))
+        ∙ list_any-append (λ n. eqb n test) (tests_of before asked) (number ∷ [])
+        ∙ ap (λ here. is_in (tests_of before asked) test || here) (and_all (eqb number test))
+    noted_by before rest now fixture asked tests number test false is out pushed put = ap (λ tests. is_in tests test) (put ∙ out) ∙ or_nothing (is_in (tests_of before asked) test) (eqb number test)
 
     -- the tests of a fixture were taken out, and put back with one more
-    pub noted : (before rest now : IndexMap (Vec ℕ Y) (Vec ℕ Z) S) (fixture tests : List ℕ) (number : ℕ) → ((asked : List ℕ) → tests_of rest asked ≡ cond (bytes_eq asked fixture) [] (tests_of before asked)) → tests ≡ tests_of before fixture ++ number ∷ [] → ((asked : List ℕ) → tests_of now asked ≡ cond (bytes_eq asked fixture) tests (tests_of rest asked)) → (asked : List ℕ) (test : ℕ) → is_one_of test (tests_of now asked) ≡ (is_one_of test (tests_of before asked) || (eqb test number && bytes_eq asked fixture))
+    pub noted : (before rest now : IndexMap (Vec ℕ Y) (Vec ℕ Z) S) (fixture tests : List ℕ) (number : ℕ) → ((asked : List ℕ) → tests_of rest asked ≡ cond (bytes_eq asked fixture) [] (tests_of before asked)) → tests ≡ tests_of before fixture ++ number ∷ [] → ((asked : List ℕ) → tests_of now asked ≡ cond (bytes_eq asked fixture) tests (tests_of rest asked)) → (asked : List ℕ) (test : ℕ) → is_in (tests_of now asked) test ≡ (is_in (tests_of before asked) test || (eqb number test && bytes_eq asked fixture))
     noted before rest now fixture tests number out pushed put asked test = noted_by before rest now fixture asked tests number test (bytes_eq asked fixture) refl (out asked) pushed (put asked)

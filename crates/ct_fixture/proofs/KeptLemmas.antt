@@ -1,9 +1,8 @@
 -- The tests that fixtures have left: while they are found, and while they are taken.
-use Rattle.std.proofs.Common.{◌≡◌, ℕ, suc, ◌+◌, ◌-◌, ◌<◌, ◌≤◌, Bool, true, false, cond, eqb, leb, not, ◌&&◌, ◌||◌, bytes_eq, List, [], ◌∷◌, length, get_or, take, All, Option, Some, None, inl, inr, refl, sym, ap, ◌∙◌, subst, arith}
+use Rattle.std.proofs.Common.{◌≡◌, ℕ, suc, ◌+◌, ◌<◌, ◌≤◌, Bool, true, false, cond, eqb, leb, not, ◌&&◌, ◌||◌, bytes_eq, List, [], ◌∷◌, length, get_or, take, All, Option, Some, None, inl, inr, refl, sym, ap, ◌∙◌, subst, arith}
 use Rattle.std.proofs.lemmas.Bool.{false≢true, eqb-true, eq-eqb, ne_eqb, le-leb, lt-leb, or_left, or_right, or_cases, cases_eq, cases_lt}
 use Rattle.std.proofs.lemmas.List.Elements.{All-nil}
 use Rattle.std.proofs.lemmas.List.Folds.{list_any_at, list_any_more}
-use Rattle.std.proofs.lemmas.Option.{slice_get_read}
 use Rattle.std.proofs.lemmas.Slice.Eq.{bytes_eq-Decides}
 use Rattle.indexmap.specs.IndexMap.{IndexMap}
 use Rattle.std.specs.declared.vec.Vec.{Vec}
@@ -11,35 +10,32 @@ use Rattle.ct_props.specs.declared.props.Props.{Props}
 use Rattle.ct_props.specs.declared.wanted.Choice.{Choice}
 use Rattle.ct_fixture.specs.declared.fixtures.Fixtures.{Fixtures}
 use Rattle.ct_fixture.specs.declared.members.Members.{Members}
-use Rattle.ct_fixture.specs.Drawing.{is_among, is_one_of, is_drawn, draws, props_at, required_by, keeps_cleanups, keeps_setups}
+use Rattle.ct_props.specs.Numbered.{at_number, is_among, is_in}
+use Rattle.ct_fixture.specs.Drawing.{is_drawn, draws, required_by, keeps_cleanups, keeps_setups}
 use Rattle.ct_fixture.specs.Kept.{AddsTests, AreLeft, AreNamed, Draws, Extends, HaveMarks, IsLeft, given, is_member, names, tests_of}
 use Rattle.ct_fixture.proofs.MemberLemmas.{adds_same, extends_on, or_behind, or_none}
-use Rattle.ct_fixture.proofs.RoundLemmas.{there_number}
+use Rattle.ct_props.proofs.NumberedLemmas.{at_number_here, number_within}
 
 -- what is said of each number in a list
-pub all_in : (P : ℕ → Type 0) (numbers : List ℕ) → ((number : ℕ) → is_one_of number numbers ≡ true → P number) → All P numbers
-all_in P numbers each = λ k d within. each (get_or numbers k d) (list_any_at (λ n. eqb (get_or numbers k d) n) numbers k d within (eq-eqb (get_or numbers k d) (get_or numbers k d) refl))
+pub all_in : (P : ℕ → Type 0) (numbers : List ℕ) → ((number : ℕ) → is_in numbers number ≡ true → P number) → All P numbers
+all_in P numbers each = λ k d within. each (get_or numbers k d) (list_any_at (λ n. eqb n (get_or numbers k d)) numbers k d within (eq-eqb (get_or numbers k d) (get_or numbers k d) refl))
 
 -- what holds of all is said of each number in the list
-pub in_all : (P : ℕ → Type 0) (numbers : List ℕ) → All P numbers → (number : ℕ) → is_one_of number numbers ≡ true → P number
+pub in_all : (P : ℕ → Type 0) (numbers : List ℕ) → All P numbers → (number : ℕ) → is_in numbers number ≡ true → P number
 in_all P [] all number there = absurd (false≢true there)
 in_all P (first ∷ numbers) all number there =
-    elim (or_cases (eqb number first) (is_one_of number numbers) there) [
-      | inl here ↦ subst P (sym (eqb-true number first here)) (all 0 first (omega arith))
+    elim (or_cases (eqb first number) (is_in numbers number) there) [
+      | inl here ↦ subst P (eqb-true first number here) (all 0 first (omega arith))
       | inr later ↦ in_all P numbers (λ k d within. all (suc k) d (omega (arith, within))) number later
     ]
 
--- the properties at a place are those of its number
-pub props_here : (props : List Props) (at : ℕ) (own : Props) → at < length props → own ≡ get_or props at own → props_at props (at + 1) ≡ Some own
-props_here props at own within is = let next : at + 1 ≡ suc at = omega arith in ap (props_at props) next ∙ slice_get_read props (length props) at own refl within is
-
-names_there : (property : Props → List (List ℕ)) (props : List Props) (fixture : List ℕ) (number : ℕ) (own : Option Props) → props_at props number ≡ own → names property fixture own ≡ true → (1 ≤ number) × (number ≤ length props)
+names_there : (property : Props → List (List ℕ)) (props : List Props) (fixture : List ℕ) (number : ℕ) (own : Option Props) → at_number props number ≡ own → names property fixture own ≡ true → (1 ≤ number) × (number ≤ length props)
 names_there property props fixture number None is named = absurd (false≢true named)
-names_there property props fixture number (Some own) is named = there_number props number own is
+names_there property props fixture number (Some own) is named = number_within props number own is
 
 -- a test that names a fixture has a number
-pub named_number : (property : Props → List (List ℕ)) (props : List Props) (fixture : List ℕ) (number : ℕ) → names property fixture (props_at props number) ≡ true → (1 ≤ number) × (number ≤ length props)
-named_number property props fixture number named = names_there property props fixture number (props_at props number) refl named
+pub named_number : (property : Props → List (List ℕ)) (props : List Props) (fixture : List ℕ) (number : ℕ) → names property fixture (at_number props number) ≡ true → (1 ≤ number) × (number ≤ length props)
+named_number property props fixture number named = names_there property props fixture number (at_number props number) refl named
 
 and_none : (a : Bool) → (a && false) ≡ false
 and_none true = refl
@@ -52,16 +48,16 @@ same_low at number other =
       | inr below ↦ le-leb number at below ∙ sym (le-leb number (at + 1) (omega (arith, below)))
     ]
 
-step_by : (at number : ℕ) (names_now among : Bool) → (number ≡ at + 1 → names_now ≡ among) → ((leb number at && names_now) || (eqb number (at + 1) && among)) ≡ (leb number (at + 1) && names_now)
+step_by : (at number : ℕ) (names_now among : Bool) → (number ≡ at + 1 → names_now ≡ among) → ((leb number at && names_now) || (eqb (at + 1) number && among)) ≡ (leb number (at + 1) && names_now)
 step_by at number names_now among here =
     elim (cases_eq number (at + 1)) [
       | inl same ↦
-          ap (λ low. (low && names_now) || (eqb number (at + 1) && among)) (lt-leb number at (omega (arith, same)))
-          ∙ ap (λ is. is && among) (eq-eqb number (at + 1) same)
+          ap (λ low. (low && names_now) || (eqb (at + 1) number && among)) (lt-leb number at (omega (arith, same)))
+          ∙ ap (λ is. is && among) (eq-eqb (at + 1) number (sym same))
           ∙ sym (here same)
           ∙ sym (ap (λ low. low && names_now) (le-leb number (at + 1) (omega (arith, same))))
       | inr other ↦
-          ap (λ is. (leb number at && names_now) || (is && among)) (ne_eqb number (at + 1) other)
+          ap (λ is. (leb number at && names_now) || (is && among)) (ne_eqb (at + 1) number (λ same. other (sym same)))
           ∙ or_none (leb number at && names_now)
           ∙ ap (λ low. low && names_now) (same_low at number other)
     ]
@@ -73,7 +69,7 @@ low_within : (count number : ℕ) (named : Bool) → (named ≡ true → number 
 low_within count number true within = ap (λ low. low && true) (le-leb number count (within refl))
 low_within count number false within = and_none (leb number count)
 
-drawn_by_side : (there named member keeps : Bool) (tests : List ℕ) (number : ℕ) → is_one_of number tests ≡ there → (there ≡ true → named ≡ true) → (named ≡ true → keeps ≡ false → (there || member) ≡ true) → (member || is_one_of number (given keeps tests)) ≡ (member || (named && not keeps))
+drawn_by_side : (there named member keeps : Bool) (tests : List ℕ) (number : ℕ) → is_in tests number ≡ there → (there ≡ true → named ≡ true) → (named ≡ true → keeps ≡ false → (there || member) ≡ true) → (member || is_in (given keeps tests) number) ≡ (member || (named && not keeps))
 drawn_by_side there named true keeps tests number is sound left = refl
 drawn_by_side there true false true tests number is sound left = refl
 drawn_by_side there false false true tests number is sound left = refl
@@ -89,25 +85,25 @@ given_all P false tests all = all
 module _ {Y Z S : Type 0} where
   -- each fixture has those of the first tests that name it in this property
   abbrev pub AreNamedTo : ℕ → (Props → List (List ℕ)) → List Props → IndexMap (Vec ℕ Y) (Vec ℕ Z) S → Type 0
-  AreNamedTo at property props tests = (fixture : List ℕ) (number : ℕ) → is_one_of number (tests_of tests fixture) ≡ (leb number at && names property fixture (props_at props number))
+  AreNamedTo at property props tests = (fixture : List ℕ) (number : ℕ) → is_in (tests_of tests fixture) number ≡ (leb number at && names property fixture (at_number props number))
 
   -- one more test that is not disabled
   pub named_more : (property : Props → List (List ℕ)) (props : List Props) (at number : ℕ) (own : Props) (fixtures : List (List ℕ)) (before now : IndexMap (Vec ℕ Y) (Vec ℕ Z) S) → at < length props → own ≡ get_or props at own → own.disabled ≡ false → number ≡ at + 1 → fixtures ≡ property own
-      → ((asked : List ℕ) (test : ℕ) → is_one_of test (tests_of now asked) ≡ (is_one_of test (tests_of before asked) || (eqb test number && is_among asked fixtures))) → AreNamedTo at property props before → AreNamedTo (at + 1) property props now
+      → ((asked : List ℕ) (test : ℕ) → is_in (tests_of now asked) test ≡ (is_in (tests_of before asked) test || (eqb number test && is_among asked fixtures))) → AreNamedTo at property props before → AreNamedTo (at + 1) property props now
   named_more property props at number own fixtures before now within is enabled is_number are_fixtures noted named = λ fixture test.
       noted fixture test
-      ∙ ap (λ n. is_one_of test (tests_of before fixture) || (eqb test n && is_among fixture fixtures)) is_number
-      ∙ ap (λ fs. is_one_of test (tests_of before fixture) || (eqb test (at + 1) && is_among fixture fs)) are_fixtures
-      ∙ ap (λ was. was || (eqb test (at + 1) && is_among fixture (property own))) (named fixture test)
-      ∙ step_by at test (names property fixture (props_at props test)) (is_among fixture (property own)) (λ same. ap (λ n. names property fixture (props_at props n)) same ∙ ap (names property fixture) (props_here props at own within is) ∙ names_here property fixture own false enabled)
+      ∙ ap (λ n. is_in (tests_of before fixture) test || (eqb n test && is_among fixture fixtures)) is_number
+      ∙ ap (λ fs. is_in (tests_of before fixture) test || (eqb (at + 1) test && is_among fixture fs)) are_fixtures
+      ∙ ap (λ was. was || (eqb (at + 1) test && is_among fixture (property own))) (named fixture test)
+      ∙ step_by at test (names property fixture (at_number props test)) (is_among fixture (property own)) (λ same. ap (λ n. names property fixture (at_number props n)) same ∙ ap (names property fixture) (at_number_here props at own within is) ∙ names_here property fixture own false enabled)
 
   -- one more test that is disabled
   pub named_still : (property : Props → List (List ℕ)) (props : List Props) (at : ℕ) (own : Props) (tests : IndexMap (Vec ℕ Y) (Vec ℕ Z) S) → at < length props → own ≡ get_or props at own → own.disabled ≡ true → AreNamedTo at property props tests → AreNamedTo (at + 1) property props tests
   named_still property props at own tests within is disabled named = λ fixture number.
       named fixture number
-      ∙ sym (or_none (leb number at && names property fixture (props_at props number)))
-      ∙ ap (λ none. (leb number at && names property fixture (props_at props number)) || none) (sym (and_none (eqb number (at + 1))))
-      ∙ step_by at number (names property fixture (props_at props number)) false (λ same. ap (λ n. names property fixture (props_at props n)) same ∙ ap (names property fixture) (props_here props at own within is) ∙ names_here property fixture own true disabled)
+      ∙ sym (or_none (leb number at && names property fixture (at_number props number)))
+      ∙ ap (λ none. (leb number at && names property fixture (at_number props number)) || none) (sym (and_none (eqb (at + 1) number)))
+      ∙ step_by at number (names property fixture (at_number props number)) false (λ same. ap (λ n. names property fixture (at_number props n)) same ∙ ap (names property fixture) (at_number_here props at own within is) ∙ names_here property fixture own true disabled)
 
   -- the same tests
   pub named_as : (at : ℕ) (property : Props → List (List ℕ)) (props : List Props) (tests others : IndexMap (Vec ℕ Y) (Vec ℕ Z) S) → others ≡ tests → AreNamedTo at property props tests → AreNamedTo at property props others
@@ -117,58 +113,58 @@ module _ {Y Z S : Type 0} where
   pub named_all : (property : Props → List (List ℕ)) (props : List Props) (at : ℕ) (tests : IndexMap (Vec ℕ Y) (Vec ℕ Z) S) → at ≡ length props → AreNamedTo at property props tests → AreNamed property props tests
   named_all property props at tests end named = λ fixture number.
       named fixture number
-      ∙ low_within at number (names property fixture (props_at props number)) (λ is. let there = named_number property props fixture number is in omega (arith, there.1, end))
+      ∙ low_within at number (names property fixture (at_number props number)) (λ is. let there = named_number property props fixture number is in omega (arith, there.1, end))
 
   -- ---- taking
   -- before anything is taken
   pub left_first : (property : Props → List (List ℕ)) (keeps : List ℕ → Bool) (props : List Props) (tests : IndexMap (Vec ℕ Y) (Vec ℕ Z) S) (members : Members) → AreNamed property props tests → IsLeft property keeps props tests members
   left_first property keeps props tests members are = record {
     named = λ fixture number there. sym (are fixture number) ∙ there;
-    left = λ fixture number named kept. or_left (is_one_of number (tests_of tests fixture)) (is_member members number) (are fixture number ∙ named);
+    left = λ fixture number named kept. or_left (is_in (tests_of tests fixture) number) (is_member members number) (are fixture number ∙ named);
   }
 
   -- with more tests that are in
   pub left_on : (property : Props → List (List ℕ)) (keeps : List ℕ → Bool) (props : List Props) (tests : IndexMap (Vec ℕ Y) (Vec ℕ Z) S) (before now : Members) → Extends before now → IsLeft property keeps props tests before → IsLeft property keeps props tests now
   left_on property keeps props tests before now more is = record {
     named = is.named;
-    left = λ fixture number named kept. elim (or_cases (is_one_of number (tests_of tests fixture)) (is_member before number) (is.left fixture number named kept)) [
-      | inl there ↦ or_left (is_one_of number (tests_of tests fixture)) (is_member now number) there
-      | inr was ↦ or_right (is_one_of number (tests_of tests fixture)) (is_member now number) (more.kept number was)
+    left = λ fixture number named kept. elim (or_cases (is_in (tests_of tests fixture) number) (is_member before number) (is.left fixture number named kept)) [
+      | inl there ↦ or_left (is_in (tests_of tests fixture) number) (is_member now number) there
+      | inr was ↦ or_right (is_in (tests_of tests fixture) number) (is_member now number) (more.kept number was)
     ];
   }
 
-  taken_named : (property : Props → List (List ℕ)) (props : List Props) (tests : IndexMap (Vec ℕ Y) (Vec ℕ Z) S) (asked : List ℕ) (number : ℕ) (is : Bool) → is_one_of number (cond is [] (tests_of tests asked)) ≡ true → (is_one_of number (tests_of tests asked) ≡ true → names property asked (props_at props number) ≡ true) → names property asked (props_at props number) ≡ true
+  taken_named : (property : Props → List (List ℕ)) (props : List Props) (tests : IndexMap (Vec ℕ Y) (Vec ℕ Z) S) (asked : List ℕ) (number : ℕ) (is : Bool) → is_in (cond is [] (tests_of tests asked)) number ≡ true → (is_in (tests_of tests asked) number ≡ true → names property asked (at_number props number) ≡ true) → names property asked (at_number props number) ≡ true
   taken_named property props tests asked number true there named = absurd (false≢true there)
   taken_named property props tests asked number false there named = named there
 
-  taken_left : (keeps : List ℕ → Bool) (tests : IndexMap (Vec ℕ Y) (Vec ℕ Z) S) (fixture asked : List ℕ) (number : ℕ) (before now : Members) (is : Bool) → bytes_eq asked fixture ≡ is → keeps asked ≡ false → ((test : ℕ) → is_member now test ≡ (is_member before test || is_one_of test (given (keeps fixture) (tests_of tests fixture)))) → (is_one_of number (tests_of tests asked) || is_member before number) ≡ true → (is_one_of number (cond is [] (tests_of tests asked)) || is_member now number) ≡ true
+  taken_left : (keeps : List ℕ → Bool) (tests : IndexMap (Vec ℕ Y) (Vec ℕ Z) S) (fixture asked : List ℕ) (number : ℕ) (before now : Members) (is : Bool) → bytes_eq asked fixture ≡ is → keeps asked ≡ false → ((test : ℕ) → is_member now test ≡ (is_member before test || is_in (given (keeps fixture) (tests_of tests fixture)) test)) → (is_in (tests_of tests asked) number || is_member before number) ≡ true → (is_in (cond is [] (tests_of tests asked)) number || is_member now number) ≡ true
   taken_left keeps tests fixture asked number before now true at_it kept is was =
       let same : asked ≡ fixture = (bytes_eq-Decides asked fixture).0 at_it in
       let open_now : keeps fixture ≡ false = ap keeps (sym same) ∙ kept in
       let gives : given (keeps fixture) (tests_of tests fixture) ≡ tests_of tests asked = ap (λ k. given k (tests_of tests fixture)) open_now ∙ ap (tests_of tests) (sym same) in
       is number
-      ∙ ap (λ taken. is_member before number || is_one_of number taken) gives
-      ∙ elim (or_cases (is_one_of number (tests_of tests asked)) (is_member before number) was) [
-        | inl there ↦ or_right (is_member before number) (is_one_of number (tests_of tests asked)) there
-        | inr before_now ↦ or_left (is_member before number) (is_one_of number (tests_of tests asked)) before_now
+      ∙ ap (λ taken. is_member before number || is_in taken number) gives
+      ∙ elim (or_cases (is_in (tests_of tests asked) number) (is_member before number) was) [
+        | inl there ↦ or_right (is_member before number) (is_in (tests_of tests asked) number) there
+        | inr before_now ↦ or_left (is_member before number) (is_in (tests_of tests asked) number) before_now
       ]
   taken_left keeps tests fixture asked number before now false at_it kept is was =
-      elim (or_cases (is_one_of number (tests_of tests asked)) (is_member before number) was) [
-        | inl there ↦ or_left (is_one_of number (tests_of tests asked)) (is_member now number) there
-        | inr before_now ↦ or_right (is_one_of number (tests_of tests asked)) (is_member now number) (is number ∙ or_left (is_member before number) (is_one_of number (given (keeps fixture) (tests_of tests fixture))) before_now)
+      elim (or_cases (is_in (tests_of tests asked) number) (is_member before number) was) [
+        | inl there ↦ or_left (is_in (tests_of tests asked) number) (is_member now number) there
+        | inr before_now ↦ or_right (is_in (tests_of tests asked) number) (is_member now number) (is number ∙ or_left (is_member before number) (is_in (given (keeps fixture) (tests_of tests fixture)) number) before_now)
       ]
 
   -- where the tests of a fixture are taken out, and are in now unless they are kept out
   pub left_taken : (property : Props → List (List ℕ)) (keeps : List ℕ → Bool) (props : List Props) (tests rest : IndexMap (Vec ℕ Y) (Vec ℕ Z) S) (fixture : List ℕ) (before now : Members) → ((asked : List ℕ) → tests_of rest asked ≡ cond (bytes_eq asked fixture) [] (tests_of tests asked)) → AddsTests (given (keeps fixture) (tests_of tests fixture)) before now → IsLeft property keeps props tests before → IsLeft property keeps props rest now
   left_taken property keeps props tests rest fixture before now taken added is = record {
-    named = λ asked number there. taken_named property props tests asked number (bytes_eq asked fixture) (ap (is_one_of number) (sym (taken asked)) ∙ there) (is.named asked number);
-    left = λ asked number named kept. ap (λ numbers. is_one_of number numbers || is_member now number) (taken asked) ∙ taken_left keeps tests fixture asked number before now (bytes_eq asked fixture) refl kept added.is (is.left asked number named kept);
+    named = λ asked number there. taken_named property props tests asked number (bytes_eq asked fixture) (ap (λ tests. is_in tests number) (sym (taken asked)) ∙ there) (is.named asked number);
+    left = λ asked number named kept. ap (λ numbers. is_in numbers number || is_member now number) (taken asked) ∙ taken_left keeps tests fixture asked number before now (bytes_eq asked fixture) refl kept added.is (is.left asked number named kept);
   }
 
   -- what one side of a fixture draws in is what names it and is not kept out
-  pub side_drawn : (property : Props → List (List ℕ)) (keeps : List ℕ → Bool) (props : List Props) (tests : IndexMap (Vec ℕ Y) (Vec ℕ Z) S) (members : Members) (fixture : List ℕ) (number : ℕ) → IsLeft property keeps props tests members → (is_member members number || is_one_of number (given (keeps fixture) (tests_of tests fixture))) ≡ (is_member members number || (names property fixture (props_at props number) && not (keeps fixture)))
+  pub side_drawn : (property : Props → List (List ℕ)) (keeps : List ℕ → Bool) (props : List Props) (tests : IndexMap (Vec ℕ Y) (Vec ℕ Z) S) (members : Members) (fixture : List ℕ) (number : ℕ) → IsLeft property keeps props tests members → (is_member members number || is_in (given (keeps fixture) (tests_of tests fixture)) number) ≡ (is_member members number || (names property fixture (at_number props number) && not (keeps fixture)))
   side_drawn property keeps props tests members fixture number is =
-      drawn_by_side (is_one_of number (tests_of tests fixture)) (names property fixture (props_at props number)) (is_member members number) (keeps fixture) (tests_of tests fixture) number refl (is.named fixture number) (is.left fixture number)
+      drawn_by_side (is_in (tests_of tests fixture) number) (names property fixture (at_number props number)) (is_member members number) (keeps fixture) (tests_of tests fixture) number refl (is.named fixture number) (is.left fixture number)
 
   left_marks : (property : Props → List (List ℕ)) (keeps : List ℕ → Bool) (props : List Props) (tests : IndexMap (Vec ℕ Y) (Vec ℕ Z) S) (members : Members) (long : ℕ) → long ≡ length props + 1 → IsLeft property keeps props tests members → (fixture : List ℕ) → All (λ number. number < long) (tests_of tests fixture)
   left_marks property keeps props tests members long is left fixture =
@@ -214,16 +210,10 @@ drawn_one choice props fixture before now setups cleanups first second third lef
         is = λ number.
             added_too.is number
             ∙ side_drawn (λ own. own.cleanup) (keeps_cleanups choice) props before.cleanups second fixture number cleanups_on
-            ∙ ap (λ m. m || (names (λ own. own.cleanup) fixture (props_at props number) && not (keeps_cleanups choice fixture))) (added.is number ∙ side_drawn (λ own. own.setup) (keeps_setups choice) props before.setups first fixture number left.setups)
-            ∙ both_sides choice fixture (is_member first number) (props_at props number);
+            ∙ ap (λ m. m || (names (λ own. own.cleanup) fixture (at_number props number) && not (keeps_cleanups choice fixture))) (added.is number ∙ side_drawn (λ own. own.setup) (keeps_setups choice) props before.setups first fixture number left.setups)
+            ∙ both_sides choice fixture (is_member first number) (at_number props number);
       },
     )
-
--- the properties of a test are those at its number
-pub props_there : (props : List Props) (number : ℕ) (own : Props) → 1 ≤ number → number ≤ length props → own ≡ get_or props (number - 1) own → props_at props number ≡ Some own
-props_there props number own low there is =
-    let same : number ≡ suc (number - 1) = omega (arith, low) in
-    ap (props_at props) same ∙ slice_get_read props (length props) (number - 1) own refl (omega (arith, low, there)) is
 
 -- a test that is not disabled requires its fixtures
 pub requires_own : (own : Props) → own.disabled ≡ false → required_by (Some own) ≡ own.required
@@ -242,9 +232,9 @@ drawn_more choice props fixtures at fixture first second third within is one two
   extends = extends_on first second third one.extends two.extends;
   is = λ number.
       two.is number
-      ∙ ap (λ m. m || is_drawn choice (fixture ∷ []) (props_at props number)) (one.is number)
-      ∙ or_behind (is_member first number) (is_drawn choice (take at fixtures) (props_at props number)) (is_drawn choice (fixture ∷ []) (props_at props number))
-      ∙ ap (λ drawn. is_member first number || drawn) (drawn_by_more choice fixtures at fixture (props_at props number) within is);
+      ∙ ap (λ m. m || is_drawn choice (fixture ∷ []) (at_number props number)) (one.is number)
+      ∙ or_behind (is_member first number) (is_drawn choice (take at fixtures) (at_number props number)) (is_drawn choice (fixture ∷ []) (at_number props number))
+      ∙ ap (λ drawn. is_member first number || drawn) (drawn_by_more choice fixtures at fixture (at_number props number) within is);
 }
 
 -- the same fixtures

@@ -6,7 +6,7 @@ use Rattle.std.proofs.lemmas.List.{map-id}
 use Rattle.std.proofs.lemmas.List.Folds.{list_any-append, list_any_more}
 use Rattle.std.proofs.lemmas.List.FromFn.{filter_of_map_range_with_len_more}
 use Rattle.ct_fixture.specs.declared.members.Members.{Members}
-use Rattle.ct_fixture.specs.Drawing.{is_one_of}
+use Rattle.ct_props.specs.Numbered.{is_in}
 use Rattle.ct_fixture.specs.Kept.{AddsTests, Extends, is_member}
 
 -- what false adds to a test
@@ -20,8 +20,8 @@ or_behind true b c = refl
 or_behind false b c = refl
 
 -- what waits, with one test more
-pub waits_more : (waiting : List ℕ) (number : ℕ) (test : ℕ) → is_one_of test (waiting ++ number ∷ []) ≡ (is_one_of test waiting || (eqb test number || false))
-waits_more waiting number test = list_any-append (λ n. eqb test n) waiting (number ∷ [])
+pub waits_more : (waiting : List ℕ) (number : ℕ) (test : ℕ) → is_in (waiting ++ number ∷ []) test ≡ (is_in waiting test || (eqb number test || false))
+waits_more waiting number test = list_any-append (λ n. eqb n test) waiting (number ∷ [])
 
 -- two additions, one behind the other
 pub extends_on : (first second third : Members) → Extends first second → Extends second third → Extends first third
@@ -43,10 +43,10 @@ adds_more tests at first second third within one two = record {
   extends = extends_on first second third one.extends two.extends;
   is = λ number.
       two.is number
-      ∙ ap (λ m. m || (eqb number (get_or tests at 0) || false)) (one.is number)
-      ∙ or_behind (is_member first number) (is_one_of number (take at tests)) (eqb number (get_or tests at 0) || false)
-      ∙ ap (λ later. is_member first number || (is_one_of number (take at tests) || later)) (or_none (eqb number (get_or tests at 0)))
-      ∙ ap (λ later. is_member first number || later) (sym (list_any_more (λ n. eqb number n) tests at 0 within));
+      ∙ ap (λ m. m || (eqb (get_or tests at 0) number || false)) (one.is number)
+      ∙ or_behind (is_member first number) (is_in (take at tests) number) (eqb (get_or tests at 0) number || false)
+      ∙ ap (λ later. is_member first number || (is_in (take at tests) number || later)) (or_none (eqb (get_or tests at 0) number))
+      ∙ ap (λ later. is_member first number || later) (sym (list_any_more (λ n. eqb n number) tests at 0 within));
 }
 
 -- a list of the tests that are in with one number more

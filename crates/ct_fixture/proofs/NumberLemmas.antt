@@ -4,7 +4,7 @@ use Rattle.std.specs.List.{list_any, range_with_len, flat_map}
 use Rattle.std.proofs.lemmas.Bool.{false≢true, eqb-true, eq-eqb, or_cases, or_left, or_right, cases_eq}
 use Rattle.std.proofs.lemmas.List.Folds.{list_any-append}
 use Rattle.std.proofs.lemmas.List.Sums.{sum_by-cons}
-use Rattle.ct_fixture.specs.Drawing.{is_one_of}
+use Rattle.ct_props.specs.Numbered.{is_in}
 
 -- two tests that are true together are the same
 pub same_bool : (a b : Bool) → (a ≡ true → b ≡ true) → (b ≡ true → a ≡ true) → a ≡ b
@@ -14,21 +14,21 @@ same_bool false true there back = back refl
 same_bool false false there back = refl
 
 -- a number in the list that passes settles the answer
-pub any_at : (test : ℕ → Bool) (number : ℕ) (numbers : List ℕ) → is_one_of number numbers ≡ true → test number ≡ true → list_any test numbers ≡ true
+pub any_at : (test : ℕ → Bool) (number : ℕ) (numbers : List ℕ) → is_in numbers number ≡ true → test number ≡ true → list_any test numbers ≡ true
 any_at test number [] there passes = absurd (false≢true there)
 any_at test number (first ∷ numbers) there passes =
-    elim (or_cases (eqb number first) (is_one_of number numbers) there) [
-      | inl here ↦ or_left (test first) (list_any test numbers) (ap test (sym (eqb-true number first here)) ∙ passes)
+    elim (or_cases (eqb first number) (is_in numbers number) there) [
+      | inl here ↦ or_left (test first) (list_any test numbers) (ap test (eqb-true first number here) ∙ passes)
       | inr later ↦ or_right (test first) (list_any test numbers) (any_at test number numbers later passes)
     ]
 
 -- where some number passes there is one
-pub some_passes : (test : ℕ → Bool) (numbers : List ℕ) → list_any test numbers ≡ true → (number : ℕ) × (is_one_of number numbers ≡ true) × (test number ≡ true)
+pub some_passes : (test : ℕ → Bool) (numbers : List ℕ) → list_any test numbers ≡ true → (number : ℕ) × (is_in numbers number ≡ true) × (test number ≡ true)
 some_passes test [] passes = absurd (false≢true passes)
 some_passes test (first ∷ numbers) passes =
     elim (or_cases (test first) (list_any test numbers) passes) [
-      | inl here ↦ (first, or_left (eqb first first) (is_one_of first numbers) (eq-eqb first first refl), here)
-      | inr later ↦ let found = some_passes test numbers later in (found.0, or_right (eqb found.0 first) (is_one_of found.0 numbers) found.1, found.2)
+      | inl here ↦ (first, or_left (eqb first first) (is_in numbers first) (eq-eqb first first refl), here)
+      | inr later ↦ let found = some_passes test numbers later in (found.0, or_right (eqb first found.0) (is_in numbers found.0) found.1, found.2)
     ]
 
 -- an element of what numbers give passes where that of one does
@@ -42,19 +42,19 @@ never_any [] = refl
 never_any (first ∷ numbers) = never_any numbers
 
 -- ---- numbers in a row
-pub in_row : (number first count : ℕ) → first ≤ number → number < first + count → is_one_of number (range_with_len first count) ≡ true
+pub in_row : (number first count : ℕ) → first ≤ number → number < first + count → is_in (range_with_len first count) number ≡ true
 in_row number first zero from below = absurd (omega (arith, from, below))
 in_row number first (suc count) from below =
     elim (cases_eq number first) [
-      | inl here ↦ or_left (eqb number first) (is_one_of number (range_with_len (first + 1) count)) (eq-eqb number first here)
-      | inr other ↦ or_right (eqb number first) (is_one_of number (range_with_len (first + 1) count)) (in_row number (first + 1) count (omega (arith, from, other)) (omega (arith, below)))
+      | inl here ↦ or_left (eqb first number) (is_in (range_with_len (first + 1) count) number) (eq-eqb first number (sym here))
+      | inr other ↦ or_right (eqb first number) (is_in (range_with_len (first + 1) count) number) (in_row number (first + 1) count (omega (arith, from, other)) (omega (arith, below)))
     ]
 
-pub from_row : (number first count : ℕ) → is_one_of number (range_with_len first count) ≡ true → (first ≤ number) × (number < first + count)
+pub from_row : (number first count : ℕ) → is_in (range_with_len first count) number ≡ true → (first ≤ number) × (number < first + count)
 from_row number first zero there = absurd (false≢true there)
 from_row number first (suc count) there =
-    elim (or_cases (eqb number first) (is_one_of number (range_with_len (first + 1) count)) there) [
-      | inl here ↦ let same : number ≡ first = eqb-true number first here in (omega (arith, same), omega (arith, same))
+    elim (or_cases (eqb first number) (is_in (range_with_len (first + 1) count) number) there) [
+      | inl here ↦ let same : number ≡ first = sym (eqb-true first number here) in (omega (arith, same), omega (arith, same))
       | inr later ↦ let row = from_row number (first + 1) count later in (omega (arith, row.0), omega (arith, row.1))
     ]
 
@@ -62,29 +62,29 @@ from_row number first (suc count) there =
 abbrev pub PassesInRow : (ℕ → Bool) → ℕ → ℕ → ℕ → Type 0
 PassesInRow test number first count = (test number ≡ true) × (first ≤ number) × (number < first + count)
 
-kept_by : (test : ℕ → Bool) (number first count : ℕ) (numbers : List ℕ) → (is_one_of number numbers ≡ true → PassesInRow test number (first + 1) count) → (passes : Bool) → test first ≡ passes → is_one_of number (cond passes (first ∷ numbers) numbers) ≡ true → PassesInRow test number first (suc count)
+kept_by : (test : ℕ → Bool) (number first count : ℕ) (numbers : List ℕ) → (is_in numbers number ≡ true → PassesInRow test number (first + 1) count) → (passes : Bool) → test first ≡ passes → is_in (cond passes (first ∷ numbers) numbers) number ≡ true → PassesInRow test number first (suc count)
 kept_by test number first count numbers later true passes there =
-    elim (or_cases (eqb number first) (is_one_of number numbers) there) [
-      | inl here ↦ let same : number ≡ first = eqb-true number first here in (ap test same ∙ passes, omega (arith, same), omega (arith, same))
+    elim (or_cases (eqb first number) (is_in numbers number) there) [
+      | inl here ↦ let same : number ≡ first = sym (eqb-true first number here) in (ap test same ∙ passes, omega (arith, same), omega (arith, same))
       | inr behind ↦ let kept = later behind in (kept.0, omega (arith, kept.1), omega (arith, kept.2))
     ]
 kept_by test number first count numbers later false passes there = let kept = later there in (kept.0, omega (arith, kept.1), omega (arith, kept.2))
 
 -- a number that a filter of a row keeps
-pub kept_passes : (test : ℕ → Bool) (number first count : ℕ) → is_one_of number (filter test (range_with_len first count)) ≡ true → PassesInRow test number first count
+pub kept_passes : (test : ℕ → Bool) (number first count : ℕ) → is_in (filter test (range_with_len first count)) number ≡ true → PassesInRow test number first count
 kept_passes test number first zero there = absurd (false≢true there)
 kept_passes test number first (suc count) there = kept_by test number first count (filter test (range_with_len (first + 1) count)) (kept_passes test number (first + 1) count) (test first) refl there
 
-passes_by : (test : ℕ → Bool) (number first : ℕ) (numbers : List ℕ) → ((number ≡ first → ⊥) → is_one_of number numbers ≡ true) → (passes : Bool) → test first ≡ passes → test number ≡ true → is_one_of number (cond passes (first ∷ numbers) numbers) ≡ true
+passes_by : (test : ℕ → Bool) (number first : ℕ) (numbers : List ℕ) → ((number ≡ first → ⊥) → is_in numbers number ≡ true) → (passes : Bool) → test first ≡ passes → test number ≡ true → is_in (cond passes (first ∷ numbers) numbers) number ≡ true
 passes_by test number first numbers later true passes here =
     elim (cases_eq number first) [
-      | inl same ↦ or_left (eqb number first) (is_one_of number numbers) (eq-eqb number first same)
-      | inr other ↦ or_right (eqb number first) (is_one_of number numbers) (later other)
+      | inl same ↦ or_left (eqb first number) (is_in numbers number) (eq-eqb first number (sym same))
+      | inr other ↦ or_right (eqb first number) (is_in numbers number) (later other)
     ]
 passes_by test number first numbers later false passes here = later (λ same. false≢true (sym passes ∙ ap test (sym same) ∙ here))
 
 -- a number of the row that passes is kept
-pub passes_kept : (test : ℕ → Bool) (number first count : ℕ) → PassesInRow test number first count → is_one_of number (filter test (range_with_len first count)) ≡ true
+pub passes_kept : (test : ℕ → Bool) (number first count : ℕ) → PassesInRow test number first count → is_in (filter test (range_with_len first count)) number ≡ true
 passes_kept test number first zero is = absurd (omega (arith, is.1, is.2))
 passes_kept test number first (suc count) is =
     passes_by test number first (filter test (range_with_len (first + 1) count)) (λ other. passes_kept test number (first + 1) count (is.0, omega (arith, is.1, other), omega (arith, is.2))) (test first) refl is.0
@@ -103,7 +103,7 @@ counted test first numbers = sum_by-cons (λ number. cond (test number) 1 0) fir
 -- what follows where each number that passes one test passes another: more pass the other, or the same
 pub record Grows (test other : ℕ → Bool) (numbers : List ℕ) : Type 0 where
   pub count : count_by test numbers ≤ count_by other numbers
-  pub more : (count_by test numbers < count_by other numbers) ⊎ ((number : ℕ) → is_one_of number numbers ≡ true → other number ≡ true → test number ≡ true)
+  pub more : (count_by test numbers < count_by other numbers) ⊎ ((number : ℕ) → is_in numbers number ≡ true → other number ≡ true → test number ≡ true)
 
 grows_by : (test other : ℕ → Bool) (first : ℕ) (numbers : List ℕ) → Grows test other numbers → (passes passes_other : Bool) → test first ≡ passes → other first ≡ passes_other → (passes ≡ true → passes_other ≡ true) → Grows test other (first ∷ numbers)
 grows_by test other first numbers later true true is is_other within =
@@ -114,8 +114,8 @@ grows_by test other first numbers later true true is is_other within =
       more =
           elim later.more [
             | inl fewer ↦ inl (omega (arith, one, two, fewer))
-            | inr same ↦ inr (λ number there passes. elim (or_cases (eqb number first) (is_one_of number numbers) there) [
-              | inl here ↦ ap test (eqb-true number first here) ∙ is
+            | inr same ↦ inr (λ number there passes. elim (or_cases (eqb first number) (is_in numbers number) there) [
+              | inl here ↦ ap test (sym (eqb-true first number here)) ∙ is
               | inr behind ↦ same number behind passes
             ])
           ];
@@ -133,24 +133,24 @@ grows_by test other first numbers later false false is is_other within =
       more =
           elim later.more [
             | inl fewer ↦ inl (omega (arith, one, two, fewer))
-            | inr same ↦ inr (λ number there passes. elim (or_cases (eqb number first) (is_one_of number numbers) there) [
-              | inl here ↦ absurd (false≢true (sym is_other ∙ ap other (sym (eqb-true number first here)) ∙ passes))
+            | inr same ↦ inr (λ number there passes. elim (or_cases (eqb first number) (is_in numbers number) there) [
+              | inl here ↦ absurd (false≢true (sym is_other ∙ ap other (eqb-true first number here) ∙ passes))
               | inr behind ↦ same number behind passes
             ])
           ];
     }
 
-pub grows : (test other : ℕ → Bool) (numbers : List ℕ) → ((number : ℕ) → is_one_of number numbers ≡ true → test number ≡ true → other number ≡ true) → Grows test other numbers
+pub grows : (test other : ℕ → Bool) (numbers : List ℕ) → ((number : ℕ) → is_in numbers number ≡ true → test number ≡ true → other number ≡ true) → Grows test other numbers
 grows test other [] within = record { count = omega arith; more = inr (λ number there passes. absurd (false≢true there)) }
 grows test other (first ∷ numbers) within =
-    grows_by test other first numbers (grows test other numbers (λ number there. within number (or_right (eqb number first) (is_one_of number numbers) there))) (test first) (other first) refl refl (within first (or_left (eqb first first) (is_one_of first numbers) (eq-eqb first first refl)))
+    grows_by test other first numbers (grows test other numbers (λ number there. within number (or_right (eqb first number) (is_in numbers number) there))) (test first) (other first) refl refl (within first (or_left (eqb first first) (is_in numbers first) (eq-eqb first first refl)))
 
 count_all : (numbers : List ℕ) → count_by (λ number. true) numbers ≡ length numbers
 count_all [] = refl
 count_all (first ∷ numbers) = counted (λ number. true) first numbers ∙ omega (arith, count_all numbers)
 
 -- where as many pass as there are, all pass
-pub all_pass : (test : ℕ → Bool) (numbers : List ℕ) → length numbers ≤ count_by test numbers → (number : ℕ) → is_one_of number numbers ≡ true → test number ≡ true
+pub all_pass : (test : ℕ → Bool) (numbers : List ℕ) → length numbers ≤ count_by test numbers → (number : ℕ) → is_in numbers number ≡ true → test number ≡ true
 all_pass test numbers many number there =
     elim ((grows test (λ number. true) numbers (λ number there passes. refl)).more) [
       | inl fewer ↦ absurd (omega (arith, fewer, many, count_all numbers))

@@ -6,7 +6,8 @@ use Rattle.ct_props.specs.declared.props.Props.{Props}
 use Rattle.ct_props.specs.declared.wanted.Choice.{Choice}
 use Rattle.ct_fixture.specs.declared.fixtures.Fixtures.{Fixtures}
 use Rattle.ct_fixture.specs.declared.members.Members.{Members}
-use Rattle.ct_fixture.specs.Drawing.{is_drawn, is_one_of, members_of, props_at, required_by, keeps_cleanups, keeps_setups}
+use Rattle.ct_props.specs.Numbered.{at_number, is_in}
+use Rattle.ct_fixture.specs.Drawing.{is_drawn, members_of, required_by, keeps_cleanups, keeps_setups}
 use Rattle.ct_fixture.specs.Kept.{AddsTests, AreLeft, AreWhole, Draws, is_member}
 use Rattle.ct_fixture.proofs.KeptLemmas.{in_all, left_first}
 use Rattle.ct_fixture.proofs.MemberLemmas.{waits_more}
@@ -19,13 +20,13 @@ AreNumbers props chosen = All (λ number. (1 ≤ number) × (number ≤ length p
 -- the chosen tests are in, and members alone; what waits is in; and each test that is in waits, or what it draws in is in
 pub record IsPartway (choice : Choice) (props : List Props) (chosen : List ℕ) (fixtures : Fixtures) (members : Members) : Type 0 where
   pub left : AreLeft choice props fixtures members
-  pub started : (number : ℕ) → is_one_of number chosen ≡ true → is_member members number ≡ true
-  pub sound : (number : ℕ) → is_member members number ≡ true → is_one_of number (members_of choice props chosen) ≡ true
-  pub waits_in : (number : ℕ) → is_one_of number members.waiting.items ≡ true → is_member members number ≡ true
-  pub done : (test : ℕ) → is_member members test ≡ true → (is_one_of test members.waiting.items ≡ true) ⊎ ((number : ℕ) → draws_test choice props test number ≡ true → is_member members number ≡ true)
+  pub started : (number : ℕ) → is_in chosen number ≡ true → is_member members number ≡ true
+  pub sound : (number : ℕ) → is_member members number ≡ true → is_in (members_of choice props chosen) number ≡ true
+  pub waits_in : (number : ℕ) → is_in members.waiting.items number ≡ true → is_member members number ≡ true
+  pub done : (test : ℕ) → is_member members test ≡ true → (is_in members.waiting.items test ≡ true) ⊎ ((number : ℕ) → draws_test choice props test number ≡ true → is_member members number ≡ true)
 
-named_so : (test number : ℕ) → (eqb test number || false) ≡ true → test ≡ number
-named_so test number here = elim (or_cases (eqb test number) false here) [ inl is ↦ eqb-true test number is | inr never ↦ absurd (false≢true never) ]
+named_so : (test number : ℕ) → (eqb number test || false) ≡ true → test ≡ number
+named_so test number here = elim (or_cases (eqb number test) false here) [ inl is ↦ sym (eqb-true number test is) | inr never ↦ absurd (false≢true never) ]
 
 module _ (choice : Choice) (props : List Props) (chosen : List ℕ) where
   -- the chosen tests are added
@@ -36,42 +37,42 @@ module _ (choice : Choice) (props : List Props) (chosen : List ℕ) where
       setups = left_first (λ own. own.setup) (keeps_setups choice) props fixtures.setups now whole.setups;
       cleanups = left_first (λ own. own.cleanup) (keeps_cleanups choice) props fixtures.cleanups now whole.cleanups;
     };
-    started = λ number there. added.is number ∙ or_right (is_member none number) (is_one_of number chosen) there;
-    sound = λ number is. elim (or_cases (is_member none number) (is_one_of number chosen) (sym (added.is number) ∙ is)) [
+    started = λ number there. added.is number ∙ or_right (is_member none number) (is_in chosen number) there;
+    sound = λ number is. elim (or_cases (is_member none number) (is_in chosen number) (sym (added.is number) ∙ is)) [
       | inl was ↦ absurd (false≢true (sym (out number) ∙ was))
       | inr there ↦ chosen_member choice props chosen number (in_all (IsNumber props) chosen numbers number there) there
     ];
-    waits_in = added.extends.waits_in (λ number there. absurd (false≢true (ap (is_one_of number) (sym waits) ∙ there)));
+    waits_in = added.extends.waits_in (λ number there. absurd (false≢true (ap (λ tests. is_in tests number) (sym waits) ∙ there)));
     done = λ test is. inl (added.extends.waits test is (out test));
   }
 
   -- the next test is one
   pub next_number : (fixtures : Fixtures) (members : Members) (rest : List ℕ) (number : ℕ) → AreNumbers props chosen → members.waiting.items ≡ rest ++ number ∷ [] → IsPartway choice props chosen fixtures members → IsNumber props number
   next_number fixtures members rest number numbers waits partway =
-      let here : is_one_of number members.waiting.items ≡ true =
-      ap (is_one_of number) waits ∙ waits_more rest number number ∙ or_right (is_one_of number rest) (eqb number number || false) (or_left (eqb number number) false (eq-eqb number number refl)) in
+      let here : is_in members.waiting.items number ≡ true =
+      ap (λ tests. is_in tests number) waits ∙ waits_more rest number number ∙ or_right (is_in rest number) (eqb number number || false) (or_left (eqb number number) false (eq-eqb number number refl)) in
       member_number choice props chosen (in_all (IsNumber props) chosen numbers) number (partway.sound number (partway.waits_in number here))
 
   -- a test is taken, and what it draws in is added
-  pub stepped : (fixtures later : Fixtures) (members taken now : Members) (number : ℕ) → taken.marks ≡ members.marks → members.waiting.items ≡ taken.waiting.items ++ number ∷ [] → AreLeft choice props later now → Draws choice props (required_by (props_at props number)) taken now → IsPartway choice props chosen fixtures members → IsPartway choice props chosen later now
+  pub stepped : (fixtures later : Fixtures) (members taken now : Members) (number : ℕ) → taken.marks ≡ members.marks → members.waiting.items ≡ taken.waiting.items ++ number ∷ [] → AreLeft choice props later now → Draws choice props (required_by (at_number props number)) taken now → IsPartway choice props chosen fixtures members → IsPartway choice props chosen later now
   stepped fixtures later members taken now number marks waits left drawn partway =
       let same = λ (test : ℕ). ap (λ ms. get_or ms.items test false) marks in
-      let waited = λ (test : ℕ). ap (is_one_of test) waits ∙ waits_more taken.waiting.items number test in
-      let here : is_one_of number members.waiting.items ≡ true =
-      waited number ∙ or_right (is_one_of number taken.waiting.items) (eqb number number || false) (or_left (eqb number number) false (eq-eqb number number refl)) in
+      let waited = λ (test : ℕ). ap (λ tests. is_in tests test) waits ∙ waits_more taken.waiting.items number test in
+      let here : is_in members.waiting.items number ≡ true =
+      waited number ∙ or_right (is_in taken.waiting.items number) (eqb number number || false) (or_left (eqb number number) false (eq-eqb number number refl)) in
       record {
         left = left;
         started = λ test there. drawn.extends.kept test (same test ∙ partway.started test there);
-        sound = λ test is. elim (or_cases (is_member taken test) (is_drawn choice (required_by (props_at props number)) (props_at props test)) (sym (drawn.is test) ∙ is)) [
+        sound = λ test is. elim (or_cases (is_member taken test) (is_drawn choice (required_by (at_number props number)) (at_number props test)) (sym (drawn.is test) ∙ is)) [
           | inl was ↦ partway.sound test (sym (same test) ∙ was)
           | inr by ↦ members_closed choice props chosen number test (partway.sound number (partway.waits_in number here)) by
         ];
-        waits_in = drawn.extends.waits_in (λ test there. same test ∙ partway.waits_in test (waited test ∙ or_left (is_one_of test taken.waiting.items) (eqb test number || false) there));
+        waits_in = drawn.extends.waits_in (λ test there. same test ∙ partway.waits_in test (waited test ∙ or_left (is_in taken.waiting.items test) (eqb number test || false) there));
         done = λ test is. elim (cases_Bool (is_member taken test)) [
           | inl was ↦ elim (partway.done test (sym (same test) ∙ was)) [
-            | inl there ↦ elim (or_cases (is_one_of test taken.waiting.items) (eqb test number || false) (sym (waited test) ∙ there)) [
+            | inl there ↦ elim (or_cases (is_in taken.waiting.items test) (eqb number test || false) (sym (waited test) ∙ there)) [
               | inl still ↦ inl (drawn.extends.waits_still test still)
-              | inr at_it ↦ inr (λ other by. drawn.is other ∙ or_right (is_member taken other) (is_drawn choice (required_by (props_at props number)) (props_at props other)) (ap (λ t. draws_test choice props t other) (sym (named_so test number at_it)) ∙ by))
+              | inr at_it ↦ inr (λ other by. drawn.is other ∙ or_right (is_member taken other) (is_drawn choice (required_by (at_number props number)) (at_number props other)) (ap (λ t. draws_test choice props t other) (sym (named_so test number at_it)) ∙ by))
             ]
             | inr closed ↦ inr (λ other by. drawn.extends.kept other (same other ∙ closed other by))
           ]
@@ -86,6 +87,6 @@ module _ (choice : Choice) (props : List Props) (chosen : List ℕ) where
       ap (λ ms. filter (λ n. get_or ms.items n false) (range_with_len 1 (length ms.items - 1))) marks
       ∙ ap (λ n. filter (is_member members) (range_with_len 1 n)) count
       ∙ members_listed choice props chosen (is_member members) (in_all (IsNumber props) chosen numbers) partway.started (λ test number is by. elim (partway.done test is) [
-        | inl there ↦ absurd (false≢true (ap (is_one_of test) (sym waits) ∙ there))
+        | inl there ↦ absurd (false≢true (ap (λ tests. is_in tests test) (sym waits) ∙ there))
         | inr closed ↦ closed number by
       ]) partway.sound

@@ -1,16 +1,13 @@
 -- Which tests the fixtures draw in. Source: CMake manual, cmake-properties(7), FIXTURES_CLEANUP, FIXTURES_REQUIRED,
 -- FIXTURES_SETUP; ctest(1), -FA, -FC, -FS.
-use Rattle.std.specs.Prelude.{ℕ, zero, suc, ◌==◌, Bool, false, not, ◌&&◌, ◌||◌, bytes_eq, List, [], length, filter, flat_map, Option, Some, None, slice_get, if◌then◌else◌}
+use Rattle.std.specs.Prelude.{ℕ, zero, suc, Bool, false, not, ◌&&◌, ◌||◌, List, [], length, filter, flat_map, Option, Some, None, if◌then◌else◌}
 use Rattle.std.specs.List.{list_any, range_with_len}
 use Rattle.ct_regex.specs.declared.pattern.Regex.{Regex}
 use Rattle.ct_regex.specs.Ends.{hits}
 use Rattle.ct_regex.specs.TreeOf.{regex_tree}
+use Rattle.ct_props.specs.Numbered.{at_number, is_among, is_in}
 use Rattle.ct_props.specs.declared.props.Props.{Props}
 use Rattle.ct_props.specs.declared.wanted.Choice.{Choice}
-
--- the name is one of these
-abbrev pub is_among : List ℕ → List (List ℕ) → Bool
-is_among name others = list_any (λ other. bytes_eq name other) others
 
 -- a pattern hits the fixture, where it was given
 abbrev pub is_hit : Option Regex → List ℕ → Bool
@@ -37,11 +34,6 @@ cleans choice fixture own = is_among fixture own.cleanup && not (keeps_cleanups 
 abbrev pub draws : Choice → Props → List ℕ → Bool
 draws choice own fixture = not own.disabled && (sets_up choice fixture own || cleans choice fixture own)
 
--- the properties of the test with this number; numbers count from 1
-abbrev pub props_at : List Props → ℕ → Option Props
-props_at props zero = None
-props_at props (suc place) = slice_get props place
-
 -- the fixtures that a test requires; one that is disabled requires none
 abbrev pub required_by : Option Props → List (List ℕ)
 required_by None = []
@@ -54,16 +46,12 @@ is_drawn choice fixtures (Some own) = list_any (draws choice own) fixtures
 
 -- the fixtures that these tests require
 abbrev pub fixtures_required : List Props → List ℕ → List (List ℕ)
-fixtures_required props tests = flat_map (λ number. required_by (props_at props number)) tests
-
--- the number is one of these
-abbrev pub is_one_of : ℕ → List ℕ → Bool
-is_one_of number tests = list_any (λ test. number == test) tests
+fixtures_required props tests = flat_map (λ number. required_by (at_number props number)) tests
 
 -- one round more: the tests that are in, and those that the fixtures required by them draw in
 abbrev pub next_round : Choice → List Props → List ℕ → List ℕ
 next_round choice props tests =
-    filter (λ number. is_one_of number tests || is_drawn choice (fixtures_required props tests) (props_at props number)) (range_with_len 1 (length props))
+    filter (λ number. is_in tests number || is_drawn choice (fixtures_required props tests) (at_number props number)) (range_with_len 1 (length props))
 
 -- the tests that are in after so many rounds
 abbrev pub after_rounds : Choice → List Props → List ℕ → ℕ → List ℕ

@@ -6,7 +6,8 @@ use Rattle.ct_props.specs.declared.props.Props.{Props}
 use Rattle.ct_props.specs.declared.wanted.Choice.{Choice}
 use Rattle.ct_fixture.specs.declared.fixtures.Fixtures.{Fixtures}
 use Rattle.ct_fixture.specs.declared.members.Members.{Members}
-use Rattle.ct_fixture.specs.Drawing.{is_among, is_one_of, is_drawn, props_at, keeps_setups, keeps_cleanups}
+use Rattle.ct_props.specs.Numbered.{at_number, is_among, is_in}
+use Rattle.ct_fixture.specs.Drawing.{is_drawn, keeps_setups, keeps_cleanups}
 
 -- the tests that a look-up found
 abbrev pub found : {Z : Type 0} → Option (Vec ℕ Z) → List ℕ
@@ -24,7 +25,7 @@ names property fixture (Some own) = not own.disabled && is_among fixture (proper
 
 -- each fixture has those tests that name it in this property
 abbrev pub AreNamed : {Y Z S : Type 0} → (Props → List (List ℕ)) → List Props → IndexMap (Vec ℕ Y) (Vec ℕ Z) S → Type 0
-AreNamed property props tests = (fixture : List ℕ) (number : ℕ) → is_one_of number (tests_of tests fixture) ≡ names property fixture (props_at props number)
+AreNamed property props tests = (fixture : List ℕ) (number : ℕ) → is_in (tests_of tests fixture) number ≡ names property fixture (at_number props number)
 
 -- neither the setups nor the cleanups of a fixture have been taken yet
 pub record AreWhole (props : List Props) (fixtures : Fixtures) : Type 0 where
@@ -43,20 +44,20 @@ open_count members = count_by not members.marks.items + length members.waiting.i
 pub record Extends (before now : Members) : Type 0 where
   pub long : length now.marks.items ≡ length before.marks.items
   pub kept : (number : ℕ) → is_member before number ≡ true → is_member now number ≡ true
-  pub waits : (number : ℕ) → is_member now number ≡ true → is_member before number ≡ false → is_one_of number now.waiting.items ≡ true
-  pub waits_still : (number : ℕ) → is_one_of number before.waiting.items ≡ true → is_one_of number now.waiting.items ≡ true
-  pub waits_in : ((number : ℕ) → is_one_of number before.waiting.items ≡ true → is_member before number ≡ true) → (number : ℕ) → is_one_of number now.waiting.items ≡ true → is_member now number ≡ true
+  pub waits : (number : ℕ) → is_member now number ≡ true → is_member before number ≡ false → is_in now.waiting.items number ≡ true
+  pub waits_still : (number : ℕ) → is_in before.waiting.items number ≡ true → is_in now.waiting.items number ≡ true
+  pub waits_in : ((number : ℕ) → is_in before.waiting.items number ≡ true → is_member before number ≡ true) → (number : ℕ) → is_in now.waiting.items number ≡ true → is_member now number ≡ true
   pub count : open_count now ≡ open_count before
 
 -- these tests are added
 pub record AddsTests (tests : List ℕ) (before now : Members) : Type 0 where
   pub extends : Extends before now
-  pub is : (number : ℕ) → is_member now number ≡ (is_member before number || is_one_of number tests)
+  pub is : (number : ℕ) → is_member now number ≡ (is_member before number || is_in tests number)
 
 -- what a side of the fixtures has left: tests that name the fixture, and each of them that is not in, unless it is kept out
 pub record IsLeft {Y Z S : Type 0} (property : Props → List (List ℕ)) (keeps : List ℕ → Bool) (props : List Props) (tests : IndexMap (Vec ℕ Y) (Vec ℕ Z) S) (members : Members) : Type 0 where
-  pub named : (fixture : List ℕ) (number : ℕ) → is_one_of number (tests_of tests fixture) ≡ true → names property fixture (props_at props number) ≡ true
-  pub left : (fixture : List ℕ) (number : ℕ) → names property fixture (props_at props number) ≡ true → keeps fixture ≡ false → (is_one_of number (tests_of tests fixture) || is_member members number) ≡ true
+  pub named : (fixture : List ℕ) (number : ℕ) → is_in (tests_of tests fixture) number ≡ true → names property fixture (at_number props number) ≡ true
+  pub left : (fixture : List ℕ) (number : ℕ) → names property fixture (at_number props number) ≡ true → keeps fixture ≡ false → (is_in (tests_of tests fixture) number || is_member members number) ≡ true
 
 -- there is a mark for each number, and the fixtures have left what is not in
 pub record AreLeft (choice : Choice) (props : List Props) (fixtures : Fixtures) (members : Members) : Type 0 where
@@ -67,7 +68,7 @@ pub record AreLeft (choice : Choice) (props : List Props) (fixtures : Fixtures) 
 -- the tests that these fixtures draw in are added
 pub record Draws (choice : Choice) (props : List Props) (fixtures : List (List ℕ)) (before now : Members) : Type 0 where
   pub extends : Extends before now
-  pub is : (number : ℕ) → is_member now number ≡ (is_member before number || is_drawn choice fixtures (props_at props number))
+  pub is : (number : ℕ) → is_member now number ≡ (is_member before number || is_drawn choice fixtures (at_number props number))
 
 -- the tests of a fixture, unless they are kept out
 abbrev pub given : Bool → List ℕ → List ℕ

@@ -1,5 +1,5 @@
 ghost use Rattle.std.specs.Prelude.{◌≡◌, ◌==◌, ◌&&◌, ◌||◌, ℕ, List, [], OnOk, bytes_eq, if◌then◌else◌};
-ghost use Rattle.ct_fixture.specs.Drawing.{is_among, is_one_of};
+ghost use Rattle.ct_props.specs.Numbered.{is_among, is_in};
 ghost use Rattle.ct_fixture.specs.Kept.{tests_of};
 
 use ct_base::{Name, NoMemory};
@@ -16,8 +16,8 @@ pub(crate) fn note_each(
     fixtures: &[Name],
     number: u32,
 ) -> Result<(), NoMemory>
-    ensures { OnOk result ((asked : List ℕ) (test : ℕ) → is_one_of test (tests_of tests.new asked)
-        ≡ (is_one_of test (tests_of tests.old asked) || test == number && is_among asked fixtures.now)) }
+    ensures { OnOk result ((asked : List ℕ) (test : ℕ) → is_in (tests_of tests.new asked) test
+        ≡ (is_in (tests_of tests.old asked) test || number == test && is_among asked fixtures.now)) }
 {
     for fixture in fixtures {
         note(alloc, tests, fixture.bytes(), number)?;
@@ -26,8 +26,8 @@ pub(crate) fn note_each(
 }
 
 fn note(alloc: Global, tests: &mut ByFixture, fixture: &[u8], number: u32) -> Result<(), NoMemory>
-    ensures { OnOk result ((asked : List ℕ) (test : ℕ) → is_one_of test (tests_of tests.new asked)
-        ≡ (is_one_of test (tests_of tests.old asked) || test == number && bytes_eq asked fixture.now)) }
+    ensures { OnOk result ((asked : List ℕ) (test : ℕ) → is_in (tests_of tests.new asked) test
+        ≡ (is_in (tests_of tests.old asked) test || number == test && bytes_eq asked fixture.now)) }
 {
     let mut here = take(alloc, tests, fixture);
     here.push(number)?;

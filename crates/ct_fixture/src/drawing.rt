@@ -1,5 +1,6 @@
 ghost use Rattle.std.specs.Prelude.{◌≡◌, ◌<◌, ◌≤◌, ◌-◌, ◌^◌, ◌||◌, ℕ, [], length, All, IfOk, OnOk, bytes_eq, ◌∷◌, if◌then◌else◌};
-ghost use Rattle.ct_fixture.specs.Drawing.{is_hit as is_hit_by, members_of, props_at, required_by};
+ghost use Rattle.ct_props.specs.Numbered.{at_number};
+ghost use Rattle.ct_fixture.specs.Drawing.{is_hit as is_hit_by, members_of, required_by};
 ghost use Rattle.ct_fixture.specs.Kept.{AreLeft, Draws, HaveMarks, TakesFixture, given, tests_of};
 
 use crate::by_fixture::{ByFixture, take};
@@ -50,7 +51,7 @@ fn draw_for(
     requires there { number ≤ length props.now }
     requires left { AreLeft choice.now props.now fixtures.old members.old }
     ensures left { OnOk result (AreLeft choice.now props.now fixtures.new members.new) }
-    ensures drawn { OnOk result (Draws choice.now props.now (required_by (props_at props.now number)) members.old members.new) }
+    ensures drawn { OnOk result (Draws choice.now props.now (required_by (at_number props.now number)) members.old members.new) }
 {
     let own = &props[number as usize - 1];
     if own.disabled {

@@ -1,17 +1,15 @@
 -- An index finds the tests that come before a test, and those that set up its fixtures.
-use Rattle.std.proofs.Common.{ℕ, ◌≡◌, ◌+◌, ◌-◌, ◌<◌, ◌≤◌, Bool, true, false, not, ◌&&◌, ◌||◌, bytes_eq, List, [], ◌∷◌, length, take, get_or, filter, Option, Some, None, All, refl, sym, ap, ◌∙◌, subst, ⊎_elim, arith, eqb}
-use Rattle.std.specs.Prelude.{slice_get}
+use Rattle.std.proofs.Common.{ℕ, ◌≡◌, ◌+◌, ◌<◌, ◌≤◌, Bool, true, false, not, ◌&&◌, ◌||◌, bytes_eq, List, [], ◌∷◌, length, take, get_or, Option, Some, refl, sym, ap, ◌∙◌, subst, arith, eqb}
 use Rattle.std.specs.List.{list_any}
 use Rattle.std.specs.List.Sorted.{IsStrictlyIncreasing}
-use Rattle.std.proofs.lemmas.Bool.{true≢false, false≢true, eqb-true, cases_Bool}
-use Rattle.std.proofs.lemmas.List.Folds.{list_any_more, Any-from_list_any}
-use Rattle.std.proofs.lemmas.List.Elements.{All-contains}
+use Rattle.std.proofs.lemmas.Bool.{eqb-true}
+use Rattle.std.proofs.lemmas.List.Folds.{list_any_more}
 use Rattle.std.proofs.lemmas.List.Kept.{IsStrictlyIncreasing-filter}
-use Rattle.std.proofs.lemmas.Option.{slice_get_cases, slice_get_read}
+use Rattle.ct_props.proofs.NumberedLemmas.{at_number_within}
 use Rattle.ct_base.specs.declared.defs.TestDef.{TestDef}
 use Rattle.ct_props.specs.declared.props.Props.{Props}
-use Rattle.ct_graph.specs.Before.{is_among, shares_name, at_number, comes_before, sets_up, before_of, setups_of}
-use Rattle.ct_graph.specs.Cycle.{is_in}
+use Rattle.ct_props.specs.Numbered.{at_number, is_among, is_in}
+use Rattle.ct_graph.specs.Before.{shares_name, comes_before, sets_up, before_of, setups_of}
 use Rattle.ct_graph.specs.ByName.{tests_of, is_found_in}
 use Rattle.ct_graph.specs.Index.{has_name, has_setup, has_required, IsIndex, IsIndexAt, Indexed, AddsTest, AreMembers, FindsBefore}
 use Rattle.ct_graph.specs.declared.index.Index.{Index}
@@ -95,11 +93,6 @@ sets fixtures earlier = in_front (not earlier.disabled) (λ fixture. has_setup f
 
 requires_all : (fixtures : List (List ℕ)) (earlier : Props) → list_any (λ fixture. has_required fixture (Some earlier)) fixtures ≡ (not earlier.disabled && shares_name fixtures earlier.required)
 requires_all fixtures earlier = in_front (not earlier.disabled) (λ fixture. has_required fixture (Some earlier)) (λ fixture. is_among fixture earlier.required) (λ fixture. refl) fixtures
-
--- a number from 1 up to the length of a list has something there
-pub at_number_within : {X : Type 0} (xs : List X) (n : ℕ) → 0 < n → n ≤ length xs → (x : X) × (at_number xs n ≡ Some x)
-at_number_within xs n above within =
-    ⊎_elim (λ there. (there.0, there.2)) (λ past. absurd (let far : length xs ≤ n - 1 = past.0 in omega arith)) (slice_get_cases xs (n - 1)).1
 
 -- four ways to be found, each only for what is a member and not disabled
 four_ways : (m e a b c d : Bool) → ((((m && (e && a)) || (m && (e && b))) || (m && (e && c))) || (m && (e && d))) ≡ ((e && ((a || b) || (c || d))) && m)
@@ -264,7 +257,3 @@ indexed_from defs props members index paired inside ascending at = record {
       (subst (λ ps. IsIndex defs ps index.members.now (tests_of index.names) (tests_of index.setups) (tests_of index.users)) (sym at.props_are)
       (subst (λ ms. IsIndex defs props ms (tests_of index.names) (tests_of index.setups) (tests_of index.users)) (sym at.members_are) at.indexed));
 }
-
--- the properties of a test that were read
-pub read_at : {X : Type 0} (items : List X) (number : ℕ) (x : X) → 0 < number → number ≤ length items → x ≡ get_or items (number - 1) x → at_number items number ≡ Some x
-read_at items number x above within is = slice_get_read items (length items) (number - 1) x refl (omega arith) is

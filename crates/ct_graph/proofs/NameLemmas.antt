@@ -1,5 +1,5 @@
 -- Tests that are kept in a map by names: what it has for each name once a test was added, and what it finds by names.
-use Rattle.std.proofs.Common.{ℕ, ◌≡◌, Bool, true, false, cond, ◌&&◌, ◌||◌, bytes_eq, List, [], ◌∷◌, map, Option, Some, None, refl, sym, ap, ◌∙◌, subst, eqb}
+use Rattle.std.proofs.Common.{ℕ, ◌≡◌, Bool, true, false, cond, ◌&&◌, ◌||◌, bytes_eq, List, [], ◌∷◌, map, Option, Some, refl, sym, ap, ◌∙◌, eqb}
 use Rattle.std.specs.List.{list_any, dedup, dedup_from}
 use Rattle.std.specs.Map.{lookup}
 use Rattle.std.specs.BTreeMap.{BTreeMap, UpdatesBy}
@@ -9,8 +9,8 @@ use Rattle.std.specs.Borrow.{Bor}
 use Rattle.std.specs.declared.vec.Vec.{Vec}
 use Rattle.std.proofs.lemmas.Map.Text.{is_eq-slice_cmp}
 use Rattle.std.proofs.lemmas.Slice.Eq.{bytes_eq-Decides}
-use Rattle.ct_graph.specs.Cycle.{is_in}
-use Rattle.ct_graph.specs.ByName.{or_none, tests_at, is_found_in}
+use Rattle.ct_props.specs.Numbered.{is_in}
+use Rattle.ct_graph.specs.ByName.{or_none, tests_at}
 use Rattle.ct_graph.proofs.TestLemmas.{same_truth}
 
 -- names are the same either way round

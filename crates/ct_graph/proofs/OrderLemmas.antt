@@ -1,12 +1,13 @@
 -- The links of the members are an order, and where there is an order there is no cycle.
-use Rattle.std.proofs.Common.{ℕ, ◌≡◌, ◌<◌, Bool, true, false, cond, ◌&&◌, nat_lt, List, [], ◌∷◌, map, find, length, Option, Some, None, Result, Ok, Err, OnOk, ◌≤◌, refl, sym, ap, ◌∙◌, subst, ⊎_elim, arith, eqb}
+use Rattle.std.proofs.Common.{ℕ, ◌≡◌, ◌<◌, Bool, true, false, cond, ◌&&◌, nat_lt, List, [], ◌∷◌, map, Option, Some, None, Result, Ok, Err, OnOk, ◌≤◌, refl, sym, ap, ◌∙◌, subst, ⊎_elim, arith, eqb}
 use Rattle.std.specs.List.{list_all}
-use Rattle.std.proofs.lemmas.Bool.{true≢false, false≢true, eqb-true, both_ways, and_parts, and_from, or_cases, or_right, ltb-true}
+use Rattle.std.proofs.lemmas.Bool.{true≢false, false≢true, eqb-true, and_parts, and_from, or_cases, or_right, ltb-true}
 use Rattle.std.proofs.lemmas.List.Folds.{list_all-map}
 use Rattle.ct_base.specs.declared.defs.TestDef.{TestDef}
 use Rattle.ct_props.specs.declared.props.Props.{Props}
 use Rattle.ct_graph.specs.Before.{before_of, setups_of}
-use Rattle.ct_graph.specs.Cycle.{is_in, leads_to, is_cycle, HasCycle}
+use Rattle.ct_props.specs.Numbered.{is_in}
+use Rattle.ct_graph.specs.Cycle.{leads_to, is_cycle, HasCycle}
 use Rattle.ct_graph.specs.Order.{IsOrder, IsAnswer, edges_of, links_at, ranks_below, ranks_above_all}
 use Rattle.ct_graph.specs.Walk.{row_of, mark_of, rank_of, is_taken, is_taken_below, are_taken, are_taken_below, AreRanked, EndsWalk}
 use Rattle.ct_graph.specs.Rows.{AreRows, EndsRows, links_of}

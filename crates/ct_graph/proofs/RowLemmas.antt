@@ -1,12 +1,10 @@
 -- The rows of a graph: each member that is looked at gets its row, and all are within the graph.
-use Rattle.std.proofs.Common.{ℕ, ◌≡◌, ◌+◌, ◌<◌, ◌≤◌, Bool, true, false, cond, ◌||◌, List, [], ◌∷◌, length, take, get_or, set, replicate, filter, All, refl, sym, ap, ◌∙◌, subst, ⊎_elim, arith, eqb}
-use Rattle.std.specs.List.{list_any}
-use Rattle.std.specs.List.Sorted.{IsStrictlyIncreasing}
-use Rattle.std.proofs.lemmas.Bool.{false≢true, cases_eq, cases_lt, eq-eqb, ne_eqb, or_right, eqb-true}
+use Rattle.std.proofs.Common.{ℕ, ◌≡◌, ◌+◌, ◌<◌, ◌≤◌, Bool, true, false, cond, ◌||◌, List, [], length, take, get_or, set, replicate, filter, All, refl, sym, ap, ◌∙◌, subst, ⊎_elim, arith, eqb}
+use Rattle.std.proofs.lemmas.Bool.{false≢true, cases_eq, cases_lt, eq-eqb, ne_eqb, or_right}
 use Rattle.std.proofs.lemmas.List.{get_or-set_same, get_or-set_other, length-set, length-replicate, get_or-replicate, get_or_past}
 use Rattle.std.proofs.lemmas.List.Folds.{list_any_more}
 use Rattle.std.proofs.lemmas.List.Elements.{All-filter, All-weaker, All-nil, All-from_get_or}
-use Rattle.ct_graph.specs.Cycle.{is_in}
+use Rattle.ct_props.specs.Numbered.{is_in}
 use Rattle.ct_graph.specs.Walk.{row_of, AreWithin}
 use Rattle.ct_graph.specs.Index.{AreMembers}
 use Rattle.ct_graph.specs.Rows.{AreRows}

@@ -1,13 +1,13 @@
 -- The steps of a walk keep what holds of it, and a test that is met twice closes a cycle.
-use Rattle.std.proofs.Common.{ℕ, ◌≡◌, ◌+◌, ◌*◌, ◌<◌, ◌≤◌, Bool, true, false, cond, ◌||◌, not, List, [], ◌∷◌, ◌++◌, length, take, reverse, get_or, set, replicate, count_by, All, refl, sym, ap, ◌∙◌, subst, ⊎_elim, arith, add-zero, eqb}
-use Rattle.std.specs.List.{list_all}
-use Rattle.std.proofs.lemmas.Bool.{true≢false, false≢true, both_ways, eqb-true, eqb-false, or_parts, or_from, or_left, or_right, or_cases, and_from, cases_eq, cases_lt, cases_Bool, cond-true, cond-false, ltb-true, lt-ltb, ne_eqb, eq-eqb}
+use Rattle.std.proofs.Common.{ℕ, ◌≡◌, ◌+◌, ◌*◌, ◌<◌, ◌≤◌, Bool, true, false, cond, List, [], ◌∷◌, ◌++◌, length, take, reverse, get_or, set, replicate, count_by, All, refl, sym, ap, ◌∙◌, subst, ⊎_elim, arith, add-zero, eqb}
+use Rattle.std.proofs.lemmas.Bool.{true≢false, false≢true, both_ways, eqb-true, eqb-false, or_parts, or_from, or_left, or_right, or_cases, and_from, cases_eq, cases_lt, lt-ltb, ne_eqb, eq-eqb}
 use Rattle.std.proofs.lemmas.List.{reverse-append, get_or-set_same, get_or-set_other, length-set, length-replicate, get_or-replicate, get_or_past}
 use Rattle.std.proofs.lemmas.List.Folds.{sum_by-replicate, list_all_more}
 use Rattle.std.proofs.lemmas.List.Sums.{sum_by-set}
 use Rattle.std.proofs.lemmas.List.Elements.{All-get_or}
-use Rattle.ct_graph.specs.Cycle.{is_in, is_cycle, leads_to}
-use Rattle.ct_graph.specs.Walk.{row_of, AreWithin, mark_of, is_unseen, is_taken, is_taken_below, are_taken, are_taken_below, is_on, is_before_last, IsStep, IsTrail, AreRanked, IsWalk, GoesOn, steps_left, back_to}
+use Rattle.ct_props.specs.Numbered.{is_in}
+use Rattle.ct_graph.specs.Cycle.{is_cycle, leads_to}
+use Rattle.ct_graph.specs.Walk.{row_of, AreWithin, mark_of, is_unseen, is_taken, is_taken_below, are_taken, are_taken_below, is_on, is_before_last, IsStep, IsTrail, IsWalk, GoesOn, steps_left, back_to}
 use Rattle.ct_graph.specs.declared.walk.Mark.{Mark}
 use Rattle.ct_graph.specs.declared.walk.Mark.TheVariants.{Unseen, Open, Taken}
 use Rattle.ct_graph.specs.declared.walk.Step.{Step}

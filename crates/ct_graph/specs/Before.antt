@@ -1,13 +1,10 @@
 -- Which tests come before a test. Source: CMake manual, cmake-properties(7), DEPENDS, FIXTURES_SETUP, FIXTURES_REQUIRED,
 -- FIXTURES_CLEANUP. That a cleanup waits for the setups too is this project's choice.
-use Rattle.std.specs.Prelude.{ℕ, ◌-◌, bytes_eq, Bool, false, not, ◌&&◌, ◌||◌, List, filter, Option, Some, slice_get}
+use Rattle.std.specs.Prelude.{ℕ, Bool, false, not, ◌&&◌, ◌||◌, List, filter, Option, Some}
 use Rattle.std.specs.List.{list_any}
 use Rattle.ct_base.specs.declared.defs.TestDef.{TestDef}
+use Rattle.ct_props.specs.Numbered.{at_number, is_among}
 use Rattle.ct_props.specs.declared.props.Props.{Props}
-
--- the name is one of these
-abbrev pub is_among : List ℕ → List (List ℕ) → Bool
-is_among name others = list_any (λ other. bytes_eq name other) others
 
 -- some name stands in both lists
 abbrev pub shares_name : List (List ℕ) → List (List ℕ) → Bool
@@ -28,10 +25,6 @@ cleans_behind earlier later = shares_name later.cleanup earlier.required || shar
 -- neither of two tests is disabled
 abbrev pub are_enabled : Props → Props → Bool
 are_enabled earlier later = not earlier.disabled && not later.disabled
-
--- what a list has for the test with this number, counted from 1
-abbrev pub at_number : {X : Type 0} → List X → ℕ → Option X
-at_number items number = slice_get items (number - 1)
 
 -- a test that is not disabled comes before another: that one depends on its name, requires what it sets up, or cleans behind it
 abbrev pub comes_before : Option TestDef → Option Props → Option Props → Bool

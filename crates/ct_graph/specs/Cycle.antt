@@ -1,10 +1,6 @@
 -- What a cycle is, of tests that each have some tests before them. Source: this project's choice.
-use Rattle.std.specs.Prelude.{◌≡◌, ℕ, Bool, true, false, ◌&&◌, List, [], ◌∷◌, ◌==◌}
-use Rattle.std.specs.List.{list_any}
-
--- the number is one of these
-abbrev pub is_in : List ℕ → ℕ → Bool
-is_in numbers number = list_any (λ n. n == number) numbers
+use Rattle.std.specs.Prelude.{◌≡◌, ℕ, Bool, true, false, ◌&&◌, List, [], ◌∷◌}
+use Rattle.ct_props.specs.Numbered.{is_in}
 
 -- each test has the next one before it, and the last one has the first before it
 abbrev pub leads_to : (ℕ → List ℕ) → ℕ → List ℕ → Bool

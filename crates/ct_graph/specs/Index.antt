@@ -1,10 +1,9 @@
 -- The members that are not disabled, by the names that others wait for them by. This project's own.
-use Rattle.std.specs.Prelude.{◌≡◌, ℕ, ◌≤◌, ◌<◌, bytes_eq, Bool, true, false, not, ◌&&◌, ◌||◌, List, All, length, Option, Some, None, ◌==◌}
+use Rattle.std.specs.Prelude.{◌≡◌, ℕ, ◌≤◌, ◌<◌, bytes_eq, Bool, false, not, ◌&&◌, ◌||◌, List, All, length, Option, Some, None, ◌==◌}
 use Rattle.std.specs.List.Sorted.{IsStrictlyIncreasing}
 use Rattle.ct_base.specs.declared.defs.TestDef.{TestDef}
 use Rattle.ct_props.specs.declared.props.Props.{Props}
-use Rattle.ct_graph.specs.Before.{is_among, at_number}
-use Rattle.ct_graph.specs.Cycle.{is_in}
+use Rattle.ct_props.specs.Numbered.{at_number, is_among, is_in}
 use Rattle.ct_graph.specs.ByName.{tests_of, is_found_in}
 use Rattle.ct_graph.specs.declared.index.Index.{Index}
 

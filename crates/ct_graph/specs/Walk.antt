@@ -1,7 +1,8 @@
 -- A walk from each test to those before it, which takes a test once all before it are taken. This project's own.
-use Rattle.std.specs.Prelude.{◌≡◌, ℕ, ◌+◌, ◌*◌, ◌<◌, ◌≤◌, ⊤, Bool, true, false, ◌||◌, not, List, [], ◌∷◌, length, take, reverse, slice_index_or, All, count_by, nat_lt, Result, Ok, Err, ◌==◌, if◌then◌else◌}
+use Rattle.std.specs.Prelude.{◌≡◌, ℕ, ◌+◌, ◌*◌, ◌<◌, ◌≤◌, ⊤, Bool, true, false, List, [], ◌∷◌, length, take, reverse, slice_index_or, All, count_by, nat_lt, ◌==◌, if◌then◌else◌}
 use Rattle.std.specs.List.{list_any, list_all}
-use Rattle.ct_graph.specs.Cycle.{is_in, is_cycle}
+use Rattle.ct_props.specs.Numbered.{is_in}
+use Rattle.ct_graph.specs.Cycle.{is_cycle}
 use Rattle.ct_graph.specs.declared.fault.GraphFault.{GraphFault}
 use Rattle.ct_graph.specs.declared.fault.GraphFault.TheVariants.{Cycle, TooManyEdges, NoMemory}
 use Rattle.ct_graph.specs.declared.walk.Mark.{Mark}

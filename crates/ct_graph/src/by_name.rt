@@ -1,8 +1,7 @@
 ghost use Rattle.std.specs.Prelude.{◌≡◌, ℕ, ◌||◌, ◌&&◌, ◌==◌, [], List as Bytes, Bool, IfOk, OnOk, bytes_eq};
 ghost use Rattle.std.specs.List.{list_any};
 ghost use Rattle.std.specs.List.Sorted.{IsStrictlyIncreasing};
-ghost use Rattle.ct_graph.specs.Before.{is_among};
-ghost use Rattle.ct_graph.specs.Cycle.{is_in};
+ghost use Rattle.ct_props.specs.Numbered.{is_among, is_in};
 ghost use Rattle.ct_graph.specs.ByName.{tests_of, is_found_in};
 
 use ct_base::{List, Name, NoMemory};

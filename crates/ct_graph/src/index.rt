@@ -1,6 +1,6 @@
 ghost use Rattle.std.specs.Prelude.{◌≡◌, ℕ, ◌<◌, ◌≤◌, ◌||◌, [], All, IfOk, OnOk, length};
 ghost use Rattle.ct_graph.specs.Before.{before_of, setups_of};
-ghost use Rattle.ct_graph.specs.Cycle.{is_in};
+ghost use Rattle.ct_props.specs.Numbered.{is_in};
 ghost use Rattle.ct_graph.specs.ByName.{tests_of};
 ghost use Rattle.ct_graph.specs.Index.{Indexed, IsIndexAt, AddsTest, FindsBefore, AreMembers};
 

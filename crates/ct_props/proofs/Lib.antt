@@ -2,3 +2,4 @@ pub mod LabelLemmas
 pub mod PatternLemmas
 pub mod RefusalLemmas
 pub mod ReasonLemmas
+pub mod NumberedLemmas

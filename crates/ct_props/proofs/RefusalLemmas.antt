@@ -82,7 +82,7 @@ AllRise [] = ⊤
 AllRise (row ∷ rows) = Rises row.0 rows
 
 rise : (props : List Pair) → AllRise (refusals props)
-rise props = (refl, (refl, (refl, (refl, (refl, (refl, (refl, (refl, (refl, (refl, (refl, tt)))))))))))
+rise props = (refl, (refl, (refl, (refl, (refl, (refl, (refl, tt)))))))
 
 least_of : (rows : List Row) (key : List ℕ) (kind : PropKind) → AllRise rows → first_refused rows ≡ Some (key, kind) → (refused_in key rows ≡ Some kind) × ((other : List ℕ) → ComesBefore other key → refused_in other rows ≡ None)
 least_of [] key kind rise found = cc
@@ -107,5 +107,5 @@ nothing key (row ∷ rows) none = nothing-by (bytes_eq key row.0) row.0 row.1 (f
 -- where each key is read, no key is refused
 pub none_refused : (props : List Pair) (checked : Checked) → HasChecked props checked → (key : List ℕ) → refused_as props key ≡ None
 none_refused props checked has key =
-    let none : first_refused (refusals props) ≡ None = rw (has.cost, has.depends, has.fail, has.cleanup, has.required, has.setup, has.pass, has.processors, has.groups, has.skip, has.skip_code, has.timeout) refl in
+    let none : first_refused (refusals props) ≡ None = rw (has.cost, has.fail, has.pass, has.processors, has.groups, has.skip, has.skip_code, has.timeout) refl in
     nothing key (refusals props) none

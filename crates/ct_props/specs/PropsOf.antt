@@ -8,14 +8,10 @@ use Rattle.ct_base.specs.declared.defs.TestDef.{TestDef}
 use Rattle.ct_regex.specs.TreeOf.{regex_tree}
 use Rattle.ct_props.specs.declared.checked.Checked.{Checked}
 use Rattle.ct_props.specs.declared.props.Props.{Props}
-use Rattle.ct_props.specs.Values.{value_of_key, text_of_key, is_true_text, processors_in, seconds_in, skip_code_in, patterns_in, resource_groups_in, unbuilt_in, working_dir_in, distinct}
+use Rattle.ct_props.specs.Values.{value_of_key, text_of_key, is_true_text, processors_in, seconds_in, skip_code_in, patterns_in, resource_groups_in, working_dir_in, distinct}
 
 -- the fields whose keys can be refused
 pub record HasChecked (props : List Pair) (checked : Checked) : Type 0 where
-  pub depends : unbuilt_in (value_of_key props (codes "DEPENDS")) ≡ Ok checked.depends
-  pub setup : unbuilt_in (value_of_key props (codes "FIXTURES_SETUP")) ≡ Ok checked.setup
-  pub required : unbuilt_in (value_of_key props (codes "FIXTURES_REQUIRED")) ≡ Ok checked.required
-  pub cleanup : unbuilt_in (value_of_key props (codes "FIXTURES_CLEANUP")) ≡ Ok checked.cleanup
   pub processors : processors_in (value_of_key props (codes "PROCESSORS")) ≡ Ok checked.processors
   pub fail : patterns_in (text_of_key props (codes "FAIL_REGULAR_EXPRESSION")) ≡ Ok (map regex_tree checked.fail)
   pub pass : patterns_in (text_of_key props (codes "PASS_REGULAR_EXPRESSION")) ≡ Ok (map regex_tree checked.pass)
@@ -39,10 +35,10 @@ test_labels def = distinct (entries_of (text_of_key def.props (codes "LABELS")) 
 
 -- the properties of a test: each field by the rule of its key; no other key has an effect
 pub record HasProps (def : TestDef) (props : Props) : Type 0 where
-  pub depends : unbuilt_in (value_of_key def.props (codes "DEPENDS")) ≡ Ok props.depends
-  pub setup : unbuilt_in (value_of_key def.props (codes "FIXTURES_SETUP")) ≡ Ok props.setup
-  pub required : unbuilt_in (value_of_key def.props (codes "FIXTURES_REQUIRED")) ≡ Ok props.required
-  pub cleanup : unbuilt_in (value_of_key def.props (codes "FIXTURES_CLEANUP")) ≡ Ok props.cleanup
+  pub depends : props.depends ≡ entries_of (text_of_key def.props (codes "DEPENDS"))
+  pub setup : props.setup ≡ entries_of (text_of_key def.props (codes "FIXTURES_SETUP"))
+  pub required : props.required ≡ entries_of (text_of_key def.props (codes "FIXTURES_REQUIRED"))
+  pub cleanup : props.cleanup ≡ entries_of (text_of_key def.props (codes "FIXTURES_CLEANUP"))
   pub disabled : props.disabled ≡ is_true_text (text_of_key def.props (codes "DISABLED"))
   pub processors : processors_in (value_of_key def.props (codes "PROCESSORS")) ≡ Ok props.processors
   pub locks : props.locks ≡ entries_of (text_of_key def.props (codes "RESOURCE_LOCK"))

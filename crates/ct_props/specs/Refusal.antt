@@ -10,7 +10,7 @@ use Rattle.ct_props.specs.declared.fault.PropKind.{PropKind}
 use Rattle.ct_props.specs.declared.fault.PropKind.TheVariants.{BadPattern, BadGroups}
 use Rattle.ct_props.specs.declared.fault.PropFault.{PropFault}
 use Rattle.ct_props.specs.declared.fault.PropFault.TheVariants.{Bad, NoMemory}
-use Rattle.ct_props.specs.Values.{value_of_key, text_of_key, processors_in, seconds_in, skip_code_in, patterns_in, resource_groups_in, unbuilt_in}
+use Rattle.ct_props.specs.Values.{value_of_key, text_of_key, processors_in, seconds_in, skip_code_in, patterns_in, resource_groups_in}
 
 -- why a value is refused, where it is
 abbrev pub why_not : {X : Type 0} → Result X PropKind → Option PropKind
@@ -21,11 +21,7 @@ why_not (Err kind) = Some kind
 abbrev pub refusals : List Pair → List (List ℕ × Option PropKind)
 refusals props =
     (codes "COST", why_not (seconds_in (value_of_key props (codes "COST")))) ∷
-    (codes "DEPENDS", why_not (unbuilt_in (value_of_key props (codes "DEPENDS")))) ∷
     (codes "FAIL_REGULAR_EXPRESSION", why_not (patterns_in (text_of_key props (codes "FAIL_REGULAR_EXPRESSION")))) ∷
-    (codes "FIXTURES_CLEANUP", why_not (unbuilt_in (value_of_key props (codes "FIXTURES_CLEANUP")))) ∷
-    (codes "FIXTURES_REQUIRED", why_not (unbuilt_in (value_of_key props (codes "FIXTURES_REQUIRED")))) ∷
-    (codes "FIXTURES_SETUP", why_not (unbuilt_in (value_of_key props (codes "FIXTURES_SETUP")))) ∷
     (codes "PASS_REGULAR_EXPRESSION", why_not (patterns_in (text_of_key props (codes "PASS_REGULAR_EXPRESSION")))) ∷
     (codes "PROCESSORS", why_not (processors_in (value_of_key props (codes "PROCESSORS")))) ∷
     (codes "RESOURCE_GROUPS", why_not (resource_groups_in (text_of_key props (codes "RESOURCE_GROUPS")))) ∷

@@ -15,7 +15,7 @@ use Rattle.ct_groups.specs.GroupsIn.{groups_in}
 use Rattle.ct_groups.specs.declared.fault.GroupsFault.{GroupsFault}
 use Rattle.ct_groups.specs.declared.groups.Groups.{Groups}
 use Rattle.ct_props.specs.declared.fault.PropKind.{PropKind}
-use Rattle.ct_props.specs.declared.fault.PropKind.TheVariants.{BadNumber, BadPattern, BadGroups, Unbuilt}
+use Rattle.ct_props.specs.declared.fault.PropKind.TheVariants.{BadNumber, BadPattern, BadGroups}
 
 -- the value of a key, where the test has it
 abbrev pub value_of_key : List Pair → List ℕ → Option (List ℕ)
@@ -97,11 +97,6 @@ or_bad_groups (Err why) = Err (BadGroups why)
 -- RESOURCE_GROUPS
 abbrev pub resource_groups_in : List ℕ → Result Groups PropKind
 resource_groups_in text = or_bad_groups (groups_in text)
-
--- DEPENDS and the keys of fixtures, which this program does not know yet
-abbrev pub unbuilt_in : Option (List ℕ) → Result (List (List ℕ)) PropKind
-unbuilt_in None = Ok []
-unbuilt_in (Some text) = Err Unbuilt
 
 -- WORKING_DIRECTORY: the folder of the test file, or this one below it
 abbrev pub working_dir_in : List ℕ → List ℕ → List ℕ

@@ -4,10 +4,9 @@ ghost use Rattle.ct_props.specs.Refusal.{HasReason};
 ghost use Rattle.ct_props.specs.FirstRefused.{IsFirstRefused};
 
 use crate::PropFault;
-use crate::lists::unbuilt;
 use crate::numbers::{processors, seconds, skip_code};
 use crate::patterns::{groups, patterns};
-use ct_base::{List, Name, Pair};
+use ct_base::{List, Pair};
 use ct_groups::Groups;
 use ct_regex::Regex;
 use std::alloc::Global;
@@ -15,10 +14,6 @@ use std::alloc::Global;
 /// The properties whose values can be refused.
 #[derive(Drop)]
 pub struct Checked {
-    pub depends: List<Name>,
-    pub setup: List<Name>,
-    pub required: List<Name>,
-    pub cleanup: List<Name>,
     pub processors: u32,
     pub fail: List<Regex>,
     pub pass: List<Regex>,
@@ -37,11 +32,7 @@ impl Checked {
         ensures reason { IfErr result HasReason }
     {
         let cost = seconds(alloc, props, b"COST")?;
-        let depends = unbuilt(alloc, props, b"DEPENDS")?;
         let fail = patterns(alloc, props, b"FAIL_REGULAR_EXPRESSION")?;
-        let cleanup = unbuilt(alloc, props, b"FIXTURES_CLEANUP")?;
-        let required = unbuilt(alloc, props, b"FIXTURES_REQUIRED")?;
-        let setup = unbuilt(alloc, props, b"FIXTURES_SETUP")?;
         let pass = patterns(alloc, props, b"PASS_REGULAR_EXPRESSION")?;
         let processors = processors(alloc, props, b"PROCESSORS")?;
         let groups = groups(alloc, props, b"RESOURCE_GROUPS")?;
@@ -49,10 +40,6 @@ impl Checked {
         let skip_code = skip_code(alloc, props, b"SKIP_RETURN_CODE")?;
         let timeout = seconds(alloc, props, b"TIMEOUT")?;
         Ok(Checked {
-            depends,
-            setup,
-            required,
-            cleanup,
             processors,
             fail,
             pass,

@@ -17,8 +17,6 @@ pub enum PropKind {
     BadPattern(RegexFault),
     /// No list of resource groups, and why. It holds no want of memory.
     BadGroups(GroupsFault),
-    /// A key that this program does not know yet.
-    Unbuilt,
 }
 
 /// Why the properties of a test are not read.

@@ -79,10 +79,10 @@ impl Props {
         let props = def.props.as_slice();
         let checked = Checked::of(alloc, props)?;
         Ok(Props {
-            depends: checked.depends,
-            setup: checked.setup,
-            required: checked.required,
-            cleanup: checked.cleanup,
+            depends: entries(alloc, props, b"DEPENDS")?,
+            setup: entries(alloc, props, b"FIXTURES_SETUP")?,
+            required: entries(alloc, props, b"FIXTURES_REQUIRED")?,
+            cleanup: entries(alloc, props, b"FIXTURES_CLEANUP")?,
             disabled: is_true(text_of(props, b"DISABLED")),
             processors: checked.processors,
             locks: entries(alloc, props, b"RESOURCE_LOCK")?,

@@ -81,15 +81,19 @@ SKIP_REGULAR_EXPRESSION=x;[b is bad SKIP_REGULAR_EXPRESSION BadPattern(OpenSet(0
 RESOURCE_GROUPS= is
 RESOURCE_GROUPS=2,gpus:1 is groups=2
 RESOURCE_GROUPS=gpus is bad RESOURCE_GROUPS BadGroups(NoColon)
-DEPENDS=a is bad DEPENDS Unbuilt
-FIXTURES_SETUP= is bad FIXTURES_SETUP Unbuilt
-FIXTURES_REQUIRED=f is bad FIXTURES_REQUIRED Unbuilt
-FIXTURES_CLEANUP=f is bad FIXTURES_CLEANUP Unbuilt
+DEPENDS= is
+DEPENDS=a;;b;a; is depends=a,b,a
+FIXTURES_SETUP= is
+FIXTURES_SETUP=F;f is setup=F,f
+FIXTURES_REQUIRED=f;g;f is required=f,g,f
+FIXTURES_CLEANUP=;f is cleanup=f
+DEPENDS=t&FIXTURES_SETUP=s&FIXTURES_REQUIRED=r&FIXTURES_CLEANUP=c is depends=t setup=s required=r cleanup=c
+depends=a&Fixtures_Setup=f is
 TIMEOUT=x&COST=x is bad COST BadNumber
 SKIP_RETURN_CODE=x&SKIP_REGULAR_EXPRESSION=) is bad SKIP_REGULAR_EXPRESSION BadPattern(StrayClose(0))
 RESOURCE_GROUPS=0&PROCESSORS=x&PASS_REGULAR_EXPRESSION=( is bad PASS_REGULAR_EXPRESSION BadPattern(OpenGroup(0))
 TIMEOUT=x&RESOURCE_GROUPS=0&SKIP_RETURN_CODE=x is bad RESOURCE_GROUPS BadGroups(BadCount)
-FIXTURES_SETUP=f&FIXTURES_REQUIRED=f&FIXTURES_CLEANUP=f&TIMEOUT=x is bad FIXTURES_CLEANUP Unbuilt
+DEPENDS=a&FIXTURES_SETUP=f&FIXTURES_REQUIRED=f&FIXTURES_CLEANUP=f&TIMEOUT=x is bad TIMEOUT BadNumber
 TIMEOUT=5&COST=1&WILL_FAIL=1&PROCESSORS=2 is processors=2 will_fail timeout=5000000 cost=1000000
 ";
 
@@ -178,6 +182,10 @@ fn with_micros(
 /// The fields that are not as those of a test without properties.
 fn fields(alloc: Global, props: &Props) -> Result<String, AllocError> {
     let mut told = String::new(alloc);
+    told = with_names(alloc, told, "depends", &props.depends)?;
+    told = with_names(alloc, told, "setup", &props.setup)?;
+    told = with_names(alloc, told, "required", &props.required)?;
+    told = with_names(alloc, told, "cleanup", &props.cleanup)?;
     told = with_flag(alloc, told, "disabled", props.disabled)?;
     told = with_count(alloc, told, "processors", u64::from(props.processors), 1)?;
     told = with_names(alloc, told, "locks", &props.locks)?;

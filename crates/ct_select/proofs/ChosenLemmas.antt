@@ -1,27 +1,27 @@
 -- One number more: of the set of others, and of the chosen tests.
-use Rattle.std.proofs.Common.{◌≡◌, ℕ, ◌+◌, ◌-◌, ◌<◌, Bool, true, false, cond, eqb, ◌||◌, List, [], ◌∷◌, ◌++◌, length, filter, get_or, Some, refl, sym, ap, ◌∙◌, arith, append-nil}
-use Rattle.std.specs.List.{range_with_len, slice_get}
+use Rattle.std.proofs.Common.{◌≡◌, ℕ, ◌+◌, ◌<◌, Bool, true, false, cond, eqb, ◌||◌, List, [], ◌∷◌, ◌++◌, length, filter, get_or, Some, sym, ap, ◌∙◌, arith, append-nil}
+use Rattle.std.specs.List.{range_with_len}
 use Rattle.std.specs.Ordering.{nat_cmp, is_eq}
 use Rattle.std.proofs.lemmas.Bool.Decides.{nat_tests}
 use Rattle.std.proofs.lemmas.List.{map-id}
 use Rattle.std.proofs.lemmas.List.FromFn.{filter_of_map_range_with_len_more}
-use Rattle.std.proofs.lemmas.Option.{slice_get_read}
 use Rattle.ct_base.specs.declared.defs.TestDef.{TestDef}
+use Rattle.ct_props.specs.Numbered.{at_number}
 use Rattle.ct_props.specs.declared.props.Props.{Props}
+use Rattle.ct_props.proofs.NumberedLemmas.{at_number_here}
 use Rattle.ct_props.specs.declared.wanted.Choice.{Choice}
 use Rattle.ct_select.specs.Chosen.{by_number, is_chosen, is_chosen_at, is_chosen_there}
 
 -- a set with one number more has what it had, and the number
-pub others_more : (asked number : ℕ) (was now before : Bool) → now ≡ cond (is_eq (nat_cmp number asked)) true was → was ≡ before → now ≡ (before || eqb asked number)
+pub others_more : (asked number : ℕ) (was now before : Bool) → now ≡ cond (is_eq (nat_cmp number asked)) true was → was ≡ before → now ≡ (before || eqb number asked)
 others_more asked number was now before put kept = grind (arith, nat_tests)
 
 -- what is said of the test at a place is said of its number
 pub chosen_here : (defs : List TestDef) (props : List Props) (choice : Choice) (at : ℕ) (def : TestDef) (own : Props) → at < length defs → at < length props → def ≡ get_or defs at def → own ≡ get_or props at own → is_chosen choice (by_number choice (length defs) (at + 1)) def own ≡ is_chosen_at defs props choice (at + 1)
 chosen_here defs props choice at def own within_defs within_props is_def is_own =
-    let place : at + 1 - 1 ≡ at = omega arith in
-    let def_there : slice_get defs (at + 1 - 1) ≡ Some def = ap (slice_get defs) place ∙ slice_get_read defs (length defs) at def refl within_defs is_def in
-    let own_there : slice_get props (at + 1 - 1) ≡ Some own = ap (slice_get props) place ∙ slice_get_read props (length props) at own refl within_props is_own in
-    sym (ap (λ d. is_chosen_there choice (by_number choice (length defs) (at + 1)) d (slice_get props (at + 1 - 1))) def_there ∙ ap (is_chosen_there choice (by_number choice (length defs) (at + 1)) (Some def)) own_there)
+    let def_there = at_number_here defs at def within_defs is_def in
+    let own_there = at_number_here props at own within_props is_own in
+    sym (ap (λ d. is_chosen_there choice (by_number choice (length defs) (at + 1)) d (at_number props (at + 1))) def_there ∙ ap (is_chosen_there choice (by_number choice (length defs) (at + 1)) (Some def)) own_there)
 
 filter_more : (p : ℕ → Bool) (at : ℕ) → filter p (range_with_len 1 (at + 1)) ≡ filter p (range_with_len 1 at) ++ cond (p (at + 1)) ((at + 1) ∷ []) []
 filter_more p at =

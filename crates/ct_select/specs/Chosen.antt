@@ -1,10 +1,11 @@
 -- Which tests are chosen. Source: CMake manual, ctest(1), -R, -E, -L, -LE, -I, -U. The rule of -U is this project's own.
-use Rattle.std.specs.Prelude.{ℕ, ◌+◌, ◌-◌, ◌*◌, nat_le, ◌==◌, Bool, true, false, not, ◌&&◌, ◌||◌, List, length, filter, Option, Some, None, unwrap_or, option_map, slice_get, if◌then◌else◌}
+use Rattle.std.specs.Prelude.{ℕ, ◌+◌, ◌*◌, nat_le, ◌==◌, Bool, true, false, not, ◌&&◌, ◌||◌, List, length, filter, Option, Some, None, unwrap_or, option_map, if◌then◌else◌}
 use Rattle.std.specs.List.{list_any, list_all, range_with_len}
 use Rattle.ct_base.specs.declared.defs.TestDef.{TestDef}
 use Rattle.ct_regex.specs.declared.pattern.Regex.{Regex}
 use Rattle.ct_regex.specs.Ends.{hits}
 use Rattle.ct_regex.specs.TreeOf.{regex_tree}
+use Rattle.ct_props.specs.Numbered.{at_number, is_in}
 use Rattle.ct_props.specs.declared.props.Props.{Props}
 use Rattle.ct_props.specs.declared.wanted.Numbers.{Numbers}
 use Rattle.ct_props.specs.declared.wanted.Choice.{Choice}
@@ -16,7 +17,7 @@ is_on_stride start stride number = list_any (λ k. start + k * stride == number)
 -- -I admits the number, where there are so many tests: it is on the stride and at most the end, or stands among the others
 abbrev pub is_numbered : ℕ → Numbers → ℕ → Bool
 is_numbered count numbers number =
-    is_on_stride numbers.start numbers.stride number && nat_le number (unwrap_or numbers.end count) || list_any (λ other. number == other) numbers.more
+    is_on_stride numbers.start numbers.stride number && nat_le number (unwrap_or numbers.end count) || is_in numbers.more number
 
 -- whether -I admits the number, where it was given
 abbrev pub by_number : Choice → ℕ → ℕ → Option Bool
@@ -59,7 +60,7 @@ is_chosen_there choice numbered (Some def) (Some own) = is_chosen choice numbere
 -- the test with this number is chosen; numbers count from 1
 abbrev pub is_chosen_at : List TestDef → List Props → Choice → ℕ → Bool
 is_chosen_at defs props choice number =
-    is_chosen_there choice (by_number choice (length defs) number) (slice_get defs (number - 1)) (slice_get props (number - 1))
+    is_chosen_there choice (by_number choice (length defs) number) (at_number defs number) (at_number props number)
 
 -- the numbers of the chosen tests, which ascend
 abbrev pub chosen_tests : List TestDef → List Props → Choice → List ℕ

@@ -1,18 +1,12 @@
 //! Whole runs over files, a gate and a sink in memory: what they ask for, write and come to.
-//!
-//! In a table each run begins with `===` and what it shows. Then come the facts that it differs
-//! in, and its files, each behind `---` and its path, or behind `---` alone the test file of the
-//! folder. Behind `>>>` stands what comes of it.
 
 ghost use Rattle.std.specs.Prelude.{None};
 
-use ct_app::{Finished, ctest_main};
-use ct_base::{Blob, Ear, List, MemFiles, MemSink, Name, NoMemory, Pair};
-use ct_core::{Ended, Gate, Request, ScriptGate, Ticket, Told};
+use crate::calls::{ask_as_told, calls_of, end_as_told, run, run_on, written};
+use ct_base::Ear;
+use ct_core::{Ended, Gate, Request, Ticket};
 use ct_verdict::How;
-use std::alloc::{AllocError, Global};
-use std::process::Abort;
-use std::str;
+use std::alloc::Global;
 use std::test::Fail;
 
 /// Runs that come to their end.
@@ -21,13 +15,15 @@ const RUNS: &str = "
 told 1 0 10000
 ---
 add_test(ok \"true\")
->>> status 0, asked 1, unstarted 0
+>>>
+status 0, asked 1, unstarted 0
 Test project .
 1/1 Test #1: ok ... Passed 0.01 sec
 
 100% tests passed, 0 tests failed out of 1
 === there is no test file
->>> status 0, asked 0, unstarted 0
+>>>
+status 0, asked 0, unstarted 0
 Test project .
 No tests were found!!!
 === the second of three tests is not started
@@ -36,7 +32,8 @@ told 2 unstarted 0
 add_test(a true)
 add_test(b true)
 add_test(c true)
->>> status 8, asked 3, unstarted 1
+>>>
+status 8, asked 3, unstarted 1
 Test project .
 1/3 Test #1: a ... Passed 0.00 sec
 2/3 Test #2: b ... ***Not Run (Unable to start) 0.00 sec
@@ -54,7 +51,8 @@ told 2 lacks 0
 add_test(a true)
 add_test(b true)
 add_test(c true)
->>> status 8, asked 3, unstarted 0
+>>>
+status 8, asked 3, unstarted 0
 Test project .
 1/3 Test #1: a ... ***Exception 2.50 sec
 2/3 Test #2: b ... ***Not Run (Required file 1) 0.00 sec
@@ -77,7 +75,8 @@ subdirs(\"lib\")
 subdirs(\"none\")
 --- ./lib/CTestTestfile.cmake
 add_test(lib_t \"/home/u/demo/build/lib/t\")
->>> status 0, asked 2, unstarted 0
+>>>
+status 0, asked 2, unstarted 0
 Test project .
 1/2 Test #1: unit one ... Passed 0.00 sec
 2/2 Test #2: lib_t ... Passed 0.00 sec
@@ -94,7 +93,8 @@ add_test(u \"/b/Debug/u\")
 else()
 add_test(u NOT_AVAILABLE)
 endif()
->>> status 8, asked 0, unstarted 0
+>>>
+status 8, asked 0, unstarted 0
 Test project .
 1/1 Test #1: u ... ***Not Run (Not available) 0.00 sec
 
@@ -113,7 +113,8 @@ include(\"/b/x_tests.cmake\")
 else()
 add_test(x_NOT_BUILT x_NOT_BUILT)
 endif()
->>> status 8, asked 1, unstarted 1
+>>>
+status 8, asked 1, unstarted 1
 Test project .
 1/1 Test #1: x_NOT_BUILT ... ***Not Run (Unable to start) 0.00 sec
 
@@ -139,7 +140,8 @@ set_tests_properties(pass limit fail wanted silent PROPERTIES PASS_REGULAR_EXPRE
 set_tests_properties(fail PROPERTIES FAIL_REGULAR_EXPRESSION all)
 set_tests_properties(wanted PROPERTIES WILL_FAIL ON)
 set_tests_properties(skip PROPERTIES SKIP_RETURN_CODE 77)
->>> status 8, asked 6, unstarted 0
+>>>
+status 8, asked 6, unstarted 0
 Test project .
 1/6 Test #1: pass ... Passed 0.00 sec
 2/6 Test #2: limit ... ***Timeout 0.00 sec
@@ -165,7 +167,8 @@ add_test(s setup)
 add_test(u user)
 set_tests_properties(s PROPERTIES DISABLED ON LABELS \"slow\")
 set_tests_properties(u PROPERTIES LABELS \"slow;net\")
->>> status 0, asked 1, unstarted 0
+>>>
+status 0, asked 1, unstarted 0
 Test project .
 1/1 Test #2: u ... Passed 0.00 sec
 
@@ -181,7 +184,8 @@ The following tests did not run:
 ---
 add_test(e true)
 set_tests_properties(e PROPERTIES ENVIRONMENT_MODIFICATION A=plus:1)
->>> status 8, asked 0, unstarted 0
+>>>
+status 8, asked 0, unstarted 0
 Test project .
 1/1 Test #1: e ... ***Not Run (Bad environment) 0.00 sec
 
@@ -195,44 +199,50 @@ Errors while running CTest
 /// Runs that are refused, or that the files or the sink do not let come to an end.
 const HALTS: &str = "
 === a word is no option
-word --nope
 ---
 add_test(ok \"true\")
->>> status 1, asked 0, unstarted 0
+>>> --nope
+status 1, asked 0, unstarted 0
 ctest: word 1: unknown option
 === a quoted argument is not closed
 ---
 add_test(a \"b
->>> status 2, asked 0, unstarted 0
+>>>
+status 2, asked 0, unstarted 0
 ctest: ./CTestTestfile.cmake:1: unclosed quoted argument
 === a test has no command
 ---
 add_test(a)
->>> status 2, asked 0, unstarted 0
+>>>
+status 2, asked 0, unstarted 0
 ctest: ./CTestTestfile.cmake:1: bad arguments
 === the second line has an unknown command
 ---
 add_test(ok \"true\")
 add_tests(a b)
->>> status 2, asked 0, unstarted 0
+>>>
+status 2, asked 0, unstarted 0
 ctest: ./CTestTestfile.cmake:2: unknown command
 === a count is a word
 ---
 add_test(a true)
 set_tests_properties(a PROPERTIES PROCESSORS two)
->>> status 2, asked 0, unstarted 0
+>>>
+status 2, asked 0, unstarted 0
 ctest: test 1: PROCESSORS: bad number
 === a resource has no slots
 ---
 add_test(a true)
 set_tests_properties(a PROPERTIES RESOURCE_GROUPS gpus)
->>> status 2, asked 0, unstarted 0
+>>>
+status 2, asked 0, unstarted 0
 ctest: test 1: RESOURCE_GROUPS: bad resource groups
 === a pattern has an open group
 ---
 add_test(a true)
 set_tests_properties(a PROPERTIES PASS_REGULAR_EXPRESSION \"(\")
->>> status 2, asked 0, unstarted 0
+>>>
+status 2, asked 0, unstarted 0
 ctest: test 1: PASS_REGULAR_EXPRESSION: bad pattern
 === the second test has two bad values
 ---
@@ -240,51 +250,56 @@ add_test(a true)
 add_test(b true)
 set_tests_properties(a PROPERTIES COLOUR red)
 set_tests_properties(b PROPERTIES TIMEOUT soon PROCESSORS many COLOUR red)
->>> status 2, asked 0, unstarted 0
+>>>
+status 2, asked 0, unstarted 0
 ctest: test 2: PROCESSORS: bad number
 === the first call of the files fails
 call 1 fails
 ---
 add_test(ok \"true\")
->>> status 3, asked 0, unstarted 0
+>>>
+status 3, asked 0, unstarted 0
 ctest: cannot use file ./CTestTestfile.cmake
 === the sink fails at the header
 put 1 fails
 ---
 add_test(ok true)
->>> status 4, asked 0, unstarted 0
+>>>
+status 4, asked 0, unstarted 0
 === the sink fails at the line of the second of three tests
 put 3 fails
 ---
 add_test(a true)
 add_test(b true)
 add_test(c true)
->>> status 4, asked 2, unstarted 0
+>>>
+status 4, asked 2, unstarted 0
 Test project .
 1/3 Test #1: a ... Passed 0.00 sec
 === the sink fails inside the summary
 put 4 fails
 ---
 add_test(ok true)
->>> status 4, asked 1, unstarted 0
+>>>
+status 4, asked 1, unstarted 0
 Test project .
 1/1 Test #1: ok ... Passed 0.00 sec
 
 === the sink fails at the line on a word
-word --nope
 put 1 fails
 ---
 add_test(ok true)
->>> status 1, asked 0, unstarted 0
+>>> --nope
+status 1, asked 0, unstarted 0
 === the sink fails at the line on a test file
 put 1 fails
 ---
 add_tests(a b)
->>> status 2, asked 0, unstarted 0
+>>>
+status 2, asked 0, unstarted 0
 ";
 
-/// Runs and the requests in them: name, folder, command, environment, microseconds at most and
-/// the files that have to be there, with a space behind each item of a list.
+/// Runs and the requests in them.
 const REQUESTS: &str = "
 === the tests of two folders
 ---
@@ -292,7 +307,8 @@ add_test([=[unit one]=] \"/home/u/demo/build/unit\" \"--fast\" \"a;b\")
 subdirs(\"lib\")
 --- ./lib/CTestTestfile.cmake
 add_test(lib_t \"/home/u/demo/build/lib/t\")
->>> unit one|.|/home/u/demo/build/unit --fast a;b |PATH=/bin |1500000000|
+>>>
+unit one|.|/home/u/demo/build/unit --fast a;b |PATH=/bin |1500000000|
 lib_t|./lib|/home/u/demo/build/lib/t |PATH=/bin |1500000000|
 === a test that a program has listed
 ---
@@ -307,12 +323,14 @@ endif()
 add_test([=[S.A]=] /b/x [==[--gtest_filter=S.A]==])
 set_tests_properties([=[S.A]=] PROPERTIES WORKING_DIRECTORY [==[/b]==])
 set(x_TESTS [==[S.A]==])
->>> S.A|/b|/b/x --gtest_filter=S.A |PATH=/bin |1500000000|
+>>>
+S.A|/b|/b/x --gtest_filter=S.A |PATH=/bin |1500000000|
 === an environment of its own
 ---
 add_test(e env)
 set_tests_properties(e PROPERTIES ENVIRONMENT \"A=1;B=x\" ENVIRONMENT_MODIFICATION \"A=string_append:2;B=unset:;PATH=path_list_prepend:/opt;C=cmake_list_append:q;A=reset:;A=string_prepend:0\")
->>> e|.|env |A=01 C=q PATH=/opt:/bin |1500000000|
+>>>
+e|.|env |A=01 C=q PATH=/opt:/bin |1500000000|
 === limits and files, and no disabled test
 ---
 add_test(a p)
@@ -321,147 +339,20 @@ add_test(off p)
 set_tests_properties(a PROPERTIES TIMEOUT 1.5 REQUIRED_FILES \"f;/g\" WORKING_DIRECTORY w)
 set_tests_properties(b PROPERTIES TIMEOUT 0)
 set_tests_properties(off PROPERTIES DISABLED 1)
->>> a|./w|p |PATH=/bin |1500000|./w/f /g 
+>>>
+a|./w|p |PATH=/bin |1500000|./w/f /g 
 b|.|p |PATH=/bin |none|
 ";
 
-/// A run whose only test is to write a word.
-const WRITES: &str = "=== a word in two pieces
+/// A run whose only test is to write a word, and the line on it.
+const WRITES: &str = "
+=== a word in two pieces
 ---
 add_test(t p)
-set_tests_properties(t PROPERTIES PASS_REGULAR_EXPRESSION \"^done$\")";
-
-/// The files of a run, each from its path on, where there are some.
-fn held(alloc: Global, files: Option<&str>) -> Result<List<Pair>, NoMemory> {
-    let mut held = List::new(alloc);
-    let Some(files) = files else {
-        return Ok(held);
-    };
-    for file in files.split("\n---") {
-        let (path, text) = file.split_once('\n').unwrap_or((file, ""));
-        let path = path.strip_prefix(' ').unwrap_or("./CTestTestfile.cmake");
-        held.push(pair(alloc, path, text)?)?;
-    }
-    Ok(held)
-}
-
-fn pair(alloc: Global, name: &str, value: &str) -> Result<Pair, NoMemory> {
-    Ok(Pair {
-        name: Name::of(alloc, name.as_bytes())?,
-        value: Name::of(alloc, value.as_bytes())?,
-    })
-}
-
-/// The calls of a kind that fail, by their numbers from 1.
-fn failing(alloc: Global, facts: &str, kind: &str) -> Result<List<u64>, NoMemory> {
-    let mut failing = List::new(alloc);
-    for fact in facts.lines() {
-        let number = fact.strip_prefix(kind);
-        if let Some(number) = number.and_then(|rest| rest.strip_suffix(" fails")) {
-            failing.push(number.parse().unwrap_or(0))?;
-        }
-    }
-    Ok(failing)
-}
-
-/// The words behind the program's name.
-fn words(alloc: Global, facts: &str) -> Result<List<Name>, NoMemory> {
-    let mut words = List::new(alloc);
-    for fact in facts.lines() {
-        if let Some(word) = fact.strip_prefix("word ") {
-            words.push(Name::of(alloc, word.as_bytes())?)?;
-        }
-    }
-    Ok(words)
-}
-
-/// A gate that tells what the facts say of each first attempt.
-fn gate(alloc: Global, facts: &str) -> Result<ScriptGate, NoMemory> {
-    let mut world = List::new(alloc);
-    for fact in facts.lines() {
-        if let Some(cells) = fact.strip_prefix("told ") {
-            world.push(told(alloc, cells)?)?;
-        }
-    }
-    Ok(ScriptGate::new(alloc, world))
-}
-
-/// What is told of a test: its number, how it ended, its microseconds, and what was heard.
-fn told(alloc: Global, cells: &str) -> Result<Told, NoMemory> {
-    let mut cells = cells.splitn(4, ' ');
-    Ok(Told {
-        test: cells.next().unwrap_or("").parse().unwrap_or(0),
-        attempt: 1,
-        ended: Ended {
-            how: how(cells.next().unwrap_or("")),
-            micros: cells.next().unwrap_or("").parse().unwrap_or(0),
-        },
-        heard: Blob::of(alloc, cells.next().unwrap_or("").as_bytes())?,
-    })
-}
-
-fn how(word: &str) -> How {
-    match word {
-        "signalled" => How::Signalled,
-        "timeout" => How::TimedOut,
-        "unstarted" => How::NotStarted,
-        "lacks" => How::Lacks(1),
-        code => How::Exited(code.parse().unwrap_or(0)),
-    }
-}
-
-/// Runs on a gate, with one variable in the environment.
-fn run_on<G: Gate + Send + Drop>(
-    alloc: Global,
-    given: &str,
-    gate: G,
-) -> Result<Finished<MemFiles, G, MemSink>, Fail> {
-    let (facts, files) = match given.split_once("\n---") {
-        Some((facts, files)) => (facts, Some(files)),
-        None => (given, None),
-    };
-    let files = MemFiles::new(held(alloc, files)?, failing(alloc, facts, "call ")?);
-    let sink = MemSink::new(alloc, failing(alloc, facts, "put ")?);
-    let words = words(alloc, facts)?;
-    let env = [pair(alloc, "PATH", "/bin")?];
-    let mut gates = Vec::new(alloc);
-    gates.push(gate).map_err(AllocError::from)?;
-    Ok(ctest_main(alloc, words.as_slice(), &env, files, gates, sink))
-}
-
-type Ran = Finished<MemFiles, ScriptGate, MemSink>;
-
-/// Runs on a gate that tells what the facts say.
-fn run(alloc: Global, given: &str) -> Result<Ran, Fail> {
-    let facts = given.split("\n---").next().unwrap_or("");
-    run_on(alloc, given, gate(alloc, facts)?)
-}
-
-fn written(sink: &MemSink) -> &str {
-    str::from_utf8(sink.written().bytes()).unwrap_or("?")
-}
-
-/// How a run ended, how many attempts it asked for, how many of them were not started, and what
-/// was written.
-fn ending(alloc: Global, ran: &Ran) -> Result<String, AllocError> {
-    let (asked, unstarted) = match ran.gates.first() {
-        Some(gate) => (gate.asked().len(), gate.faults()),
-        None => (0, 0),
-    };
-    let status = ran.status;
-    let written = written(&ran.sink);
-    format!(in alloc; "status {status}, asked {asked}, unstarted {unstarted}\n{written}")
-}
-
-/// Compares what comes of each run of a table.
-fn end_as_told(rt: &(impl Abort + AllocGlobal), table: &str) -> Result<(), Fail> {
-    for run_of in table.split("\n===").skip(1) {
-        let (given, want) = run_of.split_once("\n>>> ").unwrap_or((run_of, ""));
-        let ending = ending(rt.alloc(), &run(rt.alloc(), given)?)?;
-        assert_eq!(rt; ending.trim_end(), want.trim_end(), "{given}");
-    }
-    Ok(())
-}
+set_tests_properties(t PROPERTIES PASS_REGULAR_EXPRESSION \"^done$\")
+>>>
+1/1 Test #1: t ... Passed 0.00 sec
+";
 
 #[test]
 fn reports_what_the_tests_came_to(rt: HostRuntime) -> Result<(), Fail> {
@@ -475,69 +366,21 @@ fn tells_why_there_is_no_whole_report(rt: HostRuntime) -> Result<(), Fail> {
 
 #[test]
 fn puts_each_line_by_itself(rt: HostRuntime) -> Result<(), Fail> {
-    for given in RUNS.split("\n===").skip(1) {
-        let ran = run(rt.alloc(), given)?;
+    for call in &calls_of(rt.alloc(), RUNS)? {
+        let ran = run(&rt, call)?;
         let report = written(&ran.sink);
         let pieces = ran.sink.pieces();
-        assert_eq!(rt; pieces.len(), report.lines().count(), "{given}");
+        assert_eq!(rt; pieces.len(), report.lines().count(), "{call}");
         for (piece, line) in pieces.iter().zip(report.split_inclusive('\n')) {
-            assert_eq!(rt; piece.bytes(), line.as_bytes(), "{given}");
+            assert_eq!(rt; piece.bytes(), line.as_bytes(), "{call}");
         }
     }
     Ok(())
-}
-
-fn text_of(name: &Name) -> &str {
-    str::from_utf8(name.bytes()).unwrap_or("?")
-}
-
-fn names(alloc: Global, names: &List<Name>) -> Result<String, AllocError> {
-    let mut text = String::new(alloc);
-    for name in names.as_slice() {
-        text = format!(in alloc; "{text}{} ", text_of(name))?;
-    }
-    Ok(text)
-}
-
-fn pairs(alloc: Global, pairs: &List<Pair>) -> Result<String, AllocError> {
-    let mut text = String::new(alloc);
-    for pair in pairs.as_slice() {
-        text = format!(in alloc; "{text}{}={} ", text_of(&pair.name), text_of(&pair.value))?;
-    }
-    Ok(text)
-}
-
-/// The requests that a gate was sent, each on its line.
-fn requests(alloc: Global, requests: &List<Request>) -> Result<String, AllocError> {
-    let mut text = String::new(alloc);
-    for request in requests.as_slice() {
-        let limit = match request.limit {
-            Some(micros) => micros.to_string(alloc)?,
-            None => format!(in alloc; "none")?,
-        };
-        text = format!(in alloc;
-            "{text}{}|{}|{}|{}|{limit}|{}\n",
-            text_of(&request.name),
-            text_of(&request.dir),
-            names(alloc, &request.command)?,
-            pairs(alloc, &request.env)?,
-            names(alloc, &request.required)?,
-        )?;
-    }
-    Ok(text)
 }
 
 #[test]
 fn asks_for_what_a_test_is_defined_with(rt: HostRuntime) -> Result<(), Fail> {
-    for run_of in REQUESTS.split("\n===").skip(1) {
-        let (given, want) = run_of.split_once("\n>>> ").unwrap_or((run_of, ""));
-        let ran = run(rt.alloc(), given)?;
-        for gate in &ran.gates {
-            let sent = requests(rt.alloc(), gate.sent())?;
-            assert_eq!(rt; sent.trim_end(), want.trim_end(), "{given}");
-        }
-    }
-    Ok(())
+    ask_as_told(&rt, REQUESTS)
 }
 
 /// A gate whose programs write `done` in two pieces. It tells nothing.
@@ -565,8 +408,10 @@ impl Gate for Halves {
 
 #[test]
 fn finds_a_pattern_that_is_cut_in_two(rt: HostRuntime) -> Result<(), Fail> {
-    let ran = run_on(rt.alloc(), WRITES, Halves)?;
-    let second = written(&ran.sink).lines().nth(1);
-    assert_eq!(rt; second, Some("1/1 Test #1: t ... Passed 0.00 sec"));
+    for call in &calls_of(rt.alloc(), WRITES)? {
+        let ran = run_on(&rt, call, Halves)?;
+        let second = written(&ran.sink).lines().nth(1);
+        assert_eq!(rt; second, Some(call.want));
+    }
     Ok(())
 }

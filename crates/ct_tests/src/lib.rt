@@ -2,10 +2,18 @@
 //!
 //! Hands up: nothing. A crate with tests of its own is proved twice, so they stand here.
 //! Stands on: ct_app and what is below it.
-//! Read first: `app.rt`.
+//! Read first: `calls.rt`, then `app.rt`.
 #![tactic(auto)]
 
 #[cfg(test)]
 mod app;
 #[cfg(test)]
+mod calls;
+#[cfg(test)]
+mod fixtures;
+#[cfg(test)]
+mod lists;
+#[cfg(test)]
 mod run_files;
+#[cfg(test)]
+mod words;

@@ -1,6 +1,7 @@
 //! What a whole run reads of the last one and leaves for the next, and each call on the files that fails.
 
-use ct_app::{Finished, Outcome, ctest_main};
+use crate::calls::{Ran, words_of};
+use ct_app::{Outcome, ctest_main};
 use ct_base::{Blob, List, MemFiles, MemSink, Name, Pair};
 use ct_core::{Ended, ScriptGate, Told};
 use ct_verdict::How;
@@ -29,6 +30,8 @@ const ONE_FAILED: &[u8] =
 /// A call of the top: what the files hold in front of it, and how its tests end.
 struct Case {
     shows: &'static str,
+    /// The words, with spaces between.
+    words: &'static str,
     tests: &'static [u8],
     /// What the cost file holds; none where it is absent.
     costs: Option<&'static [u8]>,
@@ -55,9 +58,10 @@ struct Want {
     log: &'static [u8],
 }
 
-const COMPLETE: [Case; 7] = [
+const COMPLETE: [Case; 11] = [
     Case {
         shows: "one test passes: the cost file is made, and no log",
+        words: "",
         tests: ONE,
         costs: None,
         told: &[(0, 10_000)],
@@ -74,6 +78,7 @@ const COMPLETE: [Case; 7] = [
     },
     Case {
         shows: "of two tests one fails: its line of the cost file stays, and it stands in the log",
+        words: "",
         tests: b"add_test(a true)\nadd_test(b true)\n",
         costs: Some(b"a 2 3.000000\nold 1 9.000000\nodd line x\n---\nb\n"),
         told: &[(0, 6_000_000), (1, 1_000_000)],
@@ -93,6 +98,7 @@ const COMPLETE: [Case; 7] = [
     },
     Case {
         shows: "the test that failed last time passes: the log stays",
+        words: "",
         tests: ONE,
         costs: Some(b"ok 1 0.030000\n---\nok\n"),
         told: &[(0, 10_000)],
@@ -109,6 +115,7 @@ const COMPLETE: [Case; 7] = [
     },
     Case {
         shows: "a test that cannot run stands in the log without an attempt",
+        words: "",
         tests: b"add_test(gone NOT_AVAILABLE)",
         costs: Some(b"gone 3 1.000000\n---\n"),
         told: &[],
@@ -128,6 +135,7 @@ const COMPLETE: [Case; 7] = [
     },
     Case {
         shows: "a disabled test alone: the failed names of the last run go",
+        words: "",
         tests: b"add_test(off true)\nset_tests_properties(off PROPERTIES DISABLED 1)",
         costs: Some(b"off 1 1.000000\n---\noff\n"),
         told: &[],
@@ -147,6 +155,7 @@ const COMPLETE: [Case; 7] = [
     },
     Case {
         shows: "there is no test: nothing is written",
+        words: "",
         tests: b"",
         costs: Some(b"no line"),
         told: &[],
@@ -163,6 +172,7 @@ const COMPLETE: [Case; 7] = [
     },
     Case {
         shows: "a call on the files that would fail does not come: no log is due",
+        words: "",
         tests: ONE,
         costs: None,
         told: &[(0, 10_000)],
@@ -177,11 +187,86 @@ const COMPLETE: [Case; 7] = [
             log: LAST_LOG,
         },
     },
+    Case {
+        shows: "two processors and one gate: the test that failed last time comes first",
+        words: "-j 2",
+        tests: b"add_test(a true)\nadd_test(b true)\n",
+        costs: Some(b"a 2 3.000000\nold 1 9.000000\nodd line x\n---\nb\n"),
+        told: &[(0, 6_000_000), (1, 1_000_000)],
+        fails_files: None,
+        fails_put: None,
+        want: Want {
+            status: 8,
+            output: (
+                b"Test project .\n1/2 Test #2: b ... ***Failed 1.00 sec\n2/2 Test #1: a ... Passed 6.00 sec\n\n",
+                b"50% tests passed, 1 tests failed out of 2\n\nThe following tests FAILED:\n\t2 - b (Failed)\nErrors while running CTest\n",
+            ),
+            refused: None,
+            entries: Some(4),
+            costs: Some(b"a 3 4.000000\nold 1 9.000000\n---\nb\n"),
+            log: b"2:b\n",
+        },
+    },
+    Case {
+        shows: "a test that is not chosen: its line of the cost file stays, and it is not among the failed names",
+        words: "-R a",
+        tests: b"add_test(a true)\nadd_test(b true)\n",
+        costs: Some(b"b 1 9.000000\na 2 3.000000\n---\nb\n"),
+        told: &[(0, 6_000_000), (1, 1_000_000)],
+        fails_files: None,
+        fails_put: None,
+        want: Want {
+            status: 0,
+            output: (
+                b"Test project .\n1/1 Test #1: a ... Passed 6.00 sec\n\n",
+                b"100% tests passed, 0 tests failed out of 1\n",
+            ),
+            refused: None,
+            entries: Some(2),
+            costs: Some(b"b 1 9.000000\na 3 4.000000\n---\n"),
+            log: LAST_LOG,
+        },
+    },
+    Case {
+        shows: "no test is chosen, which is an error: nothing is written",
+        words: "-R x --no-tests=error",
+        tests: ONE,
+        costs: Some(b"ok 1 1.000000\n"),
+        told: &[],
+        fails_files: None,
+        fails_put: None,
+        want: Want {
+            status: 8,
+            output: (b"Test project .\nNo tests were found!!!\n", b""),
+            refused: None,
+            entries: Some(0),
+            costs: Some(b"ok 1 1.000000\n"),
+            log: LAST_LOG,
+        },
+    },
+    Case {
+        shows: "a list: the cost file is not read, and nothing is written",
+        words: "-N",
+        tests: ONE,
+        costs: Some(b"ok 1 1.000000\n"),
+        told: &[],
+        fails_files: Some(2),
+        fails_put: None,
+        want: Want {
+            status: 0,
+            output: (b"Test project .\n  Test #1: ok\n\nTotal Tests: 1\n", b""),
+            refused: None,
+            entries: None,
+            costs: Some(b"ok 1 1.000000\n"),
+            log: LAST_LOG,
+        },
+    },
 ];
 
-const FAULTS: [Case; 8] = [
+const FAULTS: [Case; 10] = [
     Case {
         shows: "the test file cannot be read",
+        words: "",
         tests: ONE,
         costs: Some(b"ok 1 1.000000\n"),
         told: &[(1, 10_000)],
@@ -198,6 +283,7 @@ const FAULTS: [Case; 8] = [
     },
     Case {
         shows: "the cost file cannot be read",
+        words: "",
         tests: ONE,
         costs: Some(b"ok 1 1.000000\n"),
         told: &[(1, 10_000)],
@@ -217,6 +303,7 @@ const FAULTS: [Case; 8] = [
     },
     Case {
         shows: "the cost file cannot be written",
+        words: "",
         tests: ONE,
         costs: Some(b"ok 1 1.000000\n"),
         told: &[(1, 10_000)],
@@ -236,6 +323,7 @@ const FAULTS: [Case; 8] = [
     },
     Case {
         shows: "the log cannot be written: the cost file is new",
+        words: "",
         tests: ONE,
         costs: Some(b"ok 1 1.000000\n"),
         told: &[(1, 10_000)],
@@ -255,6 +343,7 @@ const FAULTS: [Case; 8] = [
     },
     Case {
         shows: "no further call on the files comes",
+        words: "",
         tests: ONE,
         costs: Some(b"ok 1 1.000000\n"),
         told: &[(1, 10_000)],
@@ -271,6 +360,7 @@ const FAULTS: [Case; 8] = [
     },
     Case {
         shows: "the cost file of a run that passes cannot be written, nor the line of that",
+        words: "",
         tests: ONE,
         costs: None,
         told: &[(0, 10_000)],
@@ -287,6 +377,7 @@ const FAULTS: [Case; 8] = [
     },
     Case {
         shows: "the last line of the summary cannot be put: nothing is written",
+        words: "",
         tests: ONE,
         costs: None,
         told: &[(0, 10_000)],
@@ -306,6 +397,7 @@ const FAULTS: [Case; 8] = [
     },
     Case {
         shows: "a property is refused: nothing is written",
+        words: "",
         tests: b"add_test(ok true)\nset_tests_properties(ok PROPERTIES TIMEOUT x)",
         costs: Some(b"ok 1 1.000000\n"),
         told: &[],
@@ -314,6 +406,40 @@ const FAULTS: [Case; 8] = [
         want: Want {
             status: 2,
             output: (b"ctest: test 1: TIMEOUT: bad number\n", b""),
+            refused: None,
+            entries: None,
+            costs: Some(b"ok 1 1.000000\n"),
+            log: LAST_LOG,
+        },
+    },
+    Case {
+        shows: "a test waits for itself: nothing is written",
+        words: "",
+        tests: b"add_test(s true)\nset_tests_properties(s PROPERTIES FIXTURES_SETUP db FIXTURES_REQUIRED db)",
+        costs: Some(b"s 1 1.000000\n"),
+        told: &[],
+        fails_files: None,
+        fails_put: None,
+        want: Want {
+            status: 2,
+            output: (b"ctest: cycle: s -> s\n", b""),
+            refused: None,
+            entries: None,
+            costs: Some(b"s 1 1.000000\n"),
+            log: LAST_LOG,
+        },
+    },
+    Case {
+        shows: "a word is refused: nothing is read or written",
+        words: "--nope",
+        tests: ONE,
+        costs: Some(b"ok 1 1.000000\n"),
+        told: &[],
+        fails_files: Some(1),
+        fails_put: None,
+        want: Want {
+            status: 1,
+            output: (b"ctest: word 1: unknown option\n", b""),
             refused: None,
             entries: None,
             costs: Some(b"ok 1 1.000000\n"),
@@ -374,15 +500,19 @@ fn gate(alloc: Global, ends: &[(i32, u64)]) -> Result<ScriptGate, Fail> {
 }
 
 fn run(
-    alloc: Global,
+    rt: &(impl Abort + AllocGlobal),
+    line: &str,
     files: MemFiles,
     ends: &[(i32, u64)],
     fails_put: Option<u64>,
-) -> Result<Finished<MemFiles, ScriptGate, MemSink>, Fail> {
+) -> Result<Ran, Fail> {
+    let alloc = rt.alloc();
+    let words = words_of(alloc, line)?;
+    assert!(rt; words.len() < 100, "{line}");
     let mut gates = Vec::new(alloc);
     gates.push(gate(alloc, ends)?).map_err(AllocError::from)?;
     let sink = MemSink::new(alloc, numbers(alloc, fails_put)?);
-    Ok(ctest_main(alloc, &[], &[], files, gates, sink))
+    Ok(ctest_main(alloc, words.as_slice(), &[], files, gates, sink))
 }
 
 /// The path that a fault of the files names.
@@ -400,7 +530,13 @@ fn expect_held(rt: &impl Abort, files: &MemFiles, path: &Name, want: Option<&[u8
 
 fn expect_case(rt: &(impl Abort + AllocGlobal), case: &Case) -> Result<(), Fail> {
     let alloc = rt.alloc();
-    let finished = run(alloc, files(alloc, case)?, case.told, case.fails_put)?;
+    let finished = run(
+        rt,
+        case.words,
+        files(alloc, case)?,
+        case.told,
+        case.fails_put,
+    )?;
     let Want { output, .. } = &case.want;
     let mut written = Blob::of(alloc, output.0)?;
     written.append(output.1)?;
@@ -463,7 +599,7 @@ fn takes_cost_data_up_to_its_limit(rt: HostRuntime) -> Result<(), Fail> {
             value: costs_of_len(alloc, len)?,
         })?;
         let files = MemFiles::new(held, List::new(alloc));
-        let finished = run(alloc, files, &[(0, 10_000)], None)?;
+        let finished = run(&rt, "", files, &[(0, 10_000)], None)?;
         expect_held(
             &rt,
             &finished.files,

@@ -2,7 +2,8 @@
 use Rattle.std.specs.Prelude.{ℕ, List, map, drop, replicate, None, Result, Ok, Err, option_map, string_bytes}
 use Rattle.std.specs.declared.string.String.{String}
 use Rattle.ct_base.specs.declared.defs.Pair.{Pair}
-use Rattle.ct_app.specs.Answers.{Answers, sides}
+use Rattle.ct_app.specs.Answers.{Answers}
+use Rattle.ct_app.specs.Calls.{sides}
 use Rattle.ct_app.specs.Ends.{history_entries}
 use Rattle.ct_app.specs.declared.outcome.Finished.{Finished}
 use Rattle.ct_core.specs.Gate.{GateTell}

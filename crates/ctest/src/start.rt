@@ -103,8 +103,8 @@ impl From<VarError> for BeginFault {
 /// What a run on the machine gives back.
 pub type Run<G> = Finished<RealFiles<HostRuntime>, G, RealSink<Stdout>>;
 
-/// Runs the tests of the folder that the process is in, with its words and its environment, through
-/// these gates.
+/// Runs the tests that the words of the process ask for, with its environment, through these gates;
+/// or puts the list that they ask for.
 ///
 /// Where it cannot begin, it writes nothing.
 pub fn begin<G: Gate + Send + Drop>(rt: HostRuntime, gates: Vec<G>) -> Result<Run<G>, BeginFault>

@@ -1,8 +1,8 @@
-use Rattle.std.proofs.Common.{◌≡◌, ◌∙◌, sym, ap, true, false, List, refl, arith, inl, inr}
+use Rattle.std.proofs.Common.{◌≡◌, ◌∙◌, sym, ap, true, false, List, refl, arith, inr}
 use Rattle.std.specs.Prelude.{not}
 use Rattle.std.specs.List.{list_any}
 use Rattle.ct_history.specs.History.{Running}
-use Rattle.ct_app.proofs.StepLemmas.{asked_now, asked_still, between_now, between_settled, fewer_now, fewer_settled, final_now, final_settled, holds, low, ran_now, settled_one, within, within_props}
+use Rattle.ct_app.proofs.StepLemmas.{advances_now, advances_settled, asked_now, asked_still, between_now, between_settled, holds, low, ran_now, within, within_props}
 use Rattle.ct_app.proofs.attempt.step.Goals as goal
 
 pub def-requires-clause-low : goal.def-requires-clause-low
@@ -45,10 +45,7 @@ returns-then-lacks_memory-clause-asked g c =
 
 pub returns-else-lacks_memory-clause-gives : goal.returns-else-lacks_memory-clause-gives
 returns-else-lacks_memory-clause-gives g c =
-    let ran = ran_now c.args.tests.now c.args.core.now c.in-Start.ticket c.next.new.self c.requires c.in-Start.ensures c.ask-seen.result c.finish.new.self c.finish.ensures.appended c.test-test.result c.test-test.ensures in
-    let final = final_now c.args.tests.now c.args.core.now c.in-Start.ticket c.next.new.self c.requires c.in-Start.ensures c.ask-seen.result c.finish.new.self c.finish.ensures.appended c.test-test.result c.test-test.ensures in
-    let fewer = fewer_now c.args.tests.now c.args.core.now c.in-Start.ticket c.next.new.self c.requires c.in-Start.ensures c.ask-seen.result c.finish.new.self c.finish.ensures.appended in
-    (inl (c.ask-seen.result, ran, sym c.lacks_memory.ensures ∙ c.if-lacks_memory.false), final, fewer)
+    advances_now c.args.tests.now c.args.core.now c.in-Start.ticket c.next.new.self c.requires c.in-Start.ensures c.ask-seen.result c.finish.new.self c.finish.ensures.appended c.test-test.result c.test-test.ensures (sym c.lacks_memory.ensures ∙ c.if-lacks_memory.false)
 
 pub returns-else-lacks_memory-clause-between : goal.returns-else-lacks_memory-clause-between
 returns-else-lacks_memory-clause-between g c = between_now c.args.tests.now c.args.core.now c.in-Start.ticket c.next.new.self c.requires c.in-Start.ensures c.ask-seen.result c.finish.new.self c.finish.ensures.appended
@@ -58,7 +55,7 @@ returns-else-lacks_memory-clause-asked g c =
     asked_now c.args.tests.now c.args.core.now c.in-Start.ticket c.next.new.self c.requires c.in-Start.ensures c.ask-seen.result c.finish.new.self c.finish.ensures.appended c.test-test.result c.test-test.ensures c.args.env.now c.def.result.now c.props.result.now (g.G.Gate.tells c.args.gate.now) (g.G.Gate.tells c.ask-seen.new.gate) c.def.ensures c.props.ensures c.ask-seen.ensures
 
 pub returns-in-Settled-clause-gives : goal.returns-in-Settled-clause-gives
-returns-in-Settled-clause-gives g c = (inr (settled_one c.args.tests.now c.args.core.now c.in-Settled.test c.next.new.self c.requires c.in-Settled.ensures), final_settled c.args.tests.now c.args.core.now c.in-Settled.test c.next.new.self c.requires c.in-Settled.ensures, fewer_settled c.args.tests.now c.args.core.now c.in-Settled.test c.next.new.self c.requires c.in-Settled.ensures)
+returns-in-Settled-clause-gives g c = advances_settled c.args.tests.now c.args.core.now c.in-Settled.test c.next.new.self c.requires c.in-Settled.ensures
 
 pub returns-in-Settled-clause-between : goal.returns-in-Settled-clause-between
 returns-in-Settled-clause-between g c = between_settled c.args.tests.now c.args.core.now c.in-Settled.test c.next.new.self c.requires c.in-Settled.ensures

@@ -1,4 +1,4 @@
-use Rattle.ct_app.specs.Run.{left_count}
+use Rattle.ct_app.specs.Run.{tries_left}
 use Rattle.ct_app.proofs.AlongLemmas.{IsAlong}
 use Rattle.ct_app.proofs.run.run_tests.Given as goal
 
@@ -6,4 +6,4 @@ abbrev pub invariant-loop-test : goal.invariant-loop-test
 invariant-loop-test g l = IsAlong l.env l.tests l.fn.core.plan (g.G.Gate.tells l.fn.gate) (g.G.Gate.tells l.gate) (g.S.Sink.tells l.fn.sink) (g.S.Sink.tells l.sink) l.core l.lines
 
 abbrev pub decreases-loop-test : goal.decreases-loop-test
-decreases-loop-test g l = left_count l.core.plan l.core.entries
+decreases-loop-test g l = tries_left l.core.plan l.core.entries

@@ -1,8 +1,8 @@
 use Rattle.std.proofs.Common.{◌≡◌, ℕ, List, take, eqb, ◌&&◌, ◌||◌}
-use Rattle.ct_fixture.specs.Drawing.{is_among, is_one_of}
+use Rattle.ct_props.specs.Numbered.{is_among, is_in}
 use Rattle.ct_fixture.specs.Kept.{tests_of}
 use Rattle.ct_fixture.proofs.by_fixture.note_each.Given as goal
 
 abbrev pub invariant-loop-fixture : goal.invariant-loop-fixture
 invariant-loop-fixture l =
-    (asked : List ℕ) (test : ℕ) → is_one_of test (tests_of l.tests asked) ≡ (is_one_of test (tests_of l.initial.tests asked) || (eqb test l.number && is_among asked (take l.fixture-index l.fixtures)))
+    (asked : List ℕ) (test : ℕ) → is_in (tests_of l.tests asked) test ≡ (is_in (tests_of l.initial.tests asked) test || (eqb l.number test && is_among asked (take l.fixture-index l.fixtures)))

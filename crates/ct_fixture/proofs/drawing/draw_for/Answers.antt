@@ -1,7 +1,9 @@
-use Rattle.std.proofs.Common.{◌≡◌, take, sym, ap, ◌∙◌}
+use Rattle.std.proofs.Common.{◌≡◌, take, sym, ap, ◌∙◌, arith}
 use Rattle.std.proofs.lemmas.List.{take_all}
-use Rattle.ct_fixture.specs.Drawing.{props_at, required_by}
-use Rattle.ct_fixture.proofs.KeptLemmas.{drawn_more, drawn_same, have_marks, props_there, requires_own}
+use Rattle.ct_props.specs.Numbered.{at_number}
+use Rattle.ct_fixture.specs.Drawing.{required_by}
+use Rattle.ct_props.proofs.NumberedLemmas.{at_number_read}
+use Rattle.ct_fixture.proofs.KeptLemmas.{drawn_more, drawn_same, have_marks, requires_own}
 use Rattle.ct_fixture.proofs.drawing.draw_for.Goals as goal
 
 pub draw-requires : goal.draw-requires
@@ -21,6 +23,6 @@ returns-clause-drawn c =
     let at = c.loop-fixture.fixture-index in
     let own = c.index-props-number.result in
     let all : take at fixtures ≡ fixtures = take_all at fixtures c.loop-fixture-test.false in
-    let there = props_there c.args.props.now c.args.number own c.requires.low c.requires.there c.index-props-number.is in
-    drawn_same c.args.choice.now c.args.props.now (take at fixtures) (required_by (props_at c.args.props.now c.args.number)) c.args.members.now c.loop-fixture.members
+    let there = at_number_read c.args.props.now c.args.number own (omega (arith, c.requires.low)) c.requires.there c.index-props-number.is in
+    drawn_same c.args.choice.now c.args.props.now (take at fixtures) (required_by (at_number c.args.props.now c.args.number)) c.args.members.now c.loop-fixture.members
     (all ∙ c.as_slice-fixture-items.ensures ∙ sym (requires_own own c.if-own.false) ∙ sym (ap required_by there)) c.loop-fixture.invariant.drawn

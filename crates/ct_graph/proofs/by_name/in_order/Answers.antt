@@ -1,11 +1,11 @@
-use Rattle.std.proofs.Common.{◌≡◌, ◌∙◌, ℕ, eqb, sym, ap, subst}
+use Rattle.std.proofs.Common.{◌≡◌, ◌∙◌, eqb, sym, ap, subst}
 use Rattle.std.specs.List.{dedup}
 use Rattle.std.specs.List.Sorted.{IsStrictlyIncreasing}
 use Rattle.std.proofs.lemmas.Bool.{eqb-true}
 use Rattle.std.proofs.lemmas.List.Filters.{dedup_is}
 use Rattle.std.proofs.lemmas.List.Sorted.{list_any-IsPermutation}
 use Rattle.std.proofs.lemmas.Map.Keys.{IsStrictlyIncreasing-dedup}
-use Rattle.ct_graph.specs.Cycle.{is_in}
+use Rattle.ct_props.specs.Numbered.{is_in}
 use Rattle.ct_graph.proofs.NameLemmas.{list_any-dedup}
 use Rattle.ct_graph.proofs.by_name.in_order.Goals as goal
 

@@ -1,12 +1,11 @@
-use Rattle.std.proofs.Common.{◌≡◌, ◌<◌, ◌∙◌, ◌||◌, ℕ, [], ◌∷◌, ◌++◌, false, eqb, map, take, get_or, set, length, subst, sym, ap}
+use Rattle.std.proofs.Common.{◌≡◌, ◌<◌, ◌∙◌, [], ◌∷◌, ◌++◌, eqb, take, get_or, length, subst, sym, ap}
 use Rattle.std.proofs.lemmas.Bool.{or_parts, eqb-false}
 use Rattle.std.proofs.lemmas.List.{map_more, length-set, get_or-set_other, get_or_read}
 use Rattle.std.proofs.lemmas.List.Folds.{list_any_more}
 use Rattle.std.proofs.lemmas.List.Elements.{All-get_or}
-use Rattle.ct_graph.specs.Cycle.{is_in}
+use Rattle.ct_props.specs.Numbered.{is_in}
 use Rattle.ct_graph.specs.Walk.{row_of, mark_of, rank_of}
 use Rattle.ct_graph.specs.Rows.{links_of, setups_in}
-use Rattle.ct_graph.specs.declared.ordering.Links.{Links}
 use Rattle.ct_graph.proofs.TestLemmas.{not_in_front}
 use Rattle.ct_graph.proofs.ordering.links_in_order.Goals as goal
 

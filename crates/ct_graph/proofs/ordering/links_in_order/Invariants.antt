@@ -1,5 +1,5 @@
 use Rattle.std.proofs.Common.{◌≡◌, ℕ, false, take, map, length}
-use Rattle.ct_graph.specs.Cycle.{is_in}
+use Rattle.ct_props.specs.Numbered.{is_in}
 use Rattle.ct_graph.specs.Walk.{row_of}
 use Rattle.ct_graph.specs.Rows.{links_of, setups_in}
 use Rattle.ct_graph.proofs.ordering.links_in_order.Given as goal

@@ -1,4 +1,4 @@
-use Rattle.std.proofs.Common.{◌≡◌, ◌∙◌, sym, ap, subst}
+use Rattle.std.proofs.Common.{◌≡◌, ◌∙◌, subst}
 use Rattle.ct_graph.specs.Order.{IsAnswer}
 use Rattle.ct_graph.proofs.OrderLemmas.{answers_none}
 use Rattle.ct_graph.proofs.ordering.order.Goals as goal

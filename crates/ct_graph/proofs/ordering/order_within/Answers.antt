@@ -1,5 +1,6 @@
 use Rattle.std.proofs.Common.{◌≡◌, ◌∙◌, Err, length, map, subst, sym, ap, rules}
-use Rattle.ct_graph.specs.Before.{at_number, comes_before}
+use Rattle.ct_props.specs.Numbered.{at_number}
+use Rattle.ct_graph.specs.Before.{comes_before}
 use Rattle.ct_graph.specs.Walk.{AreWithin, AreRanked, EndsWalk}
 use Rattle.ct_graph.specs.Rows.{links_of, setups_in}
 use Rattle.ct_graph.proofs.RowLemmas.{rows_within}

@@ -1,4 +1,4 @@
-use Rattle.std.proofs.Common.{◌≡◌, ◌+◌, ◌≤◌, ◌<◌, ◌-◌, arith, length, sum_by, take, get_or, ap}
+use Rattle.std.proofs.Common.{◌≡◌, ◌≤◌, ◌<◌, ◌-◌, arith, length, sum_by, take, get_or, ap}
 use Rattle.std.proofs.lemmas.List.Sums.{sum_by_more_le}
 use Rattle.ct_graph.specs.Rows.{before_in}
 use Rattle.ct_graph.proofs.rows.rows.Goals as goal

@@ -1,5 +1,5 @@
 use Rattle.std.proofs.Common.{◌≡◌, ◌∙◌, ◌||◌, ◌&&◌, bytes_eq, [], ◌∷◌, ◌++◌, is_some, eqb, sym, ap}
-use Rattle.ct_graph.specs.Cycle.{is_in}
+use Rattle.ct_props.specs.Numbered.{is_in}
 use Rattle.ct_graph.specs.ByName.{or_none, tests_at}
 use Rattle.ct_graph.proofs.NameLemmas.{tests_at-updated, is_in-updated, or_same}
 use Rattle.ct_graph.proofs.by_name.ByName.add.Goals as goal

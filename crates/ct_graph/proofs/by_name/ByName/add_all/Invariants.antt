@@ -1,6 +1,5 @@
 use Rattle.std.proofs.Common.{◌≡◌, ◌||◌, ◌&&◌, ◌==◌, List, ℕ, take}
-use Rattle.ct_graph.specs.Before.{is_among}
-use Rattle.ct_graph.specs.Cycle.{is_in}
+use Rattle.ct_props.specs.Numbered.{is_among, is_in}
 use Rattle.ct_graph.specs.ByName.{tests_of}
 use Rattle.ct_graph.proofs.by_name.ByName.add_all.Given as goal
 

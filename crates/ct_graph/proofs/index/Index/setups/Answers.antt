@@ -1,8 +1,9 @@
 use Rattle.std.proofs.Common.{◌≡◌, ◌∙◌, ◌&&◌, ◌||◌, ◌-◌, ℕ, Some, get_or, ap}
-use Rattle.ct_graph.specs.Before.{at_number, sets_up}
-use Rattle.ct_graph.specs.Cycle.{is_in}
+use Rattle.ct_props.specs.Numbered.{at_number, is_in}
+use Rattle.ct_graph.specs.Before.{sets_up}
 use Rattle.ct_graph.specs.ByName.{tests_of, is_found_in}
-use Rattle.ct_graph.proofs.IndexLemmas.{read_at, is_setup, no_setup, same_setups}
+use Rattle.ct_props.proofs.NumberedLemmas.{at_number_read}
+use Rattle.ct_graph.proofs.IndexLemmas.{is_setup, no_setup, same_setups}
 use Rattle.ct_graph.proofs.index.Index.setups.Goals as goal
 use Rattle.ct_graph.proofs.index.Index.setups.Goals.{then-not-props+in_ok-find_all, else-not-props}
 
@@ -11,7 +12,7 @@ returns c =
     let self = c.args.self.now in
     let number = c.args.number in
     let later = get_or self.props.now (number - 1) c.index-self-number.result in
-    let is_later : at_number self.props.now number ≡ Some later = read_at self.props.now number c.index-self-number.result c.requires.above c.requires.within c.index-self-number.is ∙ ap Some c.index-self-number.is in
+    let is_later : at_number self.props.now number ≡ Some later = at_number_read self.props.now number c.index-self-number.result c.requires.above c.requires.within c.index-self-number.is ∙ ap Some c.index-self-number.is in
     let found : (n : ℕ) → is_in c.if-not-props.found.items n ≡ (sets_up (at_number self.props.now n) (at_number self.props.now number) && is_in self.members.now n) =
     elim c.if-not-props.branch [
       | then-not-props+in_ok-find_all w ↦ λ n.

@@ -1,4 +1,4 @@
-use Rattle.std.proofs.Common.{◌≡◌, ◌≤◌, true, take, length}
+use Rattle.std.proofs.Common.{◌≡◌, true, take}
 use Rattle.ct_graph.specs.Walk.{are_taken}
 use Rattle.ct_graph.proofs.walk.Walk.first_untaken.Given as goal
 

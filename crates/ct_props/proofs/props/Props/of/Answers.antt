@@ -9,10 +9,10 @@ returns-clause-ok c =
     let props : c.as_slice-props.result.now ≡ c.args.def.now.props = search rules in
     let checked : HasChecked c.args.def.now.props c.in_ok-checked.checked = subst (λ ps. HasChecked ps c.in_ok-checked.checked) props c.in_ok-checked.ensures.ok in
     record {
-      depends = checked.depends;
-      setup = checked.setup;
-      required = checked.required;
-      cleanup = checked.cleanup;
+      depends = search rules;
+      setup = search rules;
+      required = search rules;
+      cleanup = search rules;
       disabled = search rules;
       processors = checked.processors;
       locks = search rules;

@@ -1,7 +1,0 @@
-use Rattle.std.proofs.Common.{◌≡◌, ◌++◌, drop, map}
-use Rattle.ct_history.specs.declared.plan.PlanTest.{PlanTest}
-use Rattle.ct_history.specs.Plan.{enabled}
-use Rattle.ct_app.proofs.planning.queue.Given as goal
-
-abbrev pub invariant-loop-test : goal.invariant-loop-test
-invariant-loop-test l = l.queue ++ map (λ (t : PlanTest). t.number) (enabled (drop l.test-index l.tests)) ≡ map (λ (t : PlanTest). t.number) (enabled l.tests)

@@ -1,0 +1,89 @@
+-- What every call has, and what keeps one from what its words ask for. This project's own.
+use Rattle.std.specs.Prelude.{◌≡◌, ◌⊎◌, ℕ, List, [], Option, None, Result, Ok, Err}
+use Rattle.ct_base.specs.declared.defs.Pair.{Pair}
+use Rattle.ct_base.specs.declared.sink.SinkFault.{SinkFault}
+use Rattle.ct_base.specs.declared.sink.SinkFault.TheVariants as Sinks
+use Rattle.ct_base.specs.Outside.{FilesTell, Puts, SameHeld, SinkTell}
+use Rattle.ct_history.specs.declared.plan.PlanParts.{PlanParts}
+use Rattle.ct_history.specs.declared.history.Entry.{Entry}
+use Rattle.ct_core.specs.Gate.{GateTell}
+use Rattle.ct_args.specs.declared.usage.UsageKind.{UsageKind}
+use Rattle.ct_args.specs.declared.usage.UsageFault.TheVariants.{At}
+use Rattle.ct_args.specs.declared.invocation.Invocation.{Invocation}
+use Rattle.ct_args.specs.Invocation.{invocation_in}
+use Rattle.ct_app.specs.declared.outcome.Refusal.{Refusal}
+use Rattle.ct_app.specs.Reading.{AskFor, RefusesReading}
+use Rattle.ct_app.specs.RunFiles.{FilesFail, FilesStay}
+
+-- the values of a call, before it and behind it; plan and history are those that it gives back
+pub record Sides : Type 0 where
+  pub words : List (List ℕ)
+  pub env : List Pair
+  pub files_before : FilesTell
+  pub files_now : FilesTell
+  pub gates_before : List GateTell
+  pub gates_now : List GateTell
+  pub sink_before : SinkTell
+  pub sink_now : SinkTell
+  pub plan : Option PlanParts
+  pub history : Option (List Entry)
+
+-- these values; the gates are those that are looked at
+abbrev pub sides : List (List ℕ) → List Pair → FilesTell → FilesTell → List GateTell → List GateTell → SinkTell → SinkTell → Option PlanParts → Option (List Entry) → Sides
+sides words env files_before files_now gates_before gates_now sink_before sink_now plan history = record {
+  words = words;
+  env = env;
+  files_before = files_before;
+  files_now = files_now;
+  gates_before = gates_before;
+  gates_now = gates_now;
+  sink_before = sink_before;
+  sink_now = sink_now;
+  plan = plan;
+  history = history;
+}
+
+-- the values of a list, which has no environment, no gate, no plan and no history
+abbrev pub list_sides : List (List ℕ) → FilesTell → FilesTell → SinkTell → SinkTell → Sides
+list_sides words files_before files_now sink_before sink_now = sides words [] files_before files_now [] [] sink_before sink_now None None
+
+-- the whole text was put and no put failed, or one failed and a beginning of it was written
+abbrev pub PutsOrFails : List ℕ → SinkTell → SinkTell → Type 0
+PutsOrFails text before now = Puts text before now (Ok tt) ⊎ Puts text before now (Err Sinks.Failed)
+
+-- a text was put: the whole of it, or a beginning where a put failed or memory was wanting
+abbrev pub Tries : List ℕ → SinkTell → SinkTell → Type 0
+Tries text before now = (result : Result (Unit {0}) SinkFault) × Puts text before now result
+
+-- nothing was run: there is no plan and no history, and no gate was asked
+pub record IsUnrun (s : Sides) : Type 0 where
+  pub no_plan : s.plan ≡ None
+  pub no_history : s.history ≡ None
+  pub unasked : s.gates_now ≡ s.gates_before
+
+-- behind a report the line of an outcome was put
+pub record ThenLine (report : SinkTell → Type 0) (Line : SinkTell → Type 0) : Type 0 where
+  pub middle : SinkTell
+  pub first : report middle
+  pub line : Line middle
+
+-- this word is the first that is refused, and nothing was done
+pub record IsUsage (s : Sides) (word : ℕ) (kind : UsageKind) : Type 0 where
+  pub words : invocation_in s.words ≡ Err (At word kind)
+  pub files : FilesStay s.files_before s.files_now
+  pub unrun : IsUnrun s
+
+-- a test file or a property is refused, and nothing was run
+pub record IsUnreadable (s : Sides) (refusal : Refusal) : Type 0 where
+  pub invocation : Invocation
+  pub words : AskFor s.words invocation
+  pub refused : RefusesReading s.files_before.held invocation refusal
+  pub files : FilesStay s.files_before s.files_now
+  pub unrun : IsUnrun s
+
+-- the files failed at a path while the tests or the cost data were read, and nothing was run
+pub record IsReadFault (s : Sides) (path : List ℕ) : Type 0 where
+  pub invocation : Invocation
+  pub words : AskFor s.words invocation
+  pub files : FilesFail path SameHeld s.files_before s.files_now
+  pub unrun : IsUnrun s

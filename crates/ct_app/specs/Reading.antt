@@ -1,0 +1,70 @@
+-- What the words of a call ask for, what is read for that, and why it can't be.
+-- Source: CMake manual, ctest(1), Options, Run Tests. What is refused is this project's choice.
+use Rattle.std.specs.Prelude.{◌≡◌, ℕ, ◌<◌, ◌≤◌, Bool, true, false, List, Option, None, Result, Ok, Err, IfSome}
+use Rattle.ct_base.specs.declared.defs.TestDef.{TestDef}
+use Rattle.ct_base.specs.Outside.{Held}
+use Rattle.ct_testfile.specs.declared.fault.ReadFault.TheVariants as Read
+use Rattle.ct_testfile.specs.Tree.{tree_of}
+use Rattle.ct_props.specs.declared.props.Props.{Props}
+use Rattle.ct_graph.specs.Cycle.{is_cycle}
+use Rattle.ct_args.specs.declared.usage.UsageFault.{UsageFault}
+use Rattle.ct_args.specs.declared.invocation.Invocation.{Invocation}
+use Rattle.ct_args.specs.declared.invocation.Task.{Task}
+use Rattle.ct_args.specs.declared.invocation.Task.TheVariants.{Run, ListTests, ListLabels}
+use Rattle.ct_args.specs.Invocation.{InvocationValue, invocation_in, invocation_seen}
+use Rattle.ct_plan.specs.Source.{HaveProps, Source, edge_count, members_before}
+use Rattle.ct_app.specs.declared.outcome.Refusal.{Refusal}
+use Rattle.ct_app.specs.declared.outcome.Refusal.TheVariants.{TestFile, Prop, Cycle, TooManyEdges}
+use Rattle.ct_app.specs.Outcome.{names_at}
+use Rattle.ct_app.specs.RunFiles.{last_costs}
+use Rattle.ct_app.specs.Tests.{RefusesFirst}
+
+-- the task is one of the two lists
+abbrev pub is_list : Task → Bool
+is_list Run = false
+is_list ListTests = true
+is_list ListLabels = true
+
+-- the words were read, and ask for a list
+abbrev pub reads_list : Result InvocationValue UsageFault → Bool
+reads_list (Ok invocation) = is_list invocation.task
+reads_list (Err fault) = false
+
+-- the words ask for a list
+abbrev pub ask_for_list : List (List ℕ) → Bool
+ask_for_list words = reads_list (invocation_in words)
+
+-- the words ask for this
+abbrev pub AskFor : List (List ℕ) → Invocation → Type 0
+AskFor words invocation = invocation_in words ≡ Ok (invocation_seen invocation)
+
+-- these are the tests of the folder, built in the configuration, with the properties that they have
+pub record AreRead (told : Option Held) (invocation : Invocation) (defs : List TestDef) (props : List Props) : Type 0 where
+  pub tree : IfSome told (λ held. tree_of held invocation.wanted.dir invocation.config ≡ Ok defs)
+  pub have : HaveProps defs props
+
+-- a plan is made of these tests, of what is wanted, and of what the last run cost; no resources are lent
+pub record IsSource (told : Option Held) (invocation : Invocation) (source : Source) : Type 0 where
+  pub tests : AreRead told invocation source.defs source.props
+  pub wanted : source.wanted ≡ invocation.wanted
+  pub resources : source.resources ≡ None
+  pub costs : IfSome told (λ held. source.costs ≡ last_costs invocation.wanted.dir held)
+
+-- a test file is refused, or else the first test that has a bad property
+abbrev pub RefusesReading : Option Held → Invocation → Refusal → Type 0
+RefusesReading told invocation (TestFile file line kind) = IfSome told (λ held. tree_of held invocation.wanted.dir invocation.config ≡ Err (Read.At file line kind))
+RefusesReading told invocation (Prop test key kind) =
+    (defs : List TestDef) × IfSome told (λ held. tree_of held invocation.wanted.dir invocation.config ≡ Ok defs) × RefusesFirst defs test key kind
+RefusesReading told invocation (Cycle tests) = ⊥
+RefusesReading told invocation TooManyEdges = ⊥
+
+-- how many tests may come before the tests of a run, counted for each of them
+abbrev pub most_edges : ℕ
+most_edges = 4000000
+
+-- these tests have no plan: they go round in a cycle, of tests with these names, or too many come before others
+abbrev pub RefusesPlan : Source → Refusal → List (List ℕ) → Type 0
+RefusesPlan source (TestFile file line kind) names = ⊥
+RefusesPlan source (Prop test key kind) names = ⊥
+RefusesPlan source (Cycle tests) names = (edge_count source ≤ most_edges) × (is_cycle (members_before source) tests ≡ true) × (names ≡ names_at source.defs tests)
+RefusesPlan source TooManyEdges names = most_edges < edge_count source

@@ -1,0 +1,142 @@
+-- What each outcome of a run says: all that was read, run, asked, written. This project's own.
+use Rattle.std.specs.Prelude.{◌≡◌, ◌⊎◌, ℕ, ◌≤◌, min, true, List, [], length, Ok, Err, IsSomeAnd}
+use Rattle.ct_base.specs.declared.defs.Pair.{Pair}
+use Rattle.ct_base.specs.declared.sink.SinkFault.TheVariants as Sinks
+use Rattle.ct_base.specs.Outside.{Puts, SinkTell}
+use Rattle.ct_history.specs.declared.plan.PlanParts.{PlanParts}
+use Rattle.ct_history.specs.declared.history.Entry.{Entry}
+use Rattle.ct_history.specs.History.{open_starts}
+use Rattle.ct_history.specs.Legal.{IsComplete, StaysWithin, is_legal}
+use Rattle.ct_core.specs.Gate.{GateTell}
+use Rattle.ct_args.specs.declared.invocation.Invocation.{Invocation}
+use Rattle.ct_plan.specs.PlanOf.{IsPlanOf}
+use Rattle.ct_plan.specs.Source.{Source, edge_count}
+use Rattle.ct_report.specs.Report.{header_line, report_text}
+use Rattle.ct_app.specs.declared.outcome.Refusal.{Refusal}
+use Rattle.ct_app.specs.declared.outcome.Outcome.{Outcome}
+use Rattle.ct_app.specs.declared.outcome.Outcome.TheVariants.{Completed, Listed, Usage, Refused, FilesFault, OutputFault, Memory}
+use Rattle.ct_app.specs.Tests.{tests_of}
+use Rattle.ct_app.specs.Gates.{AreAsked, are_below, had_memory}
+use Rattle.ct_app.specs.Outcome.{fault_line, status_of}
+use Rattle.ct_app.specs.Reading.{AskFor, IsSource, RefusesPlan, most_edges}
+use Rattle.ct_app.specs.Run.{RunEnds}
+use Rattle.ct_app.specs.RunFiles.{FilesFail, FilesServe, FilesStay, IsWritten, Leaves, LeavesPart, LeavesTorn, WithLast}
+use Rattle.ct_app.specs.Calls.{IsReadFault, IsUnreadable, IsUnrun, IsUsage, PutsOrFails, Sides, ThenLine, Tries}
+
+-- a plan was made of these tests, and they ran as far as the history goes: it is legal and leaves nothing open, at no moment
+-- was more given than is declared, no more workers took part than the level and the gates admit, and it says what the gates
+-- were asked and told
+pub record IsRunOf (env : List Pair) (source : Source) (limit : ℕ) (gates_before gates_now : List GateTell) (plan : PlanParts) (entries : List Entry) : Type 0 where
+  pub few : edge_count source ≤ most_edges
+  pub planned : IsPlanOf source plan
+  pub legal : is_legal plan entries ≡ true
+  pub within : StaysWithin plan entries
+  pub closed : open_starts entries ≡ []
+  pub workers : are_below (min plan.level (length gates_before)) entries ≡ true
+  pub asked : AreAsked env (tests_of source limit) 0 gates_before gates_now entries
+
+-- the tests that the words ask for were read, and ran
+pub record IsRun (s : Sides) (invocation : Invocation) (source : Source) (plan : PlanParts) (entries : List Entry) : Type 0 where
+  pub words : AskFor s.words invocation
+  pub read : IsSource s.files_before.held invocation source
+  pub ran : IsRunOf s.env source invocation.timeout s.gates_before s.gates_now plan entries
+
+-- the plan and the history are those of a run of the tests that were read, and this holds of them
+pub record RanWith (s : Sides) (P : Invocation → PlanParts → List Entry → Type 0) (plan : PlanParts) (entries : List Entry) : Type 0 where
+  pub invocation : Invocation
+  pub source : Source
+  pub run : IsRun s invocation source plan entries
+  pub holds : P invocation plan entries
+
+-- plan and history are there, of such a run
+abbrev pub HasRunWith : Sides → (Invocation → PlanParts → List Entry → Type 0) → Type 0
+HasRunWith s P = IsSomeAnd s.plan (λ plan. IsSomeAnd s.history (λ entries. RanWith s P plan entries))
+
+-- each test is final, no attempt wanted memory, and the whole report was put
+pub record IsReported (plan : PlanParts) (entries : List Entry) (before now : SinkTell) : Type 0 where
+  pub complete : IsComplete plan entries
+  pub memory : had_memory entries ≡ true
+  pub put : Puts (report_text plan entries) before now (Ok tt)
+
+-- the sink failed at the report, and no attempt wanted memory
+pub record IsCutOff (plan : PlanParts) (entries : List Entry) (before now : SinkTell) : Type 0 where
+  pub memory : had_memory entries ≡ true
+  pub put : Puts (report_text plan entries) before now (Err Sinks.Failed)
+
+-- a run was given up for want of memory: for its last attempt, or for a step or a text behind attempts that had it
+pub record IsGivenUp (plan : PlanParts) (entries : List Entry) (before now : SinkTell) : Type 0 where
+  pub why : RunEnds (header_line plan) plan entries before now (Err Sinks.NoMemory)
+  pub put : Puts (report_text plan entries) before now (Err Sinks.NoMemory)
+
+-- the tests that were read have no plan, and nothing was run; the tests of a cycle have these names
+pub record IsUnplannable (s : Sides) (refusal : Refusal) (names : List (List ℕ)) : Type 0 where
+  pub invocation : Invocation
+  pub words : AskFor s.words invocation
+  pub source : Source
+  pub read : IsSource s.files_before.held invocation source
+  pub refused : RefusesPlan source refusal names
+  pub files : FilesStay s.files_before s.files_now
+  pub unrun : IsUnrun s
+
+-- what was read, or a plan of it, is refused; the tests of a cycle have these names
+abbrev pub IsRefusal : Sides → Refusal → List (List ℕ) → Type 0
+IsRefusal s refusal names = IsUnreadable s refusal ⊎ IsUnplannable s refusal names
+
+-- a refusal was told by this line, which names the tests of a cycle
+pub record TellsRefusal (s : Sides) (refusal : Refusal) (Line : List ℕ → Type 0) : Type 0 where
+  pub names : List (List ℕ)
+  pub refused : IsRefusal s refusal names
+  pub line : Line (fault_line names (Refused refusal))
+
+-- the files of a complete run were written
+abbrev pub IsLeft : Sides → PlanParts → List Entry → Type 0
+IsLeft s plan entries = FilesServe (WithLast plan.dir (Leaves plan entries)) s.files_before s.files_now
+
+-- the files failed at a path that a complete run writes
+abbrev pub IsWriteFault : Sides → List ℕ → PlanParts → List Entry → Type 0
+IsWriteFault s path plan entries = IsWritten plan entries path × FilesFail path (WithLast plan.dir (LeavesTorn plan entries path)) s.files_before s.files_now
+
+-- a run had come so far when memory was wanting: it was given up and the files stay, or it was reported and memory was wanting
+-- for its files
+abbrev pub IsCutShort : Sides → PlanParts → List Entry → SinkTell → Type 0
+IsCutShort s plan entries middle = (IsGivenUp plan entries s.sink_before middle × FilesStay s.files_before s.files_now) ⊎ (IsReported plan entries s.sink_before middle × FilesServe (WithLast plan.dir (LeavesPart plan entries)) s.files_before s.files_now)
+
+-- memory was wanting where no plan was made: for anything before the line of this outcome, or for that line
+abbrev pub IsShort : Sides → Outcome → Type 0
+IsShort s Completed = ⊥
+IsShort s Listed = ⊥
+IsShort s (Usage word kind) = IsUsage s word kind × Puts (fault_line [] (Usage word kind)) s.sink_before s.sink_now (Err Sinks.NoMemory)
+IsShort s (Refused refusal) = TellsRefusal s refusal (λ line. Puts line s.sink_before s.sink_now (Err Sinks.NoMemory))
+IsShort s (FilesFault path) = IsReadFault s path × Puts (fault_line [] (FilesFault path)) s.sink_before s.sink_now (Err Sinks.NoMemory)
+IsShort s OutputFault = ⊥
+IsShort s Memory = IsUnrun s × FilesStay s.files_before s.files_now × Tries (fault_line [] Memory) s.sink_before s.sink_now
+
+-- memory was wanting where a plan was made: for anything before the line of this outcome, or for that line
+abbrev pub IsShortRun : Sides → Outcome → PlanParts → List Entry → Type 0
+IsShortRun s Completed plan entries = ⊥
+IsShortRun s Listed plan entries = ⊥
+IsShortRun s (Usage word kind) plan entries = ⊥
+IsShortRun s (Refused refusal) plan entries = ⊥
+IsShortRun s (FilesFault path) plan entries = IsWriteFault s path plan entries × ThenLine (IsReported plan entries s.sink_before) (λ middle. Puts (fault_line [] (FilesFault path)) middle s.sink_now (Err Sinks.NoMemory))
+IsShortRun s OutputFault plan entries = ⊥
+IsShortRun s Memory plan entries = ThenLine (IsCutShort s plan entries) (λ middle. Tries (fault_line [] Memory) middle s.sink_now)
+
+-- a run was completed: it was reported, its files were written, and this is its status
+pub record IsCompleted (s : Sides) (status : ℕ) (invocation : Invocation) (plan : PlanParts) (entries : List Entry) : Type 0 where
+  pub reported : IsReported plan entries s.sink_before s.sink_now
+  pub left : IsLeft s plan entries
+  pub is : status ≡ status_of invocation.empty_is_error plan entries
+
+-- the report of a complete run stands in front of the line of a write that failed
+abbrev pub IsUnwritten : Sides → List ℕ → PlanParts → List Entry → Type 0
+IsUnwritten s path plan entries = IsWriteFault s path plan entries × ThenLine (IsReported plan entries s.sink_before) (λ middle. PutsOrFails (fault_line [] (FilesFault path)) middle s.sink_now)
+
+-- what each outcome of a run says; want of memory alone is free
+abbrev pub AnswersRun : Sides → Outcome → ℕ → Type 0
+AnswersRun s Completed status = HasRunWith s (IsCompleted s status)
+AnswersRun s Listed status = ⊥
+AnswersRun s (Usage word kind) status = IsUsage s word kind × PutsOrFails (fault_line [] (Usage word kind)) s.sink_before s.sink_now × (status ≡ 1)
+AnswersRun s (Refused refusal) status = TellsRefusal s refusal (λ line. PutsOrFails line s.sink_before s.sink_now) × (status ≡ 2)
+AnswersRun s (FilesFault path) status = ((IsReadFault s path × PutsOrFails (fault_line [] (FilesFault path)) s.sink_before s.sink_now) ⊎ HasRunWith s (λ invocation. IsUnwritten s path)) × (status ≡ 3)
+AnswersRun s OutputFault status = HasRunWith s (λ invocation plan entries. IsCutOff plan entries s.sink_before s.sink_now × FilesStay s.files_before s.files_now) × (status ≡ 4)
+AnswersRun s Memory status = ((outcome : Outcome) × (IsShort s outcome ⊎ HasRunWith s (λ invocation. IsShortRun s outcome))) × (status ≡ 5)

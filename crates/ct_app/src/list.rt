@@ -1,0 +1,186 @@
+ghost use Rattle.std.specs.Prelude.{◌≡◌, ◌++◌, ◌<◌, ◌-◌, ◌^◌, IfOk, OnOk, length};
+ghost use Rattle.ct_base.specs.Outside.{Puts};
+ghost use Rattle.ct_props.specs.Numbered.{at_number as stands_at};
+ghost use Rattle.ct_plan.specs.Source.{HaveProps};
+ghost use Rattle.ct_report.specs.Lists.{test_list as list_of_tests, label_list as list_of_labels};
+ghost use Rattle.ct_report.specs.Report.{text_of};
+ghost use Rattle.ct_app.specs.Calls.{list_sides};
+ghost use Rattle.ct_app.specs.Ends.{ListEndsFor, listed_as};
+ghost use Rattle.ct_app.specs.Lists.{labels_among, labels_there, list_lines, list_text, listed_tests, listed_there, members_in};
+
+use crate::Outcome;
+use crate::props::{Tests, at_number};
+use crate::reading::read_tests;
+use ct_args::{Invocation, Task};
+use ct_base::{Files, List, Name, NoMemory, Sink, SinkFault};
+use ct_fixture::draw_in;
+use ct_props::{Choice, Props};
+use ct_report::{ListedTest, label_list, test_list};
+use ct_select::select;
+use std::alloc::Global;
+
+/// Puts the list that an invocation asks for, and gives what that came to.
+///
+/// No specification and no cost data is read, and no plan is made.
+pub(crate) fn list_folder<F: Files, S: Sink>(
+    alloc: Global,
+    invocation: &Invocation,
+    files: &mut F,
+    sink: &mut S,
+) -> Outcome
+    ensures { ListEndsFor invocation.now (λ words. list_sides words (F.tells files.old) (F.tells files.new) (S.tells sink.old) (S.tells sink.new)) result }
+{
+    match read_tests(alloc, files, invocation) {
+        Ok(tests) => listed(put_list(alloc, sink, invocation, &tests)),
+        Err(outcome) => outcome,
+    }
+}
+
+/// What the end of a list is to a call.
+fn listed(ended: Result<(), SinkFault>) -> Outcome
+    ensures { result ≡ listed_as ended }
+{
+    match ended {
+        Ok(()) => Outcome::Listed,
+        Err(fault) => Outcome::from(fault),
+    }
+}
+
+/// Puts the list of the members among these tests.
+///
+/// Source: CMake manual, ctest(1), --show-only, --print-labels.
+fn put_list<S: Sink>(
+    alloc: Global,
+    sink: &mut S,
+    invocation: &Invocation,
+    tests: &Tests,
+) -> Result<(), SinkFault>
+    requires together { HaveProps tests.now.defs tests.now.props }
+    requires few { length tests.now.defs < 2 ^ 32 - 1 }
+    ensures { Puts (list_text invocation.now tests.now.defs tests.now.props) (S.tells sink.old) (S.tells sink.new) result }
+{
+    let members = members(alloc, tests, &invocation.wanted.choice)?;
+    put_members(
+        alloc,
+        sink,
+        invocation.task,
+        &invocation.wanted.dir,
+        tests,
+        members.as_slice(),
+    )?;
+    Ok(())
+}
+
+/// The numbers of the tests that are chosen, and of those that fixtures draw in, in order.
+fn members(alloc: Global, tests: &Tests, choice: &Choice) -> Result<List<u32>, NoMemory>
+    requires together { HaveProps tests.now.defs tests.now.props }
+    requires few { length tests.now.defs < 2 ^ 32 - 1 }
+    ensures { IfOk result (λ members. members ≡ members_in choice.now tests.now.defs tests.now.props) }
+{
+    let chosen = select(alloc, &tests.defs, &tests.props, choice)?;
+    draw_in(alloc, &tests.props, &chosen, choice)
+}
+
+/// Puts the list that a task asks for, of the tests with these numbers.
+fn put_members<S: Sink>(
+    alloc: Global,
+    sink: &mut S,
+    task: Task,
+    dir: &Name,
+    tests: &Tests,
+    members: &[u32],
+) -> Result<(), SinkFault>
+    ensures { Puts (text_of (list_lines task dir.now tests.now.defs tests.now.props members.now)) (S.tells sink.old) (S.tells sink.new) result }
+{
+    match task {
+        Task::Run | Task::ListTests => put_tests(alloc, sink, dir, tests, members),
+        Task::ListLabels => put_labels(alloc, sink, tests.props.as_slice(), members),
+    }
+}
+
+fn put_tests<S: Sink>(
+    alloc: Global,
+    sink: &mut S,
+    dir: &Name,
+    tests: &Tests,
+    members: &[u32],
+) -> Result<(), SinkFault>
+    ensures { Puts (text_of (list_of_tests dir.now (listed_tests tests.now.defs tests.now.props members.now))) (S.tells sink.old) (S.tells sink.new) result }
+{
+    let entries = listed_entries(alloc, tests, members)?;
+    test_list(alloc, sink, dir, entries.as_slice())?;
+    Ok(())
+}
+
+/// The tests with these numbers, as they are listed.
+fn listed_entries<'a>(
+    alloc: Global,
+    tests: &'a Tests,
+    members: &[u32],
+) -> Result<Vec<ListedTest<'a>>, NoMemory>
+    ensures { IfOk result (λ entries. entries.items ≡ listed_tests tests.now.defs tests.now.props members.now) }
+{
+    let mut entries = Vec::new(alloc);
+    for number in members {
+        if let Some(entry) = listed_entry(tests, *number) {
+            entries.push(entry)?;
+        }
+    }
+    Ok(entries)
+}
+
+fn put_labels<S: Sink>(
+    alloc: Global,
+    sink: &mut S,
+    props: &[Props],
+    members: &[u32],
+) -> Result<(), SinkFault>
+    ensures { Puts (text_of (list_of_labels (labels_among props.now members.now))) (S.tells sink.old) (S.tells sink.new) result }
+{
+    let labels = labels_of(alloc, props, members)?;
+    label_list(alloc, sink, &labels)?;
+    Ok(())
+}
+
+/// The test with this number as it is listed, where it is there.
+fn listed_entry<'a>(tests: &'a Tests, number: u32) -> Option<ListedTest<'a>>
+    ensures { result ≡ listed_there number (stands_at tests.now.defs number) (stands_at tests.now.props number) }
+{
+    let def = at_number(tests.defs.as_slice(), number)?;
+    let props = at_number(tests.props.as_slice(), number)?;
+    Some(ListedTest {
+        number,
+        name: &def.name,
+        disabled: props.disabled,
+    })
+}
+
+/// The labels of the tests with these numbers; those of disabled tests do not count.
+fn labels_of(alloc: Global, props: &[Props], members: &[u32]) -> Result<List<Name>, NoMemory>
+    ensures { IfOk result (λ labels. labels ≡ labels_among props.now members.now) }
+{
+    let mut labels = List::new(alloc);
+    for number in members {
+        append_names(alloc, &mut labels, labels_at(props, *number))?;
+    }
+    Ok(labels)
+}
+
+/// The labels of the test with this number, where it is there and not disabled.
+fn labels_at(props: &[Props], number: u32) -> &[Name]
+    ensures { result.now ≡ labels_there (stands_at props.now number) }
+{
+    match at_number(props, number) {
+        Some(own) if !own.disabled => own.labels.as_slice(),
+        _ => &[],
+    }
+}
+
+fn append_names(alloc: Global, names: &mut List<Name>, more: &[Name]) -> Result<(), NoMemory>
+    ensures { OnOk result (names.new ≡ names.old ++ more.now) }
+{
+    for name in more {
+        names.push(name.copy(alloc)?)?;
+    }
+    Ok(())
+}

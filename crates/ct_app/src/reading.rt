@@ -1,0 +1,54 @@
+ghost use Rattle.std.specs.Prelude.{◌≡◌, IfOk, IfErr};
+ghost use Rattle.ct_app.specs.Ends.{HasTests, IsUnread};
+ghost use Rattle.ct_app.specs.Outcome.{name_there, names_at as names_of};
+ghost use Rattle.ct_props.specs.Numbered.{at_number as stands_at};
+
+use crate::Outcome;
+use crate::props::{Tests, at_number, read_props};
+use ct_args::Invocation;
+use ct_base::{Files, List, Name, NoMemory, TestDef};
+use ct_testfile::read_tree;
+use std::alloc::Global;
+
+/// Reads the tests of the folder that an invocation names, and their properties.
+#[tactic(auto, using(crate::proofs::ReadLemmas::unread_props))]
+pub(crate) fn read_tests<F: Files>(
+    alloc: Global,
+    files: &mut F,
+    invocation: &Invocation,
+) -> Result<Tests, Outcome>
+    ensures ok { IfOk result (λ tests. HasTests invocation.now (F.tells files.old) (F.tells files.new) tests) }
+    ensures err { IfErr result (IsUnread invocation.now (F.tells files.old) (F.tells files.new)) }
+{
+    let defs = read_tree(alloc, files, &invocation.wanted.dir, &invocation.config)?;
+    let props = read_props(alloc, defs.as_slice())?;
+    Ok(Tests {
+        defs,
+        props,
+        limit: invocation.timeout,
+    })
+}
+
+/// The names of the tests with these numbers.
+pub(crate) fn names_at(
+    alloc: Global,
+    defs: &[TestDef],
+    numbers: &[u32],
+) -> Result<List<Name>, NoMemory>
+    ensures { IfOk result (λ names. names ≡ names_of defs.now numbers.now) }
+{
+    let mut names = List::new(alloc);
+    for number in numbers {
+        names.push(name_at(alloc, defs, *number)?)?;
+    }
+    Ok(names)
+}
+
+fn name_at(alloc: Global, defs: &[TestDef], number: u32) -> Result<Name, NoMemory>
+    ensures { IfOk result (λ name. name ≡ name_there (stands_at defs.now number)) }
+{
+    match at_number(defs, number) {
+        Some(def) => def.name.copy(alloc),
+        None => Name::of(alloc, b""),
+    }
+}

@@ -1,0 +1,8 @@
+pub mod CallerLemmas
+mod NumberLemmas
+mod LinkLemmas
+mod RankLemmas
+mod SoundLemmas
+mod UrgencyLemmas
+mod QueueLemmas
+mod PlanLemmas

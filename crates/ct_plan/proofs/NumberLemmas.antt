@@ -1,0 +1,134 @@
+-- The numbers of the members ascend, and each is of a test; properties that belong to tests are found at the same places.
+use Rattle.std.proofs.Common.{ℕ, ◌≡◌, ◌<◌, ◌≤◌, ◌+◌, Bool, true, false, cond, not, zero, suc, List, [], ◌∷◌, length, get_or, map, filter, All, refl, sym, subst, arith}
+use Rattle.std.specs.Prelude.{AllPairs, Some, None, slice_get}
+use Rattle.std.specs.List.{range_with_len}
+use Rattle.std.specs.List.Sorted.{IsStrictlyIncreasing}
+use Rattle.std.proofs.lemmas.List.FromFn.{length-range_with_len, get_or-range_with_len}
+use Rattle.std.proofs.lemmas.List.Elements.{All-nil, All-cons, All-head, All-tail, All-filter, All-from_get_or, All-weaker}
+use Rattle.std.proofs.lemmas.List.Kept.{AllPairs-cons}
+use Rattle.ct_base.specs.declared.defs.TestDef.{TestDef}
+use Rattle.ct_props.specs.declared.props.Props.{Props}
+use Rattle.ct_props.specs.PropsOf.{HasProps}
+use Rattle.ct_props.specs.declared.wanted.Choice.{Choice}
+use Rattle.ct_props.specs.Numbered.{at_number}
+use Rattle.ct_select.specs.Chosen.{chosen_tests}
+use Rattle.ct_fixture.specs.Drawing.{after_rounds, members_of}
+use Rattle.ct_history.specs.Plan.{IsAscendingFrom, enabled}
+use Rattle.ct_history.specs.declared.plan.PlanTest.{PlanTest}
+use Rattle.ct_plan.specs.Source.{HaveProps}
+
+-- each number is of one of so many tests
+abbrev pub AreOfTests : ℕ → List ℕ → Type 0
+AreOfTests count numbers = All (λ number. (0 < number) × (number ≤ count)) numbers
+
+range_ascends : (first count : ℕ) → IsAscendingFrom first (range_with_len first count)
+range_ascends first zero = tt
+range_ascends first (suc count) = (omega arith, range_ascends (first + 1) count)
+
+ascends_sooner : (least first : ℕ) (numbers : List ℕ) → least ≤ first → IsAscendingFrom first numbers → IsAscendingFrom least numbers
+ascends_sooner least first [] sooner ascends = tt
+ascends_sooner least first (n ∷ ns) sooner ascends = (omega (arith, ascends.0), ascends.1)
+
+-- numbers that ascend, with one in front or without it
+ascends_with : (least first : ℕ) (numbers : List ℕ) → least ≤ first → IsAscendingFrom (first + 1) numbers → (b : Bool) → IsAscendingFrom least (cond b (first ∷ numbers) numbers)
+ascends_with least first numbers low rest true = (low, rest)
+ascends_with least first numbers low rest false = ascends_sooner least (first + 1) numbers (omega (arith, low)) rest
+
+-- some of the numbers that ascend do so
+pub ascends-filter : (p : ℕ → Bool) (least : ℕ) (numbers : List ℕ) → IsAscendingFrom least numbers → IsAscendingFrom least (filter p numbers)
+ascends-filter p least [] ascends = tt
+ascends-filter p least (n ∷ ns) ascends = ascends_with least n (filter p ns) ascends.0 (ascends-filter p (n + 1) ns ascends.1) (p n)
+
+all_behind : (least : ℕ) (numbers : List ℕ) → IsAscendingFrom least numbers → All (λ number. least ≤ number) numbers
+all_behind least [] ascends = All-nil (λ number. least ≤ number)
+all_behind least (n ∷ ns) ascends =
+    All-cons (λ number. least ≤ number) n ns ascends.0
+    (All-weaker (λ number. n + 1 ≤ number) (λ number. least ≤ number) (λ number more. omega (arith, more, ascends.0)) ns (all_behind (n + 1) ns ascends.1))
+
+-- of numbers that ascend, each is below those behind it
+pub pairs_ascend : (least : ℕ) (numbers : List ℕ) → IsAscendingFrom least numbers → AllPairs (λ one other. one < other) numbers
+pairs_ascend least [] ascends = λ i j d before within. absurd (omega (arith, before, within))
+pairs_ascend least (n ∷ ns) ascends =
+    AllPairs-cons (λ one other. one < other) n ns
+    (All-weaker (λ number. n + 1 ≤ number) (λ number. n < number) (λ number more. omega (arith, more)) ns (all_behind (n + 1) ns ascends.1))
+    (pairs_ascend (n + 1) ns ascends.1)
+
+pub increase : (numbers : List ℕ) → IsAscendingFrom 1 numbers → IsStrictlyIncreasing numbers
+increase numbers ascends = λ k within. pairs_ascend 1 numbers ascends k (k + 1) 0 (omega arith) within
+
+range_of_tests : (count : ℕ) → AreOfTests count (range_with_len 1 count)
+range_of_tests count = All-from_get_or (λ number. (0 < number) × (number ≤ count)) (range_with_len 1 count) 0 (λ k within.
+    let long : length (range_with_len 1 count) ≡ count = length-range_with_len 1 count in
+    let here : get_or (range_with_len 1 count) k 0 ≡ 1 + k = get_or-range_with_len 1 count k 0 (omega (arith, long)) in
+    (omega (arith, here), omega (arith, here, long)))
+
+-- what the numbers of some of the tests keep
+pub record AreSome (count : ℕ) (numbers : List ℕ) : Type 0 where
+  pub ascend : IsAscendingFrom 1 numbers
+  pub of_tests : AreOfTests count numbers
+
+pub some-filter : (p : ℕ → Bool) (count : ℕ) → AreSome count (filter p (range_with_len 1 count))
+some-filter p count = record {
+  ascend = ascends-filter p 1 (range_with_len 1 count) (range_ascends 1 count);
+  of_tests = All-filter p (λ number. (0 < number) × (number ≤ count)) (range_with_len 1 count) (range_of_tests count);
+}
+
+some-rounds : (choice : Choice) (props : List Props) (chosen : List ℕ) (rounds : ℕ) → AreSome (length props) chosen → AreSome (length props) (after_rounds choice props chosen rounds)
+some-rounds choice props chosen zero some = some
+some-rounds choice props chosen (suc rounds) some = some-filter _ (length props)
+
+-- so are the chosen tests
+pub some-chosen : (choice : Choice) (defs : List TestDef) (props : List Props) → length props ≡ length defs → AreSome (length props) (chosen_tests defs props choice)
+some-chosen choice defs props paired = subst (λ count. AreSome count (chosen_tests defs props choice)) (sym paired) (some-filter _ (length defs))
+
+-- the members of a run are some of its tests
+pub some-members : (choice : Choice) (defs : List TestDef) (props : List Props) → length props ≡ length defs → AreSome (length defs) (members_of choice props (chosen_tests defs props choice))
+some-members choice defs props paired =
+    subst (λ count. AreSome count (members_of choice props (chosen_tests defs props choice))) paired
+    (some-rounds choice props (chosen_tests defs props choice) (length props)
+    (some-chosen choice defs props paired))
+
+-- the numbers of tests, where one of them may be left out
+numbers_with : (t : PlanTest) (ts : List PlanTest) (b : Bool) → map (λ (u : PlanTest). u.number) (cond b (t ∷ ts) ts) ≡ cond b (t.number ∷ map (λ (u : PlanTest). u.number) ts) (map (λ (u : PlanTest). u.number) ts)
+numbers_with t ts true = refl
+numbers_with t ts false = refl
+
+enabled_ascend : (least : ℕ) (tests : List PlanTest) → IsAscendingFrom least (map (λ (t : PlanTest). t.number) tests) → IsAscendingFrom least (map (λ (t : PlanTest). t.number) (enabled tests))
+enabled_ascend least [] ascends = tt
+enabled_ascend least (t ∷ ts) ascends =
+    subst (IsAscendingFrom least) (sym (numbers_with t (enabled ts) (not t.disabled)))
+    (ascends_with least t.number (map (λ (u : PlanTest). u.number) (enabled ts)) ascends.0 (enabled_ascend (t.number + 1) ts ascends.1) (not t.disabled))
+
+of_tests_with : (count first : ℕ) (numbers : List ℕ) → (0 < first) × (first ≤ count) → AreOfTests count numbers → (b : Bool) → AreOfTests count (cond b (first ∷ numbers) numbers)
+of_tests_with count first numbers here rest true = All-cons (λ number. (0 < number) × (number ≤ count)) first numbers here rest
+of_tests_with count first numbers here rest false = rest
+
+enabled_of_tests : (count : ℕ) (tests : List PlanTest) → AreOfTests count (map (λ (t : PlanTest). t.number) tests) → AreOfTests count (map (λ (t : PlanTest). t.number) (enabled tests))
+enabled_of_tests count [] of_tests = All-nil (λ number. (0 < number) × (number ≤ count))
+enabled_of_tests count (t ∷ ts) of_tests =
+    let numbers = map (λ (u : PlanTest). u.number) ts in
+    subst (AreOfTests count) (sym (numbers_with t (enabled ts) (not t.disabled)))
+    (of_tests_with count t.number (map (λ (u : PlanTest). u.number) (enabled ts))
+    (All-head (λ number. (0 < number) × (number ≤ count)) t.number numbers of_tests)
+    (enabled_of_tests count ts (All-tail (λ number. (0 < number) × (number ≤ count)) t.number numbers of_tests))
+    (not t.disabled))
+
+-- so are those of the tests that are not disabled
+pub some-enabled : (count : ℕ) (tests : List PlanTest) → AreSome count (map (λ (t : PlanTest). t.number) tests) → AreSome count (map (λ (t : PlanTest). t.number) (enabled tests))
+some-enabled count tests some = record { ascend = enabled_ascend 1 tests some.ascend; of_tests = enabled_of_tests count tests some.of_tests }
+
+-- what two lists that go together have at a place
+abbrev HasBoth : List TestDef → ℕ → Props → Type 0
+HasBoth defs place own = (def : TestDef) × (slice_get defs place ≡ Some def) × HasProps def own
+
+both_there : (defs : List TestDef) (props : List Props) (place : ℕ) (own : Props) → HaveProps defs props → slice_get props place ≡ Some own → HasBoth defs place own
+both_there [] [] place own have is = let no : None ≡ Some own = is in absurd (cc)
+both_there [] (p ∷ ps) place own have is = absurd have
+both_there (d ∷ ds) [] place own have is = absurd have
+both_there (d ∷ ds) (p ∷ ps) zero own have is = let same : Some p ≡ Some own = is in (d, refl, subst (HasProps d) (cc) have.0)
+both_there (d ∷ ds) (p ∷ ps) (suc place) own have is = both_there ds ps place own have.1 is
+
+-- where a test has properties it is there, and they are its own
+pub def_of_own : (defs : List TestDef) (props : List Props) → HaveProps defs props → (number : ℕ) (own : Props) → at_number props number ≡ Some own → (def : TestDef) × (at_number defs number ≡ Some def) × HasProps def own
+def_of_own defs props have zero own is = let no : None ≡ Some own = is in absurd (cc)
+def_of_own defs props have (suc place) own is = both_there defs props place own have is

@@ -1,0 +1,80 @@
+-- What a plan says of a test: what its properties ask for, and what keeps it from running.
+-- Source: CMake manual, cmake-properties(7), DISABLED, LABELS, PASS_REGULAR_EXPRESSION, PROCESSORS, RESOURCE_GROUPS,
+-- RESOURCE_LOCK, RUN_SERIAL, SKIP_RETURN_CODE, WILL_FAIL; add_test. That a test takes the level at most is this project's choice.
+use Rattle.std.specs.Prelude.{◌≡◌, ℕ, ⊤, min, Bool, false, not, bytes_eq, codes, List, [], ◌∷◌, length, Option, Some, None, option_map, ◌==◌, if◌then◌else◌}
+use Rattle.ct_base.specs.declared.defs.Need.{Need}
+use Rattle.ct_base.specs.declared.defs.Resource.{Resource}
+use Rattle.ct_base.specs.declared.defs.TestDef.{TestDef}
+use Rattle.ct_alloc.specs.Placement.{SomeFits}
+use Rattle.ct_props.specs.declared.props.Props.{Props}
+use Rattle.ct_props.specs.Numbered.{at_number}
+use Rattle.ct_env.specs.Modification.{first_bad}
+use Rattle.ct_verdict.specs.declared.rules.Rules.{Rules}
+use Rattle.ct_verdict.specs.declared.verdict.Cause.{Cause}
+use Rattle.ct_verdict.specs.declared.verdict.Cause.TheVariants.{NotAvailable, BadOperation, Insufficient}
+use Rattle.ct_history.specs.declared.plan.PlanTest.{PlanTest}
+use Rattle.ct_plan.specs.Source.{Source, members_before, setup_members}
+
+-- how an exit of the test is judged
+abbrev pub rules_of : Props → Rules
+rules_of props = record { pass_wanted = not (length props.pass == 0); skip_code = props.skip_code; will_fail = props.will_fail }
+
+-- the command stands for a program that is not there
+abbrev pub is_not_available : List (List ℕ) → Bool
+is_not_available [] = false
+is_not_available (word ∷ []) = bytes_eq word (codes "NOT_AVAILABLE")
+is_not_available (word ∷ other ∷ others) = false
+
+-- why the test can't run, by its own words: its program is not there, or an entry of its modification names no operation
+abbrev pub own_cause : TestDef → Props → Option Cause
+own_cause def props = if is_not_available def.command then Some NotAvailable else option_map BadOperation (first_bad props.modification)
+
+-- the needs fit on the resources while nothing is used; where none are given they play no part
+abbrev pub ArePlaceable : Option (List Resource) → List Need → Type 0
+ArePlaceable None needs = ⊤
+ArePlaceable (Some resources) needs = SomeFits resources needs (λ place. 0)
+
+-- why a test can't run, of which its own words say this and whose needs may fit or not
+abbrev pub IsFixedBy : Option Cause → Type 0 → Option Cause → Type 0
+IsFixedBy (Some own) Fits cause = cause ≡ Some own
+IsFixedBy None Fits None = Fits
+IsFixedBy None Fits (Some Insufficient) = Fits → ⊥
+IsFixedBy None Fits (Some _) = ⊥
+
+-- why the test can't run at all, where anything keeps it from that: its own words first, else that its needs fit nowhere
+abbrev pub IsFixed : Option (List Resource) → TestDef → Props → Option Cause → Type 0
+IsFixed resources def props cause = IsFixedBy (own_cause def props) (ArePlaceable resources props.groups.needs) cause
+
+-- what the plan says of the test with this number, with this rank, and with what keeps it from running
+abbrev pub planned_test : Source → ℕ → TestDef → Props → ℕ → Option Cause → PlanTest
+planned_test s number def props rank fixed = record {
+  number = number;
+  name = def.name;
+  disabled = props.disabled;
+  processors = min props.processors s.wanted.level;
+  locks = props.locks;
+  serial = props.serial;
+  rules = rules_of props;
+  needs = props.groups.needs;
+  before = members_before s number;
+  setups = setup_members s number;
+  rank = rank;
+  fixed = fixed;
+  labels = props.labels;
+}
+
+-- this is what a plan says of the test with this number; its rank is left open
+pub record IsPlannedTest (s : Source) (number : ℕ) (test : PlanTest) : Type 0 where
+  pub def : TestDef
+  pub props : Props
+  pub def_is : at_number s.defs number ≡ Some def
+  pub props_are : at_number s.props number ≡ Some props
+  pub fixed : IsFixed s.resources def props test.fixed
+  pub is : test ≡ planned_test s number def props test.rank test.fixed
+
+-- so are these tests, one for each of these numbers, in order
+abbrev pub ArePlannedTests : Source → List ℕ → List PlanTest → Type 0
+ArePlannedTests s [] [] = ⊤
+ArePlannedTests s [] (test ∷ tests) = ⊥
+ArePlannedTests s (number ∷ numbers) [] = ⊥
+ArePlannedTests s (number ∷ numbers) (test ∷ tests) = IsPlannedTest s number test × ArePlannedTests s numbers tests

@@ -1,0 +1,81 @@
+//! What is planned of a run: the queue, or why there is no plan.
+//!
+//! In a row stand the words of a command line, the tests, and what earlier runs left, where `/`
+//! stands for the end of a line.
+
+ghost use Rattle.std.specs.Prelude.{IfOk};
+ghost use Rattle.ct_plan.specs.Source.{HaveProps};
+
+use crate::rows::{Tests, def_of, invocation_of, told};
+use ct_base::{List, NoMemory};
+use ct_cost::CostData;
+use ct_history::Plan;
+use ct_plan::{PlanFault, plan};
+use ct_props::{PropFault, Props};
+use std::alloc::Global;
+use std::process::Abort;
+use std::test::Fail;
+
+/// Rows, and the queue of each.
+const QUEUES: &str = "\
+-j1 | a COST=1, b COST=5, c COST=5 | is 1,2,3
+-j2 | a COST=1, b COST=5, c COST=5 | is 2,3,1
+-j2 | a COST=1, b COST=5, c COST=5 | ---/a is 1,2,3
+-j1 | a COST=1, b COST=5, c COST=5 | ---/c is 1,2,3
+-j2 | a COST=1, b COST=5, c COST=5 | ---/c/b is 2,3,1
+-j2 | a, b, c | b 1 9.000000/--- is 2,1,3
+-j2 | a COST=10, b | b 1 9.000000/--- is 1,2
+-j2 | a off COST=9, b COST=1, c COST=2 | is 3,2
+-j2 -R b | s setup=f, b required=f COST=3, d COST=9 | is 2,1
+";
+
+/// The tests of a row with their properties, which belong together.
+fn tests_of(alloc: Global, text: &str) -> Result<Tests, PropFault>
+    ensures { IfOk result (λ tests. HaveProps tests.defs tests.props) }
+{
+    let mut tests = Tests {
+        defs: List::new(alloc),
+        props: List::new(alloc),
+    };
+    for row in text.split(", ") {
+        let def = def_of(alloc, row)?;
+        tests.props.push(Props::of(alloc, &def)?)?;
+        tests.defs.push(def)?;
+    }
+    Ok(tests)
+}
+
+/// What earlier runs left, with `/` for the end of a line.
+fn costs_of(alloc: Global, text: &str) -> Result<CostData, NoMemory> {
+    let mut bytes = Vec::new(alloc);
+    for byte in text.as_bytes() {
+        bytes.push(if *byte == b'/' { b'\n' } else { *byte })?;
+    }
+    bytes.push(b'\n')?;
+    CostData::read(alloc, bytes.as_slice())
+}
+
+/// The plan of a row, or why there is none.
+fn plan_of(rt: &impl Abort, alloc: Global, given: &str) -> Result<Result<Plan, PlanFault>, Fail> {
+    let (words, rest) = given.split_once(" | ").unwrap_or((given, ""));
+    let (tests, left) = rest.split_once(" |").unwrap_or((rest, ""));
+    let invocation = invocation_of(rt, alloc, words)?;
+    let wanted = &invocation.wanted;
+    let tests = tests_of(alloc, tests)?;
+    let costs = costs_of(alloc, left.trim())?;
+    assert!(rt; tests.defs.len() < 100, "{given}");
+    assert!(rt; wanted.level >= 1 && wanted.repeat.times >= 1, "{given}");
+    Ok(plan(alloc, &tests.defs, &tests.props, wanted, None, &costs))
+}
+
+#[test]
+fn queues_failed_tests_and_then_the_costliest(rt: HostRuntime) -> Result<(), Fail> {
+    let alloc = rt.alloc();
+    for row in QUEUES.lines() {
+        let (given, want) = row.split_once(" is ").unwrap_or((row, ""));
+        let plan = plan_of(&rt, alloc, given)??;
+        let queue = told(alloc, plan.parts().queue.as_slice())?;
+        assert_eq!(rt; queue.as_str(), want, "{row}");
+    }
+    Ok(())
+}

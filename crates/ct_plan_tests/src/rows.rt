@@ -1,0 +1,126 @@
+//! Rows that stand for tests, for words and for numbers.
+//!
+//! In a row `, ` stands between the tests. A test is its name, and behind spaces its properties: a
+//! key and its value, or `off` for a disabled test.
+
+ghost use Rattle.std.specs.Prelude.{◌<◌, ◌≤◌, All};
+ghost use Rattle.std.specs.Bool.{OnTrue};
+
+use ct_args::{Invocation, UsageFault, read_words};
+use ct_base::{List, Name, NoMemory, Pair, TestDef};
+use ct_props::{PropFault, Props};
+use ct_select::select;
+use std::alloc::{AllocError, Global};
+use std::process::Abort;
+
+/// Tests and their properties, which belong together by place.
+#[derive(Drop)]
+pub(crate) struct Tests {
+    pub(crate) defs: List<TestDef>,
+    pub(crate) props: List<Props>,
+}
+
+pub(crate) fn tests_of(alloc: Global, text: &str) -> Result<Tests, PropFault> {
+    let mut tests = Tests {
+        defs: List::new(alloc),
+        props: List::new(alloc),
+    };
+    for row in text.split(", ") {
+        let def = def_of(alloc, row)?;
+        tests.props.push(Props::of(alloc, &def)?)?;
+        tests.defs.push(def)?;
+    }
+    Ok(tests)
+}
+
+pub(crate) fn def_of(alloc: Global, row: &str) -> Result<TestDef, NoMemory> {
+    let mut cells = row.split(' ');
+    let name = Name::of(alloc, cells.next().unwrap_or("").as_bytes())?;
+    let mut props = List::new(alloc);
+    for cell in cells {
+        let (key, value) = cell.split_once('=').unwrap_or((cell, "ON"));
+        props.push(Pair {
+            name: Name::of(alloc, key_of(key).as_bytes())?,
+            value: Name::of(alloc, value.as_bytes())?,
+        })?;
+    }
+    Ok(TestDef {
+        name,
+        command: List::new(alloc),
+        dir: Name::of(alloc, b".")?,
+        props,
+        dir_labels: List::new(alloc),
+    })
+}
+
+/// The key that a word of a row stands for.
+fn key_of(word: &str) -> &str {
+    match word {
+        "off" => "DISABLED",
+        "depends" => "DEPENDS",
+        "setup" => "FIXTURES_SETUP",
+        "required" => "FIXTURES_REQUIRED",
+        "cleanup" => "FIXTURES_CLEANUP",
+        "labels" => "LABELS",
+        other => other,
+    }
+}
+
+/// The words of a command line, which have a space between. `''` is an empty word.
+fn words_of(alloc: Global, text: &str) -> Result<List<Name>, NoMemory> {
+    let mut words = List::new(alloc);
+    for word in text.split(' ') {
+        if !word.is_empty() {
+            let word = if word == "''" { "" } else { word };
+            words.push(Name::of(alloc, word.as_bytes())?)?;
+        }
+    }
+    Ok(words)
+}
+
+pub(crate) fn invocation_of(
+    rt: &impl Abort,
+    alloc: Global,
+    text: &str,
+) -> Result<Invocation, UsageFault> {
+    let words = words_of(alloc, text)?;
+    assert!(rt; words.len() < 100, "{text}");
+    read_words(alloc, words.as_slice())
+}
+
+/// Tells whether each is the number of one of so many tests.
+pub(crate) fn are_within(numbers: &[u32], count: usize) -> bool
+    ensures { OnTrue result (All (λ number. (0 < number) × (number ≤ count)) numbers.now) }
+{
+    for number in numbers {
+        if *number == 0 || (*number as usize) > count {
+            return false;
+        }
+    }
+    true
+}
+
+/// The tests that the invocation chooses.
+pub(crate) fn chosen(
+    rt: &impl Abort,
+    alloc: Global,
+    tests: &Tests,
+    invocation: &Invocation,
+) -> Result<List<u32>, NoMemory> {
+    assert!(rt; tests.defs.len() == tests.props.len());
+    assert!(rt; tests.defs.len() < 100);
+    select(alloc, &tests.defs, &tests.props, &invocation.wanted.choice)
+}
+
+/// The numbers with a `,` between, and `none` where there is none.
+pub(crate) fn told(alloc: Global, numbers: &[u32]) -> Result<String, AllocError> {
+    if numbers.is_empty() {
+        return format!(in alloc; "none");
+    }
+    let mut told = String::new(alloc);
+    for number in numbers {
+        let between = if told.is_empty() { "" } else { "," };
+        told = format!(in alloc; "{told}{between}{number}")?;
+    }
+    Ok(told)
+}
