@@ -1,0 +1,5 @@
+if(CTEST_CONFIGURATION_TYPE MATCHES "^([Dd][Ee][Bb][Uu][Gg])$")
+  add_test(unit "/bin/true")
+else()
+  add_test(unit NOT_AVAILABLE)
+endif()

@@ -1,0 +1,6 @@
+add_test(old "/bin/true")
+add_test(builds "/bin/true")
+add_test(links "/bin/true")
+set_tests_properties(old PROPERTIES DISABLED ON LABELS "gone")
+set_tests_properties(builds PROPERTIES LABELS "fast;core")
+set_tests_properties(links PROPERTIES LABELS "core")

@@ -1,0 +1,2 @@
+add_test(settles "./settles")
+add_test(fails "/bin/false")

@@ -1,0 +1,8 @@
+add_test(cheap "/bin/false")
+add_test(dear "/bin/true")
+add_test(dearer "/bin/true")
+add_test(last "/bin/true")
+set_tests_properties(cheap PROPERTIES COST 1)
+set_tests_properties(dear dearer PROPERTIES COST 5)
+set_tests_properties(dearer PROPERTIES COST 7.5)
+set_tests_properties(last PROPERTIES COST 100 DEPENDS "cheap;nobody")

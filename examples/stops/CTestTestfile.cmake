@@ -1,0 +1,3 @@
+add_test(fails "/bin/false")
+add_test(second "/bin/true")
+add_test(third "/bin/true")
