@@ -140,3 +140,72 @@ fn either(one: bool, other: bool) -> bool
 {
     one || other
 }
+
+#[cfg(test)]
+mod tests {
+    use super::*;
+    use crate::RegexFault;
+
+    /// A pattern, a text, and for each front of the text, from the empty one on, whether the pattern
+    /// hits it: a row a line, with a space between the cells.
+    const ROWS: &str = "\
+(a|b)*a(a|b)(a|b)(a|b)c bbbbcabcabbbcc -------------++
+x.*y.*z$ yxzxyzzaz ------++-+
+(a|a)*b aaaba ----++
+a..$ abaabbba ---+-++--
+^(a|b)*c$ abcab ---+--
+^b|ab*$ cbabcb ---++--
+";
+
+    /// Tells whether a scan says of a front of the text what the row says, and so does `hit`, which has
+    /// room for each set that it meets.
+    fn agrees(
+        alloc: Global,
+        scan: &Scan,
+        regex: &Regex,
+        front: &[u8],
+        says: &str,
+    ) -> Result<bool, NoMemory> {
+        let said = if scan.ended() { b'+' } else { b'-' };
+        let is_said = says.as_bytes().get(front.len()) == Some(&said);
+        Ok(is_said && scan.ended() == regex.hit(alloc, front)?)
+    }
+
+    /// Tells whether a scan with room for so many sets is right on the row between pieces of so many
+    /// bytes, and behind the last one.
+    fn is_right(alloc: Global, row: &str, sets: u16, size: usize) -> Result<bool, RegexFault>
+        requires sets { 0 < sets }
+        requires size { 0 < size }
+    {
+        let mut cells = row.split(' ');
+        let regex = Regex::parse(alloc, cells.next().unwrap_or("").as_bytes())?;
+        let text = cells.next().unwrap_or("").as_bytes();
+        let says = cells.next().unwrap_or("");
+        let mut scan = Scan::with_room(alloc, &regex, sets)?;
+        let mut is_right = true;
+        for at in 0..text.len() {
+            if at % size == 0 {
+                is_right &= agrees(alloc, &scan, &regex, &text[..at], says)?;
+                let rest = &text[at..];
+                scan.feed(&rest[..size.min(rest.len())]);
+            }
+        }
+        Ok(is_right && agrees(alloc, &scan, &regex, text, says)?)
+    }
+
+    #[test]
+    fn stays_right_with_little_room(rt: HostRuntime) {
+        for row in ROWS.lines() {
+            for sets in 1..4 {
+                for size in 1..15 {
+                    let found = is_right(rt.alloc(), row, sets, size);
+                    assert_eq!(rt;
+                        found,
+                        Ok(true),
+                        "{row}: room for {sets} sets, pieces of {size} bytes"
+                    );
+                }
+            }
+        }
+    }
+}
