@@ -1,13 +1,12 @@
 -- Bounds on packings: what the sizes weigh is at most what the free slots weigh.
-use Rattle.std.proofs.Common.{◌≡◌, ◌∙◌, sym, ap, subst, refl, ℕ, zero, suc, ◌+◌, ◌-◌, ◌*◌, ◌/◌, ◌<◌, ◌≤◌, Bool, true, false, cond, List, [], ◌∷◌, length, drop, get_or, arith, drop-cons}
+use Rattle.std.proofs.Common.{◌≡◌, ◌∙◌, sym, ap, refl, ℕ, suc, ◌+◌, ◌-◌, ◌*◌, ◌/◌, ◌<◌, ◌≤◌, Bool, true, false, cond, List, [], ◌∷◌, length, drop, get_or, arith, drop-cons}
 use Rattle.std.specs.Prelude.{sum_by, nat_le}
 use Rattle.std.specs.List.{remove}
-use Rattle.std.proofs.Math.ListN.{set}
 use Rattle.std.proofs.lemmas.List.Sums.{sum_by-cons, sum_by-set}
 use Rattle.std.proofs.Math.Nat.{div-mul-le_self}
 use Rattle.std.proofs.lemmas.Nat.{le-div}
 use Rattle.std.proofs.lemmas.Bool.Decides.{nat_tests}
-use Rattle.ct_alloc.specs.Packing.{IsPacking, CanPack, CannotPack, one_from, reaching, rooms}
+use Rattle.ct_alloc.specs.Packing.{IsPacking, CannotPack, one_from, reaching, rooms}
 use Rattle.ct_alloc.proofs.PackLemmas.{left, packing-less}
 
 -- a size weighs at most what its card then weighs less

@@ -1,11 +1,11 @@
 -- Packings, one size after another: a packing is one of a size's card and of the other sizes on what is left free.
-use Rattle.std.proofs.Common.{◌≡◌, ◌≢◌, ◌∙◌, sym, ap, subst, refl, ℕ, zero, suc, ◌+◌, ◌-◌, ◌<◌, ◌≤◌, Bool, true, false, cond, ◌==◌, List, [], ◌∷◌, ◌++◌, length, take, drop, get_or, arith, nat_lt, length-set, get_or-set_same, get_or-set_other, set-set, below_more}
+use Rattle.std.proofs.Common.{◌≡◌, ◌≢◌, ◌∙◌, sym, ap, subst, refl, ℕ, zero, suc, ◌+◌, ◌-◌, ◌<◌, ◌≤◌, Bool, true, false, cond, ◌==◌, List, [], ◌∷◌, length, get_or, arith, nat_lt, length-set, get_or-set_same, get_or-set_other, set-set, below_more}
 use Rattle.std.proofs.lemmas.List.{set-get_or}
 use Rattle.std.specs.List.{insert, remove, list_all}
 use Rattle.std.proofs.Math.ListN.{set}
-use Rattle.std.proofs.lemmas.Bool.{and_parts, and_from, cases_Bool}
+use Rattle.std.proofs.lemmas.Bool.{and_parts, and_from}
 use Rattle.std.proofs.lemmas.Bool.Decides.{nat_tests}
-use Rattle.ct_alloc.specs.Packing.{load, IsPacking, CanPack, CannotPack}
+use Rattle.ct_alloc.specs.Packing.{load, IsPacking, CannotPack}
 
 -- what a size at a card adds to the load of a card
 abbrev pub share : ℕ → ℕ → ℕ → ℕ

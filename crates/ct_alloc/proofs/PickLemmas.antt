@@ -1,6 +1,6 @@
 -- The slots that picks take of a resource, pick by pick, and what it is to fit, resource by resource.
-use Rattle.std.proofs.Common.{◌≡◌, ◌≢◌, ◌∙◌, sym, ap, subst, refl, ℕ, zero, suc, ◌+◌, ◌-◌, ◌<◌, ◌≤◌, ◌^◌, ◌⊎◌, inl, inr, ⊎_elim, Bool, true, false, cond, ◌==◌, List, [], ◌∷◌, ◌++◌, length, map, take, drop, append-nil, get_or, arith, nat_lt, length-set, get_or-set_same, get_or-set_other, drop-cons, leb-true}
-use Rattle.std.specs.Prelude.{nat_le, slice_get, None, filter, sum_by, ◌&&◌}
+use Rattle.std.proofs.Common.{◌≡◌, ◌≢◌, ◌∙◌, sym, ap, subst, refl, ℕ, zero, suc, ◌+◌, ◌-◌, ◌<◌, ◌≤◌, ◌^◌, ◌⊎◌, inl, inr, ⊎_elim, Bool, true, false, cond, ◌==◌, List, [], ◌∷◌, ◌++◌, length, take, drop, append-nil, get_or, arith, nat_lt, length-set, get_or-set_same, get_or-set_other, drop-cons, leb-true}
+use Rattle.std.specs.Prelude.{nat_le, slice_get, None, filter}
 use Rattle.std.specs.List.{list_all}
 use Rattle.std.proofs.Math.ListN.{set}
 use Rattle.std.proofs.lemmas.List.{drop_all, take_all}

@@ -1,5 +1,5 @@
 -- Placements and the places of their picks: the one fits where the other is met.
-use Rattle.std.proofs.Common.{◌≡◌, ◌∙◌, sym, ap, subst, refl, ℕ, zero, suc, ◌+◌, ◌-◌, ◌<◌, ◌≤◌, Bool, true, false, cond, ◌==◌, List, [], ◌∷◌, ◌++◌, length, map, take, get_or, arith, nat_lt}
+use Rattle.std.proofs.Common.{◌≡◌, ◌∙◌, sym, ap, subst, refl, ℕ, zero, suc, ◌+◌, ◌<◌, ◌≤◌, Bool, true, false, cond, ◌==◌, List, [], ◌∷◌, ◌++◌, length, map, take, get_or, arith, nat_lt}
 use Rattle.std.specs.Prelude.{◌&&◌, slice_get, Option, Some, None, bytes_eq}
 use Rattle.std.proofs.lemmas.List.{map-append, take_all, take_more}
 use Rattle.std.proofs.lemmas.Bool.{and_parts, and_from}
@@ -8,7 +8,7 @@ use Rattle.std.proofs.lemmas.Slice.Eq.{bytes_eq-Decides}
 use Rattle.ct_base.specs.declared.defs.Need.{Need}
 use Rattle.ct_base.specs.declared.defs.Resource.{Resource}
 use Rattle.ct_alloc.specs.declared.placement.Pick.{Pick}
-use Rattle.ct_alloc.specs.Placement.{SomeFits, fits_beside, is_placement, meets, names_resource, slots_at}
+use Rattle.ct_alloc.specs.Placement.{fits_beside, is_placement, meets, names_resource, slots_at}
 use Rattle.ct_alloc.specs.Free.{FreeValue, IsFitting, IsWithinSlots, NoneFits, are_there, free_at, slot_counts, used_at}
 use Rattle.ct_alloc.specs.Packing.{load}
 use Rattle.ct_alloc.specs.Spread.{IsSpread, NoneSpread, are_of_kind, is_of_kind, sizes_of}

@@ -1,10 +1,10 @@
 -- Of cards with the same free slots one stands for all: packings with the two in each other's place.
-use Rattle.std.proofs.Common.{◌≡◌, ◌≢◌, ◌∙◌, sym, ap, subst, refl, ℕ, ◌+◌, ◌-◌, ◌<◌, ◌≤◌, ◌⊎◌, ⊎_elim, Bool, true, false, cond, ◌==◌, List, [], ◌∷◌, length, map, get_or, arith, nat_lt, length-set, get_or-set_same, get_or-set_other}
+use Rattle.std.proofs.Common.{◌≡◌, ◌≢◌, ◌∙◌, sym, ap, subst, refl, ℕ, ◌-◌, ◌<◌, Bool, true, false, cond, ◌==◌, List, [], ◌∷◌, length, map, get_or, arith, nat_lt, length-set, get_or-set_same, get_or-set_other}
 use Rattle.std.specs.List.{remove, list_all}
 use Rattle.std.proofs.lemmas.Bool.{and_parts, and_from}
 use Rattle.std.proofs.lemmas.Bool.Decides.{nat_tests}
 use Rattle.std.proofs.lemmas.List.{length-map}
-use Rattle.ct_alloc.specs.Packing.{load, IsNotWorth, IsPacking}
+use Rattle.ct_alloc.specs.Packing.{load, IsPacking}
 use Rattle.ct_alloc.proofs.PackLemmas.{IsHopeless, left, share}
 
 -- the card in the other one's place
@@ -82,11 +82,3 @@ hopeless-twin free sizes k one other a b apart same none = λ fits some.
         room = λ place. (let le = packs.room (twin one other place) in omega (arith, le, twin-load one other place (remove sizes k) some.0, twin-left free one other (get_or sizes k 0) place a b apart same));
       },
     )
-
-pub hopeless-not : (free sizes : List ℕ) (k card : ℕ) → card < length free → IsNotWorth free card (get_or sizes k 0) → ((tried : ℕ) → tried < card → IsHopeless free sizes k tried) → IsHopeless free sizes k card
-hopeless-not free sizes k card inside not tried = ⊎_elim
-    (λ (less : get_or free card 0 < get_or sizes k 0). λ fits. absurd (omega arith))
-    (λ (twin_card : (first : ℕ) × (first < card) × (get_or free first 0 ≡ get_or free card 0)).
-    (let before : twin_card.0 < card = twin_card.1 in
-    hopeless-twin free sizes k twin_card.0 card (omega arith) inside (omega arith) twin_card.2 (tried twin_card.0 before)))
-    not

@@ -23,9 +23,15 @@ CanPack free sizes = (cards : List ℕ) × IsPacking free sizes cards
 abbrev pub CannotPack : List ℕ → List ℕ → Type 0
 CannotPack free sizes = CanPack free sizes → ⊥
 
--- the card has no room for the size, or an earlier one has as much room
-abbrev pub IsNotWorth : List ℕ → ℕ → ℕ → Type 0
-IsNotWorth free card size = (slice_index free card < size) ⊎ ((first : ℕ) × (first < card) × (slice_index free first ≡ slice_index free card))
+-- in each packing, a size equal to this one is on a card with less room than this
+abbrev pub LiesBelow : List ℕ → List ℕ → ℕ → ℕ → Type 0
+LiesBelow free sizes size room = (cards : List ℕ) (at : ℕ) → IsPacking free sizes cards → at < length sizes → slice_index sizes at ≡ size → slice_index free (slice_index cards at) < room
+
+-- the card has room for the size: just its room, or the most of all cards with less room than this
+pub record IsNext (free : List ℕ) (size room card : ℕ) : Type 0 where
+  pub there : card < length free
+  pub fits : size ≤ slice_index free card
+  pub chosen : (slice_index free card ≡ size) ⊎ ((slice_index free card < room) × ((other : ℕ) → other < length free → slice_index free other < room → slice_index free other ≤ slice_index free card))
 
 -- an amount, where it reaches a least one
 abbrev pub reaching : ℕ → ℕ → ℕ

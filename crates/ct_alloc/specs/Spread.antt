@@ -31,6 +31,11 @@ pub record IsSpread (free : FreeValue) (needs : List Need) (places : List ℕ) :
 abbrev pub NoneSpread : FreeValue → List Need → Type 0
 NoneSpread free needs = (places : List ℕ) → IsSpread free needs places → ⊥
 
+-- the resource at the place is of the need's kind, and has its slots free
+pub record HasRoom (free : FreeValue) (need : Need) (place : ℕ) : Type 0 where
+  pub kind : is_of_kind need.kind (slice_get free.resources place) ≡ true
+  pub room : need.slots ≤ free_at free place
+
 -- the need has this kind
 abbrev pub asks_kind : List ℕ → Need → Bool
 asks_kind kind need = bytes_eq need.kind kind

@@ -5,13 +5,23 @@ ghost use Rattle.ct_alloc.specs.Packing.{CannotPack, one_from, reaching, rooms};
 pub fn is_overfull(free: &[u32], sizes: &[u32]) -> bool
     ensures { result ≡ true → CannotPack free.now sizes.now }
 {
-    for least in sizes {
-        if sum_from(free, *least) < sum_from(sizes, *least) {
+    for (at, least) in sizes.iter().enumerate() {
+        if !sizes[..at].contains(least) && is_overfull_from(free, sizes, *least) {
             return true;
         }
-        if 0 < *least && rooms_for(free, *least) < count_from(sizes, *least) {
-            return true;
-        }
+    }
+    false
+}
+
+/// Tells that sizes cannot be packed, since those that reach a least one are too many or too much for the cards.
+fn is_overfull_from(free: &[u32], sizes: &[u32], least: u32) -> bool
+    ensures { result ≡ true → CannotPack free.now sizes.now }
+{
+    if sum_from(free, least) < sum_from(sizes, least) {
+        return true;
+    }
+    if 0 < least && rooms_for(free, least) < count_from(sizes, least) {
+        return true;
     }
     false
 }

@@ -1,9 +1,9 @@
-ghost use Rattle.std.specs.Prelude.{◌≡◌, ℕ, ◌+◌, ◌-◌, ◌<◌, ◌≤◌, ◌^◌, true, length, slice_index, nat_le, nat_lt, IfOk, MatchOption, filter, map, slice_get};
+ghost use Rattle.std.specs.Prelude.{◌≡◌, ℕ, ◌+◌, ◌-◌, ◌<◌, ◌≤◌, ◌^◌, ◌∷◌, [], true, length, slice_index, nat_le, nat_lt, IfOk, MatchOption, filter, map, slice_get};
 ghost use Rattle.std.specs.List.{list_all};
 ghost use Rattle.ct_alloc.specs.declared.placement.Pick.{Pick};
 ghost use Rattle.ct_alloc.specs.Placement.{fits_beside, meets, slots_at};
 ghost use Rattle.ct_alloc.specs.Free.{IsFitting, NoneFits, are_there, free_at, slot_counts, used_at};
-ghost use Rattle.ct_alloc.specs.Spread.{IsSpread, NoneSpread, asks_kind, asks_other, cards_from, is_of_kind, interleaved, sizes_of};
+ghost use Rattle.ct_alloc.specs.Spread.{HasRoom, IsSpread, NoneSpread, asks_kind, asks_other, cards_from, is_of_kind, interleaved, sizes_of};
 
 use crate::pack::pack;
 use crate::placement::{Pick, Placement};
@@ -85,6 +85,9 @@ impl Free {
         requires alike { list_all (asks_kind kind.now) (map (λ n. n.now) needs.now) ≡ true }
         ensures exact { IfOk result (λ found. MatchOption found (NoneSpread self.now (map (λ n. n.now) needs.now)) (λ places. IsSpread self.now (map (λ n. n.now) needs.now) places.items)) }
     {
+        if let [need] = needs {
+            return self.spread_one(alloc, need);
+        }
         let cards = cards(alloc, kind, self.resources.as_slice())?;
         let mut free = self.free_of(alloc, cards.as_slice())?;
         let sizes = sizes_of(alloc, needs)?;
@@ -92,6 +95,28 @@ impl Free {
             Some(found) => Ok(Some(places_of(alloc, cards.as_slice(), found.as_slice())?)),
             None => Ok(None),
         }
+    }
+
+    /// Finds the place of a resource for one need, the first that has room.
+    fn spread_one(&self, alloc: Global, need: &Need) -> Result<Option<Vec<usize>>, NoMemory>
+        ensures exact { IfOk result (λ found. MatchOption found (NoneSpread self.now (need.now ∷ [])) (λ places. IsSpread self.now (need.now ∷ []) places.items)) }
+    {
+        match self.first_with_room(need) {
+            Some(place) => Ok(Some(vec![in alloc; place; 1]?)),
+            None => Ok(None),
+        }
+    }
+
+    /// Finds the first resource of a need's kind that has room for it.
+    fn first_with_room(&self, need: &Need) -> Option<usize>
+        ensures { MatchOption result ((place : ℕ) → place < length self.now.resources → HasRoom self.now need.now place → ⊥) (λ place. HasRoom self.now need.now place) }
+    {
+        for (place, resource) in self.resources.as_slice().iter().enumerate() {
+            if resource.kind.is(&need.kind) && need.slots <= self.free_at(place) {
+                return Some(place);
+            }
+        }
+        None
     }
 
     /// Lists what is free of the resources at some places.

@@ -1,4 +1,4 @@
 use Rattle.ct_alloc.proofs.bound.is_overfull.Given as goal
 
-abbrev pub invariant-loop-least : goal.invariant-loop-least
-invariant-loop-least l = Unit {0}
+abbrev pub invariant-loop-at : goal.invariant-loop-at
+invariant-loop-at l = Unit {0}

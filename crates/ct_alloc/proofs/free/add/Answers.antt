@@ -1,4 +1,4 @@
-use Rattle.std.proofs.Common.{rules, ◌≡◌, ◌<◌, length, arith}
+use Rattle.std.proofs.Common.{rules, ◌<◌, length, arith}
 use Rattle.ct_alloc.proofs.PickLemmas.{adding-more, pick-there}
 use Rattle.ct_alloc.proofs.free.add.Goals as goal
 

@@ -1,4 +1,4 @@
-use Rattle.std.proofs.Common.{rules, ◌≡◌, ℕ, List, refl}
+use Rattle.std.proofs.Common.{rules, ◌≡◌, refl}
 use Rattle.ct_alloc.proofs.PlaceLemmas.{pick-meets}
 use Rattle.ct_alloc.proofs.free.pick_of.Goals as goal
 

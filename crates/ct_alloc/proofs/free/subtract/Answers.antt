@@ -1,4 +1,4 @@
-use Rattle.std.proofs.Common.{rules, ◌≡◌, ◌<◌, length, arith}
+use Rattle.std.proofs.Common.{rules, ◌<◌, length, arith}
 use Rattle.ct_alloc.proofs.PickLemmas.{taking-more, pick-there}
 use Rattle.ct_alloc.proofs.free.subtract.Goals as goal
 

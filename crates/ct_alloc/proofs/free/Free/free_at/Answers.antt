@@ -1,6 +1,6 @@
-use Rattle.std.proofs.Common.{rules, ◌≡◌, ◌-◌, ap, sym, get_or, arith}
+use Rattle.std.proofs.Common.{rules, ◌≡◌, get_or, arith}
 use Rattle.std.specs.Prelude.{None, slice_get}
-use Rattle.ct_alloc.specs.Free.{free_at, slot_counts}
+use Rattle.ct_alloc.specs.Free.{slot_counts}
 use Rattle.ct_alloc.proofs.PickLemmas.{no-slots}
 use Rattle.ct_alloc.proofs.free.Free.free_at.Goals as goal
 

@@ -1,10 +1,9 @@
-use Rattle.std.proofs.Common.{rules, ◌≡◌, ◌<◌, ◌≤◌, ◌∙◌, ◌++◌, ◌∷◌, [], ◌+◌, ℕ, List, length, get_or, map, take, true, sym, ap, subst, arith}
+use Rattle.std.proofs.Common.{rules, ◌≡◌, ◌<◌, ◌≤◌, ◌++◌, ◌∷◌, [], ◌+◌, List, length, get_or, true, sym, ap, subst, arith}
 use Rattle.std.specs.Prelude.{slice_get}
 use Rattle.ct_base.specs.declared.defs.Need.{Need}
-use Rattle.ct_base.specs.declared.defs.Resource.{Resource}
 use Rattle.ct_alloc.specs.declared.placement.Pick.{Pick}
 use Rattle.ct_alloc.specs.Free.{FreeValue, IsWithinSlots}
-use Rattle.ct_alloc.specs.Placement.{is_placement, meets}
+use Rattle.ct_alloc.specs.Placement.{meets}
 use Rattle.ct_alloc.specs.Spread.{is_of_kind}
 use Rattle.ct_alloc.proofs.PlaceLemmas.{PlacedSo, fitting-spread, kind-at, placed-all, placed-next, spread-length}
 use Rattle.ct_alloc.proofs.free.Free.placement.Goals as goal

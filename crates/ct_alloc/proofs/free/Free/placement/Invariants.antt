@@ -1,5 +1,3 @@
-use Rattle.std.proofs.Common.{◌≡◌, true, take}
-use Rattle.ct_alloc.specs.Placement.{is_placement}
 use Rattle.ct_alloc.proofs.PlaceLemmas.{PlacedSo}
 use Rattle.ct_alloc.proofs.free.Free.placement.Given as goal
 
