@@ -1,5 +1,6 @@
 pub mod Reading
 pub mod StepLemmas
+pub mod RunLemmas
 pub mod OneReading
 pub mod FrontLemmas
 pub mod BracketLemmas

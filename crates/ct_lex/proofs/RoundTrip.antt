@@ -18,14 +18,7 @@ use Rattle.ct_lex.specs.declared.call.Part.{Part}
 use Rattle.ct_lex.specs.declared.call.Part.TheVariants.{Bytes, Ref}
 use Rattle.ct_lex.proofs.FrontLemmas.{feeds-append, is-other}
 use Rattle.ct_lex.proofs.RestLemmas.{reads_files}
-
-with_bytes-join : (byte : ℕ) (bytes : List ℕ) (parts : List Part) → with_bytes (byte ∷ []) (with_bytes bytes parts) ≡ with_bytes (byte ∷ bytes) parts
-with_bytes-join byte [] [] = refl
-with_bytes-join byte [] (Bytes more ∷ parts) = refl
-with_bytes-join byte [] (Ref name ∷ parts) = refl
-with_bytes-join byte (next ∷ bytes) [] = refl
-with_bytes-join byte (next ∷ bytes) (Bytes more ∷ parts) = refl
-with_bytes-join byte (next ∷ bytes) (Ref name ∷ parts) = refl
+use Rattle.ct_lex.proofs.RunLemmas.{with_bytes-join}
 
 text_as : {kind : ArgKind} {text other : List ℕ} {parts more : List Part} → other ≡ text → more ≡ parts → IsText kind other more → IsText kind text parts
 text_as {kind} {text} {other} {parts} {more} e f t = subst (λ (p : List Part). IsText kind text p) f (subst (λ (s : List ℕ). IsText kind s more) e t)

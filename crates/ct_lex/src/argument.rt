@@ -9,8 +9,9 @@ ghost use Rattle.ct_lex.specs.Text.{text_from, arguments_from, moved, HasNoGap};
 use crate::bracket::gap_at;
 use crate::bytes::stands;
 use crate::call::{Arg, ArgKind, Part};
-use crate::extent::{Extent, ends_text, extent_of};
+use crate::extent::{Extent, extent_of};
 use crate::parts::Parts;
+use crate::plain::{ends_text, plain_len};
 use crate::stop::Stop;
 use crate::unit::unit_at;
 use ct_base::{List, Name, NoMemory};
@@ -111,11 +112,18 @@ fn parts_of(alloc: Global, kind: ArgKind, text: &[u8]) -> Result<List<Part>, NoM
         if ends_text(kind, text[at]) {
             return parts.finish(alloc);
         }
-        let Ok((unit, taken)) = unit_at(kind, &text[at..]) else {
-            unreachable!()
-        };
-        parts.add(alloc, unit)?;
-        at += taken;
+        let rest = &text[at..];
+        let plain = plain_len(kind, rest);
+        if plain == 0 {
+            let Ok((unit, taken)) = unit_at(kind, rest) else {
+                unreachable!()
+            };
+            parts.add(alloc, unit)?;
+            at += taken;
+        } else {
+            parts.add_plain(&rest[..plain])?;
+            at += plain;
+        }
     }
     unreachable!()
 }

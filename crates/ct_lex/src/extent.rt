@@ -6,6 +6,7 @@ ghost use Rattle.ct_lex.specs.Text.{text_from, quoted_by, plain_argument, argume
 use crate::bracket::{closing, opening};
 use crate::bytes::{is_gap, stands};
 use crate::call::ArgKind;
+use crate::plain::{ends_text, plain_len};
 use crate::stop::{Cause, Stop};
 use crate::unit::unit_at;
 
@@ -117,21 +118,13 @@ fn text_len(kind: ArgKind, text: &[u8]) -> Result<usize, Stop>
         if ends_text(kind, text[at]) {
             return Ok(at);
         }
-        let (_, taken) = unit_at(kind, &text[at..])?;
-        at += taken;
+        let plain = plain_len(kind, &text[at..]);
+        if plain == 0 {
+            let (_, taken) = unit_at(kind, &text[at..])?;
+            at += taken;
+        } else {
+            at += plain;
+        }
     }
     Err(Stop::Ended)
-}
-
-/// Tells whether a byte ends the text of an argument.
-pub fn ends_text(kind: ArgKind, byte: u8) -> bool
-    ensures { result ≡ ends_text kind byte }
-{
-    match kind {
-        ArgKind::Quoted => byte == b'"',
-        ArgKind::Unquoted => {
-            is_gap(byte) || byte == b'(' || byte == b')' || byte == b'#' || byte == b'"'
-        }
-        ArgKind::Bracket => false,
-    }
 }

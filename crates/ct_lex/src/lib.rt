@@ -16,6 +16,7 @@ mod extent;
 mod fault;
 mod lexer;
 mod parts;
+mod plain;
 mod stop;
 mod unit;
 

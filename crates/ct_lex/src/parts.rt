@@ -15,7 +15,7 @@ pub struct Parts {
 }
 
 impl Parts {
-    ghost use Rattle.ct_lex.specs.Argument.{with_piece};
+    ghost use Rattle.ct_lex.specs.Argument.{with_bytes, with_piece};
     ghost use Rattle.ct_lex.specs.Joined.{joined_parts};
 
     pub fn new(alloc: Global) -> Parts
@@ -40,6 +40,15 @@ impl Parts {
                 self.whole.push(Part::Ref(Name::of(alloc, name)?))?;
             }
         }
+        Ok(())
+    }
+
+    /// Puts bytes that stand for themselves behind the others.
+    #[tactic(auto, using(crate::proofs::RunLemmas::bytes_joined))]
+    pub fn add_plain(&mut self, run: &[u8]) -> Result<(), NoMemory>
+        ensures { OnOk result ((more : List Part) → joined_parts self.new more ≡ joined_parts self.old (with_bytes run.now more)) }
+    {
+        self.bytes.extend_from_slice(run)?;
         Ok(())
     }
 
