@@ -4,6 +4,7 @@ pub mod WordLemmas
 pub mod ShortLemmas
 pub mod ReaderLemmas
 pub mod TakesLemmas
+pub mod RunLemmas
 pub mod NameLemmas
 pub mod SaysLemmas
 pub mod PerformLemmas

@@ -75,7 +75,7 @@ module _ (limits : Limits) where
 pub size-more : (values : List Value) (value : Value) → size (values ++ value ∷ []) ≡ size values + length value.text
 size-more values value = omega (arith, sum_by-append (λ (v : Value). length v.text) values (value ∷ []))
 
-front-append : (one other : List ℕ) (parts : List (List ℕ)) → with_front one (with_front other parts) ≡ with_front (one ++ other) parts
+pub front-append : (one other : List ℕ) (parts : List (List ℕ)) → with_front one (with_front other parts) ≡ with_front (one ++ other) parts
 front-append one other [] = refl
 front-append one other (part ∷ parts) = ap (λ p. p ∷ parts) (sym (append_assoc one other part))
 

@@ -27,7 +27,7 @@ module _ (limits : Limits) (values : List Value) (text piece : List ℕ) (whole 
       ∙ ap (are_too_long limits) (sym (with_parts-joined values text piece parts))
       ∙ too_long-front limits values (text ++ piece) parts long
 
-abbrev Long : Limits → List ℕ → Type 0
+abbrev pub Long : Limits → List ℕ → Type 0
 Long limits text = limits.value_bytes < length text
 
 always : {P : Type 0} (result : Result (Unit {0}) Stop) → P → OnOk result P

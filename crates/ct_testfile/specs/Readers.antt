@@ -1,5 +1,5 @@
 -- What contracts see of values that are read byte by byte, until they are longer than they may be. This project's own.
-use Rattle.std.specs.Prelude.{ℕ, ◌≡◌, ⊤, Bool, true, false, ◌||◌, ◌==◌, nat_lt, List, [], ◌∷◌, ◌++◌, filter, map, Result, IfErr, OnOk, if◌then◌else◌}
+use Rattle.std.specs.Prelude.{ℕ, ◌≡◌, ⊤, Bool, true, false, not, ◌||◌, ◌==◌, nat_lt, List, [], ◌∷◌, ◌++◌, filter, map, Result, IfErr, OnOk, if◌then◌else◌}
 use Rattle.std.specs.List.{list_any}
 use Rattle.ct_base.specs.Entries.{backslash, is_entry, parts_of, semicolon, with_front}
 use Rattle.ct_testfile.specs.Values.{bare, size}
@@ -47,6 +47,10 @@ pub record TakesEntries (limits : Limits) (old new : Reader) (piece : List ℕ) 
   pub counted : OnOk result (IsCounted new)
   pub taken : OnOk result ((rest : List ℕ) → entries_with new rest ≡ entries_with old (piece ++ rest))
   pub stopped : IfErr result (λ why. (rest : List ℕ) → StopsFor limits (entries_with old (piece ++ rest)) why)
+
+-- a byte that is one of an entry wherever it stands: it neither ends an entry nor changes what the next byte does
+abbrev pub is_inner : ℕ → Bool
+is_inner byte = not (byte == semicolon || byte == backslash)
 
 -- bytes begin with a semicolon
 abbrev pub is_ended : List ℕ → Bool

@@ -1,7 +1,8 @@
-ghost use Rattle.std.specs.Prelude.{◌≡◌, ◌<◌, ◌++◌, ◌∷◌, [], ◌==◌, IfErr, OnOk, false, filter, length, map};
+ghost use Rattle.std.specs.Prelude.{◌≡◌, ◌<◌, ◌≤◌, ◌++◌, ◌∷◌, [], ◌==◌, IfErr, OnOk, false, true, filter, length, map};
+ghost use Rattle.std.specs.List.{list_all, prefix_len};
 ghost use Rattle.ct_base.specs.Entries.{entries_of, is_entry, semicolon};
 ghost use Rattle.ct_testfile.specs.Values.{bare, argument_text, values_by};
-ghost use Rattle.ct_testfile.specs.Readers.{IsAtRest, IsCounted, Releases, StopsFor, StopsIf, TakesEntries};
+ghost use Rattle.ct_testfile.specs.Readers.{IsAtRest, IsCounted, Releases, StopsFor, StopsIf, TakesEntries, is_inner};
 
 use crate::count::raised;
 use crate::fault::{ReadKind, Stop};
@@ -131,10 +132,30 @@ impl Reader {
         requires { IsCounted self.old }
         ensures { TakesEntries limits.now self.old self.new piece.now result }
     {
-        for byte in piece {
-            self.take_byte(alloc, limits, *byte)?;
+        let mut at = 0;
+        while at < piece.len() {
+            let rest = &piece[at..];
+            let inner = inner_len(rest);
+            if inner == 0 {
+                self.take_byte(alloc, limits, piece[at])?;
+                at += 1;
+            } else {
+                self.take_run(limits, &rest[..inner])?;
+                at += inner;
+            }
         }
         Ok(())
+    }
+
+    /// Reads more bytes of an unquoted argument, of which each is one of an entry wherever it stands.
+    fn take_run(&mut self, limits: &Limits, run: &[u8]) -> Result<(), Stop>
+        requires some { 0 < length run.now }
+        requires inner { list_all is_inner run.now ≡ true }
+        requires counted { IsCounted self.old }
+        ensures { TakesEntries limits.now self.old self.new run.now result }
+    {
+        self.release(limits)?;
+        join_text(limits, &mut self.text, run)
     }
 
     /// Reads one more byte of an unquoted argument.
@@ -212,6 +233,21 @@ impl Reader {
         self.bytes = bytes;
         Ok(())
     }
+}
+
+/// Tells whether a byte is one of an entry wherever it stands in an unquoted argument.
+fn is_inner(byte: u8) -> bool
+    ensures { result ≡ is_inner byte }
+{
+    !(byte == b';' || byte == b'\\')
+}
+
+/// Counts the bytes at the front of a text of which each is one of an entry wherever it stands.
+fn inner_len(text: &[u8]) -> usize
+    ensures count { result ≡ prefix_len is_inner text.now }
+    ensures within { result ≤ length text.now }
+{
+    text.iter().take_while(|byte| is_inner(**byte)).count()
 }
 
 /// Puts a piece behind a text, unless a value may not be so long.
