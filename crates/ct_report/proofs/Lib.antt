@@ -1,4 +1,5 @@
 pub mod PutLemmas
+pub mod ListLemmas
 pub mod LineLemmas
 pub mod LabelLemmas
 pub mod TotalLemmas

@@ -58,8 +58,11 @@ pub fn test_list<S: Sink>(
     ensures text { Puts (text_of (test_list dir.now tests.now)) (S.tells sink.old) (S.tells sink.new) result }
     ensures each { PutsEach (test_list dir.now tests.now) (S.tells sink.old) (S.tells sink.new) result }
 {
-    let lines = test_lines(alloc, dir, tests)?;
-    put_lines(sink, lines.as_slice())?;
+    let heading = project_line(alloc, dir)?;
+    let total = total_line(alloc, enabled_count(tests))?;
+    sink.put(heading.bytes())?;
+    put_tests(alloc, sink, tests)?;
+    put_total(sink, total.bytes())?;
     Ok(())
 }
 
@@ -100,27 +103,29 @@ fn label_entry(alloc: Global, label: &Name) -> Result<Blob, NoMemory>
     Ok(text)
 }
 
-fn test_lines(alloc: Global, dir: &Name, tests: &[ListedTest<'_>]) -> Result<List<Blob>, NoMemory>
-    ensures { IfOk result (λ lines. lines ≡ test_list dir.now tests.now) }
-{
-    let mut lines = List::new(alloc);
-    lines.push(project_line(alloc, dir)?)?;
-    push_tests(alloc, &mut lines, tests)?;
-    lines.push(Blob::of(alloc, b"\n")?)?;
-    lines.push(total_line(alloc, enabled_count(tests))?)?;
-    Ok(lines)
-}
-
-fn push_tests(
+/// Puts the line of each of these tests by itself.
+fn put_tests<S: Sink>(
     alloc: Global,
-    lines: &mut List<Blob>,
+    sink: &mut S,
     tests: &[ListedTest<'_>],
-) -> Result<(), NoMemory>
-    ensures { OnOk result (lines.new ≡ lines.old ++ map test_entry tests.now) }
+) -> Result<(), SinkFault>
+    ensures text { Puts (text_of (map test_entry tests.now)) (S.tells sink.old) (S.tells sink.new) result }
+    ensures each { PutsEach (map test_entry tests.now) (S.tells sink.old) (S.tells sink.new) result }
 {
     for test in tests {
-        lines.push(test_entry(alloc, test)?)?;
+        let line = test_entry(alloc, test)?;
+        sink.put(line.bytes())?;
     }
+    Ok(())
+}
+
+/// Puts an empty line, and the line of how many tests there are.
+fn put_total<S: Sink>(sink: &mut S, total: &[u8]) -> Result<(), SinkFault>
+    ensures text { Puts (text_of (codes "\n" ∷ total.now ∷ [])) (S.tells sink.old) (S.tells sink.new) result }
+    ensures each { PutsEach (codes "\n" ∷ total.now ∷ []) (S.tells sink.old) (S.tells sink.new) result }
+{
+    sink.put(b"\n")?;
+    sink.put(total)?;
     Ok(())
 }
 
