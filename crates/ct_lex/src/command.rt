@@ -40,11 +40,7 @@ fn paren_at(text: &[u8]) -> usize
 fn lower(alloc: Global, word: &[u8]) -> Result<Name, NoMemory>
     ensures { IfOk result (λ name. name ≡ lower word.now) }
 {
-    let lowered: Vec<u8> = word
-        .iter()
-        .map(|byte| byte.to_ascii_lowercase())
-        .collect(alloc)?;
-    Name::of(alloc, lowered.as_slice())
+    Ok(Name::from_vec(word.to_ascii_lowercase(alloc)?))
 }
 
 /// Reads the command that a text begins with: its name, its arguments, and how many bytes it takes.
