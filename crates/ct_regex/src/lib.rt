@@ -4,7 +4,7 @@
 //! text has a match anywhere, and a `Scan` tells it of a text that comes in pieces.
 //! Stands on: ct_base and `thiserror`.
 //! Read first: `specs/Tree.antt`, `specs/Ends.antt`, `specs/Signs.antt`, `specs/Reading.antt` and
-//! `specs/Scan.antt`. The files that `specs/Lib.antt` lists behind `Gives` are the machine's own.
+//! `specs/Scan.antt`. The files that `specs/Lib.antt` lists from `Walk` to `Memory` are the machine's own.
 #![tactic(auto)]
 
 mod fault;
