@@ -91,6 +91,41 @@ fn places_two_needs_on_each_of_thirteen_cards(rt: HostRuntime) -> Result<(), Fai
     Ok(())
 }
 
+#[test]
+fn answers_where_one_need_is_too_many_at_once(rt: HostRuntime) -> Result<(), Fail> {
+    assert!(rt; placed(&rt, &[11; 12], &[2; 60])?.is_some());
+    assert!(rt; placed(&rt, &[11; 12], &[2; 61])?.is_none());
+    assert!(rt; placed(&rt, &[11; 12], &[2; 62])?.is_none());
+    Ok(())
+}
+
+#[test]
+fn leaves_a_card_for_the_need_that_fills_it(rt: HostRuntime) -> Result<(), Fail> {
+    match placed(&rt, &[9, 5, 7], &[5, 5, 4, 7])? {
+        Some(placement) => {
+            assert_eq!(rt; count(&placement, 0, 5), 1);
+            assert_eq!(rt; count(&placement, 0, 4), 1);
+            assert_eq!(rt; count(&placement, 1, 5), 1);
+            assert_eq!(rt; count(&placement, 2, 7), 1);
+        }
+        None => panic!(rt; "no placement"),
+    }
+    assert!(rt; placed(&rt, &[9, 5, 7], &[5, 5, 5, 4])?.is_some());
+    assert!(rt; placed(&rt, &[9, 5, 7], &[5, 5, 5, 5])?.is_none());
+    Ok(())
+}
+
+#[test]
+fn places_one_need_on_the_first_card_with_room(rt: HostRuntime) -> Result<(), Fail> {
+    match placed(&rt, &[1, 0, 3, 2], &[2])? {
+        Some(placement) => assert_eq!(rt; count(&placement, 2, 2), 1),
+        None => panic!(rt; "no placement"),
+    }
+    assert!(rt; placed(&rt, &[1, 0, 3, 2], &[4])?.is_none());
+    assert!(rt; placed(&rt, &[], &[0])?.is_none());
+    Ok(())
+}
+
 /// Draws amounts, up to so many, each below 7.
 fn amounts(alloc: Global, dice: &mut Dice, most: u32) -> Result<Vec<u32>, NoMemory>
     requires { 0 < most }
@@ -102,8 +137,10 @@ fn amounts(alloc: Global, dice: &mut Dice, most: u32) -> Result<Vec<u32>, NoMemo
     Ok(amounts)
 }
 
-/// The ways to place five needs on four cards.
-const WAYS: u32 = 1024;
+/// Counts the ways to place needs on four cards.
+fn ways(needs: usize) -> u32 {
+    (0..needs).fold(1, |ways: u32, _| ways.saturating_mul(4))
+}
 
 /// Adds up the needs that a way places on a card. The way has a digit in base 4 for each need.
 fn load(wanted: &[u32], way: u32, card: u32) -> u32 {
@@ -132,11 +169,11 @@ fn fits(free: &[u32], wanted: &[u32], way: u32) -> bool {
 #[test]
 fn finds_a_placement_exactly_where_one_of_all_ways_fits(rt: HostRuntime) -> Result<(), Fail> {
     let mut dice = Dice::new(2026);
-    for round in 0..60 {
+    for round in 0..10_000 {
         let free = amounts(rt.alloc(), &mut dice, 4)?;
         let wanted = amounts(rt.alloc(), &mut dice, 5)?;
         let found = placed(&rt, &free, &wanted)?.is_some();
-        let fits_some_way = (0..WAYS).any(|way| fits(&free, &wanted, way));
+        let fits_some_way = (0..ways(wanted.len())).any(|way| fits(&free, &wanted, way));
         assert_eq!(rt;
             found,
             fits_some_way,
