@@ -1,5 +1,5 @@
 -- What the readers of words keep, and the ways in which they go.
-use Rattle.std.proofs.Common.{◌≡◌, ℕ, Bool, true, false, cond, bytes_eq, List, [], ◌∷◌, ◌++◌, map, Option, Some, None, option_map, refl, sym, ap, ◌∙◌, ◌||◌, append_assoc, append-nil, slice_get, take, drop, length, ◌-◌, arith}
+use Rattle.std.proofs.Common.{◌≡◌, ℕ, Bool, true, false, cond, bytes_eq, List, [], ◌∷◌, ◌++◌, map, Option, Some, None, option_map, refl, sym, ap, ◌∙◌, ◌||◌, append_assoc, append-nil, slice_get, take, drop, length, fold, ◌-◌, ◌<◌, arith}
 use Rattle.std.proofs.lemmas.List.{map_push, take_all}
 use Rattle.std.specs.List.{list_any, flat_map, join_with_byte}
 use Rattle.std.specs.declared.vec.Vec.{Vec}
@@ -28,6 +28,12 @@ module _ {Z : Type 0} where
   with_new-insert_key keys key =
       insert_by keys key (list_any (λ (k : Vec ℕ Z). bytes_eq key.items k.items) keys)
       ∙ ap (λ is. cond is (map (λ (k : Vec ℕ Z). k.items) keys) (map (λ (k : Vec ℕ Z). k.items) keys ++ key.items ∷ [])) (any-keys key.items keys)
+
+-- fewer than two names are all different
+pub few_distinct : (names : List (List ℕ)) → length names < 2 → names ≡ fold with_new [] names
+few_distinct [] few = refl
+few_distinct (name ∷ []) few = refl
+few_distinct (name ∷ next ∷ names) few = absurd (omega (arith, few))
 
 pairs_by : (pairs : List Pair) (pair : Pair) (read : Option (List Pair)) → option_map (λ (more : List Pair). pairs ++ more) (option_map (λ (more : List Pair). pair ∷ more) read) ≡ option_map (λ (more : List Pair). (pairs ++ pair ∷ []) ++ more) read
 pairs_by pairs pair None = refl

@@ -87,9 +87,13 @@ fn is_properties(value: &Name) -> bool
 }
 
 /// Leaves of names that are equal the first one.
+#[tactic(auto, using(crate::proofs::WordLemmas::few_distinct))]
 pub(crate) fn distinct(alloc: Global, names: List<Name>) -> Result<List<Name>, NoMemory>
     ensures { IfOk result (λ distinct. distinct ≡ fold with_new [] names) }
 {
+    if names.len() < 2 {
+        return Ok(names);
+    }
     let mut seen = IndexSet::new(alloc);
     for name in names.into_vec() {
         seen.insert(name.into_vec())?;
