@@ -1,0 +1,95 @@
+//! The cases that are placed: the free slots of cards, and the slots of needs.
+
+ghost use Rattle.std.specs.Prelude.{◌<◌};
+
+use ct_base::NoMemory;
+use std::alloc::Global;
+
+/// Numbers that look drawn by chance, the same at each run.
+#[derive(Drop)]
+pub struct Dice {
+    state: u64,
+}
+
+impl Dice {
+    pub fn new(state: u64) -> Dice {
+        Dice { state }
+    }
+
+    /// Draws one of the numbers from 0 on, so many.
+    fn roll(&mut self, sides: u32) -> u32
+        requires { 0 < sides }
+        ensures { result < sides }
+    {
+        self.state = self
+            .state
+            .wrapping_mul(6_364_136_223_846_793_005)
+            .wrapping_add(1_442_695_040_888_963_407);
+        let drawn = (self.state >> 33) as u32;
+        drawn % sides
+    }
+}
+
+/// The slots of cards of one kind, and of the needs that are placed on them.
+#[derive(Drop)]
+pub struct Case {
+    pub cards: Vec<u32>,
+    pub needs: Vec<u32>,
+}
+
+impl Case {
+    /// Draws up to 64 cards of up to 16 slots, and up to 64 needs of up to 8 that take 85 to 105 in 100 of the slots.
+    pub fn draw(alloc: Global, dice: &mut Dice) -> Result<Case, NoMemory> {
+        let count = 1 + dice.roll(64);
+        let most = 1 + dice.roll(16);
+        let mut cards = Vec::new(alloc);
+        let mut slots: u32 = 0;
+        for _ in 0..count {
+            let card = 1 + dice.roll(most);
+            slots = slots.saturating_add(card);
+            cards.push(card)?;
+        }
+        let percent = 85 + dice.roll(21);
+        let left = slots.saturating_mul(percent) / 100;
+        Ok(Case {
+            cards,
+            needs: drawn_needs(alloc, dice, left)?,
+        })
+    }
+
+    /// Needs of 2 slots on cards of 11, which take 5 each: in every second round one need too many.
+    pub fn hard(alloc: Global, round: u32) -> Result<Case, NoMemory> {
+        let count = round / 2 % 10 + 3;
+        let needs = (count * 5 + round % 2) as usize;
+        Ok(Case {
+            cards: vec![in alloc; 11; count as usize]?,
+            needs: vec![in alloc; 2; needs]?,
+        })
+    }
+
+    /// One need on 4,096 cards, of which the last alone has room.
+    pub fn one(alloc: Global) -> Result<Case, NoMemory> {
+        let mut cards = vec![in alloc; 1; 4095]?;
+        cards.push(2)?;
+        Ok(Case {
+            cards,
+            needs: vec![in alloc; 2; 1]?,
+        })
+    }
+}
+
+/// Draws needs that take so many slots together, but not more than 64 needs.
+fn drawn_needs(alloc: Global, dice: &mut Dice, slots: u32) -> Result<Vec<u32>, NoMemory> {
+    let most = 1 + dice.roll(8);
+    let mut left = slots;
+    let mut needs = Vec::new(alloc);
+    for _ in 0..64 {
+        if left == 0 {
+            break;
+        }
+        let need = left.min(1 + dice.roll(most));
+        left = left.saturating_sub(need);
+        needs.push(need)?;
+    }
+    Ok(needs)
+}

@@ -1,0 +1,100 @@
+//! One call of `Free::place`, and what came of all of them.
+
+ghost use Rattle.std.specs.Prelude.{◌<◌};
+
+use crate::draw::Case;
+use ct_alloc::Free;
+use ct_base::{List, Name, Need, NoMemory, Resource};
+use std::alloc::Global;
+use std::time::{Clock, Instant};
+
+/// What came of the calls: how many found a placement, and how long they took, in microseconds.
+#[derive(Drop)]
+pub struct Tally {
+    pub placed: u64,
+    pub refused: u64,
+    pub slowest: u128,
+    pub together: u128,
+    pub above_10: u64,
+    pub above_50: u64,
+}
+
+impl Tally {
+    pub fn new() -> Tally {
+        Tally {
+            placed: 0,
+            refused: 0,
+            slowest: 0,
+            together: 0,
+            above_10: 0,
+            above_50: 0,
+        }
+    }
+
+    /// Adds one call, which took so many microseconds.
+    fn add(&mut self, is_placed: bool, micros: u128) {
+        if is_placed {
+            self.placed = self.placed.saturating_add(1);
+        } else {
+            self.refused = self.refused.saturating_add(1);
+        }
+        self.slowest = self.slowest.max(micros);
+        self.together = self.together.saturating_add(micros);
+        self.above_10 = self.above_10.saturating_add(u64::from(micros > 10_000));
+        self.above_50 = self.above_50.saturating_add(u64::from(micros > 50_000));
+    }
+}
+
+/// Places the needs of a case on its cards, and adds what came of it.
+pub fn place(
+    rt: &(impl AllocGlobal + Clock),
+    case: &Case,
+    tally: &mut Tally,
+) -> Result<(), NoMemory> {
+    let resources = cards(rt.alloc(), case.cards.as_slice())?;
+    let needs = needs(rt.alloc(), case.needs.as_slice())?;
+    if resources.len() >= 4_294_967_295 {
+        return Ok(());
+    }
+    let free = Free::all(rt.alloc(), &resources)?;
+    let start = Instant::now(rt).ok();
+    let found = free.place(rt.alloc(), &needs)?;
+    let micros = micros_since(rt, start);
+    tally.add(found.is_some(), micros);
+    Ok(())
+}
+
+/// The microseconds since then, and 0 where the clock does not tell.
+fn micros_since(rt: &impl Clock, start: Option<Instant>) -> u128 {
+    match start {
+        Some(start) => start.elapsed(rt).map_or(0, |time| time.as_micros()),
+        None => 0,
+    }
+}
+
+/// Makes cards of one kind with these slots.
+fn cards(alloc: Global, slots: &[u32]) -> Result<List<Resource>, NoMemory> {
+    let mut cards = List::new(alloc);
+    for (at, slots) in slots.iter().enumerate() {
+        let id = at.to_string(alloc)?;
+        cards.push(Resource {
+            kind: Name::of(alloc, b"gpus")?,
+            id: Name::of(alloc, id.as_bytes())?,
+            slots: *slots,
+        })?;
+    }
+    Ok(cards)
+}
+
+/// Makes needs of one kind with these slots.
+fn needs(alloc: Global, slots: &[u32]) -> Result<List<Need>, NoMemory> {
+    let mut needs = List::new(alloc);
+    for slots in slots {
+        needs.push(Need {
+            group: 0,
+            kind: Name::of(alloc, b"gpus")?,
+            slots: *slots,
+        })?;
+    }
+    Ok(needs)
+}
