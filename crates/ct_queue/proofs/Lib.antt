@@ -1,0 +1,4 @@
+pub mod TreeLemmas
+pub mod SearchLemmas
+pub mod ReadyLemmas
+pub mod CallerLemmas

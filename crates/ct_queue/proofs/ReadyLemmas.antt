@@ -1,0 +1,190 @@
+-- What a set of ready tests keeps, when it is made and when one test changes, and what its marks say of its members.
+use Rattle.std.proofs.Common.{ℕ, ◌≡◌, ◌+◌, ◌-◌, ◌<◌, ◌≤◌, ◌^◌, Bool, true, false, cond, not, ◌&&◌, eqb, ltb, List, [], ◌∷◌, map, length, get_or, set, replicate, Option, Some, refl, sym, ap, ◌∙◌, subst, ⊎_elim, arith}
+use Rattle.std.specs.BTreeMap as tree
+use Rattle.std.specs.Ordering.{nat_cmp, is_eq}
+use Rattle.std.specs.declared.cmp.Ordering.TheVariants.{Less, Equal, Greater}
+use Rattle.std.proofs.lemmas.Bool.{cases_eq, cases_lt, lt-ltb, le-ltb, ltb-true, ne_eqb, and_parts}
+use Rattle.std.proofs.lemmas.List.{length-set, length-map, map-set, get_or_past, get_or-set_other, get_or-replicate, length-replicate, set-get_or}
+use Rattle.std.proofs.lemmas.Grind.{get_or-set_at}
+use Rattle.ct_queue.specs.Ready.{ReadyValue, NamesOnce, StandsIn, place_of, count_at, is_out_at, is_member, none_out, lowered, with_out, IsBehind, NoneBehind, IsLeastBehind}
+use Rattle.ct_queue.specs.Marks.{is_marked, NoneWithin, IsLeastWithin}
+use Rattle.ct_queue.specs.Kept.{AreFound, IsReadySet, waiting, ready_of, standing_at, with_standing}
+use Rattle.ct_queue.specs.declared.ready.Standing.{Standing}
+use Rattle.ct_queue.proofs.CallerLemmas.{test_at_place}
+
+abbrev count_in : Standing → ℕ
+count_in s = s.count
+
+abbrev out_in : Standing → Bool
+out_in s = s.is_out
+
+-- tests in an order, with their counts and with which of them are out
+abbrev tests_of : List ℕ → List ℕ → List Bool → ReadyValue
+tests_of order counts outs = record { order = order; counts = counts; outs = outs }
+
+-- a test is found by its number
+pub found_at : (places : tree.BTreeMap ℕ ℕ) (order : List ℕ) (test : ℕ) → AreFound places order → StandsIn order test → tree.get nat_cmp places test ≡ Some (place_of order test)
+found_at places order test found stands =
+    subst (λ (t : ℕ). tree.get nat_cmp places t ≡ Some (place_of order test)) (test_at_place order test stands) (found (place_of order test) stands)
+
+-- two numbers that differ compare so
+cmp_apart : (x y : ℕ) → (x ≡ y → ⊥) → tree.is_at (nat_cmp x) y ≡ false
+cmp_apart x y apart =
+    ⊎_elim
+    (λ (less : x < y). ap (λ b. is_eq (cond b Less (cond (eqb x y) Equal Greater))) (lt-ltb x y less))
+    (λ (more : y ≤ x). ap (λ b. is_eq (cond b Less (cond (eqb x y) Equal Greater))) (le-ltb x y more) ∙ ap (λ b. is_eq (cond b Equal Greater)) (ne_eqb x y apart))
+    (cases_lt x y)
+
+-- one test more is found by its number
+pub found_more : (order : List ℕ) (places now : tree.BTreeMap ℕ ℕ) (place : ℕ) → NamesOnce order → place < length order → ((k : ℕ) → k < place → tree.get nat_cmp places (get_or order k 0) ≡ Some k) → tree.Updates nat_cmp places now (get_or order place 0) (Some place) → (k : ℕ) → k < place + 1 → tree.get nat_cmp now (get_or order k 0) ≡ Some k
+found_more order places now place once within found updates k before =
+    ⊎_elim
+    (λ (same : k ≡ place). subst (λ (j : ℕ). tree.get nat_cmp now (get_or order j 0) ≡ Some j) (sym same) updates.1)
+    (λ (other : k ≡ place → ⊥).
+    let earlier : k < place = omega (arith, other) in
+    updates.2 (get_or order k 0) (cmp_apart (get_or order place 0) (get_or order k 0) (λ same. once k place 0 earlier within (sym same))) ∙ found k earlier)
+    (cases_eq k place)
+
+same_member : (here there : Bool) (count other : ℕ) (is was : Bool) → here ≡ there → count ≡ other → is ≡ was → (here && eqb count 0 && not is) ≡ (there && eqb other 0 && not was)
+same_member here there count other is was e f g =
+    ap (λ (b : Bool). b && eqb count 0 && not is) e ∙ ap (λ (n : ℕ). there && eqb n 0 && not is) f ∙ ap (λ (b : Bool). there && eqb other 0 && not b) g
+
+-- the test at a place stands so from now on, and is marked if it is a member
+module _ (order : List ℕ) (places : tree.BTreeMap ℕ ℕ) (standings : List Standing) (marks : List Bool) (place : ℕ) (s : Standing) (mark : Bool) (kept : IsReadySet order places standings marks) (within : place < length order) (is : mark ≡ (eqb s.count 0 && not s.is_out)) where
+  marked_here : (q : ℕ) → q ≡ place → is_marked (set marks place mark) q ≡ is_member (ready_of order (set standings place s)) q
+  marked_here q same =
+      let room : place < length marks = omega (arith, kept.room) in
+      let counts : place < length (map count_in standings) = omega (arith, length-map standings count_in, kept.stand) in
+      let outs : place < length (map out_in standings) = omega (arith, length-map standings out_in, kept.stand) in
+      let inner : q < length order = omega arith in
+      get_or-set_at marks place q mark false same room ∙ is
+      ∙ sym (same_member (ltb q (length order)) true (get_or (map count_in (set standings place s)) q 0) s.count (get_or (map out_in (set standings place s)) q false) s.is_out
+      (lt-ltb q (length order) inner)
+      (ap (λ (l : List ℕ). get_or l q 0) (map-set count_in standings place s) ∙ get_or-set_at (map count_in standings) place q s.count 0 same counts)
+      (ap (λ (l : List Bool). get_or l q false) (map-set out_in standings place s) ∙ get_or-set_at (map out_in standings) place q s.is_out false same outs))
+
+  marked_there : (q : ℕ) → (q ≡ place → ⊥) → is_marked (set marks place mark) q ≡ is_member (ready_of order (set standings place s)) q
+  marked_there q other =
+      get_or-set_other marks place q mark false other ∙ kept.marked q
+      ∙ sym (same_member (ltb q (length order)) (ltb q (length order)) (get_or (map count_in (set standings place s)) q 0) (get_or (map count_in standings) q 0) (get_or (map out_in (set standings place s)) q false) (get_or (map out_in standings) q false)
+      refl
+      (ap (λ (l : List ℕ). get_or l q 0) (map-set count_in standings place s) ∙ get_or-set_other (map count_in standings) place q s.count 0 other)
+      (ap (λ (l : List Bool). get_or l q false) (map-set out_in standings place s) ∙ get_or-set_other (map out_in standings) place q s.is_out false other))
+
+  pub kept_set : IsReadySet order places (set standings place s) (set marks place mark)
+  kept_set = record {
+    few = kept.few;
+    found = kept.found;
+    stand = length-set standings place s ∙ kept.stand;
+    room = subst (λ (n : ℕ). length order ≤ n) (sym (length-set marks place mark)) kept.room;
+    marked = λ q. ⊎_elim (marked_here q) (marked_there q) (cases_eq q place);
+  }
+
+pub ready_set : (order : List ℕ) (standings : List Standing) (place : ℕ) (s : Standing) → ready_of order (set standings place s) ≡ with_standing (ready_of order standings) place s
+ready_set order standings place s =
+    ap (λ (cs : List ℕ). tests_of order cs (map out_in (set standings place s))) (map-set count_in standings place s)
+    ∙ ap (λ (os : List Bool). tests_of order (set (map count_in standings) place s.count) os) (map-set out_in standings place s)
+
+pub lowered_by : (old new : ReadyValue) (test place : ℕ) (s t : Standing) → place ≡ place_of old.order test → s ≡ standing_at old place → t.count ≡ s.count - 1 → t.is_out ≡ s.is_out → new ≡ with_standing old place t → new ≡ lowered old test
+lowered_by old new test place s t here is count out now =
+    now
+    ∙ ap (λ (n : ℕ). tests_of old.order (set old.counts place n) (set old.outs place t.is_out)) (count ∙ ap (λ (n : ℕ). n - 1) (ap count_in is))
+    ∙ ap (λ (b : Bool). tests_of old.order (set old.counts place (count_at old place - 1)) (set old.outs place b)) (out ∙ ap out_in is)
+    ∙ ap (λ (os : List Bool). tests_of old.order (set old.counts place (count_at old place - 1)) os) (set-get_or old.outs place false)
+    ∙ ap (λ (p : ℕ). tests_of old.order (set old.counts p (count_at old p - 1)) old.outs) here
+
+pub with_out_by : (old new : ReadyValue) (test place : ℕ) (s t : Standing) (b : Bool) → place ≡ place_of old.order test → s ≡ standing_at old place → t.count ≡ s.count → t.is_out ≡ b → new ≡ with_standing old place t → new ≡ with_out old test b
+with_out_by old new test place s t b here is count out now =
+    now
+    ∙ ap (λ (n : ℕ). tests_of old.order (set old.counts place n) (set old.outs place t.is_out)) (count ∙ ap count_in is)
+    ∙ ap (λ (cs : List ℕ). tests_of old.order cs (set old.outs place t.is_out)) (set-get_or old.counts place 0)
+    ∙ ap (λ (o : Bool). tests_of old.order old.counts (set old.outs place o)) out
+    ∙ ap (λ (p : ℕ). tests_of old.order old.counts (set old.outs p b)) here
+
+counts_waiting : (counts : List ℕ) → map count_in (map waiting counts) ≡ counts
+counts_waiting [] = refl
+counts_waiting (n ∷ counts) = ap (λ (ns : List ℕ). n ∷ ns) (counts_waiting counts)
+
+outs_waiting : (counts : List ℕ) → map out_in (map waiting counts) ≡ replicate (length counts) false
+outs_waiting [] = refl
+outs_waiting (n ∷ counts) = ap (λ (bs : List Bool). false ∷ bs) (outs_waiting counts)
+
+pub ready_new : (order counts : List ℕ) → length counts ≡ length order → ready_of order (map waiting counts) ≡ none_out order counts
+ready_new order counts one =
+    ap (λ (cs : List ℕ). tests_of order cs (map out_in (map waiting counts))) (counts_waiting counts)
+    ∙ ap (λ (os : List Bool). tests_of order counts os) (outs_waiting counts ∙ ap (λ (n : ℕ). replicate n false) one)
+
+get_or_replicate : (n k : ℕ) → get_or (replicate n false) k false ≡ false
+get_or_replicate n k =
+    ⊎_elim
+    (λ (inner : k < n). get_or-replicate n k false false inner)
+    (λ (beyond : n ≤ k). get_or_past (replicate n false) k false (subst (λ (len : ℕ). len ≤ k) (sym (length-replicate n false)) beyond))
+    (cases_lt k n)
+
+pub kept_new : (order counts : List ℕ) (places : tree.BTreeMap ℕ ℕ) (marks : List Bool) → length order < 2 ^ 32 - 1 → AreFound places order → length counts ≡ length order → length counts ≤ length marks → ((place : ℕ) → is_marked marks place ≡ (ltb place (length counts) && eqb (get_or counts place 0) 0)) → IsReadySet order places (map waiting counts) marks
+kept_new order counts places marks few found one room marked = record {
+  few = few;
+  found = found;
+  stand = length-map counts waiting ∙ one;
+  room = subst (λ (n : ℕ). n ≤ length marks) one room;
+  marked = λ q.
+      let out : get_or (map out_in (map waiting counts)) q false ≡ false = ap (λ (l : List Bool). get_or l q false) (outs_waiting counts) ∙ get_or_replicate (length counts) q in
+      marked q ∙ and_true (ltb q (length counts) && eqb (get_or counts q 0) 0)
+      ∙ sym (same_member (ltb q (length order)) (ltb q (length counts)) (get_or (map count_in (map waiting counts)) q 0) (get_or counts q 0) (get_or (map out_in (map waiting counts)) q false) false
+      (ap (λ (n : ℕ). ltb q n) (sym one))
+      (ap (λ (l : List ℕ). get_or l q 0) (counts_waiting counts))
+      out);
+}
+  where
+    and_true : (b : Bool) → b ≡ (b && true)
+    and_true true = refl
+    and_true false = refl
+
+-- a member's place is one of the order
+pub member_within : (ready : ReadyValue) (place : ℕ) → is_member ready place ≡ true → place < length ready.order
+member_within ready place is =
+    let first = and_parts (ltb place (length ready.order) && eqb (count_at ready place) 0) (not (is_out_at ready place)) is in
+    let second = and_parts (ltb place (length ready.order)) (eqb (count_at ready place) 0) first.0 in
+    ltb-true place (length ready.order) second.0
+
+module _ (order : List ℕ) (places : tree.BTreeMap ℕ ℕ) (standings : List Standing) (marks : List Bool) (kept : IsReadySet order places standings marks) (given : Option ℕ) (from : ℕ) where
+  pub none_behind : ((place : ℕ) → IsBehind given place → from ≤ place) → NoneWithin marks from 0 (length marks) → NoneBehind (ready_of order standings) given
+  none_behind reaches none place behind =
+      sym (kept.marked place)
+      ∙ ⊎_elim (λ (inner : place < length marks). none place (reaches place behind) (omega arith) inner) (λ beyond. get_or_past marks place false beyond) (cases_lt place (length marks))
+
+  pub least_behind : (found : ℕ) → ((place : ℕ) → IsBehind given place → from ≤ place) → ((place : ℕ) → from ≤ place → IsBehind given place) → IsLeastWithin marks from 0 (length marks) found → IsLeastBehind (ready_of order standings) given found
+  least_behind found reaches begins least = record {
+    behind = begins found least.from_there;
+    member = sym (kept.marked found) ∙ least.marked;
+    least = λ place behind before. sym (kept.marked place) ∙ least.least place (reaches place behind) (omega arith) before;
+  }
+
+  pub found_fits : (found : ℕ) → IsLeastWithin marks from 0 (length marks) found → found < 2 ^ 32
+  found_fits found least =
+      let few = kept.few in
+      let within = member_within (ready_of order standings) found (sym (kept.marked found) ∙ least.marked) in
+      omega arith
+
+-- the marks say of the places up to one which of them have the count 0
+abbrev pub AreMarkedTo : List ℕ → List Bool → ℕ → Type 0
+AreMarkedTo counts marks end = (place : ℕ) → is_marked marks place ≡ (ltb place end && eqb (get_or counts place 0) 0)
+
+pub marked_to_none : (counts : List ℕ) (marks : List Bool) → ((place : ℕ) → is_marked marks place ≡ false) → AreMarkedTo counts marks 0
+marked_to_none counts marks none place = none place ∙ sym (ap (λ (b : Bool). b && eqb (get_or counts place 0) 0) (le-ltb place 0 (omega arith)))
+
+pub marked_to_more : (counts : List ℕ) (marks : List Bool) (end : ℕ) → end < length marks → AreMarkedTo counts marks end → AreMarkedTo counts (set marks end (eqb (get_or counts end 0) 0)) (end + 1)
+marked_to_more counts marks end room marked place =
+    ⊎_elim
+    (λ same.
+    get_or-set_at marks end place (eqb (get_or counts end 0) 0) false same room
+    ∙ ap (λ (k : ℕ). eqb (get_or counts k 0) 0) (sym same)
+    ∙ sym (ap (λ (b : Bool). b && eqb (get_or counts place 0) 0) (lt-ltb place (end + 1) (omega (arith, same)))))
+    (λ other.
+    get_or-set_other marks end place (eqb (get_or counts end 0) 0) false other ∙ marked place
+    ∙ ap (λ (b : Bool). b && eqb (get_or counts place 0) 0)
+    (⊎_elim
+    (λ (before : place < end). lt-ltb place end before ∙ sym (lt-ltb place (end + 1) (omega arith)))
+    (λ (after : end ≤ place). le-ltb place end after ∙ sym (le-ltb place (end + 1) (omega (arith, other))))
+    (cases_lt place end)))
+    (cases_eq place end)

@@ -1,0 +1,40 @@
+-- What a set of ready tests keeps beside its tests: the place of each test by its number, and marks at its members.
+use Rattle.std.specs.Prelude.{◌≡◌, ℕ, ◌-◌, ◌<◌, ◌≤◌, ◌^◌, Bool, false, ◌&&◌, ◌==◌, nat_lt, List, length, map, slice_index, slice_set, Some}
+use Rattle.std.specs.BTreeMap as tree
+use Rattle.std.specs.Ordering.{nat_cmp}
+use Rattle.ct_queue.specs.Ready.{ReadyValue, count_at, is_out_at, is_member}
+use Rattle.ct_queue.specs.Marks.{is_marked}
+use Rattle.ct_queue.specs.declared.ready.Standing.{Standing}
+
+-- each test of the order is found by its number
+abbrev pub AreFound : tree.BTreeMap ℕ ℕ → List ℕ → Type 0
+AreFound places order = (place : ℕ) → place < length order → tree.get nat_cmp places (slice_index order place) ≡ Some place
+
+-- the marks stand at the places whose count is 0
+abbrev pub AreMarkedAtZero : List ℕ → List Bool → Type 0
+AreMarkedAtZero counts marks = (place : ℕ) → is_marked marks place ≡ (nat_lt place (length counts) && (slice_index counts place == 0))
+
+-- the tests of an order, as these standings say
+abbrev pub ready_of : List ℕ → List Standing → ReadyValue
+ready_of order standings =
+    record { order = order; counts = map (λ (s : Standing). s.count) standings; outs = map (λ (s : Standing). s.is_out) standings }
+
+-- a test with this count, which is not out
+abbrev pub waiting : ℕ → Standing
+waiting count = record { count = count; is_out = false }
+
+-- how the test at a place stands
+abbrev pub standing_at : ReadyValue → ℕ → Standing
+standing_at ready place = record { count = count_at ready place; is_out = is_out_at ready place }
+
+-- the same but for the test at a place, which stands so
+abbrev pub with_standing : ReadyValue → ℕ → Standing → ReadyValue
+with_standing ready place s = record { order = ready.order; counts = slice_set ready.counts place s.count; outs = slice_set ready.outs place s.is_out }
+
+-- what holds of each set of ready tests: all tests are found, and those marked are its members
+pub record IsReadySet (order : List ℕ) (places : tree.BTreeMap ℕ ℕ) (standings : List Standing) (marks : List Bool) : Type 0 where
+  pub few : length order < 2 ^ 32 - 1
+  pub found : AreFound places order
+  pub stand : length standings ≡ length order
+  pub room : length order ≤ length marks
+  pub marked : (place : ℕ) → is_marked marks place ≡ is_member (ready_of order standings) place

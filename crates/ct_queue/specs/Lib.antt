@@ -1,0 +1,3 @@
+pub mod Ready
+pub mod Marks
+pub mod Kept

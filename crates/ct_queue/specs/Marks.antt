@@ -1,0 +1,33 @@
+-- Marks on places, and the binary tree that finds the least of them. This project's own.
+use Rattle.std.specs.Prelude.{◌≡◌, ℕ, ◌+◌, ◌*◌, ◌/◌, ◌<◌, ◌≤◌, Bool, true, false, ◌||◌, List, length, drop, slice_index_or, Option, MatchOption}
+use Rattle.std.specs.Int.{IsPowerOfTwo}
+
+-- the place is marked
+abbrev pub is_marked : List Bool → ℕ → Bool
+is_marked marks place = slice_index_or marks place false
+
+-- no place from one on is marked, among those from `low` on and before `end`
+abbrev pub NoneWithin : List Bool → ℕ → ℕ → ℕ → Type 0
+NoneWithin marks from low end = (place : ℕ) → from ≤ place → low ≤ place → place < end → is_marked marks place ≡ false
+
+-- the least marked place from one on, among those from `low` on and before `end`
+pub record IsLeastWithin (marks : List Bool) (from low end place : ℕ) : Type 0 where
+  pub from_there : from ≤ place
+  pub low_there : low ≤ place
+  pub before_end : place < end
+  pub marked : is_marked marks place ≡ true
+  pub least : NoneWithin marks from low place
+
+-- what is found: that place, or none where there is none
+abbrev pub IsFirstWithin : List Bool → ℕ → ℕ → ℕ → Option ℕ → Type 0
+IsFirstWithin marks from low end found = MatchOption found (NoneWithin marks from low end) (IsLeastWithin marks from low end)
+
+-- the marks of the places: the last half of the nodes
+abbrev pub marks_of : List Bool → List Bool
+marks_of nodes = drop (length nodes / 2) nodes
+
+-- a binary tree, stored as a heap is: a node above others is marked where one of them is
+pub record IsTree (nodes : List Bool) : Type 0 where
+  pub even : length nodes ≡ 2 * (length nodes / 2)
+  pub power : IsPowerOfTwo (length nodes / 2)
+  pub inner : (node : ℕ) → 0 < node → node < length nodes / 2 → is_marked nodes node ≡ (is_marked nodes (2 * node) || is_marked nodes (2 * node + 1))

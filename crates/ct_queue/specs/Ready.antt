@@ -1,0 +1,73 @@
+-- The tests of a run in the order of their cost, and which of them are ready. Source: CMake manual, ctest(1), -j, and cmake-properties(7), COST; the set of ready tests is this project's own.
+use Rattle.std.specs.Prelude.{◌≡◌, ◌≢◌, ℕ, ◌-◌, ◌<◌, ⊤, Bool, true, false, not, ◌&&◌, ◌==◌, List, length, replicate, slice_set, slice_index_or, AllPairs, Option, Some, None, nat_lt}
+use Rattle.std.specs.List.{position_or_len}
+
+-- tests in an order and, by the place of a test there, how many of its predecessors are open, and whether it is out
+pub record ReadyValue : Type 0 where
+  pub order : List ℕ
+  pub counts : List ℕ
+  pub outs : List Bool
+
+-- the order names each test once
+abbrev pub NamesOnce : List ℕ → Type 0
+NamesOnce order = AllPairs (λ one other. one ≢ other) order
+
+-- the place of a test in the order, counted from 0
+abbrev pub place_of : List ℕ → ℕ → ℕ
+place_of order test = position_or_len (λ t. t == test) order
+
+-- the test stands in the order
+abbrev pub StandsIn : List ℕ → ℕ → Type 0
+StandsIn order test = place_of order test < length order
+
+-- how many predecessors of the test at a place are open
+abbrev pub count_at : ReadyValue → ℕ → ℕ
+count_at ready place = slice_index_or ready.counts place 0
+
+-- the test at a place is out
+abbrev pub is_out_at : ReadyValue → ℕ → Bool
+is_out_at ready place = slice_index_or ready.outs place false
+
+-- a member stands at the place: a test that has no open predecessor and is not out
+abbrev pub is_member : ReadyValue → ℕ → Bool
+is_member ready place = nat_lt place (length ready.order) && (count_at ready place == 0) && not (is_out_at ready place)
+
+-- how many predecessors of a test are open
+abbrev pub count_of : ReadyValue → ℕ → ℕ
+count_of ready test = count_at ready (place_of ready.order test)
+
+-- a test is out
+abbrev pub is_out : ReadyValue → ℕ → Bool
+is_out ready test = is_out_at ready (place_of ready.order test)
+
+-- a test is a member
+abbrev pub is_ready : ReadyValue → ℕ → Bool
+is_ready ready test = is_member ready (place_of ready.order test)
+
+-- the tests in this order with these counts, and none of them is out
+abbrev pub none_out : List ℕ → List ℕ → ReadyValue
+none_out order counts = record { order = order; counts = counts; outs = replicate (length order) false }
+
+-- the same but for one predecessor of a test, which is open no longer
+abbrev pub lowered : ReadyValue → ℕ → ReadyValue
+lowered ready test =
+    record { order = ready.order; counts = slice_set ready.counts (place_of ready.order test) (count_of ready test - 1); outs = ready.outs }
+
+-- the same but for whether one test is out
+abbrev pub with_out : ReadyValue → ℕ → Bool → ReadyValue
+with_out ready test is = record { order = ready.order; counts = ready.counts; outs = slice_set ready.outs (place_of ready.order test) is }
+
+-- the place stands behind a given one; where none is given, each place does
+abbrev pub IsBehind : Option ℕ → ℕ → Type 0
+IsBehind None place = ⊤
+IsBehind (Some given) place = given < place
+
+-- no member stands behind the given place
+abbrev pub NoneBehind : ReadyValue → Option ℕ → Type 0
+NoneBehind ready given = (place : ℕ) → IsBehind given place → is_member ready place ≡ false
+
+-- the least place behind a given one at which a member stands
+pub record IsLeastBehind (ready : ReadyValue) (given : Option ℕ) (found : ℕ) : Type 0 where
+  pub behind : IsBehind given found
+  pub member : is_member ready found ≡ true
+  pub least : (place : ℕ) → IsBehind given place → place < found → is_member ready place ≡ false

@@ -1,0 +1,224 @@
+ghost use Rattle.std.specs.Prelude.{◌≡◌, ℕ, ◌-◌, ◌<◌, ◌≤◌, ◌^◌, ◌&&◌, ◌==◌, not, true, false, IfOk, MatchOption, length, map, slice_index, nat_lt};
+ghost use Rattle.ct_queue.specs.Ready.{IsBehind, IsLeastBehind, NamesOnce, NoneBehind, StandsIn, count_of, is_out, is_ready, lowered, none_out, place_of, with_out};
+ghost use Rattle.ct_queue.specs.Kept.{AreFound, AreMarkedAtZero, waiting, standing_at, with_standing};
+
+use crate::marks::Marks;
+use ct_base::{List, NoMemory};
+use std::alloc::Global;
+use std::collections::BTreeMap;
+use std::marker::Model;
+use std::snapshot::Snapshot;
+
+/// How a test stands: how many of its predecessors are open, and whether it is out.
+#[derive(Clone, Copy)]
+pub(crate) struct Standing {
+    pub count: u32,
+    pub is_out: bool,
+}
+
+impl Standing {
+    /// Tells whether the test is a member.
+    fn is_ready(self) -> bool
+        ensures { result ≡ ((self.count == 0) && not self.is_out) }
+    {
+        self.count == 0 && !self.is_out
+    }
+}
+
+/// The tests of a run in the order of their cost, with those of them that are ready.
+///
+/// Its members are the tests that have no open predecessor and are not out. Each call but `new` takes no
+/// memory, and costs at most a logarithm of the number of tests.
+/// Source: CMake manual, ctest(1), -j, and cmake-properties(7), COST. The set is this project's own.
+#[derive(Drop)]
+pub struct Ready {
+    order: Snapshot<List<u32>>,
+    places: BTreeMap<u32, u32>,
+    standings: Vec<Standing>,
+    marks: Marks,
+}
+
+impl Model for Ready {
+    ghost use Rattle.ct_queue.specs.Ready.{ReadyValue};
+
+    ghost Value = { ReadyValue };
+
+    ghost use Rattle.ct_queue.specs.Kept.{IsReadySet, ready_of};
+
+    ghost view = { λ r. ready_of r.order.value r.standings.items };
+
+    ghost invariant = { λ r. IsReadySet r.order.value r.places r.standings.items r.marks };
+}
+
+impl Ready {
+    /// Takes the tests in their order, with how many predecessors of each are open, at the place of the test.
+    /// None of them is out.
+    pub fn new(alloc: Global, order: &List<u32>, counts: &List<u32>) -> Result<Ready, NoMemory>
+        requires few { length order.now < 2 ^ 32 - 1 }
+        requires once { NamesOnce order.now }
+        requires counted { length counts.now ≡ length order.now }
+        ensures { IfOk result (λ ready. ready ≡ none_out order.now counts.now) }
+    {
+        Ok(Ready {
+            order: Snapshot::of(order),
+            places: places(alloc, order.as_slice())?,
+            standings: standings(alloc, counts.as_slice())?,
+            marks: marks(alloc, counts.as_slice())?,
+        })
+    }
+
+    /// Notes that one predecessor of a test is open no longer.
+    pub fn lower(&mut self, test: u32)
+        requires stands { StandsIn self.old.order test }
+        requires open_before { 0 < count_of self.old test }
+        ensures { self.new ≡ lowered self.old test }
+    {
+        let place = self.place(test);
+        let mut standing = self.standing(place);
+        standing.count -= 1;
+        self.put(place, standing);
+    }
+
+    /// Takes a member out, as its attempt starts or it is final.
+    pub fn out(&mut self, test: u32)
+        requires stands { StandsIn self.old.order test }
+        requires member { is_ready self.old test ≡ true }
+        ensures { self.new ≡ with_out self.old test true }
+    {
+        let place = self.place(test);
+        let mut standing = self.standing(place);
+        standing.is_out = true;
+        self.put(place, standing);
+    }
+
+    /// Takes a test back that is out, as its attempts go on.
+    pub fn back(&mut self, test: u32)
+        requires stands { StandsIn self.old.order test }
+        requires gone { is_out self.old test ≡ true }
+        ensures { self.new ≡ with_out self.old test false }
+    {
+        let place = self.place(test);
+        let mut standing = self.standing(place);
+        standing.is_out = false;
+        self.put(place, standing);
+    }
+
+    /// Finds the least place behind a given one, or from the front, at which a member stands.
+    pub fn after(&self, place: Option<u32>) -> Option<u32>
+        ensures { MatchOption result (NoneBehind self.now place) (IsLeastBehind self.now place) }
+    {
+        let from = first_behind(place);
+        match self.marks.first_from(from) {
+            Some(found) => Some(found as u32),
+            None => None,
+        }
+    }
+
+    /// Finds the place of a test in the order.
+    fn place(&self, test: u32) -> usize
+        requires { StandsIn self.now.order test }
+        ensures { result ≡ place_of self.now.order test }
+    {
+        match self.places.get(&test) {
+            Some(place) => *place as usize,
+            None => unreachable!(),
+        }
+    }
+
+    /// Tells how the test at a place stands.
+    fn standing(&self, place: usize) -> Standing
+        requires { place < length self.now.order }
+        ensures { result ≡ standing_at self.now place }
+    {
+        self.standings[place]
+    }
+
+    /// Has the test at a place stand so from now on.
+    fn put(&mut self, place: usize, standing: Standing)
+        requires { place < length self.old.order }
+        ensures { self.new ≡ with_standing self.old place standing }
+    {
+        self.standings[place] = standing;
+        self.marks.set(place, standing.is_ready());
+    }
+}
+
+/// Gives the first place behind a given one, or the first of all.
+fn first_behind(place: Option<u32>) -> usize
+    ensures reaches { (other : ℕ) → IsBehind place other → result ≤ other }
+    ensures begins { (other : ℕ) → result ≤ other → IsBehind place other }
+{
+    match place {
+        Some(given) => given as usize + 1,
+        None => 0,
+    }
+}
+
+/// Lists the tests of an order by their numbers, each with its place.
+fn places(alloc: Global, order: &[u32]) -> Result<BTreeMap<u32, u32>, NoMemory>
+    requires few { length order.now < 2 ^ 32 - 1 }
+    requires once { NamesOnce order.now }
+    ensures { IfOk result (λ places. AreFound places order.now) }
+{
+    let mut places = BTreeMap::new(alloc);
+    for (place, test) in order.iter().enumerate() {
+        places.insert(*test, place as u32)?;
+    }
+    Ok(places)
+}
+
+/// Lists the standings of tests that have these counts and are not out.
+fn standings(alloc: Global, counts: &[u32]) -> Result<Vec<Standing>, NoMemory>
+    ensures { IfOk result (λ standings. standings.items ≡ map waiting counts.now) }
+{
+    let standings = counts.iter().map(|count| Standing {
+        count: *count,
+        is_out: false,
+    });
+    Ok(standings.collect(alloc)?)
+}
+
+/// Marks the places at which the count is 0.
+fn marks(alloc: Global, counts: &[u32]) -> Result<Marks, NoMemory>
+    requires few { length counts.now < 2 ^ 32 - 1 }
+    ensures room { IfOk result (λ marks. length counts.now ≤ length marks) }
+    ensures marked { IfOk result (AreMarkedAtZero counts.now) }
+{
+    let mut marks = Marks::new(alloc, counts.len())?;
+    for (place, count) in counts.iter().enumerate() {
+        marks.set(place, *count == 0);
+    }
+    Ok(marks)
+}
+
+#[cfg(test)]
+mod tests {
+    use super::*;
+    use std::test::Fail;
+
+    #[test]
+    fn finds_the_first_ready_test_behind_a_place(rt: HostRuntime) -> Result<(), Fail> {
+        let alloc = rt.alloc();
+        let order = List::from_vec([2, 1].to_vec(alloc)?);
+        let counts = List::from_vec([0, 1].to_vec(alloc)?);
+        let mut ready = Ready::new(alloc, &order, &counts)?;
+        assert_eq!(rt; [ready.after(None), ready.after(Some(0))], [Some(0), None]);
+        ready.out(2);
+        assert_eq!(rt; [ready.after(None), ready.after(Some(0))], [None, None]);
+        ready.lower(1);
+        assert_eq!(rt;
+            [ready.after(None), ready.after(Some(0))],
+            [Some(1), Some(1)]
+        );
+        ready.back(2);
+        assert_eq!(rt;
+            [ready.after(None), ready.after(Some(0))],
+            [Some(0), Some(1)]
+        );
+        assert_eq!(rt;
+            [ready.after(Some(1)), ready.after(Some(u32::MAX))],
+            [None, None]
+        );
+        Ok(())
+    }
+}
