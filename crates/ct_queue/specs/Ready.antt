@@ -1,4 +1,5 @@
--- The tests of a run in the order of their cost, and which of them are ready. Source: CMake manual, ctest(1), -j, and cmake-properties(7), COST; the set of ready tests is this project's own.
+-- The tests of a run in the order of their cost, and which of them are ready.
+-- Source: CMake manual, ctest(1), -j; cmake-properties(7), COST. The set of ready tests is this project's own.
 use Rattle.std.specs.Prelude.{◌≡◌, ◌≢◌, ℕ, ◌-◌, ◌<◌, ⊤, Bool, true, false, not, ◌&&◌, ◌==◌, List, length, replicate, slice_set, slice_index_or, AllPairs, Option, Some, None, nat_lt}
 use Rattle.std.specs.List.{position_or_len}
 
