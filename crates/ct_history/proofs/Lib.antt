@@ -8,3 +8,4 @@ pub mod WithinLemmas
 pub mod FinalLemmas
 pub mod LegalLemmas
 pub mod ProgressLemmas
+pub mod SlotLemmas

@@ -1,5 +1,5 @@
 -- What a history of a run says: open starts, what they use, attempts. This project's own, after ctest(1).
-use Rattle.std.specs.Prelude.{ℕ, Bool, true, false, ◌&&◌, List, [], ◌∷◌, filter_map, sum_by, Option, Some, None, ◌==◌, if◌then◌else◌}
+use Rattle.std.specs.Prelude.{ℕ, Bool, true, false, ◌&&◌, List, [], ◌∷◌, filter_map, sum_by, Option, Some, None, option_and_then, ◌==◌, if◌then◌else◌}
 use Rattle.std.specs.List.{list_any, cons_option}
 use Rattle.ct_alloc.specs.declared.placement.Placement.{Placement}
 use Rattle.ct_alloc.specs.Placement.{slots_at}
@@ -32,6 +32,10 @@ opened (Start t a w p) behind = if list_any (is_end_of t a) behind then None els
 opened (End t a worker seen) behind = None
 opened (Settle t cause) behind = None
 opened Stop behind = None
+
+-- the placement of the start that the entry opens, where it has one
+abbrev pub opened_placement : Entry → List Entry → Option Placement
+opened_placement e behind = option_and_then (λ (r : Running). r.placement) (opened e behind)
 
 -- the open starts: those behind which no End of the same test and attempt stands
 abbrev pub open_starts : List Entry → List Running

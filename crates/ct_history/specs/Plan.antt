@@ -1,5 +1,5 @@
 -- What a plan says of its tests, and when it is sound. This project's own, after ctest(1).
-use Rattle.std.specs.Prelude.{◌≡◌, ℕ, ◌+◌, ◌≤◌, Bool, true, false, not, ◌&&◌, List, [], ◌∷◌, map, filter, find, All, AllPairs, Option, Some, None, IfSome, nat_le, nat_lt, ◌==◌, bytes_eq, IsPermutation, is_some}
+use Rattle.std.specs.Prelude.{◌≡◌, ℕ, ◌+◌, ◌≤◌, Bool, true, false, not, ◌&&◌, List, [], ◌∷◌, map, filter, find, All, Option, Some, None, IfSome, nat_le, nat_lt, ◌==◌, IsPermutation, is_some}
 use Rattle.std.specs.List.{list_any, list_all}
 use Rattle.ct_base.specs.declared.defs.Resource.{Resource}
 use Rattle.ct_alloc.specs.Placement.{AreDistinct, SomeFits}
@@ -64,8 +64,3 @@ pub record IsSound (plan : PlanParts) : Type 0 where
   pub times : 1 ≤ plan.repeat.times
   pub distinct : IfSome plan.resources AreDistinct
   pub placeable : IfSome plan.resources (λ resources. All (IsPlaceable resources) plan.tests)
-
--- what a plan keeps of its parts. No resources can be given yet.
-pub record IsPlanned (plan : PlanParts) : Type 0 where
-  pub sound : IsSound plan
-  pub unresourced : plan.resources ≡ None

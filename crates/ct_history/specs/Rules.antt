@@ -82,6 +82,11 @@ abbrev pub may_start : PlanParts → PlanTest → Option Placement → List Entr
 may_start plan t placement entries =
     not (has_stop entries) && is_pending plan t entries && is_ready plan t entries && has_room plan t entries && is_placed plan.resources t.needs (used_slots entries) placement
 
+-- the test may start wherever its needs are met: all of `may_start` but the placement
+abbrev pub may_start_if_placed : PlanParts → PlanTest → List Entry → Bool
+may_start_if_placed plan t entries =
+    not (has_stop entries) && is_pending plan t entries && is_ready plan t entries && has_room plan t entries
+
 -- the test that was looked up may start with this placement
 abbrev pub may_start_at : PlanParts → List Entry → Option Placement → Option PlanTest → Bool
 may_start_at plan entries placement None = false

@@ -1,4 +1,4 @@
-ghost use Rattle.std.specs.Prelude.{◌≡◌, IfOk, Some, None, true};
+ghost use Rattle.std.specs.Prelude.{◌≡◌, IfOk, Some, true};
 ghost use Rattle.std.specs.Option.{option_copied};
 ghost use Rattle.ct_history.specs.Legal as Legal;
 ghost use Rattle.ct_history.specs.Legal.{StaysWithin};
@@ -25,14 +25,12 @@ pub fn judge(plan: &Plan, history: &History) -> Result<bool, NoMemory>
 }
 
 fn is_legal(plan: &PlanParts, entries: &[Entry]) -> bool
-    requires { plan.now.resources ≡ None }
     ensures { result ≡ Legal.is_legal plan.now entries.now }
 {
     is_allowed_so_far(plan, entries) && !is_stop_due(plan, entries)
 }
 
 fn is_allowed_so_far(plan: &PlanParts, entries: &[Entry]) -> bool
-    requires { plan.now.resources ≡ None }
     ensures { result ≡ Legal.is_allowed_so_far plan.now entries.now }
 {
     for at in 0..entries.len() {
@@ -44,7 +42,6 @@ fn is_allowed_so_far(plan: &PlanParts, entries: &[Entry]) -> bool
 }
 
 fn is_allowed(plan: &PlanParts, front: &[Entry], entry: &Entry) -> bool
-    requires { plan.now.resources ≡ None }
     ensures { result ≡ Legal.is_allowed plan.now front.now entry.now }
 {
     match entry {
@@ -78,7 +75,6 @@ fn starts(
     attempt: u32,
     placement: Option<&Placement>,
 ) -> bool
-    requires { plan.now.resources ≡ None }
     ensures { result ≡ Legal.starts plan.now front.now attempt (option_copied placement.entry)
         (Legal.test_at plan.now.tests number) }
 {
@@ -95,14 +91,10 @@ fn starts_test(
     attempt: u32,
     placement: Option<&Placement>,
 ) -> bool
-    requires { plan.now.resources ≡ None }
     ensures { result ≡ Legal.starts plan.now front.now attempt
         (option_copied placement.entry) (Some test.now) }
 {
-    match placement {
-        Some(_) => false,
-        None => may_start(plan, test, front) && is_next(test, attempt, front),
-    }
+    may_start(plan, test, placement, front) && is_next(test, attempt, front)
 }
 
 fn is_next(test: &PlanTest, attempt: u32, front: &[Entry]) -> bool

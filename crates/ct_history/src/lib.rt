@@ -9,6 +9,7 @@ mod board;
 mod history;
 mod legal;
 mod open_starts;
+mod placed;
 mod plan;
 mod rules;
 mod verdicts;
@@ -16,9 +17,9 @@ mod verdicts;
 pub use board::{Base, Board};
 pub use history::{Entry, History};
 pub use legal::{is_stop_due, judge};
-pub use open_starts::{holds_start, is_busy};
+pub use open_starts::{holds_start, is_busy, open_placement};
 pub use plan::{Plan, PlanParts, PlanTest, test_at};
-pub use rules::{may_start, settle_cause};
+pub use rules::{may_start, may_start_if_placed, settle_cause};
 pub use verdicts::{
     are_all_final, count_attempts, final_verdict, has_failing, verdict, verdict_of,
 };

@@ -1,11 +1,13 @@
 ghost use Rattle.std.specs.Prelude.{◌≡◌, ◌+◌, ◌-◌, ◌^◌, min, option_map, Some};
+ghost use Rattle.std.specs.Option.{option_copied};
 ghost use Rattle.ct_history.specs.History as History;
-ghost use Rattle.ct_history.specs.History.{is_busy_in, is_open_in, opened as opened_in};
+ghost use Rattle.ct_history.specs.History.{is_busy_in, is_open_in, opened as opened_in, opened_placement};
 ghost use Rattle.ct_history.specs.Rules as Rules;
 
 use crate::history::is_ended;
 use crate::plan::test_at;
 use crate::{Entry, PlanTest};
+use ct_alloc::Placement;
 use ct_base::Name;
 
 /// A start behind which no End of it stands.
@@ -36,6 +38,27 @@ fn opened(entry: &Entry, behind: &[Entry]) -> Option<OpenStart>
                     attempt: *attempt,
                     worker: *worker,
                 })
+            }
+        }
+        Entry::End { .. } | Entry::Settle { .. } | Entry::Stop => None,
+    }
+}
+
+/// Lends the placement of the start that an entry opens, where no End of it stands behind.
+pub fn open_placement<'a>(entry: &'a Entry, behind: &[Entry]) -> Option<&'a Placement>
+    ensures { option_copied result ≡ opened_placement entry.now behind.now }
+{
+    match entry {
+        Entry::Start {
+            test,
+            attempt,
+            placement,
+            ..
+        } => {
+            if is_ended(behind, *test, *attempt) {
+                None
+            } else {
+                placement.as_ref()
             }
         }
         Entry::End { .. } | Entry::Settle { .. } | Entry::Stop => None,

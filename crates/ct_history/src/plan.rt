@@ -53,22 +53,21 @@ pub struct Plan {
 
 impl Model for Plan {
     ghost use Rattle.ct_history.specs.declared.plan.PlanParts.{PlanParts};
-    ghost use Rattle.ct_history.specs.Plan.{IsPlanned};
+    ghost use Rattle.ct_history.specs.Plan.{IsSound};
 
     ghost Value = { PlanParts };
 
     ghost view = { λ p. p.parts };
 
-    ghost invariant = { λ p. IsPlanned p.parts };
+    ghost invariant = { λ p. IsSound p.parts };
 }
 
 impl Plan {
     ghost use Rattle.ct_history.specs.Plan.{IsSound};
 
-    /// Makes a plan of sound parts. No resources can be given yet.
+    /// Makes a plan of sound parts.
     pub fn new(parts: PlanParts) -> Plan
         requires sound { IsSound parts }
-        requires unresourced { parts.resources ≡ None }
         ensures { result ≡ parts }
     {
         Plan { parts }
@@ -78,7 +77,6 @@ impl Plan {
     pub fn parts(&self) -> &PlanParts
         ensures is { result.now ≡ self.now }
         ensures sound { IsSound self.now }
-        ensures unresourced { self.now.resources ≡ None }
     {
         &self.parts
     }

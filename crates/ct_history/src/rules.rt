@@ -1,20 +1,34 @@
-ghost use Rattle.std.specs.Prelude.{◌≡◌, None};
-ghost use Rattle.ct_history.specs.Rules.{cause_behind, first_unpassed, follows_finals, has_processors, has_room, is_passed_verdict as has_passed, is_pending, is_ready, may_start as may_start_in, settle_cause as settle_cause_in};
+ghost use Rattle.std.specs.Prelude.{◌≡◌};
+ghost use Rattle.std.specs.Option.{option_copied};
+ghost use Rattle.ct_history.specs.Rules.{cause_behind, first_unpassed, follows_finals, has_processors, has_room, is_passed_verdict as has_passed, is_pending, is_ready, may_start as may_start_in, may_start_if_placed, settle_cause as settle_cause_in};
 ghost use Rattle.ct_history.specs.Verdicts.{verdict_of_test};
 
 use crate::history::has_stop;
 use crate::open_starts::{is_excluded, is_open, used_processors};
+use crate::placed::is_placed;
 use crate::verdicts::{is_final, verdict_of};
 use crate::{Entry, PlanParts, PlanTest};
+use ct_alloc::Placement;
 use ct_verdict::{Cause, Verdict};
 
-/// Tells whether a test may start without a placement.
+/// Tells whether a test may start with a placement, or without one.
 ///
 /// Source: CMake manual, cmake-properties(7), DEPENDS, FIXTURES_REQUIRED, PROCESSORS,
-/// RESOURCE_LOCK, RUN_SERIAL.
-pub fn may_start(plan: &PlanParts, test: &PlanTest, entries: &[Entry]) -> bool
-    requires { plan.now.resources ≡ None }
-    ensures { result ≡ may_start_in plan.now test.now None entries.now }
+/// RESOURCE_LOCK, RUN_SERIAL; ctest(1), Resource Allocation.
+pub fn may_start(
+    plan: &PlanParts,
+    test: &PlanTest,
+    placement: Option<&Placement>,
+    entries: &[Entry],
+) -> bool
+    ensures { result ≡ may_start_in plan.now test.now (option_copied placement.entry) entries.now }
+{
+    may_start_if_placed(plan, test, entries) && is_placed(plan, test, placement, entries)
+}
+
+/// Tells whether a test may start wherever its needs are met.
+pub fn may_start_if_placed(plan: &PlanParts, test: &PlanTest, entries: &[Entry]) -> bool
+    ensures { result ≡ may_start_if_placed plan.now test.now entries.now }
 {
     !has_stop(entries)
         && is_pending(plan, test, entries)
