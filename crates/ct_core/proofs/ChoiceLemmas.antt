@@ -1,24 +1,31 @@
 -- What a search through the tests, or through the queue, says of the choice.
-use Rattle.std.proofs.Common.{◌≡◌, ◌∙◌, sym, ap, subst, Bool, true, false, ℕ, ◌+◌, ◌-◌, ◌<◌, ◌^◌, List, [], ◌∷◌, ◌++◌, length, refl, arith, inl, inr}
-use Rattle.std.specs.Prelude.{Option, Some, None, ◌==◌, map, find, cond, is_some}
-use Rattle.std.proofs.lemmas.Bool.{cases_Bool, false_from_ne_true}
+use Rattle.std.proofs.Common.{◌≡◌, ◌∙◌, sym, ap, subst, Bool, true, false, ℕ, ◌+◌, ◌-◌, ◌<◌, ◌^◌, List, [], ◌∷◌, ◌++◌, length, refl, arith, inl, inr, get_or, suc, take, drop}
+use Rattle.std.specs.Prelude.{Option, Some, None, ◌==◌, ◌&&◌, not, map, find, cond, is_some, MatchOption}
+use Rattle.std.proofs.Math.Path.{fun_ext}
+use Rattle.std.proofs.lemmas.Bool.{and_from, and_parts, cases_Bool, false_from_ne_true}
 use Rattle.std.proofs.lemmas.Bool.Decides.{nat_tests}
-use Rattle.std.proofs.lemmas.List.Elements.{All-cons, All-contains, All-nil}
+use Rattle.std.proofs.Math.Seq.{split_at}
+use Rattle.std.proofs.lemmas.List.{take_more}
+use Rattle.std.proofs.lemmas.List.Elements.{All-contains, All-push}
 use Rattle.ct_alloc.specs.declared.placement.Placement.{Placement}
+use Rattle.ct_alloc.specs.Free.{FreeValue, NoneFits, used_at}
+use Rattle.ct_alloc.specs.Placement.{fits_beside, is_placement}
+use Rattle.ct_base.specs.declared.defs.Need.{Need}
 use Rattle.ct_base.specs.declared.defs.Resource.{Resource}
 use Rattle.ct_verdict.specs.declared.verdict.Cause.{Cause}
 use Rattle.ct_history.specs.declared.plan.PlanTest.{PlanTest}
 use Rattle.ct_history.specs.declared.plan.PlanParts.{PlanParts}
 use Rattle.ct_history.specs.declared.history.Entry.{Entry}
 use Rattle.ct_history.specs.Plan.{IsAscendingFrom, IsSound, test_at}
-use Rattle.ct_history.specs.History.{attempts_of, used_slots}
-use Rattle.ct_history.specs.Rules.{CanStart, is_idle, is_placed, may_start, may_start_at, settle_cause, settle_cause_at}
+use Rattle.ct_history.specs.History.{attempts_of, has_stop, used_slots}
+use Rattle.ct_history.specs.Rules.{CanStart, has_room, is_idle, is_pending, is_placed, is_ready, may_start, may_start_at, may_start_if_placed, settle_cause, settle_cause_at}
 use Rattle.ct_history.proofs.AttemptLemmas.{attempts_left}
-use Rattle.ct_history.proofs.MayLemmas.{may_start-parts}
 use Rattle.ct_history.proofs.PlanLemmas.{find_passes, found_at, found_bound}
 use Rattle.ct_history.proofs.ProgressLemmas.{GoesOn, goes_on, idle_empty}
 use Rattle.ct_history.proofs.ProgressLemmas.GoesOn.{settles_on, starts_on}
-use Rattle.ct_core.specs.Choice.{IsFirstToStart, IsLeastToSettle, IsStuck, NoneSettles, NoneStarts}
+use Rattle.ct_core.specs.declared.choice.Startable.{Startable}
+use Rattle.ct_core.specs.Choice.{IsLeastToSettle, IsStartOf, IsStartable, IsStuck, NoneSettles, NoneStarts, attempt_after}
+use Rattle.ct_core.specs.Slots.{IsFreeBeside, resources_of, used_of}
 
 true_is_false : true ≡ false → ⊥
 true_is_false is = cc
@@ -90,66 +97,78 @@ module _ (plan : PlanParts) (es : List Entry) where
   pub cause_found : (t : PlanTest) → find (λ t. is_some (settle_cause plan t es)) plan.tests ≡ Some t → settle_cause plan t es ≡ None → ⊥
   cause_found t is none = true_is_false (sym (find_passes (λ t. is_some (settle_cause plan t es)) plan.tests t is) ∙ ap is_some none)
 
--- without resources no placement is wanted
-unplaced_test : (plan : PlanParts) (es : List Entry) (t : PlanTest) (p : Option Placement) → plan.resources ≡ None → may_start plan t p es ≡ true → may_start plan t None es ≡ true
-unplaced_test plan es t None none may = may
-unplaced_test plan es t (Some p) none may =
-    let parts = may_start-parts plan t (Some p) es may in
-    let placed = sym (ap (λ (rs : Option (List Resource)). is_placed rs t.needs (used_slots es) (Some p)) none) ∙ parts.placed in
-    (cc)
+-- where no placement fits, needs are met by none
+pub none_placed : (free : FreeValue) (needs : List Need) → NoneFits free needs → (length needs == 0) ≡ false → (p : Option Placement) → is_placed (Some free.resources) needs (used_at free) p ≡ true → ⊥
+none_placed free [] none some p placed = true_is_false some
+none_placed free (need ∷ needs) none some None placed = true_is_false (sym placed)
+none_placed free (need ∷ needs) none some (Some p) placed =
+    let both = and_parts (is_placement free.resources (need ∷ needs) p.picks) (fits_beside free.resources (used_at free) p.picks) placed in
+    none (record { picks = p.picks; placed = both.0; fits = both.1 })
 
-unplaced : (plan : PlanParts) (es : List Entry) (o : Option PlanTest) (p : Option Placement) → plan.resources ≡ None → may_start_at plan es p o ≡ true → may_start_at plan es None o ≡ true
-unplaced plan es None p none may = may
-unplaced plan es (Some t) p none may = unplaced_test plan es t p none may
+-- what is placed beside what is free is placed beside the open starts
+same_placed : (plan : PlanParts) (es : List Entry) (free : Option FreeValue) (needs : List Need) (p : Option Placement) → IsFreeBeside plan es free → is_placed (resources_of free) needs (used_of free) p ≡ is_placed plan.resources needs (used_slots es) p
+same_placed plan es None needs p beside = ap (λ (o : Option (List Resource)). is_placed o needs (used_slots es) p) beside.resources
+same_placed plan es (Some free) needs p beside =
+    let used : used_at free ≡ used_slots es = fun_ext (λ place. beside.used place) in
+    ap (λ (u : ℕ → ℕ). is_placed (Some free.resources) needs u p) used
+    ∙ ap (λ (o : Option (List Resource)). is_placed o needs (used_slots es) p) beside.resources
 
-module _ (plan : PlanParts) (es : List Entry) (none : plan.resources ≡ None) where
-  -- where nothing is found in the queue, none of it may start
-  pub none_starts : (queue : List ℕ) → find (λ n. may_start_at plan es None (test_at plan.tests n)) queue ≡ None → NoneStarts plan es queue
-  none_starts [] is = All-nil (λ n. CanStart plan es n → ⊥)
-  none_starts (n ∷ ns) is = elim (cases_Bool (may_start_at plan es None (test_at plan.tests n))) [
-    | inl may ↦
-        let found : Some n ≡ None = sym (ap (λ (b : Bool). cond b (Some n) (find (λ m. may_start_at plan es None (test_at plan.tests m)) ns)) may) ∙ is in
-        absurd (cc)
-    | inr may_not ↦
-        All-cons (λ m. CanStart plan es m → ⊥) n ns (λ can. true_is_false (sym (unplaced plan es (test_at plan.tests n) can.placement none can.may) ∙ may_not))
-        (none_starts ns (sym (ap (λ (b : Bool). cond b (Some n) (find (λ m. may_start_at plan es None (test_at plan.tests m)) ns)) may_not) ∙ is))
-  ]
+module _ (plan : PlanParts) (es : List Entry) where
+  may_of : (t : PlanTest) (p : Option Placement) → may_start_if_placed plan t es ≡ true → is_placed plan.resources t.needs (used_slots es) p ≡ true → may_start plan t p es ≡ true
+  may_of t p may placed = and_from (may_start_if_placed plan t es) (is_placed plan.resources t.needs (used_slots es) p) may placed
 
--- what is found stands behind elements that fail
-record IsSplit {A : Type 0} (p : A → Bool) (xs : List A) (x : A) : Type 0 where
-  earlier : List A
-  later : List A
-  is : xs ≡ earlier ++ x ∷ later
-  none : find p earlier ≡ None
+  -- a test that is placed so starts so
+  pub starts_of : (free : Option FreeValue) (t : PlanTest) (n a : ℕ) (p : Option Placement) → IsFreeBeside plan es free → test_at plan.tests n ≡ Some t → may_start_if_placed plan t es ≡ true → is_placed (resources_of free) t.needs (used_of free) p ≡ true → a ≡ attempt_after es (Some t) → IsStartOf plan es n (record { test = n; attempt = a; placement = p })
+  starts_of free t n a p beside found may placed next = record {
+    test = refl;
+    may = ap (λ (o : Option PlanTest). may_start_at plan es p o) found ∙ may_of t p may (sym (same_placed plan es free t.needs p beside) ∙ placed);
+    next = next ∙ ap (λ (o : Option PlanTest). attempt_after es o) (sym found);
+  }
 
-split_found : {A : Type 0} (p : A → Bool) (xs : List A) (x : A) → find p xs ≡ Some x → IsSplit p xs x
-split_found p [] x is = cc
-split_found p (y ∷ ys) x is = elim (cases_Bool (p y)) [
-  | inl here ↦
-      let found : Some y ≡ Some x = sym (ap (λ (b : Bool). cond b (Some y) (find p ys)) here) ∙ is in
-      let same : y ≡ x = cc in
-      record { earlier = []; later = ys; is = ap (λ z. z ∷ ys) same; none = refl }
-  | inr not_here ↦
-      let rest = split_found p ys x (sym (ap (λ (b : Bool). cond b (Some y) (find p ys)) not_here) ∙ is) in
-      record {
-        earlier = y ∷ rest.earlier;
-        later = rest.later;
-        is = ap (λ zs. y ∷ zs) rest.is;
-        none = ap (λ (b : Bool). cond b (Some y) (find p rest.earlier)) not_here ∙ rest.none;
-      }
-]
+  -- a test that is not in the plan can't start
+  pub no_test : (n : ℕ) → test_at plan.tests n ≡ None → CanStart plan es n → ⊥
+  no_test n none can = true_is_false (sym can.may ∙ ap (λ (o : Option PlanTest). may_start_at plan es can.placement o) none)
 
--- what is found in the queue is the first that may start
-pub first_starts : (plan : PlanParts) (es : List Entry) (n : ℕ) → plan.resources ≡ None → find (λ m. may_start_at plan es None (test_at plan.tests m)) plan.queue ≡ Some n → IsFirstToStart plan es n None
-first_starts plan es n none is =
-    let split = split_found (λ m. may_start_at plan es None (test_at plan.tests m)) plan.queue n is in
-    record {
-      earlier = split.earlier;
-      later = split.later;
-      queued = split.is;
-      may = find_passes (λ m. may_start_at plan es None (test_at plan.tests m)) plan.queue n is;
-      first = none_starts plan es none split.earlier split.none;
-    }
+  found_may : (t : PlanTest) (n : ℕ) → test_at plan.tests n ≡ Some t → (can : CanStart plan es n) → may_start plan t can.placement es ≡ true
+  found_may t n found can = sym (ap (λ (o : Option PlanTest). may_start_at plan es can.placement o) found) ∙ can.may
+
+  -- nor one that something but its placement keeps from it
+  pub not_due : (t : PlanTest) (n : ℕ) → test_at plan.tests n ≡ Some t → may_start_if_placed plan t es ≡ false → CanStart plan es n → ⊥
+  not_due t n found may_not can =
+      let both = and_parts (may_start_if_placed plan t es) (is_placed plan.resources t.needs (used_slots es) can.placement) (found_may t n found can) in
+      true_is_false (sym both.0 ∙ may_not)
+
+  -- nor one that no placement fits
+  pub nowhere : (free : Option FreeValue) (t : PlanTest) (n : ℕ) → IsFreeBeside plan es free → test_at plan.tests n ≡ Some t → ((p : Option Placement) → is_placed (resources_of free) t.needs (used_of free) p ≡ true → ⊥) → CanStart plan es n → ⊥
+  nowhere free t n beside found none can =
+      let both = and_parts (may_start_if_placed plan t es) (is_placed plan.resources t.needs (used_slots es) can.placement) (found_may t n found can) in
+      none can.placement (same_placed plan es free t.needs can.placement beside ∙ both.1)
+
+  -- the first in the queue that may start, behind tests that may not
+  pub first_starts : (i n : ℕ) (start : Startable) → i < length plan.queue → n ≡ get_or plan.queue i 0 → NoneStarts plan es (take i plan.queue) → IsStartOf plan es n start → IsStartable plan es start
+  first_starts i n start lt is none of = record {
+    first = record {
+      earlier = take i plan.queue;
+      later = drop (suc i) plan.queue;
+      queued =
+          split_at plan.queue i 0 lt
+          ∙ ap (λ (m : ℕ). take i plan.queue ++ m ∷ drop (suc i) plan.queue) (sym is ∙ sym of.test);
+      may = ap (λ (m : ℕ). may_start_at plan es start.placement (test_at plan.tests m)) of.test ∙ of.may;
+      first = none;
+    };
+    next = of.next ∙ ap (λ (m : ℕ). attempt_after es (test_at plan.tests m)) (sym of.test);
+  }
+
+  pub first_found : (i n : ℕ) (found : Option Startable) → i < length plan.queue → n ≡ get_or plan.queue i 0 → NoneStarts plan es (take i plan.queue) → is_some found ≡ true → MatchOption found (CanStart plan es n → ⊥) (λ s. IsStartOf plan es n s) → MatchOption found (NoneStarts plan es plan.queue) (λ s. IsStartable plan es s)
+  first_found i n None lt is none some of = absurd (true_is_false (sym some))
+  first_found i n (Some start) lt is none some of = first_starts i n start lt is none of
+
+  -- one test more of the queue may not start
+  pub none_more : (i n : ℕ) (found : Option Startable) → i < length plan.queue → n ≡ get_or plan.queue i 0 → NoneStarts plan es (take i plan.queue) → is_some found ≡ false → MatchOption found (CanStart plan es n → ⊥) (λ s. IsStartOf plan es n s) → NoneStarts plan es (take (i + 1) plan.queue)
+  none_more i n (Some start) lt is none unfound of = absurd (true_is_false unfound)
+  none_more i n None lt is none unfound of =
+      subst (λ (ns : List ℕ). NoneStarts plan es ns) (sym (take_more plan.queue i 0 lt ∙ ap (λ (m : ℕ). take i plan.queue ++ m ∷ []) (sym is)))
+      (All-push (λ m. CanStart plan es m → ⊥) (take i plan.queue) n none of)
 
 -- where all waits for an end, something is open
 pub stuck_busy : (plan : PlanParts) (es : List Entry) → IsSound plan → IsStuck plan es → is_idle es ≡ false
@@ -160,8 +179,11 @@ stuck_busy plan es sound stuck = false_from_ne_true (is_idle es) (λ idle. by_go
     by_going (starts_on number queued can) = All-contains (λ n. CanStart plan es n → ⊥) plan.queue number stuck.unstarted queued can
 
 -- one attempt more is counted
-pub attempt_fits : (plan : PlanParts) (t : PlanTest) (es : List Entry) → may_start plan t None es ≡ true → plan.repeat.times < 2 ^ 32 → length (attempts_of t.number t.rules es) < 2 ^ 32 - 1
-attempt_fits plan t es may small = elim (attempts_left plan t es (may_start-parts plan t None es may).pending) [
-  | inl none ↦ omega (arith, none)
-  | inr fewer ↦ omega (arith, fewer, small)
-]
+pub attempt_fits : (plan : PlanParts) (t : PlanTest) (es : List Entry) → may_start_if_placed plan t es ≡ true → plan.repeat.times < 2 ^ 32 → length (attempts_of t.number t.rules es) < 2 ^ 32 - 1
+attempt_fits plan t es may small =
+    let three = and_parts (not (has_stop es) && is_pending plan t es && is_ready plan t es) (has_room plan t es) may in
+    let two = and_parts (not (has_stop es) && is_pending plan t es) (is_ready plan t es) three.0 in
+    elim (attempts_left plan t es (and_parts (not (has_stop es)) (is_pending plan t es) two.0).1) [
+      | inl none ↦ omega (arith, none)
+      | inr fewer ↦ omega (arith, fewer, small)
+    ]

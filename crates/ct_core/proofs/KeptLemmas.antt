@@ -146,16 +146,16 @@ module _ (plan : PlanParts) (ascends : IsAscendingFrom 1 (map (λ (t : PlanTest)
       most_one false = omega arith
 
 module _ (plan : PlanParts) (es : List Entry) (room count : ℕ) (kept : IsKept plan es room count) (more : List Entry) (room' : ℕ) where
-  pub kept-start : (t a w : ℕ) → is_busy_in w es ≡ false → may_start_at plan es None (test_at plan.tests t) ≡ true → a ≡ attempt_after es (test_at plan.tests t) → length es + (count + 3) ≤ room' → more ≡ es ++ Is.Start t a w None ∷ [] → IsKept plan more room' (count + 1)
-  kept-start t a w free may next le is =
-      let start = Is.Start t a w None in
+  pub kept-start : (t a w : ℕ) (p : Option Placement) → is_busy_in w es ≡ false → may_start_at plan es p (test_at plan.tests t) ≡ true → a ≡ attempt_after es (test_at plan.tests t) → length es + (count + 3) ≤ room' → more ≡ es ++ Is.Start t a w p ∷ [] → IsKept plan more room' (count + 1)
+  kept-start t a w p free may next le is =
+      let start = Is.Start t a w p in
       let opens : length (open_starts (es ++ start ∷ [])) ≡ length (open_starts es) + 1 =
-      ap (λ (rs : List Running). length rs) (open_starts-snoc es start refl) ∙ length-append (open_starts es) (record { test = t; attempt = a; worker = w; placement = None } ∷ []) in
+      ap (λ (rs : List Running). length rs) (open_starts-snoc es start refl) ∙ length-append (open_starts es) (record { test = t; attempt = a; worker = w; placement = p } ∷ []) in
       let counted = kept.counted in
       let longer : length (es ++ start ∷ []) ≡ length es + 1 = length-append es (start ∷ []) in
       let most : stop_places (es ++ start ∷ []) ≤ 1 = most_one (has_stop (es ++ start ∷ [])) in
       subst (λ (xs : List Entry). IsKept plan xs room' (count + 1)) (sym is) (record {
-        legal = legal_from plan (es ++ start ∷ []) (allowed-snoc plan es start (legal_allowed plan es kept.legal) (start_allowed plan es kept.legal t a w None free may next)) (start_not_due plan es t a w None);
+        legal = legal_from plan (es ++ start ∷ []) (allowed-snoc plan es start (legal_allowed plan es kept.legal) (start_allowed plan es kept.legal t a w p free may next)) (start_not_due plan es t a w p);
         counted = omega (arith, opens, counted);
         reserved = λ more_open. omega (arith, longer, le, most);
       })

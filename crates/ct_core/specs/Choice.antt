@@ -9,6 +9,7 @@ use Rattle.ct_history.specs.Plan.{test_at}
 use Rattle.ct_history.specs.History.{attempts_of}
 use Rattle.ct_history.specs.Verdicts.{are_all_final}
 use Rattle.ct_history.specs.Rules.{CanStart, is_idle, may_start_at, settle_cause_of_test}
+use Rattle.ct_core.specs.declared.choice.Startable.{Startable}
 use Rattle.ct_core.specs.declared.choice.Choice.{Choice}
 use Rattle.ct_core.specs.declared.choice.Choice.TheVariants.{Done, Settle, Start, Wait}
 
@@ -38,6 +39,17 @@ pub record IsFirstToStart (plan : PlanParts) (entries : List Entry) (number : �
   pub may : may_start_at plan entries placement (test_at plan.tests number) ≡ true
   pub first : NoneStarts plan entries earlier
 
+-- the next attempt of this test, which may start with its placement
+pub record IsStartOf (plan : PlanParts) (entries : List Entry) (number : ℕ) (start : Startable) : Type 0 where
+  pub test : start.test ≡ number
+  pub may : may_start_at plan entries start.placement (test_at plan.tests number) ≡ true
+  pub next : start.attempt ≡ attempt_after entries (test_at plan.tests number)
+
+-- the next attempt of the first test in the queue that may start, with its placement
+pub record IsStartable (plan : PlanParts) (entries : List Entry) (start : Startable) : Type 0 where
+  pub first : IsFirstToStart plan entries start.test start.placement
+  pub next : start.attempt ≡ attempt_after entries (test_at plan.tests start.test)
+
 -- some test is not final, none may be settled, and none in the queue may start
 pub record IsStuck (plan : PlanParts) (entries : List Entry) : Type 0 where
   pub unfinished : are_all_final plan entries ≡ false
@@ -48,5 +60,5 @@ pub record IsStuck (plan : PlanParts) (entries : List Entry) : Type 0 where
 abbrev pub IsChoice : PlanParts → List Entry → Choice → Type 0
 IsChoice plan entries Done = are_all_final plan entries ≡ true
 IsChoice plan entries (Settle number cause) = IsLeastToSettle plan entries number cause
-IsChoice plan entries (Start number attempt) = NoneSettles plan entries × IsFirstToStart plan entries number None × (attempt ≡ attempt_after entries (test_at plan.tests number))
+IsChoice plan entries (Start start) = NoneSettles plan entries × IsStartable plan entries start
 IsChoice plan entries Wait = IsStuck plan entries × (is_idle entries ≡ false)

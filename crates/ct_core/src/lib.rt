@@ -9,6 +9,7 @@ mod choice;
 mod gate;
 mod scheduler;
 mod script;
+mod slots;
 mod ticket;
 
 pub use gate::{Asked, Ended, Gate, Request, Told, copy_names, copy_pairs, lacks_memory};

@@ -4,7 +4,9 @@ ghost use Rattle.ct_history.specs.Legal.{is_stop_due as is_due};
 ghost use Rattle.ct_history.specs.declared.plan.PlanParts.{PlanParts};
 
 use crate::Ticket;
-use crate::choice::{Choice, choose};
+use crate::choice::{Choice, Startable, choose};
+use crate::slots::copy_placement;
+use ct_base::NoMemory;
 use ct_history::{Board, Entry, History, Plan, PlanParts, is_stop_due, verdict_of};
 use ct_verdict::{Cause, Seen, Verdict};
 use std::alloc::Global;
@@ -51,13 +53,13 @@ impl Model for Core {
 }
 
 impl Core {
-    ghost use Rattle.ct_core.specs.Choice.{IsChoice, IsFirstToStart, IsLeastToSettle, NoneSettles, attempt_after};
+    ghost use Rattle.ct_core.specs.Choice.{IsChoice, IsLeastToSettle, IsStartable, NoneSettles};
     ghost use Rattle.ct_core.specs.Core.{IsNext, with_final};
     ghost use Rattle.ct_core.specs.CoreValue.{CoreValue};
     ghost use Rattle.ct_core.specs.Ticket.{end_of, holds_ticket, test_of};
     ghost use Rattle.ct_history.specs.History.{is_busy_in};
     ghost use Rattle.ct_history.specs.Legal.{StaysWithin, is_legal};
-    ghost use Rattle.ct_history.specs.Plan.{IsSound, test_at};
+    ghost use Rattle.ct_history.specs.Plan.{IsSound};
     ghost use Rattle.ct_history.specs.Verdicts.{verdict_of_test};
 
     /// Opens a run of the plan, with the empty history. It takes no memory yet.
@@ -104,10 +106,11 @@ impl Core {
             return Next::Aborted;
         }
         match self.chosen() {
-            Choice::Done => Next::Done,
-            Choice::Settle { test, cause } => self.settle(test, cause),
-            Choice::Start { test, attempt } => self.start(test, attempt, worker),
-            Choice::Wait => Next::Wait,
+            Ok(Choice::Done) => Next::Done,
+            Ok(Choice::Settle { test, cause }) => self.settle(test, cause),
+            Ok(Choice::Start(start)) => self.start(start, worker),
+            Ok(Choice::Wait) => Next::Wait,
+            Err(NoMemory) => Next::NoMemory,
         }
     }
 
@@ -155,38 +158,48 @@ impl Core {
         (plan, history)
     }
 
-    fn chosen(&self) -> Choice
-        ensures is { IsChoice self.now.plan self.now.entries result }
+    fn chosen(&self) -> Result<Choice, NoMemory>
+        ensures is { IfOk result (λ choice. IsChoice self.now.plan self.now.entries choice) }
         ensures sound { IsSound self.now.plan }
     {
-        choose(self.plan.parts(), self.history.entries.as_slice())
+        let alloc = *self.history.entries.allocator();
+        choose(alloc, self.plan.parts(), self.history.entries.as_slice())
     }
 
-    fn start(&mut self, test: u32, attempt: u32, worker: u32) -> Next
+    fn start(&mut self, start: Startable, worker: u32) -> Next
         requires goes_on { self.old.aborted ≡ false }
         requires free { is_busy_in worker self.old.entries ≡ false }
         requires unsettled { NoneSettles self.old.plan self.old.entries }
-        requires first { IsFirstToStart self.old.plan self.old.entries test None }
-        requires next { attempt ≡ attempt_after self.old.entries (test_at self.old.plan.tests test) }
+        requires startable { IsStartable self.old.plan self.old.entries start }
         ensures { IsNext self.old worker result self.new }
     {
+        let alloc = *self.history.entries.allocator();
+        let copy = match copy_placement(alloc, start.placement.as_ref()) {
+            Ok(copy) => copy,
+            Err(NoMemory) => return Next::NoMemory,
+        };
         match self.history.entries.reserve(self.open_count + 3) {
             Ok(()) => {}
             Err(_) => return Next::NoMemory,
         }
-        let start = Entry::Start {
+        let Startable {
+            test,
+            attempt,
+            placement,
+        } = start;
+        let entry = Entry::Start {
             test,
             attempt,
             worker,
-            placement: None,
+            placement: copy,
         };
-        append_reserved(&mut self.history.entries, start);
+        append_reserved(&mut self.history.entries, entry);
         self.open_count += 1;
         Next::Start(Ticket {
             test,
             attempt,
             worker,
-            placement: None,
+            placement,
         })
     }
 

@@ -1,19 +1,17 @@
-use Rattle.std.proofs.Common.{sym}
-use Rattle.ct_core.specs.Choice.{IsStuck}
-use Rattle.ct_core.proofs.ChoiceLemmas.{first_starts, none_starts, stuck_busy}
+use Rattle.std.proofs.Common.{subst}
+use Rattle.std.specs.Prelude.{MatchOption, Option}
+use Rattle.ct_core.specs.declared.choice.Startable.{Startable}
+use Rattle.ct_core.specs.Choice.{IsStartable, IsStuck, NoneStarts}
+use Rattle.ct_core.proofs.ChoiceLemmas.{stuck_busy}
 use Rattle.ct_core.proofs.choice.choose_start.Goals as goal
 
-pub next_attempt-requires : goal.next_attempt-requires
-next_attempt-requires c = (first_starts c.args.plan.now c.args.entries.now c.in-Some.test c.requires.unresourced (sym c.in-Some.ensures)).may
-
-pub returns-in-Some : goal.returns-in-Some
-returns-in-Some c = (c.requires.unsettled, first_starts c.args.plan.now c.args.entries.now c.in-Some.test c.requires.unresourced (sym c.in-Some.ensures), c.next_attempt.ensures)
-
-pub returns-in-None : goal.returns-in-None
-returns-in-None c =
-    let stuck : IsStuck c.args.plan.now c.args.entries.now = record {
+pub returns : goal.returns
+returns c =
+    let plan = c.args.plan.now in
+    let entries = c.args.entries.now in
+    let stuck : IsStuck plan entries = record {
       unfinished = c.requires.unfinished;
       unsettled = c.requires.unsettled;
-      unstarted = none_starts c.args.plan.now c.args.entries.now c.requires.unresourced c.args.plan.now.queue (sym c.in-None.ensures);
+      unstarted = subst (λ (o : Option Startable). MatchOption o (NoneStarts plan entries plan.queue) (λ s. IsStartable plan entries s)) c.in-None.is c.in_ok-start.ensures;
     } in
-    (stuck, stuck_busy c.args.plan.now c.args.entries.now c.requires.sound stuck)
+    (stuck, stuck_busy plan entries c.requires.sound stuck)

@@ -1,17 +1,13 @@
-use Rattle.std.proofs.Common.{◌∙◌, ap, List, Option}
-use Rattle.std.specs.Prelude.{None}
-use Rattle.ct_history.specs.declared.plan.PlanTest.{PlanTest}
-use Rattle.ct_history.specs.Plan.{test_at}
-use Rattle.ct_history.specs.Rules.{may_start_at}
-use Rattle.ct_core.specs.Choice.{attempt_after}
+use Rattle.std.proofs.Common.{◌<◌, ◌^◌, arith}
+use Rattle.ct_core.proofs.ChoiceLemmas.{attempt_fits}
 use Rattle.ct_core.proofs.choice.next_attempt.Goals as goal
 
-pub attempt_of-requires : goal.attempt_of-requires
-attempt_of-requires c =
-    let found = c.in-Some.ensures ∙ ap (λ (ts : List PlanTest). test_at ts c.args.number) c.as_slice.ensures in
-    ap (λ (o : Option PlanTest). may_start_at c.args.plan.now c.args.entries.now None o) found ∙ c.requires
+pub overflow_add-result : goal.overflow_add-result
+overflow_add-result c =
+    let small : c.args.plan.now.repeat.times < 2 ^ 32 = omega arith in
+    omega (arith, c.count_attempts.ensures, attempt_fits c.args.plan.now c.args.test.now c.args.entries.now c.requires small)
 
-pub returns-in-Some : goal.returns-in-Some
-returns-in-Some c =
-    let found = c.in-Some.ensures ∙ ap (λ (ts : List PlanTest). test_at ts c.args.number) c.as_slice.ensures in
-    c.attempt_of.ensures ∙ ap (λ (o : Option PlanTest). attempt_after c.args.entries.now o) found
+pub returns : goal.returns
+returns c =
+    let small : c.args.plan.now.repeat.times < 2 ^ 32 = omega arith in
+    omega (arith, c.count_attempts.ensures, attempt_fits c.args.plan.now c.args.test.now c.args.entries.now c.requires small)

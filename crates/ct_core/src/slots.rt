@@ -1,0 +1,102 @@
+ghost use Rattle.std.specs.Prelude.{◌≡◌, ℕ, true, IfOk};
+ghost use Rattle.std.specs.Option.{option_copied};
+ghost use Rattle.ct_alloc.specs.Free.{used_at};
+ghost use Rattle.ct_history.specs.Legal.{is_allowed_so_far};
+ghost use Rattle.ct_core.specs.Slots.{IsFreeBeside, IsPlaceFor};
+
+use ct_alloc::{Free, Pick, Placement};
+use ct_base::{List, Need, NoMemory, Resource};
+use ct_history::{Entry, PlanParts, open_placement};
+use std::alloc::Global;
+
+/// Where the needs of a test are met now.
+#[derive(Drop)]
+pub(crate) enum Place {
+    /// No placement for them fits beside what is used.
+    Nowhere,
+    /// By this placement, or without one where none is wanted.
+    Here(Option<Placement>),
+}
+
+/// Finds what is free of the plan's resources, where some are given: all that no open start uses.
+pub(crate) fn free_beside(
+    alloc: Global,
+    plan: &PlanParts,
+    entries: &[Entry],
+) -> Result<Option<Free>, NoMemory>
+    requires { is_allowed_so_far plan.now entries.now ≡ true }
+    ensures { IfOk result (λ free. IsFreeBeside plan.now entries.now free) }
+{
+    let Some(resources) = &plan.resources else {
+        return Ok(None);
+    };
+    let mut free = all_free(alloc, resources)?;
+    for at in 0..entries.len() {
+        if let Some(placement) = open_placement(&entries[at], &entries[at + 1..]) {
+            free.take(placement);
+        }
+    }
+    Ok(Some(free))
+}
+
+/// Copies resources, of which nothing is used. More than a placement can name are never had.
+fn all_free(alloc: Global, resources: &List<Resource>) -> Result<Free, NoMemory>
+    ensures whole { IfOk result (λ free. free.resources ≡ resources.now) }
+    ensures unused { IfOk result (λ free. (place : ℕ) → used_at free place ≡ 0) }
+{
+    if resources.len() >= u32::MAX as usize {
+        return Err(NoMemory);
+    }
+    Free::all(alloc, resources)
+}
+
+/// Places the needs of a test on what is free, where resources are given and it has needs.
+pub(crate) fn place_for(
+    alloc: Global,
+    free: Option<&Free>,
+    needs: &List<Need>,
+) -> Result<Place, NoMemory>
+    ensures { IfOk result (λ place. IsPlaceFor (option_copied free.entry) needs.now place) }
+{
+    let Some(free) = free else {
+        return Ok(Place::Here(None));
+    };
+    if needs.is_empty() {
+        return Ok(Place::Here(None));
+    }
+    match free.place(alloc, needs)? {
+        Some(placement) => Ok(Place::Here(Some(placement))),
+        None => Ok(Place::Nowhere),
+    }
+}
+
+/// Makes a second placement of the same picks, where there is one.
+pub(crate) fn copy_placement(
+    alloc: Global,
+    placement: Option<&Placement>,
+) -> Result<Option<Placement>, NoMemory>
+    ensures { IfOk result (λ copy. copy ≡ option_copied placement.entry) }
+{
+    match placement {
+        Some(placement) => Ok(Some(Placement {
+            picks: copy_picks(alloc, placement.picks.as_slice())?,
+        })),
+        None => Ok(None),
+    }
+}
+
+fn copy_picks(alloc: Global, picks: &[Pick]) -> Result<List<Pick>, NoMemory>
+    ensures { IfOk result (λ copies. copies ≡ picks.now) }
+{
+    let mut copies = List::new(alloc);
+    for pick in picks {
+        copies.push(Pick {
+            group: pick.group,
+            kind: pick.kind.copy(alloc)?,
+            id: pick.id.copy(alloc)?,
+            slots: pick.slots,
+            resource: pick.resource,
+        })?;
+    }
+    Ok(copies)
+}
