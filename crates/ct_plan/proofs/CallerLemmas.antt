@@ -1,9 +1,17 @@
--- Tests and their properties that go together, for the crates above.
-use Rattle.std.proofs.Common.{◌≡◌, List, [], ◌∷◌, ◌++◌, length, refl, arith}
+-- Tests and their properties that go together, and the members among them, for the crates above.
+use Rattle.std.proofs.Common.{◌≡◌, Bool, ℕ, zero, suc, ◌+◌, ◌≤◌, List, [], ◌∷◌, ◌++◌, length, refl, arith, inl, inr}
+use Rattle.std.specs.Prelude.{filter, ◌||◌}
+use Rattle.std.specs.List.{range_with_len}
+use Rattle.std.proofs.lemmas.Bool.{cases_Bool}
+use Rattle.std.proofs.lemmas.List.FromFn.{length-range_with_len}
 use Rattle.ct_base.specs.declared.defs.TestDef.{TestDef}
 use Rattle.ct_props.specs.declared.props.Props.{Props}
+use Rattle.ct_props.specs.declared.wanted.Choice.{Choice}
+use Rattle.ct_props.specs.Numbered.{at_number, is_in}
 use Rattle.ct_props.specs.PropsOf.{HasProps}
-use Rattle.ct_plan.specs.Source.{HaveProps}
+use Rattle.ct_select.specs.Chosen.{chosen_tests, is_chosen_at}
+use Rattle.ct_fixture.specs.Drawing.{after_rounds, fixtures_required, is_drawn, next_round}
+use Rattle.ct_plan.specs.Source.{HaveProps, members_in}
 
 -- there are as many properties as tests
 pub length-have_props : (defs : List TestDef) (props : List Props) → HaveProps defs props → length props ≡ length defs
@@ -18,3 +26,26 @@ have_props-snoc [] [] def own have has = (has, tt)
 have_props-snoc [] (p ∷ ps) def own have has = absurd have
 have_props-snoc (d ∷ ds) [] def own have has = absurd have
 have_props-snoc (d ∷ ds) (p ∷ ps) def own have has = (have.0, have_props-snoc ds ps def own have.1 has)
+
+length-filter : {A : Type 0} (p : A → Bool) (xs : List A) → length (filter p xs) ≤ length xs
+length-filter p [] = omega arith
+length-filter p (x ∷ xs) = elim (cases_Bool (p x)) [
+  | inl passes ↦ rw passes (omega (arith, length-filter p xs))
+  | inr fails ↦ rw fails (omega (arith, length-filter p xs))
+]
+
+-- there are no more members than tests
+pub few_members : (choice : Choice) (defs : List TestDef) (props : List Props) → length props ≡ length defs → length (members_in choice defs props) ≤ length defs
+few_members choice defs props same = by (length props) refl
+  where
+    round : (rounds : ℕ) → length (next_round choice props (after_rounds choice props (chosen_tests defs props choice) rounds)) ≤ length props
+    round rounds =
+        let tests = after_rounds choice props (chosen_tests defs props choice) rounds in
+        let most = length-filter (λ number. is_in tests number || is_drawn choice (fixtures_required props tests) (at_number props number)) (range_with_len 1 (length props)) in
+        omega (arith, most, length-range_with_len 1 (length props))
+
+    by : (rounds : ℕ) → length props ≡ rounds → length (after_rounds choice props (chosen_tests defs props choice) rounds) ≤ length defs
+    by zero is =
+        let most = length-filter (is_chosen_at defs props choice) (range_with_len 1 (length defs)) in
+        omega (arith, most, length-range_with_len 1 (length defs))
+    by (suc rounds) is = omega (arith, round rounds, same)

@@ -1,19 +1,19 @@
 -- The tests that are made of the links of an order: they are those of the plan, and their links are sound.
-use Rattle.std.proofs.Common.{ℕ, ◌≡◌, ◌<◌, ◌≤◌, ◌∙◌, min, List, [], ◌∷◌, length, get_or, map, Option, Some, None, refl, sym, ap, subst, arith}
+use Rattle.std.proofs.Common.{ℕ, ◌≡◌, ◌<◌, ◌≤◌, ◌∙◌, min, List, [], ◌∷◌, ◌++◌, length, get_or, map, Option, refl, sym, ap, subst, arith}
 use Rattle.std.specs.Prelude.{⊤}
 use Rattle.std.proofs.lemmas.List.{get_or-map, length-map}
 use Rattle.std.proofs.lemmas.List.Elements.{All-get_or}
+use Rattle.ct_base.specs.declared.defs.Resource.{Resource}
 use Rattle.ct_base.specs.declared.defs.TestDef.{TestDef}
 use Rattle.ct_props.specs.declared.props.Props.{Props}
 use Rattle.ct_props.specs.declared.wanted.Wanted.{Wanted}
 use Rattle.ct_props.specs.Numbered.{at_number}
 use Rattle.ct_graph.specs.declared.ordering.Links.{Links}
-use Rattle.ct_verdict.specs.declared.verdict.Cause.{Cause}
 use Rattle.ct_history.specs.declared.plan.PlanTest.{PlanTest}
 use Rattle.ct_cost.specs.declared.cost_data.CostData.{CostData}
 use Rattle.ct_plan.specs.Source.{Source, members_before, setup_members, source}
-use Rattle.ct_plan.specs.Planned.{ArePlannedTests, IsFixed, IsFixedBy, IsPlannedTest, own_cause, planned_test, rules_of}
-use Rattle.ct_plan.specs.Linked.{linked_test, test_from, test_there}
+use Rattle.ct_plan.specs.Planned.{ArePlannedTests, IsPlannedTest, planned_test, rules_of}
+use Rattle.ct_plan.specs.Linked.{AreLinked, IsLinked, test_from}
 use Rattle.ct_plan.proofs.NumberLemmas.{AreOfTests}
 
 -- the number of one of these links is of a test
@@ -23,36 +23,12 @@ number_at count links at l within is of_tests =
     let same : get_or (map (λ (x : Links). x.number) links) at 0 ≡ l.number = get_or-map (λ (x : Links). x.number) links at l 0 within ∙ sym (ap (λ (x : Links). x.number) is) in
     subst (λ n. (0 < n) × (n ≤ count)) same (All-get_or (λ n. (0 < n) × (n ≤ count)) (map (λ (x : Links). x.number) links) at 0 (omega (arith, within, long)) of_tests)
 
--- a test that is made of its links
-pub record IsLinked (level : ℕ) (defs : List TestDef) (props : List Props) (links : Links) (test : PlanTest) : Type 0 where
-  pub def : TestDef
-  pub own : Props
-  pub def_is : at_number defs links.number ≡ Some def
-  pub own_is : at_number props links.number ≡ Some own
-  pub is : test ≡ test_from level links def own
-
--- so are these tests, each of its links
-abbrev pub AreLinked : ℕ → List TestDef → List Props → List Links → List PlanTest → Type 0
-AreLinked level defs props [] [] = ⊤
-AreLinked level defs props [] (t ∷ ts) = ⊥
-AreLinked level defs props (l ∷ ls) [] = ⊥
-AreLinked level defs props (l ∷ ls) (t ∷ ts) = IsLinked level defs props l t × AreLinked level defs props ls ts
-
-is_linked : (level : ℕ) (defs : List TestDef) (props : List Props) (l : Links) (t : PlanTest) (def : Option TestDef) (own : Option Props) → at_number defs l.number ≡ def → at_number props l.number ≡ own → Some t ≡ test_there level l def own → IsLinked level defs props l t
-is_linked level defs props l t None own def_is own_is made = let no : Some t ≡ None = made in absurd (cc)
-is_linked level defs props l t (Some def) None def_is own_is made = let no : Some t ≡ None = made in absurd (cc)
-is_linked level defs props l t (Some def) (Some own) def_is own_is made =
-    let made : Some t ≡ Some (test_from level l def own) = made in
-    record { def = def; own = own; def_is = def_is; own_is = own_is; is = cc }
-
-pub are_linked : (level : ℕ) (defs : List TestDef) (props : List Props) (ls : List Links) (ts : List PlanTest) → map Some ts ≡ map (linked_test level defs props) ls → AreLinked level defs props ls ts
-are_linked level defs props [] [] made = tt
-are_linked level defs props [] (t ∷ ts) made = absurd (cc)
-are_linked level defs props (l ∷ ls) [] made = absurd (cc)
-are_linked level defs props (l ∷ ls) (t ∷ ts) made =
-    let one : Some t ≡ linked_test level defs props l = cc in
-    let others : map Some ts ≡ map (linked_test level defs props) ls = cc in
-    (is_linked level defs props l t (at_number defs l.number) (at_number props l.number) refl refl one, are_linked level defs props ls ts others)
+-- one more test, of its links
+pub linked-snoc : (resources : Option (List Resource)) (level : ℕ) (defs : List TestDef) (props : List Props) (ls : List Links) (ts : List PlanTest) (l : Links) (t : PlanTest) → AreLinked resources level defs props ls ts → IsLinked resources level defs props l t → AreLinked resources level defs props (ls ++ l ∷ []) (ts ++ t ∷ [])
+linked-snoc resources level defs props [] [] l t linked one = (one, tt)
+linked-snoc resources level defs props [] (x ∷ xs) l t linked one = absurd linked
+linked-snoc resources level defs props (x ∷ xs) [] l t linked one = absurd linked
+linked-snoc resources level defs props (x ∷ xs) (y ∷ ys) l t linked one = (linked.0, linked-snoc resources level defs props xs ys l t linked.1 one)
 
 -- the links of a member
 pub record IsOrdered (s : Source) (number : ℕ) (links : Links) : Type 0 where
@@ -77,16 +53,11 @@ are_ordered s (m ∷ ms) (l ∷ ls) numbers before setups = (
 )
 
 -- a test of the plan that is made of its links
-fixed_by : (own : Option Cause) → IsFixedBy own ⊤ own
-fixed_by None = tt
-fixed_by (Some cause) = refl
-
-module _ (defs : List TestDef) (props : List Props) (wanted : Wanted) (costs : CostData) where
-  is_planned : (m : ℕ) (l : Links) (t : PlanTest) → IsOrdered (source defs props wanted costs) m l → IsLinked wanted.level defs props l t → IsPlannedTest (source defs props wanted costs) m t
+module _ (defs : List TestDef) (props : List Props) (wanted : Wanted) (resources : Option (List Resource)) (costs : CostData) where
+  is_planned : (m : ℕ) (l : Links) (t : PlanTest) → IsOrdered (source defs props wanted resources costs) m l → IsLinked resources wanted.level defs props l t → IsPlannedTest (source defs props wanted resources costs) m t
   is_planned m l t ordered linked =
       let rank : t.rank ≡ l.rank = ap (λ (u : PlanTest). u.rank) linked.is in
-      let fixed : t.fixed ≡ own_cause linked.def linked.own = ap (λ (u : PlanTest). u.fixed) linked.is in
-      let made : test_from wanted.level l linked.def linked.own ≡ planned_test (source defs props wanted costs) m linked.def linked.own t.rank t.fixed =
+      let made : test_from wanted.level l linked.def linked.own t.fixed ≡ planned_test (source defs props wanted resources costs) m linked.def linked.own t.rank t.fixed =
       λ i. record {
         number = ordered.number_is i;
         name = linked.def.name;
@@ -99,7 +70,7 @@ module _ (defs : List TestDef) (props : List Props) (wanted : Wanted) (costs : C
         before = ordered.before i;
         setups = ordered.setups i;
         rank = sym rank i;
-        fixed = sym fixed i;
+        fixed = t.fixed;
         labels = linked.own.labels;
       } in
       record {
@@ -107,11 +78,11 @@ module _ (defs : List TestDef) (props : List Props) (wanted : Wanted) (costs : C
         props = linked.own;
         def_is = ap (at_number defs) (sym ordered.number_is) ∙ linked.def_is;
         props_are = ap (at_number props) (sym ordered.number_is) ∙ linked.own_is;
-        fixed = subst (IsFixed None linked.def linked.own) (sym fixed) (fixed_by (own_cause linked.def linked.own));
+        fixed = linked.fixed;
         is = linked.is ∙ made;
       }
 
-  pub are_planned : (ms : List ℕ) (ls : List Links) (ts : List PlanTest) → AreOrdered (source defs props wanted costs) ms ls → AreLinked wanted.level defs props ls ts → ArePlannedTests (source defs props wanted costs) ms ts
+  pub are_planned : (ms : List ℕ) (ls : List Links) (ts : List PlanTest) → AreOrdered (source defs props wanted resources costs) ms ls → AreLinked resources wanted.level defs props ls ts → ArePlannedTests (source defs props wanted resources costs) ms ts
   are_planned [] [] [] ordered linked = tt
   are_planned [] [] (t ∷ ts) ordered linked = absurd linked
   are_planned [] (l ∷ ls) ts ordered linked = absurd ordered
@@ -119,7 +90,7 @@ module _ (defs : List TestDef) (props : List Props) (wanted : Wanted) (costs : C
   are_planned (m ∷ ms) (l ∷ ls) [] ordered linked = absurd linked
   are_planned (m ∷ ms) (l ∷ ls) (t ∷ ts) ordered linked = (is_planned m l t ordered.0 linked.0, are_planned ms ls ts ordered.1 linked.1)
 
-  pub numbers_are : (ms : List ℕ) (ls : List Links) (ts : List PlanTest) → AreOrdered (source defs props wanted costs) ms ls → AreLinked wanted.level defs props ls ts → map (λ (t : PlanTest). t.number) ts ≡ ms
+  pub numbers_are : (ms : List ℕ) (ls : List Links) (ts : List PlanTest) → AreOrdered (source defs props wanted resources costs) ms ls → AreLinked resources wanted.level defs props ls ts → map (λ (t : PlanTest). t.number) ts ≡ ms
   numbers_are [] [] [] ordered linked = refl
   numbers_are [] [] (t ∷ ts) ordered linked = absurd linked
   numbers_are [] (l ∷ ls) ts ordered linked = absurd ordered

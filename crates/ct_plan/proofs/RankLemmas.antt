@@ -2,6 +2,7 @@
 use Rattle.std.proofs.Common.{ℕ, ◌≡◌, ◌∙◌, Bool, true, false, cond, not, ◌&&◌, ◌||◌, nat_lt, List, [], ◌∷◌, Option, Some, None, refl, sym, ap, eqb}
 use Rattle.std.specs.List.{list_all}
 use Rattle.std.proofs.lemmas.Bool.{false≢true, and_parts, and_from, eqb-true}
+use Rattle.ct_base.specs.declared.defs.Resource.{Resource}
 use Rattle.ct_base.specs.declared.defs.TestDef.{TestDef}
 use Rattle.ct_props.specs.declared.props.Props.{Props}
 use Rattle.ct_props.specs.declared.wanted.Wanted.{Wanted}
@@ -15,7 +16,8 @@ use Rattle.ct_history.specs.Plan.{has_sound_links, is_before_rank, test_at}
 use Rattle.ct_cost.specs.declared.cost_data.CostData.{CostData}
 use Rattle.ct_plan.specs.Source.{HaveProps, members_before, setup_members, run_members, source}
 use Rattle.ct_plan.proofs.NumberLemmas.{def_of_own}
-use Rattle.ct_plan.proofs.LinkLemmas.{AreLinked, AreOrdered, IsLinked, IsOrdered}
+use Rattle.ct_plan.specs.Linked.{AreLinked, IsLinked}
+use Rattle.ct_plan.proofs.LinkLemmas.{AreOrdered, IsOrdered}
 
 -- the test with these properties is not disabled
 abbrev is_enabled : Option Props → Bool
@@ -48,9 +50,9 @@ setup_own : (own later : Option Props) → sets_up own later ≡ true → (p : P
 setup_own None later is = absurd (false≢true is)
 setup_own (Some own) later is = (own, refl)
 
-module _ (defs : List TestDef) (props : List Props) (wanted : Wanted) (costs : CostData) where
+module _ (defs : List TestDef) (props : List Props) (wanted : Wanted) (resources : Option (List Resource)) (costs : CostData) where
   -- a test that is found by its number has the rank of its links
-  below_by : (l : Links) (t : PlanTest) (ls : List Links) (ts : List PlanTest) (rank j : ℕ) → IsLinked wanted.level defs props l t → is_enabled (at_number props j) ≡ true → (b : Bool) → eqb l.number j ≡ b → ranks_below rank (cond b (Some l) (links_at ls j)) ≡ true → (ranks_below rank (links_at ls j) ≡ true → is_before_rank rank (test_at ts j) ≡ true) → is_before_rank rank (cond b (Some t) (test_at ts j)) ≡ true
+  below_by : (l : Links) (t : PlanTest) (ls : List Links) (ts : List PlanTest) (rank j : ℕ) → IsLinked resources wanted.level defs props l t → is_enabled (at_number props j) ≡ true → (b : Bool) → eqb l.number j ≡ b → ranks_below rank (cond b (Some l) (links_at ls j)) ≡ true → (ranks_below rank (links_at ls j) ≡ true → is_before_rank rank (test_at ts j) ≡ true) → is_before_rank rank (cond b (Some t) (test_at ts j)) ≡ true
   below_by l t ls ts rank j linked enabled true same lower rest =
       let here : l.number ≡ j = eqb-true l.number j same in
       let own : at_number props j ≡ Some linked.own = ap (at_number props) (sym here) ∙ linked.own_is in
@@ -58,7 +60,7 @@ module _ (defs : List TestDef) (props : List Props) (wanted : Wanted) (costs : C
       ap (λ (u : PlanTest). not u.disabled && nat_lt u.rank rank) linked.is ∙ and_from (not linked.own.disabled) (nat_lt l.rank rank) here_enabled lower
   below_by l t ls ts rank j linked enabled false other lower rest = rest lower
 
-  below : (rank j : ℕ) (ls : List Links) (ts : List PlanTest) → AreLinked wanted.level defs props ls ts → is_enabled (at_number props j) ≡ true → ranks_below rank (links_at ls j) ≡ true → is_before_rank rank (test_at ts j) ≡ true
+  below : (rank j : ℕ) (ls : List Links) (ts : List PlanTest) → AreLinked resources wanted.level defs props ls ts → is_enabled (at_number props j) ≡ true → ranks_below rank (links_at ls j) ≡ true → is_before_rank rank (test_at ts j) ≡ true
   below rank j [] [] linked enabled lower = absurd (false≢true lower)
   below rank j [] (t ∷ ts) linked enabled lower = absurd linked
   below rank j (l ∷ ls) [] linked enabled lower = absurd linked
@@ -68,30 +70,30 @@ module _ (defs : List TestDef) (props : List Props) (wanted : Wanted) (costs : C
       ∙ below_by l t ls ts rank j linked.0 enabled (eqb l.number j) refl lower (below rank j ls ts linked.1 enabled)
 
   -- the links of one test are sound
-  test_sound : HaveProps defs props → (links : List Links) (tests : List PlanTest) → AreLinked wanted.level defs props links tests → (m : ℕ) (l : Links) (t : PlanTest) → IsOrdered (source defs props wanted costs) m l → IsLinked wanted.level defs props l t → ranks_above_all links l ≡ true → has_sound_links tests t ≡ true
+  test_sound : HaveProps defs props → (links : List Links) (tests : List PlanTest) → AreLinked resources wanted.level defs props links tests → (m : ℕ) (l : Links) (t : PlanTest) → IsOrdered (source defs props wanted resources costs) m l → IsLinked resources wanted.level defs props l t → ranks_above_all links l ≡ true → has_sound_links tests t ≡ true
   test_sound have links tests linked m l t ordered one above =
       ap (λ (u : PlanTest). has_sound_links tests u) one.is
       ∙ ap (λ before. list_all (λ j. is_before_rank l.rank (test_at tests j)) before && list_all (λ s. is_in before s) l.setups) ordered.before
-      ∙ ap (λ setups. list_all (λ j. is_before_rank l.rank (test_at tests j)) (members_before (source defs props wanted costs) m) && list_all (λ s. is_in (members_before (source defs props wanted costs) m) s) setups) ordered.setups
+      ∙ ap (λ setups. list_all (λ j. is_before_rank l.rank (test_at tests j)) (members_before (source defs props wanted resources costs) m) && list_all (λ s. is_in (members_before (source defs props wanted resources costs) m) s) setups) ordered.setups
       ∙ and_from _ _ ranks among
     where
-      ranks : list_all (λ j. is_before_rank l.rank (test_at tests j)) (members_before (source defs props wanted costs) m) ≡ true
-      ranks = list_all-from (λ j. is_before_rank l.rank (test_at tests j)) (members_before (source defs props wanted costs) m) (λ j is.
-          let earlier : comes_before (at_number defs j) (at_number props j) (at_number props m) ≡ true = (and_parts _ _ (sym (is_in-filter (λ k. comes_before (at_number defs k) (at_number props k) (at_number props m)) (run_members (source defs props wanted costs)) j) ∙ is)).0 in
+      ranks : list_all (λ j. is_before_rank l.rank (test_at tests j)) (members_before (source defs props wanted resources costs) m) ≡ true
+      ranks = list_all-from (λ j. is_before_rank l.rank (test_at tests j)) (members_before (source defs props wanted resources costs) m) (λ j is.
+          let earlier : comes_before (at_number defs j) (at_number props j) (at_number props m) ≡ true = (and_parts _ _ (sym (is_in-filter (λ k. comes_before (at_number defs k) (at_number props k) (at_number props m)) (run_members (source defs props wanted resources costs)) j) ∙ is)).0 in
           let lower : ranks_below l.rank (links_at links j) ≡ true = list_all-at (λ k. ranks_below l.rank (links_at links k)) l.before j above (ap (λ before. is_in before j) ordered.before ∙ is) in
           below l.rank j links tests linked (before_enabled (at_number defs j) (at_number props j) (at_number props m) earlier) lower)
 
-      among : list_all (λ s. is_in (members_before (source defs props wanted costs) m) s) (setup_members (source defs props wanted costs) m) ≡ true
-      among = list_all-from (λ s. is_in (members_before (source defs props wanted costs) m) s) (setup_members (source defs props wanted costs) m) (λ s is.
-          let both = and_parts _ _ (sym (is_in-filter (λ k. sets_up (at_number props k) (at_number props m)) (run_members (source defs props wanted costs)) s) ∙ is) in
+      among : list_all (λ s. is_in (members_before (source defs props wanted resources costs) m) s) (setup_members (source defs props wanted resources costs) m) ≡ true
+      among = list_all-from (λ s. is_in (members_before (source defs props wanted resources costs) m) s) (setup_members (source defs props wanted resources costs) m) (λ s is.
+          let both = and_parts _ _ (sym (is_in-filter (λ k. sets_up (at_number props k) (at_number props m)) (run_members (source defs props wanted resources costs)) s) ∙ is) in
           let own = setup_own (at_number props s) (at_number props m) both.0 in
           let def = def_of_own defs props have s own.0 own.1 in
           let earlier : comes_before (at_number defs s) (at_number props s) (at_number props m) ≡ true =
           ap (λ d. comes_before d (at_number props s) (at_number props m)) def.1 ∙ setup_before def.0 (at_number props s) (at_number props m) both.0 in
-          is_in-filter (λ k. comes_before (at_number defs k) (at_number props k) (at_number props m)) (run_members (source defs props wanted costs)) s ∙ and_from _ _ earlier both.1)
+          is_in-filter (λ k. comes_before (at_number defs k) (at_number props k) (at_number props m)) (run_members (source defs props wanted resources costs)) s ∙ and_from _ _ earlier both.1)
 
   -- so are those of all tests
-  pub links_sound : HaveProps defs props → (links : List Links) (tests : List PlanTest) → AreLinked wanted.level defs props links tests → (ms : List ℕ) (ls : List Links) (ts : List PlanTest) → AreOrdered (source defs props wanted costs) ms ls → AreLinked wanted.level defs props ls ts → list_all (ranks_above_all links) ls ≡ true → list_all (has_sound_links tests) ts ≡ true
+  pub links_sound : HaveProps defs props → (links : List Links) (tests : List PlanTest) → AreLinked resources wanted.level defs props links tests → (ms : List ℕ) (ls : List Links) (ts : List PlanTest) → AreOrdered (source defs props wanted resources costs) ms ls → AreLinked resources wanted.level defs props ls ts → list_all (ranks_above_all links) ls ≡ true → list_all (has_sound_links tests) ts ≡ true
   links_sound have links tests linked [] [] [] ordered some above = refl
   links_sound have links tests linked [] [] (t ∷ ts) ordered some above = absurd some
   links_sound have links tests linked [] (l ∷ ls) ts ordered some above = absurd ordered

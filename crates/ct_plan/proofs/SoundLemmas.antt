@@ -1,9 +1,13 @@
 -- The parts of a plan are sound, and the plan is that of the run.
 use Rattle.std.proofs.Common.{ℕ, ◌≡◌, ◌≤◌, ◌∙◌, Bool, true, false, cond, ◌&&◌, nat_le, min, max, List, [], ◌∷◌, length, map, Option, Some, None, Ok, refl, sym, ap, subst, arith}
-use Rattle.std.specs.Prelude.{codes, option_map, nat_le}
+use Rattle.std.specs.Prelude.{All, IfSome, codes, option_map, nat_le}
 use Rattle.std.specs.List.{list_all}
 use Rattle.std.proofs.lemmas.Bool.{and_from}
 use Rattle.std.proofs.lemmas.Bool.Decides.{nat_tests}
+use Rattle.std.proofs.lemmas.List.Elements.{All-cons, All-nil}
+use Rattle.ct_alloc.specs.Placement.{AreDistinct, SomeFits}
+use Rattle.ct_base.specs.declared.defs.Need.{Need}
+use Rattle.ct_base.specs.declared.defs.Resource.{Resource}
 use Rattle.ct_base.specs.declared.defs.TestDef.{TestDef}
 use Rattle.ct_base.specs.Seconds.{number_in}
 use Rattle.ct_props.specs.declared.props.Props.{Props}
@@ -14,19 +18,20 @@ use Rattle.ct_env.specs.Modification.{first_bad}
 use Rattle.ct_graph.specs.Before.{comes_before, sets_up}
 use Rattle.ct_graph.specs.Order.{IsOrder}
 use Rattle.ct_graph.specs.declared.ordering.Links.{Links}
-use Rattle.ct_verdict.specs.declared.verdict.Cause.TheVariants.{NotAvailable, BadOperation}
+use Rattle.ct_verdict.specs.declared.verdict.Cause.{Cause}
+use Rattle.ct_verdict.specs.declared.verdict.Cause.TheVariants.{Unstarted, Lacks, Fixture, NotAvailable, BadOperation, Insufficient, Stopped, Memory}
 use Rattle.ct_history.specs.declared.plan.PlanTest.{PlanTest}
 use Rattle.ct_history.specs.declared.plan.PlanParts.{PlanParts}
-use Rattle.ct_history.specs.Plan.{IsSound, IsAscendingFrom, AllAscend, has_sound_processors, is_fixed_cause}
+use Rattle.ct_history.specs.Plan.{IsPlaceable, IsSound, IsAscendingFrom, AllAscend, has_sound_processors, is_fixed_cause}
 use Rattle.ct_cost.specs.declared.cost_data.CostData.{CostData}
 use Rattle.ct_plan.specs.Source.{HaveProps, members_before, setup_members, run_members, source}
-use Rattle.ct_plan.specs.Planned.{is_not_available}
+use Rattle.ct_plan.specs.Planned.{ArePlaceable, IsFixedBy, is_not_available, own_cause}
 use Rattle.ct_plan.specs.Queue.{IsQueue}
 use Rattle.ct_plan.specs.PlanOf.{IsPlanOf}
-use Rattle.ct_plan.specs.Linked.{linked_test}
+use Rattle.ct_plan.specs.Linked.{AreLinked}
 use Rattle.ct_plan.proofs.CallerLemmas.{length-have_props}
 use Rattle.ct_plan.proofs.NumberLemmas.{AreOfTests, AreSome, ascends-filter, def_of_own, some-members}
-use Rattle.ct_plan.proofs.LinkLemmas.{AreLinked, AreOrdered, are_linked, are_ordered, are_planned, numbers_are}
+use Rattle.ct_plan.proofs.LinkLemmas.{AreOrdered, are_ordered, are_planned, numbers_are}
 use Rattle.ct_plan.proofs.RankLemmas.{links_sound}
 
 -- PROCESSORS is at least 1
@@ -46,13 +51,50 @@ processors_within : (processors level : ℕ) → 1 ≤ processors → 1 ≤ leve
 processors_within processors level some one =
     and_from (nat_le 1 (min processors level)) (nat_le (min processors level) level) (grind (arith, nat_tests)) (grind (arith, nat_tests))
 
-fixed_ok : (gone : Bool) (place : Option ℕ) → is_fixed_cause None (cond gone (Some NotAvailable) (option_map BadOperation place)) ≡ true
-fixed_ok true place = refl
-fixed_ok false None = refl
-fixed_ok false (Some n) = refl
+-- what keeps a test from running is known before the run
+unfit_ok : (resources : Option (List Resource)) (needs : List Need) (cause : Option Cause) → IsFixedBy None (ArePlaceable resources needs) cause → is_fixed_cause resources cause ≡ true
+unfit_ok resources needs None is = refl
+unfit_ok None needs (Some Insufficient) is = absurd (is tt)
+unfit_ok (Some rs) needs (Some Insufficient) is = refl
+unfit_ok resources needs (Some Unstarted) is = absurd is
+unfit_ok resources needs (Some (Lacks place)) is = absurd is
+unfit_ok resources needs (Some (Fixture setup)) is = absurd is
+unfit_ok resources needs (Some NotAvailable) is = absurd is
+unfit_ok resources needs (Some (BadOperation place)) is = absurd is
+unfit_ok resources needs (Some Stopped) is = absurd is
+unfit_ok resources needs (Some Memory) is = absurd is
 
-module _ (defs : List TestDef) (props : List Props) (wanted : Wanted) (costs : CostData) where
-  processors_sound : HaveProps defs props → 1 ≤ wanted.level → (ls : List Links) (ts : List PlanTest) → AreLinked wanted.level defs props ls ts → list_all (has_sound_processors wanted.level) ts ≡ true
+fixed_ok : (resources : Option (List Resource)) (needs : List Need) (gone : Bool) (place : Option ℕ) (cause : Option Cause) → IsFixedBy (cond gone (Some NotAvailable) (option_map BadOperation place)) (ArePlaceable resources needs) cause → is_fixed_cause resources cause ≡ true
+fixed_ok resources needs true place cause is = ap (is_fixed_cause resources) is
+fixed_ok resources needs false (Some n) cause is = ap (is_fixed_cause resources) is
+fixed_ok resources needs false None cause is = unfit_ok resources needs cause is
+
+-- a test that nothing keeps from running fits
+free_fits : (gone : Bool) (place : Option ℕ) (Fits : Type 0) → IsFixedBy (cond gone (Some NotAvailable) (option_map BadOperation place)) Fits None → Fits
+free_fits true place Fits is = let no : None ≡ Some NotAvailable = is in absurd (cc)
+free_fits false (Some n) Fits is = let no : None ≡ Some (BadOperation n) = is in absurd (cc)
+free_fits false None Fits is = is
+
+-- the needs of each test that nothing keeps from running fit while nothing is used
+placeable_on : (rs : List Resource) (defs : List TestDef) (props : List Props) (level : ℕ) (ls : List Links) (ts : List PlanTest) → AreLinked (Some rs) level defs props ls ts → All (IsPlaceable rs) ts
+placeable_on rs defs props level [] [] linked = All-nil (IsPlaceable rs)
+placeable_on rs defs props level [] (t ∷ ts) linked = absurd linked
+placeable_on rs defs props level (l ∷ ls) [] linked = absurd linked
+placeable_on rs defs props level (l ∷ ls) (t ∷ ts) linked =
+    All-cons (IsPlaceable rs) t ts
+    (λ free.
+    let own = linked.0.own in
+    let fixed = subst (λ (cause : Option Cause). IsFixedBy (own_cause linked.0.def own) (ArePlaceable (Some rs) own.groups.needs) cause) free linked.0.fixed in
+    subst (λ (needs : List Need). SomeFits rs needs (λ place. 0)) (sym (ap (λ (u : PlanTest). u.needs) linked.0.is))
+    (free_fits (is_not_available linked.0.def.command) (first_bad own.modification) (SomeFits rs own.groups.needs (λ place. 0)) fixed))
+    (placeable_on rs defs props level ls ts linked.1)
+
+placeable_sound : (resources : Option (List Resource)) (defs : List TestDef) (props : List Props) (level : ℕ) (ls : List Links) (ts : List PlanTest) → AreLinked resources level defs props ls ts → IfSome resources (λ rs. All (IsPlaceable rs) ts)
+placeable_sound None defs props level ls ts linked = tt
+placeable_sound (Some rs) defs props level ls ts linked = placeable_on rs defs props level ls ts linked
+
+module _ (defs : List TestDef) (props : List Props) (wanted : Wanted) (resources : Option (List Resource)) (costs : CostData) where
+  processors_sound : HaveProps defs props → 1 ≤ wanted.level → (ls : List Links) (ts : List PlanTest) → AreLinked resources wanted.level defs props ls ts → list_all (has_sound_processors wanted.level) ts ≡ true
   processors_sound have one [] [] linked = refl
   processors_sound have one [] (t ∷ ts) linked = absurd linked
   processors_sound have one (l ∷ ls) [] linked = absurd linked
@@ -63,36 +105,36 @@ module _ (defs : List TestDef) (props : List Props) (wanted : Wanted) (costs : C
       (ap (λ (u : PlanTest). has_sound_processors wanted.level u) linked.0.is ∙ processors_within linked.0.own.processors wanted.level some one)
       (processors_sound have one ls ts linked.1)
 
-  fixed_sound : (ls : List Links) (ts : List PlanTest) → AreLinked wanted.level defs props ls ts → list_all (λ (t : PlanTest). is_fixed_cause None t.fixed) ts ≡ true
+  fixed_sound : (ls : List Links) (ts : List PlanTest) → AreLinked resources wanted.level defs props ls ts → list_all (λ (t : PlanTest). is_fixed_cause resources t.fixed) ts ≡ true
   fixed_sound [] [] linked = refl
   fixed_sound [] (t ∷ ts) linked = absurd linked
   fixed_sound (l ∷ ls) [] linked = absurd linked
   fixed_sound (l ∷ ls) (t ∷ ts) linked =
-      and_from (is_fixed_cause None t.fixed) (list_all (λ (u : PlanTest). is_fixed_cause None u.fixed) ts)
-      (ap (λ (u : PlanTest). is_fixed_cause None u.fixed) linked.0.is ∙ fixed_ok (is_not_available linked.0.def.command) (first_bad linked.0.own.modification))
+      and_from (is_fixed_cause resources t.fixed) (list_all (λ (u : PlanTest). is_fixed_cause resources u.fixed) ts)
+      (fixed_ok resources linked.0.own.groups.needs (is_not_available linked.0.def.command) (first_bad linked.0.own.modification) t.fixed linked.0.fixed)
       (fixed_sound ls ts linked.1)
 
-  before_ascend : IsAscendingFrom 1 (run_members (source defs props wanted costs)) → (ms : List ℕ) (ls : List Links) (ts : List PlanTest) → AreOrdered (source defs props wanted costs) ms ls → AreLinked wanted.level defs props ls ts → AllAscend (λ t. t.before) ts
+  before_ascend : IsAscendingFrom 1 (run_members (source defs props wanted resources costs)) → (ms : List ℕ) (ls : List Links) (ts : List PlanTest) → AreOrdered (source defs props wanted resources costs) ms ls → AreLinked resources wanted.level defs props ls ts → AllAscend (λ t. t.before) ts
   before_ascend up [] [] [] ordered linked = tt
   before_ascend up [] [] (t ∷ ts) ordered linked = absurd linked
   before_ascend up [] (l ∷ ls) ts ordered linked = absurd ordered
   before_ascend up (m ∷ ms) [] ts ordered linked = absurd ordered
   before_ascend up (m ∷ ms) (l ∷ ls) [] ordered linked = absurd linked
   before_ascend up (m ∷ ms) (l ∷ ls) (t ∷ ts) ordered linked =
-      let is : t.before ≡ members_before (source defs props wanted costs) m = ap (λ (u : PlanTest). u.before) linked.0.is ∙ ordered.0.before in (
-        subst (IsAscendingFrom 1) (sym is) (ascends-filter (λ j. comes_before (at_number defs j) (at_number props j) (at_number props m)) 1 (run_members (source defs props wanted costs)) up),
+      let is : t.before ≡ members_before (source defs props wanted resources costs) m = ap (λ (u : PlanTest). u.before) linked.0.is ∙ ordered.0.before in (
+        subst (IsAscendingFrom 1) (sym is) (ascends-filter (λ j. comes_before (at_number defs j) (at_number props j) (at_number props m)) 1 (run_members (source defs props wanted resources costs)) up),
         before_ascend up ms ls ts ordered.1 linked.1,
       )
 
-  setups_ascend : IsAscendingFrom 1 (run_members (source defs props wanted costs)) → (ms : List ℕ) (ls : List Links) (ts : List PlanTest) → AreOrdered (source defs props wanted costs) ms ls → AreLinked wanted.level defs props ls ts → AllAscend (λ t. t.setups) ts
+  setups_ascend : IsAscendingFrom 1 (run_members (source defs props wanted resources costs)) → (ms : List ℕ) (ls : List Links) (ts : List PlanTest) → AreOrdered (source defs props wanted resources costs) ms ls → AreLinked resources wanted.level defs props ls ts → AllAscend (λ t. t.setups) ts
   setups_ascend up [] [] [] ordered linked = tt
   setups_ascend up [] [] (t ∷ ts) ordered linked = absurd linked
   setups_ascend up [] (l ∷ ls) ts ordered linked = absurd ordered
   setups_ascend up (m ∷ ms) [] ts ordered linked = absurd ordered
   setups_ascend up (m ∷ ms) (l ∷ ls) [] ordered linked = absurd linked
   setups_ascend up (m ∷ ms) (l ∷ ls) (t ∷ ts) ordered linked =
-      let is : t.setups ≡ setup_members (source defs props wanted costs) m = ap (λ (u : PlanTest). u.setups) linked.0.is ∙ ordered.0.setups in (
-        subst (IsAscendingFrom 1) (sym is) (ascends-filter (λ j. sets_up (at_number props j) (at_number props m)) 1 (run_members (source defs props wanted costs)) up),
+      let is : t.setups ≡ setup_members (source defs props wanted resources costs) m = ap (λ (u : PlanTest). u.setups) linked.0.is ∙ ordered.0.setups in (
+        subst (IsAscendingFrom 1) (sym is) (ascends-filter (λ j. sets_up (at_number props j) (at_number props m)) 1 (run_members (source defs props wanted resources costs)) up),
         setups_ascend up ms ls ts ordered.1 linked.1,
       )
 
@@ -102,62 +144,62 @@ module _ (defs : List TestDef) (props : List Props) (wanted : Wanted) (costs : C
     dir = dir;
     tests = tests;
     queue = queue;
-    resources = None;
+    resources = resources;
     level = wanted.level;
     repeat = wanted.repeat;
     stop_on_failure = wanted.stop_on_failure;
   }
 
   -- the links are of tests
-  pub links_of_tests : HaveProps defs props → (links : List Links) → IsOrder defs props (run_members (source defs props wanted costs)) links → AreOfTests (length defs) (map (λ (l : Links). l.number) links)
+  pub links_of_tests : HaveProps defs props → (links : List Links) → IsOrder defs props (run_members (source defs props wanted resources costs)) links → AreOfTests (length defs) (map (λ (l : Links). l.number) links)
   links_of_tests have links order = subst (AreOfTests (length defs)) (sym order.numbers) (some-members wanted.choice defs props (length-have_props defs props have)).of_tests
 
   -- what is said of tests and properties where they are lent holds of them
-  pub made_of : (ds : List TestDef) (ps : List Props) (links : List Links) (tests : List PlanTest) → ds ≡ defs → ps ≡ props → map Some tests ≡ map (linked_test wanted.level ds ps) links → map Some tests ≡ map (linked_test wanted.level defs props) links
-  made_of ds ps links tests defs_are props_are made = made ∙ (λ i. map (linked_test wanted.level (defs_are i) (props_are i)) links)
+  pub made_of : (ds : List TestDef) (ps : List Props) (rs : Option (List Resource)) (links : List Links) (tests : List PlanTest) → ds ≡ defs → ps ≡ props → rs ≡ resources → AreLinked rs wanted.level ds ps links tests → AreLinked resources wanted.level defs props links tests
+  made_of ds ps rs links tests defs_are props_are resources_are made =
+      subst (λ r. AreLinked r wanted.level defs props links tests) resources_are
+      (subst (λ qs. AreLinked rs wanted.level defs qs links tests) props_are
+      (subst (λ es. AreLinked rs wanted.level es ps links tests) defs_are made))
 
-  pub queue_of : (ds : List TestDef) (ps : List Props) (ts tests : List PlanTest) (queue : List ℕ) → ds ≡ defs → ps ≡ props → ts ≡ tests → IsQueue (source ds ps wanted costs) ts queue → IsQueue (source defs props wanted costs) tests queue
+  pub queue_of : (ds : List TestDef) (ps : List Props) (ts tests : List PlanTest) (queue : List ℕ) → ds ≡ defs → ps ≡ props → ts ≡ tests → IsQueue (source ds ps wanted resources costs) ts queue → IsQueue (source defs props wanted resources costs) tests queue
   queue_of ds ps ts tests queue defs_are props_are tests_are queued =
-      subst (λ us. IsQueue (source defs props wanted costs) us queue) tests_are
-      (subst (λ qs. IsQueue (source defs qs wanted costs) ts queue) props_are
-      (subst (λ es. IsQueue (source es ps wanted costs) ts queue) defs_are queued))
+      subst (λ us. IsQueue (source defs props wanted resources costs) us queue) tests_are
+      (subst (λ qs. IsQueue (source defs qs wanted resources costs) ts queue) props_are
+      (subst (λ es. IsQueue (source es ps wanted resources costs) ts queue) defs_are queued))
 
-  module _ (have : HaveProps defs props) (links : List Links) (order : IsOrder defs props (run_members (source defs props wanted costs)) links) (tests : List PlanTest) (made : map Some tests ≡ map (linked_test wanted.level defs props) links) where
-    some : AreSome (length defs) (run_members (source defs props wanted costs))
+  module _ (have : HaveProps defs props) (links : List Links) (order : IsOrder defs props (run_members (source defs props wanted resources costs)) links) (tests : List PlanTest) (linked : AreLinked resources wanted.level defs props links tests) where
+    some : AreSome (length defs) (run_members (source defs props wanted resources costs))
     some = some-members wanted.choice defs props (length-have_props defs props have)
 
-    ordered : AreOrdered (source defs props wanted costs) (run_members (source defs props wanted costs)) links
-    ordered = are_ordered (source defs props wanted costs) (run_members (source defs props wanted costs)) links order.numbers order.before order.setups
-
-    linked : AreLinked wanted.level defs props links tests
-    linked = are_linked wanted.level defs props links tests made
+    ordered : AreOrdered (source defs props wanted resources costs) (run_members (source defs props wanted resources costs)) links
+    ordered = are_ordered (source defs props wanted resources costs) (run_members (source defs props wanted resources costs)) links order.numbers order.before order.setups
 
     -- the tests have the numbers of the members
-    made_numbers : map (λ (t : PlanTest). t.number) tests ≡ run_members (source defs props wanted costs)
-    made_numbers = numbers_are defs props wanted costs (run_members (source defs props wanted costs)) links tests ordered linked
+    made_numbers : map (λ (t : PlanTest). t.number) tests ≡ run_members (source defs props wanted resources costs)
+    made_numbers = numbers_are defs props wanted resources costs (run_members (source defs props wanted resources costs)) links tests ordered linked
 
     pub made_some : AreSome (length defs) (map (λ (t : PlanTest). t.number) tests)
     made_some = subst (AreSome (length defs)) (sym made_numbers) some
 
-    pub plan_sound : 1 ≤ wanted.level → 1 ≤ wanted.repeat.times → (dir queue : List ℕ) → IsQueue (source defs props wanted costs) tests queue → IsSound (parts_with dir tests queue)
-    plan_sound level times dir queue queued = record {
+    pub plan_sound : 1 ≤ wanted.level → 1 ≤ wanted.repeat.times → (dir queue : List ℕ) → IsQueue (source defs props wanted resources costs) tests queue → IfSome resources AreDistinct → IsSound (parts_with dir tests queue)
+    plan_sound level times dir queue queued distinct = record {
       numbers = subst (IsAscendingFrom 1) (sym made_numbers) some.ascend;
-      before = before_ascend some.ascend (run_members (source defs props wanted costs)) links tests ordered linked;
-      setups = setups_ascend some.ascend (run_members (source defs props wanted costs)) links tests ordered linked;
-      links = links_sound defs props wanted costs have links tests linked (run_members (source defs props wanted costs)) links tests ordered linked order.ranks;
+      before = before_ascend some.ascend (run_members (source defs props wanted resources costs)) links tests ordered linked;
+      setups = setups_ascend some.ascend (run_members (source defs props wanted resources costs)) links tests ordered linked;
+      links = links_sound defs props wanted resources costs have links tests linked (run_members (source defs props wanted resources costs)) links tests ordered linked order.ranks;
       processors = processors_sound have level links tests linked;
       fixed = fixed_sound links tests linked;
       queue = queued.all;
       times = times;
-      distinct = tt;
-      placeable = tt;
+      distinct = distinct;
+      placeable = placeable_sound resources defs props wanted.level links tests linked;
     }
 
-    pub plan_is : (dir queue : List ℕ) → dir ≡ wanted.dir → IsQueue (source defs props wanted costs) tests queue → IsPlanOf (source defs props wanted costs) (parts_with dir tests queue)
+    pub plan_is : (dir queue : List ℕ) → dir ≡ wanted.dir → IsQueue (source defs props wanted resources costs) tests queue → IsPlanOf (source defs props wanted resources costs) (parts_with dir tests queue)
     plan_is dir queue dir_is queued = record {
       dir = dir_is;
-      tests = are_planned defs props wanted costs (run_members (source defs props wanted costs)) links tests ordered linked;
-      ranks = links_sound defs props wanted costs have links tests linked (run_members (source defs props wanted costs)) links tests ordered linked order.ranks;
+      tests = are_planned defs props wanted resources costs (run_members (source defs props wanted resources costs)) links tests ordered linked;
+      ranks = links_sound defs props wanted resources costs have links tests linked (run_members (source defs props wanted resources costs)) links tests ordered linked order.ranks;
       queue = queued;
       resources = refl;
       level = refl;

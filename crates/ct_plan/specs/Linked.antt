@@ -1,23 +1,36 @@
 -- The tests of a plan, each made of its links, and how they stand in the queue. This project's own.
-use Rattle.std.specs.Prelude.{ℕ, min, List, Option, Some, None}
+use Rattle.std.specs.Prelude.{◌≡◌, ℕ, ⊤, min, List, [], ◌∷◌, Option, Some, option_map}
+use Rattle.ct_base.specs.declared.defs.Resource.{Resource}
 use Rattle.ct_base.specs.declared.defs.TestDef.{TestDef}
 use Rattle.ct_props.specs.declared.props.Props.{Props}
+use Rattle.ct_props.specs.declared.wanted.Wanted.{Wanted}
 use Rattle.ct_props.specs.Numbered.{at_number}
 use Rattle.ct_graph.specs.declared.ordering.Links.{Links}
 use Rattle.ct_graph.specs.declared.fault.GraphFault.{GraphFault}
 use Rattle.ct_graph.specs.declared.fault.GraphFault.TheVariants as Graph
+use Rattle.ct_alloc.specs.Free.{FreeValue, used_at}
+use Rattle.ct_verdict.specs.declared.verdict.Cause.{Cause}
 use Rattle.ct_history.specs.declared.plan.PlanTest.{PlanTest}
 use Rattle.ct_cost.specs.declared.cost_data.CostData.{CostData}
 use Rattle.ct_plan.specs.declared.fault.PlanFault.{PlanFault}
 use Rattle.ct_plan.specs.declared.fault.PlanFault.TheVariants.{Cycle, TooManyEdges, NoMemory}
 use Rattle.ct_plan.specs.declared.standing.Standing.{Standing}
-use Rattle.ct_plan.specs.Planned.{own_cause, rules_of}
-use Rattle.ct_plan.specs.Queue.{standing_there}
+use Rattle.ct_plan.specs.Planned.{IsFixed, rules_of}
+use Rattle.ct_plan.specs.Queue.{IsQueue, standing_there}
+use Rattle.ct_plan.specs.Source.{source}
 
--- the test with these links, where so many processors may be taken and no resources are lent
-abbrev pub test_from : ℕ → Links → TestDef → Props → PlanTest
-test_from level links def props = record {
-  number = links.number;
+-- all the resources of which this tells what is free, where any are lent
+abbrev pub lent : Option FreeValue → Option (List Resource)
+lent free = option_map (λ (f : FreeValue). f.resources) free
+
+-- nothing is used of any resource
+abbrev pub IsUnused : FreeValue → Type 0
+IsUnused free = (place : ℕ) → used_at free place ≡ 0
+
+-- the test with these links, where so many processors may be taken, and with what keeps it from running
+abbrev pub test_from : ℕ → Links → TestDef → Props → Option Cause → PlanTest
+test_from level link def props fixed = record {
+  number = link.number;
   name = def.name;
   disabled = props.disabled;
   processors = min props.processors level;
@@ -25,25 +38,36 @@ test_from level links def props = record {
   serial = props.serial;
   rules = rules_of props;
   needs = props.groups.needs;
-  before = links.before;
-  setups = links.setups;
-  rank = links.rank;
-  fixed = own_cause def props;
+  before = link.before;
+  setups = link.setups;
+  rank = link.rank;
+  fixed = fixed;
   labels = props.labels;
 }
 
--- that test, where it is there
-abbrev pub test_there : ℕ → Links → Option TestDef → Option Props → Option PlanTest
-test_there level links (Some def) (Some props) = Some (test_from level links def props)
-test_there level links _ _ = None
+-- this is the test that these links are of, with what keeps it from running where these resources are lent
+pub record IsLinked (resources : Option (List Resource)) (level : ℕ) (defs : List TestDef) (props : List Props) (links : Links) (test : PlanTest) : Type 0 where
+  pub def : TestDef
+  pub own : Props
+  pub def_is : at_number defs links.number ≡ Some def
+  pub own_is : at_number props links.number ≡ Some own
+  pub fixed : IsFixed resources def own test.fixed
+  pub is : test ≡ test_from level links def own test.fixed
 
--- the test that these links are of
-abbrev pub linked_test : ℕ → List TestDef → List Props → Links → Option PlanTest
-linked_test level defs props links = test_there level links (at_number defs links.number) (at_number props links.number)
+-- so are these tests, one for each of these links, in order
+abbrev pub AreLinked : Option (List Resource) → ℕ → List TestDef → List Props → List Links → List PlanTest → Type 0
+AreLinked resources level defs props [] [] = ⊤
+AreLinked resources level defs props [] (test ∷ tests) = ⊥
+AreLinked resources level defs props (link ∷ links) [] = ⊥
+AreLinked resources level defs props (link ∷ links) (test ∷ tests) = IsLinked resources level defs props link test × AreLinked resources level defs props links tests
 
 -- how the test with this number stands
 abbrev pub standing_in : List TestDef → List Props → CostData → ℕ → Option Standing
 standing_in defs props costs number = standing_there costs number (at_number defs number) (at_number props number)
+
+-- this is the queue of these tests, whatever resources are lent
+abbrev pub QueuesTests : List TestDef → List Props → Wanted → CostData → List PlanTest → List ℕ → Type 0
+QueuesTests defs props wanted costs tests queue = (resources : Option (List Resource)) → IsQueue (source defs props wanted resources costs) tests queue
 
 -- why there is no plan, where there is no order
 abbrev pub plan_fault : GraphFault → PlanFault

@@ -1,9 +1,10 @@
 -- What a plan is made of: the tests of a folder with their properties, what is wanted of the run, the resources that are lent,
 -- and what earlier runs cost. Source: CMake manual, ctest(1), Run Tests; cmake-properties(7), Properties on Tests.
-use Rattle.std.specs.Prelude.{ℕ, ⊤, List, [], ◌∷◌, Option, None}
+use Rattle.std.specs.Prelude.{ℕ, ⊤, List, [], ◌∷◌, Option}
 use Rattle.ct_base.specs.declared.defs.Resource.{Resource}
 use Rattle.ct_base.specs.declared.defs.TestDef.{TestDef}
 use Rattle.ct_props.specs.declared.props.Props.{Props}
+use Rattle.ct_props.specs.declared.wanted.Choice.{Choice}
 use Rattle.ct_props.specs.declared.wanted.Wanted.{Wanted}
 use Rattle.ct_props.specs.PropsOf.{HasProps}
 use Rattle.ct_select.specs.Chosen.{chosen_tests}
@@ -27,9 +28,13 @@ HaveProps [] (own ∷ owns) = ⊥
 HaveProps (def ∷ defs) [] = ⊥
 HaveProps (def ∷ defs) (own ∷ owns) = HasProps def own × HaveProps defs owns
 
--- the numbers of the tests of the run, which ascend: those that are chosen, and those that fixtures draw in
+-- the numbers of the members among tests, which ascend: those that are chosen, and those that fixtures draw in
+abbrev pub members_in : Choice → List TestDef → List Props → List ℕ
+members_in choice defs props = members_of choice props (chosen_tests defs props choice)
+
+-- the numbers of the tests of the run
 abbrev pub run_members : Source → List ℕ
-run_members s = members_of s.wanted.choice s.props (chosen_tests s.defs s.props s.wanted.choice)
+run_members s = members_in s.wanted.choice s.defs s.props
 
 -- the members that come before a test, in order
 abbrev pub members_before : Source → ℕ → List ℕ
@@ -43,6 +48,6 @@ setup_members s number = setups_of s.props (run_members s) number
 abbrev pub edge_count : Source → ℕ
 edge_count s = edges_of s.defs s.props (run_members s)
 
--- these tests, wanted so, with what earlier runs cost; no resources are lent
-abbrev pub source : List TestDef → List Props → Wanted → CostData → Source
-source defs props wanted costs = record { defs = defs; props = props; wanted = wanted; resources = None; costs = costs }
+-- these tests, wanted so, with the resources that are lent, where a specification is given, and with what earlier runs cost
+abbrev pub source : List TestDef → List Props → Wanted → Option (List Resource) → CostData → Source
+source defs props wanted resources costs = record { defs = defs; props = props; wanted = wanted; resources = resources; costs = costs }

@@ -1,8 +1,9 @@
 //! Makes the plan of a run: which tests, in which order, judged by which rules.
 //!
-//! Hands up: `plan`, from tests, properties, what is wanted and what earlier runs cost.
-//! Stands on: ct_base, ct_props, ct_env, ct_select, ct_fixture, ct_graph, ct_verdict, ct_history,
-//! ct_cost, ct_spec.
+//! Hands up: `plan`, from tests, properties, what is wanted, the resources that are lent and what
+//! earlier runs cost; `members`, the tests that a run has.
+//! Stands on: ct_base, ct_props, ct_env, ct_select, ct_fixture, ct_graph, ct_alloc, ct_verdict,
+//! ct_history, ct_cost, ct_spec.
 //! Read first: `specs/Source.antt`, `specs/Planned.antt`, `specs/Queue.antt`, `specs/PlanOf.antt`,
 //! then `planning.rt`.
 #![tactic(auto)]
@@ -14,4 +15,4 @@ mod queue;
 mod standing;
 
 pub use fault::PlanFault;
-pub use planning::plan;
+pub use planning::{members, plan};

@@ -1,7 +1,9 @@
-ghost use Rattle.std.specs.Prelude.{◌≡◌, ◌<◌, ◌≤◌, ◌^◌, All, IfOk, Some, length, map};
-ghost use Rattle.ct_plan.specs.Linked.{linked_test, test_from};
-ghost use Rattle.ct_plan.specs.Planned.{is_not_available as stands_for_none, own_cause, rules_of};
+ghost use Rattle.std.specs.Prelude.{◌≡◌, ◌<◌, ◌≤◌, ◌^◌, All, IfOk, IfSome, None, length, map};
+ghost use Rattle.std.specs.Option.{option_copied};
+ghost use Rattle.ct_plan.specs.Linked.{AreLinked, IsUnused, lent, test_from};
+ghost use Rattle.ct_plan.specs.Planned.{ArePlaceable, IsFixed, IsFixedBy, is_not_available as stands_for_none, own_cause as cause_of_words, rules_of};
 
+use ct_alloc::Free;
 use ct_base::{List, Name, Need, NoMemory, TestDef};
 use ct_env::bad_operation;
 use ct_graph::Links;
@@ -10,39 +12,42 @@ use ct_props::Props;
 use ct_verdict::{Cause, Rules};
 use std::alloc::Global;
 
-/// Plans the tests with these links, at so many processors.
+/// Plans the tests with these links, at so many processors, beside what is free of the resources that
+/// are lent, which is all of them.
 pub(crate) fn plan_tests(
     alloc: Global,
     defs: &[TestDef],
     props: &[Props],
     level: u32,
+    free: Option<&Free>,
     links: List<Links>,
 ) -> Result<List<PlanTest>, NoMemory>
     requires paired { length props.now ≡ length defs.now }
     requires within { All (λ number. (0 < number) × (number ≤ length defs.now)) (map (λ l. l.number) links) }
-    ensures { IfOk result (λ tests. map Some tests ≡ map (linked_test level defs.now props.now) links) }
+    requires unused { IfSome (option_copied free) IsUnused }
+    ensures { IfOk result (AreLinked (lent (option_copied free.entry)) level defs.now props.now links) }
 {
     let mut tests = List::new(alloc);
     for links in links.into_vec() {
         let at = links.number as usize - 1;
-        tests.push(plan_test(alloc, &defs[at], &props[at], level, links)?)?;
+        let (def, own) = (&defs[at], &props[at]);
+        let fixed = fixed(alloc, def, own, free)?;
+        tests.push(plan_test(alloc, def, own, level, links, fixed)?)?;
     }
     Ok(tests)
 }
 
-/// Plans one test. One with more entries than a place can count is beyond any memory.
+/// Plans one test, with what keeps it from running.
 fn plan_test(
     alloc: Global,
     def: &TestDef,
     own: &Props,
     level: u32,
     links: Links,
+    fixed: Option<Cause>,
 ) -> Result<PlanTest, NoMemory>
-    ensures { IfOk result (λ test. test ≡ test_from level links def.now own.now) }
+    ensures { IfOk result (λ test. test ≡ test_from level links def.now own.now fixed) }
 {
-    if own.modification.len() > u32::MAX as usize {
-        return Err(NoMemory);
-    }
     Ok(PlanTest {
         number: links.number,
         name: def.name.copy(alloc)?,
@@ -55,7 +60,7 @@ fn plan_test(
         before: links.before,
         setups: links.setups,
         rank: links.rank,
-        fixed: fixed(def, own),
+        fixed,
         labels: copy_names(alloc, own.labels.as_slice())?,
     })
 }
@@ -94,10 +99,35 @@ fn rules(own: &Props) -> Rules
     }
 }
 
-/// Tells why a test can't run at all, where that is known before the run and no resources are lent.
-fn fixed(def: &TestDef, own: &Props) -> Option<Cause>
+/// Tells why a test can't run at all, where that is known before the run: by its own words, or else
+/// since its needs fit nowhere.
+///
+/// A test with more entries than a place can count is beyond any memory.
+///
+/// Source: CMake manual, ctest(1), Resource Allocation. That such a test is not run while others run
+/// is this project's choice.
+fn fixed(
+    alloc: Global,
+    def: &TestDef,
+    own: &Props,
+    free: Option<&Free>,
+) -> Result<Option<Cause>, NoMemory>
+    requires unused { IfSome (option_copied free) IsUnused }
+    ensures { IfOk result (IsFixed (lent (option_copied free.entry)) def.now own.now) }
+{
+    if own.modification.len() > u32::MAX as usize {
+        return Err(NoMemory);
+    }
+    match own_cause(def, own) {
+        Some(cause) => Ok(Some(cause)),
+        None => insufficient(alloc, own.groups.needs(), free),
+    }
+}
+
+/// Tells why a test can't run at all by its own words.
+fn own_cause(def: &TestDef, own: &Props) -> Option<Cause>
     requires few { length own.now.modification < 2 ^ 32 }
-    ensures { result ≡ own_cause def.now own.now }
+    ensures { result ≡ cause_of_words def.now own.now }
 {
     if is_not_available(def.command.as_slice()) {
         return Some(Cause::NotAvailable);
@@ -105,6 +135,24 @@ fn fixed(def: &TestDef, own: &Props) -> Option<Cause>
     match bad_operation(own) {
         None => None,
         Some(place) => Some(Cause::BadOperation(place)),
+    }
+}
+
+/// Tells that resources are lent on which the needs fit nowhere, while nothing is used.
+fn insufficient(
+    alloc: Global,
+    needs: &List<Need>,
+    free: Option<&Free>,
+) -> Result<Option<Cause>, NoMemory>
+    requires unused { IfSome (option_copied free) IsUnused }
+    ensures { IfOk result (IsFixedBy None (ArePlaceable (lent (option_copied free.entry)) needs.now)) }
+{
+    let Some(free) = free else {
+        return Ok(None);
+    };
+    match free.place(alloc, needs)? {
+        Some(_) => Ok(None),
+        None => Ok(Some(Cause::Insufficient)),
     }
 }
 

@@ -1,15 +1,17 @@
-ghost use Rattle.std.specs.Prelude.{◌≡◌, ◌<◌, ◌≤◌, ◌-◌, ◌^◌, None, IfOk, OnOk, length};
-ghost use Rattle.ct_fixture.specs.Drawing.{members_of};
+ghost use Rattle.std.specs.Prelude.{◌≡◌, ◌<◌, ◌≤◌, ◌-◌, ◌^◌, IfOk, IfSome, OnOk, length};
+ghost use Rattle.std.specs.Option.{option_copied};
+ghost use Rattle.ct_alloc.specs.Placement.{AreDistinct};
 ghost use Rattle.ct_graph.specs.Cycle.{HasCycle};
 ghost use Rattle.ct_graph.specs.Order.{IsOrder};
+ghost use Rattle.ct_plan.specs.Linked.{IsUnused, lent};
 ghost use Rattle.ct_plan.specs.PlanOf.{IsPlanAnswer, IsPlanOf};
-ghost use Rattle.ct_select.specs.Chosen.{chosen_tests};
-ghost use Rattle.ct_plan.specs.Source.{HaveProps, members_before, run_members, source};
+ghost use Rattle.ct_plan.specs.Source.{HaveProps, members_before, members_in, run_members, source};
 
 use crate::PlanFault;
 use crate::planned::plan_tests;
 use crate::queue::queue;
-use ct_base::{List, NoMemory, TestDef};
+use ct_alloc::Free;
+use ct_base::{List, NoMemory, Resource, TestDef};
 use ct_cost::CostData;
 use ct_fixture::draw_in;
 use ct_graph::{Links, MOST_EDGES, order};
@@ -22,10 +24,12 @@ use std::alloc::Global;
 /// Plans a run: the chosen tests and those that fixtures draw in, in the order that DEPENDS and
 /// fixtures ask for, each with what its properties say.
 ///
-/// The tests and their properties belong together by place. No resources can be given yet. A cycle
-/// is refused with its tests, and so are more than `ct_graph::MOST_EDGES` edges.
+/// The tests and their properties belong together by place. Where a specification is given, its
+/// resources are lent, and a test whose needs fit nowhere on them is not run. A cycle is refused with
+/// its tests, and so are more than `ct_graph::MOST_EDGES` edges.
 ///
-/// Source: CMake manual, ctest(1), Run Tests; cmake-properties(7), Properties on Tests.
+/// Source: CMake manual, ctest(1), Run Tests and Resource Allocation; cmake-properties(7), Properties
+/// on Tests.
 pub fn plan(
     alloc: Global,
     defs: &List<TestDef>,
@@ -38,18 +42,20 @@ pub fn plan(
     requires together { HaveProps defs.now props.now }
     requires level { 1 ≤ wanted.now.level }
     requires times { 1 ≤ wanted.now.repeat.times }
-    requires unresourced { spec ≡ None }
-    ensures answer { IsPlanAnswer MOST_EDGES (source defs.now props.now wanted.now costs.now) result }
-    ensures none { OnOk result (HasCycle (members_before (source defs.now props.now wanted.now costs.now)) → ⊥) }
+    ensures answer { IsPlanAnswer MOST_EDGES (source defs.now props.now wanted.now (option_copied spec.entry) costs.now) result }
+    ensures none { OnOk result (HasCycle (members_before (source defs.now props.now wanted.now (option_copied spec.entry) costs.now)) → ⊥) }
 {
-    prove!(spec.is_none());
     let members = members(alloc, defs, props, &wanted.choice)?;
     let ordered = order(alloc, defs, props, &members)?;
-    Ok(plan_in_order(alloc, defs, props, wanted, costs, ordered.links)?)
+    Ok(plan_in_order(alloc, defs, props, wanted, spec, costs, ordered.links)?)
 }
 
-/// Gives the numbers of the tests of the run, in order.
-fn members(
+/// Gives the numbers of the tests that are chosen, and of those that fixtures draw in, in order.
+///
+/// The tests and their properties belong together by place.
+///
+/// Source: CMake manual, ctest(1), Options; cmake-properties(7), FIXTURES_REQUIRED.
+pub fn members(
     alloc: Global,
     defs: &List<TestDef>,
     props: &List<Props>,
@@ -57,7 +63,7 @@ fn members(
 ) -> Result<List<u32>, NoMemory>
     requires few { length defs.now < 2 ^ 32 - 1 }
     requires paired { length props.now ≡ length defs.now }
-    ensures { IfOk result (λ members. members ≡ members_of choice.now props.now (chosen_tests defs.now props.now choice.now)) }
+    ensures { IfOk result (λ members. members ≡ members_in choice.now defs.now props.now) }
 {
     let chosen = select(alloc, defs, props, choice)?;
     draw_in(alloc, props, &chosen, choice)
@@ -69,26 +75,77 @@ fn plan_in_order(
     defs: &List<TestDef>,
     props: &List<Props>,
     wanted: &Wanted,
+    spec: Option<&Spec>,
     costs: &CostData,
     links: List<Links>,
 ) -> Result<Plan, NoMemory>
     requires together { HaveProps defs.now props.now }
     requires level { 1 ≤ wanted.now.level }
     requires times { 1 ≤ wanted.now.repeat.times }
-    requires order { IsOrder defs.now props.now (run_members (source defs.now props.now wanted.now costs.now)) links }
-    ensures { IfOk result (IsPlanOf (source defs.now props.now wanted.now costs.now)) }
+    requires order { IsOrder defs.now props.now (run_members (source defs.now props.now wanted.now (option_copied spec) costs.now)) links }
+    ensures { IfOk result (IsPlanOf (source defs.now props.now wanted.now (option_copied spec.entry) costs.now)) }
 {
     let dir = wanted.dir.copy(alloc)?;
+    let resources = copied(alloc, spec)?;
+    let free = unused(alloc, spec)?;
     let (defs, props) = (defs.as_slice(), props.as_slice());
-    let tests = plan_tests(alloc, defs, props, wanted.level, links)?;
+    let tests = plan_tests(alloc, defs, props, wanted.level, free.as_ref(), links)?;
     let queue = queue(alloc, defs, props, wanted, costs, tests.as_slice())?;
     Ok(Plan::new(PlanParts {
         dir,
         tests,
         queue,
-        resources: None,
+        resources,
         level: wanted.level,
         repeat: wanted.repeat,
         stop_on_failure: wanted.stop_on_failure,
     }))
+}
+
+/// Copies the resources of a specification, where one is given.
+fn copied(alloc: Global, spec: Option<&Spec>) -> Result<Option<List<Resource>>, NoMemory>
+    ensures whole { IfOk result (λ resources. resources ≡ option_copied spec.entry) }
+    ensures distinct { IfOk result (λ resources. IfSome resources AreDistinct) }
+{
+    match spec {
+        None => Ok(None),
+        Some(spec) => Ok(Some(copied_resources(alloc, spec.resources().as_slice())?)),
+    }
+}
+
+fn copied_resources(alloc: Global, resources: &[Resource]) -> Result<List<Resource>, NoMemory>
+    ensures { IfOk result (λ copies. copies ≡ resources.now) }
+{
+    let mut copies = List::new(alloc);
+    for resource in resources {
+        copies.push(Resource {
+            kind: resource.kind.copy(alloc)?,
+            id: resource.id.copy(alloc)?,
+            slots: resource.slots,
+        })?;
+    }
+    Ok(copies)
+}
+
+/// What is free of the resources of a specification, where one is given, before a test runs: all.
+fn unused(alloc: Global, spec: Option<&Spec>) -> Result<Option<Free>, NoMemory>
+    ensures whole { IfOk result (λ free. lent free ≡ option_copied spec.entry) }
+    ensures unused { IfOk result (λ free. IfSome free IsUnused) }
+{
+    match spec {
+        None => Ok(None),
+        Some(spec) => Ok(Some(all_free(alloc, spec.resources())?)),
+    }
+}
+
+/// What is free of resources of which nothing is used. More than a place can count are beyond any
+/// memory.
+fn all_free(alloc: Global, resources: &List<Resource>) -> Result<Free, NoMemory>
+    ensures whole { IfOk result (λ free. free.resources ≡ resources.now) }
+    ensures unused { IfOk result IsUnused }
+{
+    if resources.len() >= u32::MAX as usize {
+        return Err(NoMemory);
+    }
+    Free::all(alloc, resources)
 }

@@ -1,9 +1,8 @@
 ghost use Rattle.std.specs.Prelude.{◌≡◌, ◌<◌, ◌≤◌, All, IfOk, IsPermutation, Some, length, map};
 ghost use Rattle.std.specs.List.Sorted.{IsSortedBy};
 ghost use Rattle.ct_history.specs.Plan.{IsAscendingFrom, enabled};
-ghost use Rattle.ct_plan.specs.Linked.{standing_in};
-ghost use Rattle.ct_plan.specs.Queue.{IsQueue, is_more_urgent};
-ghost use Rattle.ct_plan.specs.Source.{source};
+ghost use Rattle.ct_plan.specs.Linked.{QueuesTests, standing_in};
+ghost use Rattle.ct_plan.specs.Queue.{is_more_urgent};
 
 use crate::standing::Standing;
 use ct_base::{List, NoMemory, TestDef};
@@ -26,7 +25,7 @@ pub(crate) fn queue(
     requires paired { length props.now ≡ length defs.now }
     requires ascending { IsAscendingFrom 1 (map (λ t. t.number) tests.now) }
     requires within { All (λ number. (0 < number) × (number ≤ length defs.now)) (map (λ t. t.number) tests.now) }
-    ensures { IfOk result (λ queue. IsQueue (source defs.now props.now wanted.now costs.now) tests.now queue) }
+    ensures { IfOk result (QueuesTests defs.now props.now wanted.now costs.now tests.now) }
 {
     let numbers = enabled_numbers(alloc, tests)?;
     if wanted.level == 1 {

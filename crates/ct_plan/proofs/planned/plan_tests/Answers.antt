@@ -1,11 +1,13 @@
-use Rattle.std.proofs.Common.{◌≡◌, ◌∙◌, ◌++◌, ◌∷◌, [], Some, arith, length, map, sym, ap, rules}
-use Rattle.std.proofs.lemmas.List.{map_push}
+use Rattle.std.proofs.Common.{◌≡◌, ◌∙◌, ◌++◌, ◌∷◌, List, [], Option, arith, length, sym, ap, subst, rules}
+use Rattle.std.specs.Option.{option_copied}
 use Rattle.std.proofs.lemmas.Iterator.Adapters.{YieldsList-from_vec}
 use Rattle.std.proofs.lemmas.Iterator.Consumers.{YieldsList-turn}
-use Rattle.ct_props.specs.Numbered.{at_number}
 use Rattle.ct_props.proofs.NumberedLemmas.{at_number_read}
-use Rattle.ct_plan.specs.Linked.{linked_test, test_there}
-use Rattle.ct_plan.proofs.LinkLemmas.{number_at}
+use Rattle.ct_verdict.specs.declared.verdict.Cause.{Cause}
+use Rattle.ct_history.specs.declared.plan.PlanTest.{PlanTest}
+use Rattle.ct_plan.specs.Planned.{IsFixed}
+use Rattle.ct_plan.specs.Linked.{AreLinked, lent, test_from}
+use Rattle.ct_plan.proofs.LinkLemmas.{linked-snoc, number_at}
 use Rattle.ct_plan.proofs.planned.plan_tests.Goals as goal
 
 pub overflow_sub-at : goal.overflow_sub-at
@@ -33,11 +35,17 @@ loop-links-preserved c =
     let props = c.args.props.now in
     let links = c.in-Some.links in
     let bounds = number_at (length defs) c.args.links (length c.loop-links.yielded) links turn.0 turn.1 c.requires.within in
-    let def : at_number defs links.number ≡ Some c.index-defs-at.result = at_number_read defs links.number c.index-defs-at.result bounds.0 bounds.1 c.index-defs-at.is in
-    let own : at_number props links.number ≡ Some c.index-props-at.result = at_number_read props links.number c.index-props-at.result bounds.0 (omega (arith, bounds.1, c.requires.paired)) c.index-props-at.is in
-    let one : Some c.in_ok-plan_test.field-0 ≡ linked_test c.args.level defs props links = ap Some c.in_ok-plan_test.ensures ∙ sym ((λ i. test_there c.args.level links (def i) (own i))) in
-    let pushed : c.push.new.self ≡ c.loop-links.tests ++ c.in_ok-plan_test.field-0 ∷ [] = c.in_ok-push.ensures.ok in
-    ap (map Some) pushed
-    ∙ map_push Some c.loop-links.tests c.in_ok-plan_test.field-0
-    ∙ (λ i. c.loop-links.invariant i ++ one i ∷ [])
-    ∙ sym (map_push (linked_test c.args.level defs props) c.loop-links.yielded links)
+    let test = c.in_ok-plan_test.field-0 in
+    let made = c.in_ok-plan_test.ensures in
+    let fixed = ap (λ (t : PlanTest). t.fixed) made in
+    let resources = lent (option_copied c.args.free) in
+    let pushed : c.push.new.self ≡ c.loop-links.tests ++ test ∷ [] = c.in_ok-push.ensures.ok in
+    subst (λ (ts : List PlanTest). AreLinked resources c.args.level defs props (c.loop-links.yielded ++ links ∷ []) ts) (sym pushed)
+    (linked-snoc resources c.args.level defs props c.loop-links.yielded c.loop-links.tests links test c.loop-links.invariant (record {
+      def = c.index-defs-at.result;
+      own = c.index-props-at.result;
+      def_is = at_number_read defs links.number c.index-defs-at.result bounds.0 bounds.1 c.index-defs-at.is;
+      own_is = at_number_read props links.number c.index-props-at.result bounds.0 (omega (arith, bounds.1, c.requires.paired)) c.index-props-at.is;
+      fixed = subst (λ (cause : Option Cause). IsFixed resources c.index-defs-at.result c.index-props-at.result cause) (sym fixed) c.in_ok-fixed.ensures;
+      is = made ∙ ap (λ (cause : Option Cause). test_from c.args.level links c.index-defs-at.result c.index-props-at.result cause) (sym fixed);
+    }))

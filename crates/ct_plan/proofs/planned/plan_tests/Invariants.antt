@@ -1,6 +1,6 @@
-use Rattle.std.proofs.Common.{◌≡◌, map, Some}
-use Rattle.ct_plan.specs.Linked.{linked_test}
+use Rattle.std.specs.Option.{option_copied}
+use Rattle.ct_plan.specs.Linked.{AreLinked, lent}
 use Rattle.ct_plan.proofs.planned.plan_tests.Given as goal
 
 abbrev pub invariant-loop-links : goal.invariant-loop-links
-invariant-loop-links l = map Some l.tests ≡ map (linked_test l.level l.defs l.props) l.yielded
+invariant-loop-links l = AreLinked (lent (option_copied l.free)) l.level l.defs l.props l.yielded l.tests

@@ -1,5 +1,6 @@
 use Rattle.std.proofs.Common.{◌∙◌, length, Err, sym, ap, subst}
 use Rattle.std.specs.List.Sorted.{IsStrictlyIncreasing}
+use Rattle.std.specs.Option.{option_copied}
 use Rattle.std.proofs.lemmas.Result.{err_from_is_err_and}
 use Rattle.ct_graph.specs.Order.{IsAnswer}
 use Rattle.ct_graph.specs.Cycle.{HasCycle}
@@ -21,7 +22,7 @@ pub order-requires-clause-ascending : goal.order-requires-clause-ascending
 order-requires-clause-ascending c =
     let defs = c.args.defs.now in
     let props = c.args.props.now in
-    let members = run_members (source defs props c.args.wanted.now c.args.costs.now) in
+    let members = run_members (source defs props c.args.wanted.now (option_copied c.args.spec) c.args.costs.now) in
     let some : AreSome (length defs) members = some-members c.args.wanted.now.choice defs props (length-have_props defs props c.requires.together) in
     subst IsStrictlyIncreasing (sym c.in_ok-members.ensures) (increase members some.ascend)
 
@@ -29,7 +30,7 @@ pub order-requires-clause-within : goal.order-requires-clause-within
 order-requires-clause-within c =
     let defs = c.args.defs.now in
     let props = c.args.props.now in
-    let members = run_members (source defs props c.args.wanted.now c.args.costs.now) in
+    let members = run_members (source defs props c.args.wanted.now (option_copied c.args.spec) c.args.costs.now) in
     let some : AreSome (length defs) members = some-members c.args.wanted.now.choice defs props (length-have_props defs props c.requires.together) in
     subst (AreOfTests (length defs)) (sym c.in_ok-members.ensures) some.of_tests
 
@@ -38,11 +39,12 @@ returns-in_err-ordered-clause-answer c =
     let defs = c.args.defs.now in
     let props = c.args.props.now in
     let wanted = c.args.wanted.now in
+    let resources = option_copied c.args.spec in
     let costs = c.args.costs.now in
     let fault = c.in_err-ordered.field-0.0 in
     let told = err_from_is_err_and c.from_residual-in_err-ordered.result c.from_residual-in_err-ordered.ensures.1 in
-    subst (IsPlanAnswer 4000000 (source defs props wanted costs)) (sym (told.1 ∙ ap Err told.2))
-    (no_plan 4000000 defs props wanted costs fault (subst (λ members. IsAnswer 4000000 defs props members (Err fault)) c.in_ok-members.ensures c.in_err-ordered.ensures.answer))
+    subst (IsPlanAnswer 4000000 (source defs props wanted resources costs)) (sym (told.1 ∙ ap Err told.2))
+    (no_plan 4000000 defs props wanted resources costs fault (subst (λ members. IsAnswer 4000000 defs props members (Err fault)) c.in_ok-members.ensures c.in_err-ordered.ensures.answer))
 
 pub returns-clause-none : goal.returns-clause-none
 returns-clause-none c =
