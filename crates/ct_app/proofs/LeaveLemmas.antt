@@ -70,25 +70,25 @@ module _ (s : Sides) (invocation : Invocation) (between : FilesTell) (costs : Co
       (early outcome ends (subst (λ (f : FilesTell). FilesStay s.files_before f) (sym left.1) stay))
 
 -- the tests that were read are those of the plan's source, within the limit of the invocation
-same_tests : (invocation : Invocation) (tests : Tests) (costs : CostData) → tests.limit ≡ invocation.timeout → tests ≡ tests_of (source tests.defs tests.props invocation.wanted costs) invocation.timeout
+same_tests : (invocation : Invocation) (tests : Tests) (costs : CostData) → tests.limit ≡ invocation.timeout → tests ≡ tests_of (source tests.defs tests.props invocation.wanted None costs) invocation.timeout
 same_tests invocation tests costs limit = ap (λ (l : ℕ). let t : Tests = record { defs = tests.defs; props = tests.props; limit = l } in t) limit
 
 -- the plan is one of them
-pub plans_read : (invocation : Invocation) (files between : FilesTell) (tests : Tests) (costs : CostData) (plan : PlanParts) → IsReadFolder invocation files between tests costs → IsSound plan → IsPlanAnswer most_edges (source tests.defs tests.props invocation.wanted costs) (Ok plan) → PlansTests tests plan
+pub plans_read : (invocation : Invocation) (files between : FilesTell) (tests : Tests) (costs : CostData) (plan : PlanParts) → IsReadFolder invocation files between tests costs → IsSound plan → IsPlanAnswer most_edges (source tests.defs tests.props invocation.wanted None costs) (Ok plan) → PlansTests tests plan
 plans_read invocation files between tests costs plan read sound planned =
     subst (λ (t : Tests). PlansTests t plan) (sym (same_tests invocation tests costs read.read.limit))
-    (plans_tests (source tests.defs tests.props invocation.wanted costs) invocation.timeout read.read.read.have plan sound planned.1)
+    (plans_tests (source tests.defs tests.props invocation.wanted None costs) invocation.timeout read.read.read.have plan sound planned.1)
 
 -- a plan was made of the tests of a folder
 module _ (words : List (List ℕ)) (env : List Pair) (invocation : Invocation) (asked : AskFor words invocation) (files between files_now : FilesTell) (tests : Tests) (costs : CostData) (read : IsReadFolder invocation files between tests costs) where
-  is_source : IsSource files.held invocation (source tests.defs tests.props invocation.wanted costs)
+  is_source : IsSource files.held invocation (source tests.defs tests.props invocation.wanted None costs)
   is_source = record { tests = read.read.read; wanted = refl; resources = refl; costs = read.last }
 
   -- the plan was run, and what the run leaves was written where it is complete
-  pub folder_ends : (gate gate_now : GateTell) (sink sink_now : SinkTell) (plan : PlanParts) (entries : List Entry) (names : List (List ℕ)) (ended given : Result (Unit {0}) Outcome) → 1 ≤ invocation.wanted.level → IsPlanAnswer most_edges (source tests.defs tests.props invocation.wanted costs) (Ok plan) → HasRun env tests gate gate_now plan entries → PlanEnds plan entries sink sink_now ended → EndsWithFiles plan entries costs between files_now ended given → Ends (sides words env files files_now (gate ∷ []) (gate_now ∷ []) sink sink_now (Some plan) (Some entries)) names (with_status invocation.empty_is_error plan entries given)
+  pub folder_ends : (gate gate_now : GateTell) (sink sink_now : SinkTell) (plan : PlanParts) (entries : List Entry) (names : List (List ℕ)) (ended given : Result (Unit {0}) Outcome) → 1 ≤ invocation.wanted.level → IsPlanAnswer most_edges (source tests.defs tests.props invocation.wanted None costs) (Ok plan) → HasRun env tests gate gate_now plan entries → PlanEnds plan entries sink sink_now ended → EndsWithFiles plan entries costs between files_now ended given → Ends (sides words env files files_now (gate ∷ []) (gate_now ∷ []) sink sink_now (Some plan) (Some entries)) names (with_status invocation.empty_is_error plan entries given)
   folder_ends gate gate_now sink sink_now plan entries names ended given level planned ran ends left =
       let s = sides words env files files_now (gate ∷ []) (gate_now ∷ []) sink sink_now (Some plan) (Some entries) in
-      let made = source tests.defs tests.props invocation.wanted costs in
+      let made = source tests.defs tests.props invocation.wanted None costs in
       let last = subst (λ (dir : List ℕ). IfSome files.held (λ held. costs ≡ last_costs dir held)) (sym planned.1.dir) read.last in
       let one : 1 ≡ min plan.level 1 = omega (arith, level, planned.1.level) in
       let run : IsRunOf env made invocation.timeout (gate ∷ []) (gate_now ∷ []) plan entries = record {
@@ -108,7 +108,7 @@ module _ (words : List (List ℕ)) (env : List Pair) (invocation : Invocation) (
       })
 
   -- there is no plan
-  pub unplanned_ends : (gate : GateTell) (sink : SinkTell) (plan : Option PlanParts) (history : Option (List Entry)) (names : List (List ℕ)) (ended : Result ℕ Outcome) (fault : PlanFault) → plan ≡ None → history ≡ None → IsPlanAnswer most_edges (source tests.defs tests.props invocation.wanted costs) (Err fault) → IsUnplanned tests.defs fault names ended → Ends (sides words env files between (gate ∷ []) (gate ∷ []) sink sink plan history) names ended
+  pub unplanned_ends : (gate : GateTell) (sink : SinkTell) (plan : Option PlanParts) (history : Option (List Entry)) (names : List (List ℕ)) (ended : Result ℕ Outcome) (fault : PlanFault) → plan ≡ None → history ≡ None → IsPlanAnswer most_edges (source tests.defs tests.props invocation.wanted None costs) (Err fault) → IsUnplanned tests.defs fault names ended → Ends (sides words env files between (gate ∷ []) (gate ∷ []) sink sink plan history) names ended
   unplanned_ends gate sink plan history names ended fault no_plan no_history answer unplanned = by fault answer unplanned
     where
       unrun : IsUnrun (sides words env files between (gate ∷ []) (gate ∷ []) sink sink plan history)
@@ -117,14 +117,14 @@ module _ (words : List (List ℕ)) (env : List Pair) (invocation : Invocation) (
       said : (other : Result ℕ Outcome) → ended ≡ other → Ends (sides words env files between (gate ∷ []) (gate ∷ []) sink sink plan history) names other → Ends (sides words env files between (gate ∷ []) (gate ∷ []) sink sink plan history) names ended
       said other is ends = subst (λ (o : Result ℕ Outcome). Ends (sides words env files between (gate ∷ []) (gate ∷ []) sink sink plan history) names o) (sym is) ends
 
-      by : (f : PlanFault) → IsPlanAnswer most_edges (source tests.defs tests.props invocation.wanted costs) (Err f) → IsUnplanned tests.defs f names ended → Ends (sides words env files between (gate ∷ []) (gate ∷ []) sink sink plan history) names ended
+      by : (f : PlanFault) → IsPlanAnswer most_edges (source tests.defs tests.props invocation.wanted None costs) (Err f) → IsUnplanned tests.defs f names ended → Ends (sides words env files between (gate ∷ []) (gate ∷ []) sink sink plan history) names ended
       by (Plans.Cycle cycle) refused (inl (is, named)) =
           said (Err (Refused (Cycle cycle))) is
           (inr (
             inr (record {
               invocation = invocation;
               words = asked;
-              source = source tests.defs tests.props invocation.wanted costs;
+              source = source tests.defs tests.props invocation.wanted None costs;
               read = is_source;
               refused = (refused.0, refused.1, named);
               files = read.read.files;
@@ -139,7 +139,7 @@ module _ (words : List (List ℕ)) (env : List Pair) (invocation : Invocation) (
             inr (record {
               invocation = invocation;
               words = asked;
-              source = source tests.defs tests.props invocation.wanted costs;
+              source = source tests.defs tests.props invocation.wanted None costs;
               read = is_source;
               refused = refused;
               files = read.read.files;

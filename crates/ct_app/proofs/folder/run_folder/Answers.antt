@@ -1,5 +1,5 @@
 use Rattle.std.proofs.Common.{sym, ap, subst, ℕ, List, [], ◌∷◌}
-use Rattle.std.specs.Prelude.{Option, Some, Result, Ok, option_map}
+use Rattle.std.specs.Prelude.{Option, Some, None, Result, Ok, option_map}
 use Rattle.ct_base.specs.declared.defs.TestDef.{TestDef}
 use Rattle.ct_history.specs.declared.history.History.{History}
 use Rattle.ct_history.specs.declared.plan.PlanParts.{PlanParts}
@@ -36,7 +36,7 @@ returns g c words asked =
     let sink = g.S.Sink.tells c.args.sink.now in
     let sink_now = g.S.Sink.tells run.new.sink in
     let entries = history_entries run.result.history in
-    let planned = subst (λ (p : PlanParts). IsPlanAnswer most_edges (source folder.tests.defs folder.tests.props c.args.invocation.now.wanted folder.costs) (Ok p)) (sym run.ensures.plan) c.in-Ok-plan.ensures.answer in
+    let planned = subst (λ (p : PlanParts). IsPlanAnswer most_edges (source folder.tests.defs folder.tests.props c.args.invocation.now.wanted None folder.costs) (Ok p)) (sym run.ensures.plan) c.in-Ok-plan.ensures.answer in
     subst (λ (ended : Result ℕ Outcome). Ends (sides words c.args.env.now files files_now (gate ∷ []) (gate_now ∷ []) sink sink_now (Some run.result.plan) (Some entries)) c.new.result ended) (sym c.with_status.ensures)
     (folder_ends words c.args.env.now c.args.invocation.now asked files (g.F.Files.tells c.read_folder.new.files) files_now folder.tests folder.costs c.in-Ok.ensures.ok
     gate gate_now sink sink_now run.result.plan entries c.new.result run.result.ended c.leave_files-ended.result c.requires.some_level planned run.ensures.ran run.ensures.ends c.leave_files-ended.ensures)
