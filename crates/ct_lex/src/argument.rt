@@ -106,7 +106,7 @@ fn parts_of(alloc: Global, kind: ArgKind, text: &[u8]) -> Result<List<Part>, NoM
     requires { IsOk (text_from kind 0 text.now) }
     ensures { IfOk result (λ parts. parts ≡ list_read (text_from kind 0 text.now)) }
 {
-    let mut parts = Parts::new(alloc);
+    let mut parts = Parts::new(alloc)?;
     let mut at = 0;
     while at < text.len() {
         if ends_text(kind, text[at]) {

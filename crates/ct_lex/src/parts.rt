@@ -18,13 +18,14 @@ impl Parts {
     ghost use Rattle.ct_lex.specs.Argument.{with_bytes, with_piece};
     ghost use Rattle.ct_lex.specs.Joined.{joined_parts};
 
-    pub fn new(alloc: Global) -> Parts
-        ensures { (more : List Part) → joined_parts result more ≡ more }
+    /// Nothing yet, with room for the one part that most arguments have.
+    pub fn new(alloc: Global) -> Result<Parts, NoMemory>
+        ensures { IfOk result (λ parts. (more : List Part) → joined_parts parts more ≡ more) }
     {
-        Parts {
-            whole: List::new(alloc),
+        Ok(Parts {
+            whole: List::from_vec(Vec::with_capacity(alloc, 1)?),
             bytes: Vec::new(alloc),
-        }
+        })
     }
 
     /// Puts a unit behind the others.

@@ -1,6 +1,6 @@
 -- The places that are kept by a key are those of the tests that have it, and a change at them changes each such test.
-use Rattle.std.proofs.Common.{◌≡◌, ℕ, zero, suc, ◌+◌, ◌<◌, Bool, true, false, cond, bytes_eq, List, [], ◌∷◌, ◌++◌, map, length, get_or, set, drop, count_by, All, Option, Some, None, unwrap_or, refl, sym, ap, ◌∙◌, subst, arith, append_assoc, length-append}
-use Rattle.std.specs.Map.{lookup}
+use Rattle.std.proofs.Common.{◌≡◌, ℕ, zero, suc, ◌+◌, ◌<◌, Bool, true, false, cond, bytes_eq, List, [], ◌∷◌, ◌++◌, map, length, get_or, set, drop, count_by, All, Option, Some, None, refl, sym, ap, ◌∙◌, subst, arith, append_assoc, length-append}
+use Rattle.std.specs.Map.{lookup, set_value}
 use Rattle.std.specs.declared.vec.Vec.{Vec}
 use Rattle.std.proofs.lemmas.Bool.{false≢true}
 use Rattle.std.proofs.lemmas.List.{at_drop_more, length-map}
@@ -28,10 +28,6 @@ choose_other true true x y z apart = absurd (apart refl refl)
 choose_other true false x y z apart = refl
 choose_other false true x y z apart = refl
 choose_other false false x y z apart = refl
-
-choose_again : (is : Bool) (x y z : List ℕ) → cond is x (cond is y z) ≡ cond is x z
-choose_again true x y z = refl
-choose_again false x y z = refl
 
 not_both : (asked one other : List ℕ) → bytes_eq one other ≡ false → bytes_eq asked other ≡ true → bytes_eq asked one ≡ true → ⊥
 not_both asked one other differ at_other at_one =
@@ -67,21 +63,38 @@ module _ {Y Z : Type 0} where
       put ∙ ap (λ k. places_in old k ++ place ∷ []) (sym ((bytes_eq-Decides asked key).0 is))
   noted_by old asked key items place put false is = refl
 
-  -- the places of a key are taken out, and put back with one more
-  pub places_in-noted : (old between now : List (Vec ℕ Y × Vec ℕ Z)) (asked key : List ℕ) (one other : Vec ℕ Y) (none pushed : Vec ℕ Z) (place : ℕ) → one.items ≡ key → other.items ≡ key → between ≡ insert_entry (λ (k l : Vec ℕ Y). bytes_eq k.items l.items) old one none → now ≡ insert_entry (λ (k l : Vec ℕ Y). bytes_eq k.items l.items) between other pushed
-      → pushed.items ≡ places_in old key ++ place ∷ [] → places_in now asked ≡ cond (bytes_eq asked key) (places_in old asked ++ place ∷ []) (places_in old asked)
-  places_in-noted old between now asked key one other none pushed place is_one is_other out back put =
-      ap (λ entries. places_in entries asked) back
-      ∙ places_in-insert_entry asked between other pushed
-      ∙ ap (λ k. cond (bytes_eq asked k) pushed.items (places_in between asked)) is_other
-      ∙ ap (cond (bytes_eq asked key) pushed.items) (ap (λ entries. places_in entries asked) out ∙ places_in-insert_entry asked old one none ∙ ap (λ k. cond (bytes_eq asked k) none.items (places_in old asked)) is_one)
-      ∙ choose_again (bytes_eq asked key) pushed.items none.items (places_in old asked)
-      ∙ noted_by old asked key pushed.items place put (bytes_eq asked key) refl
+  set_by : (asked key : List ℕ) (value old : Vec ℕ Z) (entry : Vec ℕ Y × Vec ℕ Z) (entries more : List (Vec ℕ Y × Vec ℕ Z)) (found : Option (Vec ℕ Z)) → (found ≡ Some old → places_in more asked ≡ cond (bytes_eq asked key) value.items (places_in entries asked)) → (is : Bool) → bytes_eq key entry.0.items ≡ is → cond is (Some entry.1) found ≡ Some old
+      → places_in (cond is ((entry.0, value) ∷ entries) (entry ∷ more)) asked ≡ cond (bytes_eq asked key) value.items (cond (bytes_eq asked entry.0.items) entry.1.items (places_in entries asked))
+  set_by asked key value old entry entries more found rest true is there =
+      choose_twice (bytes_eq asked entry.0.items) (bytes_eq asked key) value.items entry.1.items (places_in entries asked) (ap (bytes_eq asked) (sym ((bytes_eq-Decides key entry.0.items).0 is)))
+  set_by asked key value old entry entries more found rest false is there =
+      ap (cond (bytes_eq asked entry.0.items) entry.1.items) (rest there)
+      ∙ choose_other (bytes_eq asked entry.0.items) (bytes_eq asked key) entry.1.items value.items (places_in entries asked) (not_both asked key entry.0.items is)
 
--- the places that were taken out
-pub items-taken : {Z : Type 0} (taken : Option (Vec ℕ Z)) (none : Vec ℕ Z) → none.items ≡ [] → (unwrap_or taken none).items ≡ items_or_none taken
-items-taken None none is = is
-items-taken (Some places) none is = refl
+  -- the places of a key that is there are others now
+  places_in-set_value : (asked key : List ℕ) (entries : List (Vec ℕ Y × Vec ℕ Z)) (value old : Vec ℕ Z) → lookup (λ (k : Vec ℕ Y). bytes_eq key k.items) entries ≡ Some old → places_in (set_value (λ (k : Vec ℕ Y). bytes_eq key k.items) entries value) asked ≡ cond (bytes_eq asked key) value.items (places_in entries asked)
+  places_in-set_value asked key [] value old there = cc
+  places_in-set_value asked key (entry ∷ entries) value old there =
+      set_by asked key value old entry entries (set_value (λ (k : Vec ℕ Y). bytes_eq key k.items) entries value) (lookup (λ (k : Vec ℕ Y). bytes_eq key k.items) entries) (λ found. places_in-set_value asked key entries value old found) (bytes_eq key entry.0.items) refl there
+
+  -- one more place is noted behind those of a key that is there
+  pub places_in-more : (old now : List (Vec ℕ Y × Vec ℕ Z)) (asked key : List ℕ) (here pushed : Vec ℕ Z) (place : ℕ) → now ≡ set_value (λ (k : Vec ℕ Y). bytes_eq key k.items) old pushed → lookup (λ (k : Vec ℕ Y). bytes_eq key k.items) old ≡ Some here → pushed.items ≡ here.items ++ place ∷ []
+      → places_in now asked ≡ cond (bytes_eq asked key) (places_in old asked ++ place ∷ []) (places_in old asked)
+  places_in-more old now asked key here pushed place is there put =
+      let kept : here.items ≡ places_in old key = ap items_or_none (sym there) ∙ places_in-lookup key old in
+      ap (λ entries. places_in entries asked) is
+      ∙ places_in-set_value asked key old pushed here there
+      ∙ noted_by old asked key pushed.items place (put ∙ ap (λ places. places ++ place ∷ []) kept) (bytes_eq asked key) refl
+
+  -- a place is noted of a key that was not there
+  pub places_in-first : (old now : List (Vec ℕ Y × Vec ℕ Z)) (asked key : List ℕ) (own : Vec ℕ Y) (pushed : Vec ℕ Z) (place : ℕ) → own.items ≡ key → lookup (λ (k : Vec ℕ Y). bytes_eq key k.items) old ≡ None → now ≡ insert_entry (λ (k l : Vec ℕ Y). bytes_eq k.items l.items) old own pushed → pushed.items ≡ place ∷ []
+      → places_in now asked ≡ cond (bytes_eq asked key) (places_in old asked ++ place ∷ []) (places_in old asked)
+  places_in-first old now asked key own pushed place is_own none is put =
+      let nothing : [] ≡ places_in old key = ap items_or_none (sym none) ∙ places_in-lookup key old in
+      ap (λ entries. places_in entries asked) is
+      ∙ places_in-insert_entry asked old own pushed
+      ∙ ap (λ k. cond (bytes_eq asked k) pushed.items (places_in old asked)) is_own
+      ∙ noted_by old asked key pushed.items place (put ∙ ap (λ places. places ++ place ∷ []) nothing) (bytes_eq asked key) refl
 
 positions-by : (first : ℕ) (key other : List ℕ) (keys : List (List ℕ)) (rest rest' : List ℕ) (is : Bool) (added : Bool) (last : ℕ) → rest' ≡ cond added (rest ++ last ∷ []) rest → cond is (first ∷ rest') rest' ≡ cond added (cond is (first ∷ rest) rest ++ last ∷ []) (cond is (first ∷ rest) rest)
 positions-by first key other keys rest rest' true true last e = ap (λ xs. first ∷ xs) e

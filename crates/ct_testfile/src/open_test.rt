@@ -69,7 +69,7 @@ pub(crate) fn set_props(
 fn pairs_of(alloc: Global, props: IndexMap<Vec<u8>, Name>) -> Result<List<Pair>, NoMemory>
     ensures { IfOk result (λ pairs. pairs ≡ map prop_of props.entries) }
 {
-    let mut pairs = List::new(alloc);
+    let mut pairs = List::from_vec(Vec::with_capacity(alloc, props.len())?);
     for (key, value) in props {
         pairs.push(Pair {
             name: Name::from_vec(key),

@@ -28,9 +28,16 @@ pub(crate) fn note_place(
     ensures { OnOk result ((asked : List ℕ) → places_in places.new.entries asked
         ≡ (if bytes_eq asked key.now then places_in places.old.entries asked ++ place ∷ [] else places_in places.old.entries asked)) }
 {
-    let taken = places.insert(Vec::from_slice(alloc, key)?, Vec::new(alloc))?;
-    let mut here = taken.unwrap_or(Vec::new(alloc));
-    here.push(place)?;
-    places.insert(Vec::from_slice(alloc, key)?, here)?;
-    Ok(())
+    match places.get_mut(key) {
+        Some(here) => {
+            here.push(place)?;
+            Ok(())
+        }
+        None => {
+            let mut first = Vec::with_capacity(alloc, 1)?;
+            first.push(place)?;
+            places.insert(Vec::from_slice(alloc, key)?, first)?;
+            Ok(())
+        }
+    }
 }

@@ -1,14 +1,14 @@
 ghost use Rattle.std.specs.Prelude.{◌≡◌, ◌<◌, ◌≤◌, ◌++◌, ◌∷◌, [], ◌==◌, IfErr, OnOk, false, true, filter, length, map};
 ghost use Rattle.std.specs.List.{list_all, prefix_len};
 ghost use Rattle.ct_base.specs.Entries.{entries_of, is_entry, semicolon};
-ghost use Rattle.ct_testfile.specs.Values.{bare, argument_text, values_by};
+ghost use Rattle.ct_testfile.specs.Values.{bare, argument_text, part_text, values_by};
 ghost use Rattle.ct_testfile.specs.Readers.{IsAtRest, IsCounted, Releases, StopsFor, StopsIf, TakesEntries, is_inner};
 
 use crate::count::raised;
 use crate::fault::{ReadKind, Stop};
 use crate::limits::Limits;
 use crate::table::Table;
-use crate::value::{Value, part_text};
+use crate::value::{Value, value_text};
 use ct_base::{List, Name, NoMemory};
 use ct_lex::{Arg, ArgKind, Part};
 use std::alloc::Global;
@@ -49,17 +49,18 @@ impl Reader {
         alloc: Global,
         limits: &Limits,
         table: &Table,
-        arg: &Arg,
+        arg: Arg,
     ) -> Result<(), Stop>
         requires { IsAtRest self.old }
         ensures rest { OnOk result (IsAtRest self.new) }
-        ensures values { OnOk result (self.new.values ≡ self.old.values ++ values_by arg.now.kind (argument_text table.now arg.now.parts)) }
-        ensures stopped { IfErr result (StopsFor limits.now (self.old.values ++ values_by arg.now.kind (argument_text table.now arg.now.parts))) }
+        ensures values { OnOk result (self.new.values ≡ self.old.values ++ values_by arg.kind (argument_text table.now arg.parts)) }
+        ensures stopped { IfErr result (StopsFor limits.now (self.old.values ++ values_by arg.kind (argument_text table.now arg.parts))) }
     {
-        match arg.kind {
-            ArgKind::Unquoted => self.take_entries(alloc, limits, table, arg.parts.as_slice()),
-            ArgKind::Bracket => self.take_whole(alloc, limits, table, arg.parts.as_slice()),
-            ArgKind::Quoted => self.take_whole(alloc, limits, table, arg.parts.as_slice()),
+        let Arg { kind, parts } = arg;
+        match kind {
+            ArgKind::Unquoted => self.take_entries(alloc, limits, table, parts),
+            ArgKind::Bracket => self.take_whole(alloc, limits, table, parts),
+            ArgKind::Quoted => self.take_whole(alloc, limits, table, parts),
         }
     }
 
@@ -69,27 +70,27 @@ impl Reader {
         alloc: Global,
         limits: &Limits,
         table: &Table,
-        parts: &[Part],
+        parts: List<Part>,
     ) -> Result<(), Stop>
         requires { IsAtRest self.old }
         ensures rest { OnOk result (IsAtRest self.new) }
-        ensures values { OnOk result (self.new.values ≡ self.old.values ++ record { text = argument_text table.now parts.now; unquoted = false } ∷ []) }
-        ensures stopped { IfErr result (StopsFor limits.now (self.old.values ++ record { text = argument_text table.now parts.now; unquoted = false } ∷ [])) }
+        ensures values { OnOk result (self.new.values ≡ self.old.values ++ record { text = argument_text table.now parts; unquoted = false } ∷ []) }
+        ensures stopped { IfErr result (StopsFor limits.now (self.old.values ++ record { text = argument_text table.now parts; unquoted = false } ∷ [])) }
     {
         self.join(limits, table, parts)?;
         self.end_value(alloc, limits, false)
     }
 
     /// Joins the texts of an argument's parts behind what was read.
-    fn join(&mut self, limits: &Limits, table: &Table, parts: &[Part]) -> Result<(), Stop>
-        ensures text { OnOk result (self.new.text.items ≡ self.old.text.items ++ argument_text table.now parts.now) }
+    fn join(&mut self, limits: &Limits, table: &Table, parts: List<Part>) -> Result<(), Stop>
+        ensures text { OnOk result (self.new.text.items ≡ self.old.text.items ++ argument_text table.now parts) }
         ensures values { self.new.values ≡ self.old.values }
         ensures bytes { self.new.bytes ≡ self.old.bytes }
         ensures held { self.new.held ≡ self.old.held }
-        ensures stopped { IfErr result (StopsIf (limits.now.value_bytes < length (self.old.text.items ++ argument_text table.now parts.now))) }
+        ensures stopped { IfErr result (StopsIf (limits.now.value_bytes < length (self.old.text.items ++ argument_text table.now parts))) }
     {
-        for part in parts {
-            join_text(limits, &mut self.text, part_text(table, part))?;
+        for part in parts.into_vec() {
+            join_part(limits, table, &mut self.text, part)?;
         }
         Ok(())
     }
@@ -100,12 +101,12 @@ impl Reader {
         alloc: Global,
         limits: &Limits,
         table: &Table,
-        parts: &[Part],
+        parts: List<Part>,
     ) -> Result<(), Stop>
         requires { IsAtRest self.old }
         ensures rest { OnOk result (IsAtRest self.new) }
-        ensures values { OnOk result (self.new.values ≡ self.old.values ++ map bare (entries_of (argument_text table.now parts.now))) }
-        ensures stopped { IfErr result (StopsFor limits.now (self.old.values ++ map bare (entries_of (argument_text table.now parts.now)))) }
+        ensures values { OnOk result (self.new.values ≡ self.old.values ++ map bare (entries_of (argument_text table.now parts))) }
+        ensures stopped { IfErr result (StopsFor limits.now (self.old.values ++ map bare (entries_of (argument_text table.now parts)))) }
     {
         self.take_parts(alloc, limits, table, parts)?;
         self.release(limits)?;
@@ -117,15 +118,54 @@ impl Reader {
         alloc: Global,
         limits: &Limits,
         table: &Table,
-        parts: &[Part],
+        parts: List<Part>,
     ) -> Result<(), Stop>
         requires { IsCounted self.old }
-        ensures { TakesEntries limits.now self.old self.new (argument_text table.now parts.now) result }
+        ensures { TakesEntries limits.now self.old self.new (argument_text table.now parts) result }
     {
-        for part in parts {
-            self.take_piece(alloc, limits, part_text(table, part))?;
+        for part in parts.into_vec() {
+            self.take_part(alloc, limits, table, part)?;
         }
         Ok(())
+    }
+
+    /// Reads the text of one part of an unquoted argument.
+    fn take_part(
+        &mut self,
+        alloc: Global,
+        limits: &Limits,
+        table: &Table,
+        part: Part,
+    ) -> Result<(), Stop>
+        requires { IsCounted self.old }
+        ensures { TakesEntries limits.now self.old self.new (part_text table.now part) result }
+    {
+        match part {
+            Part::Bytes(bytes) => self.take_bytes(alloc, limits, bytes),
+            Part::Ref(name) => self.take_piece(alloc, limits, value_text(table, &name)),
+        }
+    }
+
+    /// Reads more bytes of an unquoted argument, without a copy where they are a run.
+    fn take_bytes(&mut self, alloc: Global, limits: &Limits, bytes: Name) -> Result<(), Stop>
+        requires { IsCounted self.old }
+        ensures { TakesEntries limits.now self.old self.new bytes result }
+    {
+        if bytes.bytes().is_empty() || !are_inner(bytes.bytes()) {
+            return self.take_piece(alloc, limits, bytes.bytes());
+        }
+        self.take_own_run(limits, bytes)
+    }
+
+    /// Reads a run as `take_run` does, without a copy where it begins an entry.
+    fn take_own_run(&mut self, limits: &Limits, run: Name) -> Result<(), Stop>
+        requires some { 0 < length run }
+        requires inner { list_all is_inner run ≡ true }
+        requires counted { IsCounted self.old }
+        ensures { TakesEntries limits.now self.old self.new run result }
+    {
+        self.release(limits)?;
+        join_own(limits, &mut self.text, run)
     }
 
     fn take_piece(&mut self, alloc: Global, limits: &Limits, piece: &[u8]) -> Result<(), Stop>
@@ -242,12 +282,45 @@ fn is_inner(byte: u8) -> bool
     !(byte == b';' || byte == b'\\')
 }
 
+/// Tells whether each of these bytes is one of an entry wherever it stands.
+fn are_inner(bytes: &[u8]) -> bool
+    ensures { result ≡ list_all is_inner bytes.now }
+{
+    bytes.iter().all(|byte| is_inner(*byte))
+}
+
 /// Counts the bytes at the front of a text of which each is one of an entry wherever it stands.
 fn inner_len(text: &[u8]) -> usize
     ensures count { result ≡ prefix_len is_inner text.now }
     ensures within { result ≤ length text.now }
 {
     text.iter().take_while(|byte| is_inner(**byte)).count()
+}
+
+/// Joins the text of a part behind a text, unless a value may not be so long.
+fn join_part(limits: &Limits, table: &Table, text: &mut Vec<u8>, part: Part) -> Result<(), Stop>
+    ensures joined { OnOk result (text.new.items ≡ text.old.items ++ part_text table.now part) }
+    ensures stopped { IfErr result (StopsIf (limits.now.value_bytes < length (text.old.items ++ part_text table.now part))) }
+{
+    match part {
+        Part::Bytes(bytes) => join_own(limits, text, bytes),
+        Part::Ref(name) => join_text(limits, text, value_text(table, &name)),
+    }
+}
+
+/// Puts a piece behind a text as `join_text` does, without a copy where the text is empty.
+fn join_own(limits: &Limits, text: &mut Vec<u8>, piece: Name) -> Result<(), Stop>
+    ensures joined { OnOk result (text.new.items ≡ text.old.items ++ piece) }
+    ensures stopped { IfErr result (StopsIf (limits.now.value_bytes < length (text.old.items ++ piece))) }
+{
+    if !text.is_empty() {
+        return join_text(limits, text, piece.bytes());
+    }
+    if raised(limits.value_bytes, 0, piece.bytes().len() as u64).is_none() {
+        return Err(Stop::Refused(ReadKind::TooLong));
+    }
+    *text = piece.into_vec();
+    Ok(())
 }
 
 /// Puts a piece behind a text, unless a value may not be so long.

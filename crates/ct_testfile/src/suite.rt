@@ -149,7 +149,7 @@ impl Suite {
             by_name: _,
             by_dir: _,
         } = self;
-        let mut defs = List::new(alloc);
+        let mut defs = List::from_vec(Vec::with_capacity(alloc, tests.len())?);
         for test in tests {
             defs.push(test.define(alloc)?)?;
         }

@@ -1,5 +1,5 @@
-ghost use Rattle.std.specs.Prelude.{◌≡◌, ◌-◌, ◌^◌, min, IfErr, IfOk};
-ghost use Rattle.ct_testfile.specs.Values.{part_text, values_of, texts, size};
+ghost use Rattle.std.specs.Prelude.{◌≡◌, ◌-◌, ◌^◌, [], min, unwrap_or, IfErr, IfOk};
+ghost use Rattle.ct_testfile.specs.Values.{value_of, values_of, texts, size};
 ghost use Rattle.ct_testfile.specs.Readers.{StopsFor};
 
 use crate::fault::Stop;
@@ -7,7 +7,7 @@ use crate::limits::Limits;
 use crate::reader::Reader;
 use crate::table::Table;
 use ct_base::{List, Name, NoMemory};
-use ct_lex::{Args, Part};
+use ct_lex::Args;
 use std::alloc::Global;
 
 /// A value that a command gets, after evaluation.
@@ -33,7 +33,7 @@ pub(crate) fn values_of(
     let mut reader = Reader::new(alloc);
     let mut left = args.reader();
     'reads: while let Some(arg) = left.next(alloc)? {
-        reader.take(alloc, limits, table, &arg)?;
+        reader.take(alloc, limits, table, arg)?;
     }
     let Reader {
         values,
@@ -44,16 +44,13 @@ pub(crate) fn values_of(
     Ok(values)
 }
 
-/// Lends the text of a part: that of a reference is the variable's value.
-pub(crate) fn part_text<'a>(table: &'a Table, part: &'a Part) -> &'a [u8]
-    ensures { result.now ≡ part_text table.entry.now part.entry.now }
+/// Lends the value of a variable: nothing where it is not set.
+pub(crate) fn value_text<'a>(table: &'a Table, name: &Name) -> &'a [u8]
+    ensures { result.now ≡ unwrap_or (value_of table.entry.now name.now) [] }
 {
-    match part {
-        Part::Bytes(bytes) => bytes.bytes(),
-        Part::Ref(name) => match table.value(name.bytes()) {
-            Some(value) => value.bytes(),
-            None => &[],
-        },
+    match table.value(name.bytes()) {
+        Some(value) => value.bytes(),
+        None => &[],
     }
 }
 

@@ -1,18 +1,14 @@
-use Rattle.std.proofs.Common.{◌≡◌, ◌++◌, ◌∷◌, [], ap, ◌∙◌}
-use Rattle.ct_testfile.specs.Entries.{places_in}
-use Rattle.ct_testfile.proofs.PlaceLemmas.{items_or_none, places_in-lookup, places_in-noted, items-taken}
+use Rattle.std.proofs.Common.{◌≡◌, ◌++◌, ◌∷◌, [], sym, ap, ◌∙◌}
+use Rattle.ct_testfile.proofs.PlaceLemmas.{places_in-first, places_in-more}
 use Rattle.ct_testfile.proofs.places.note_place.Goals as goal
 
-pub returns : goal.returns
-returns c =
-    let old = c.args.places.now.entries in
-    let key = c.in_ok-from_slice.field-0 in
-    let here : c.unwrap_or-here.result.items ≡ places_in old c.args.key.now =
-    ap (λ v. v.items) c.unwrap_or-here.ensures
-    ∙ items-taken c.in_ok-taken.taken c.new-2.result c.new-2.ensures.items
-    ∙ ap items_or_none c.in_ok-taken.ensures.old
-    ∙ places_in-lookup key.items old
-    ∙ ap (places_in old) c.in_ok-from_slice.ensures.items in
-    let put : c.push.new.self.items ≡ places_in old c.args.key.now ++ c.args.place ∷ [] =
-    c.in_ok-push.ensures.items ∙ ap (λ places. places ++ c.args.place ∷ []) here in
-    λ asked. places_in-noted old c.insert.new.self.entries c.insert-2.new.self.entries asked c.args.key.now key c.in_ok-from_slice-2.field-0 c.new.result c.push.new.self c.args.place c.in_ok-from_slice.ensures.items c.in_ok-from_slice-2.ensures.items c.in_ok-taken.ensures.entries c.in_ok-insert.ensures.entries put
+pub returns-in_ok-push-in-Some : goal.returns-in_ok-push-in-Some
+returns-in_ok-push-in-Some c =
+    let pushed = c.push.new.self in
+    λ asked. places_in-more c.args.places.now.entries (c.get_mut.follows.lender pushed).entries asked c.args.key.now c.in-Some.here.now pushed c.args.place (c.get_mut.follows.holds pushed).0 (sym c.in-Some.ensures.value) c.in_ok-push-in-Some.ensures.items
+
+pub returns-in_ok-insert-in-None : goal.returns-in_ok-insert-in-None
+returns-in_ok-insert-in-None c =
+    let put : c.push-in-None.new.self.items ≡ c.args.place ∷ [] =
+    c.in_ok-push-in-None.ensures.items ∙ ap (λ places. places ++ c.args.place ∷ []) c.in_ok-first-in-None.ensures.items in
+    λ asked. places_in-first c.args.places.now.entries c.insert.new.self.entries asked c.args.key.now c.in_ok-from_slice-in-None.field-0 c.push-in-None.new.self c.args.place c.in_ok-from_slice-in-None.ensures.items (sym c.in-None.ensures.value) (rw c.get_mut.follows.holds-at-none at c.in_ok-insert-in-None.ensures.entries) put

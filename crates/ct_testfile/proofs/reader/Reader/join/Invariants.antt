@@ -1,4 +1,5 @@
-use Rattle.std.proofs.Common.{◌≡◌, ◌++◌, drop}
+use Rattle.std.proofs.Common.{◌≡◌, ◌++◌}
+use Rattle.std.specs.Vec.Iter.{into_iter_items}
 use Rattle.ct_testfile.specs.Values.{argument_text}
 use Rattle.ct_testfile.proofs.reader.Reader.join.Given as goal
 
@@ -7,5 +8,5 @@ invariant-loop-part l = record {
   values : l.self.values ≡ l.initial.self.values;
   bytes : l.self.bytes ≡ l.initial.self.bytes;
   held : l.self.held ≡ l.initial.self.held;
-  same : l.self.text.items ++ argument_text l.table (drop l.part-index l.parts) ≡ l.initial.self.text.items ++ argument_text l.table l.parts;
+  same : l.self.text.items ++ argument_text l.table (into_iter_items l.part-iterator) ≡ l.initial.self.text.items ++ argument_text l.table l.fn.parts;
 }
