@@ -1,7 +1,7 @@
 //! Keeps the tests that are ready to start, in the order of their cost.
 //!
-//! Hands up: `Ready`, which finds the first ready test behind a place of the order. Nothing uses it yet: the
-//! scheduling core is to stand on it.
+//! Hands up, for the scheduling core: `Ready`, which finds the first ready test behind a place of the order, and
+//! `Marks`, which finds the least marked place from one on.
 //! Stands on: ct_base.
 //! Read first: `specs/Ready.antt`, then `ready.rt`.
 #![tactic(auto)]
@@ -9,4 +9,5 @@
 mod marks;
 mod ready;
 
+pub use marks::Marks;
 pub use ready::Ready;

@@ -6,13 +6,14 @@ use ct_base::NoMemory;
 use std::alloc::Global;
 use std::marker::Model;
 
-/// Marks on places, with a search for the least place that is marked. Contracts see the marks by place.
+/// Marks on places, which are counted from 0, with a search for the least place that is marked.
 ///
-/// It is a binary tree, stored as a heap is: node 1 is the root, the nodes below node n are 2n and 2n + 1,
-/// and the last half of the nodes are the places in order. A node with others below it is marked where one of
-/// those is.
+/// Contracts see the marks by place. Each call but `new` takes no memory, and costs at most a logarithm of the
+/// number of places. It is a binary tree, stored as a heap is: node 1 is the root, the nodes below node n are
+/// 2n and 2n + 1, and the last half of the nodes are the places in order. A node with others below it is marked
+/// where one of those is.
 #[derive(Drop)]
-pub(crate) struct Marks {
+pub struct Marks {
     nodes: Vec<bool>,
 }
 
@@ -28,8 +29,8 @@ impl Model for Marks {
 }
 
 impl Marks {
-    /// Makes room for the marks of some places, of which none is marked.
-    pub(crate) fn new(alloc: Global, places: usize) -> Result<Marks, NoMemory>
+    /// Makes room for so many places at least, of which none is marked.
+    pub fn new(alloc: Global, places: usize) -> Result<Marks, NoMemory>
         requires few { places < 2 ^ 32 }
         ensures room { IfOk result (λ marks. places ≤ length marks) }
         ensures none { IfOk result (λ marks. (place : ℕ) → is_marked marks place ≡ false) }
@@ -41,7 +42,7 @@ impl Marks {
     }
 
     /// Marks a place, or takes its mark away.
-    pub(crate) fn set(&mut self, place: usize, mark: bool)
+    pub fn set(&mut self, place: usize, mark: bool)
         requires { place < length self.old }
         ensures { self.new ≡ slice_set self.old place mark }
     {
@@ -49,12 +50,16 @@ impl Marks {
         self.nodes[node] = mark;
         while node > 1 {
             node /= 2;
-            self.nodes[node] = is_marked_below(self.nodes.as_slice(), node);
+            let below = is_marked_below(self.nodes.as_slice(), node);
+            if self.nodes[node] == below {
+                return;
+            }
+            self.nodes[node] = below;
         }
     }
 
     /// Finds the least marked place from this one on.
-    pub(crate) fn first_from(&self, from: usize) -> Option<usize>
+    pub fn first_from(&self, from: usize) -> Option<usize>
         ensures { IsFirstWithin self.now from 0 (length self.now) result }
     {
         least(self.nodes.as_slice(), 1, 0, self.nodes.len() / 2, from)

@@ -103,6 +103,15 @@ impl Ready {
         self.put(place, standing);
     }
 
+    /// Tells whether a test is a member.
+    pub fn is_ready(&self, test: u32) -> bool
+        requires stands { StandsIn self.now.order test }
+        ensures { result ≡ is_ready self.now test }
+    {
+        let place = self.place(test);
+        self.standing(place).is_ready()
+    }
+
     /// Finds the least place behind a given one, or from the front, at which a member stands.
     pub fn after(&self, place: Option<u32>) -> Option<u32>
         ensures { MatchOption result (NoneBehind self.now place) (IsLeastBehind self.now place) }
@@ -203,6 +212,7 @@ mod tests {
         let counts = List::from_vec([0, 1].to_vec(alloc)?);
         let mut ready = Ready::new(alloc, &order, &counts)?;
         assert_eq!(rt; [ready.after(None), ready.after(Some(0))], [Some(0), None]);
+        assert_eq!(rt; [ready.is_ready(2), ready.is_ready(1)], [true, false]);
         ready.out(2);
         assert_eq!(rt; [ready.after(None), ready.after(Some(0))], [None, None]);
         ready.lower(1);

@@ -13,5 +13,5 @@ loop-node-init c =
 
 pub loop-node-preserved : goal.loop-node-preserved
 loop-node-preserved c =
-    let is = subst (λ (l : List Bool). c.is_marked_below.result ≡ (is_marked l (2 * (c.loop-node.node / 2)) || is_marked l (2 * (c.loop-node.node / 2) + 1))) c.as_slice.ensures.value c.is_marked_below.ensures in
-    rise (set c.args.self.now c.args.place c.args.mark) c.loop-node.self-inside.nodes.items c.loop-node.node c.is_marked_below.result c.loop-node-test.true c.loop-node.invariant is
+    let is = subst (λ (l : List Bool). c.is_marked_below-below.result ≡ (is_marked l (2 * (c.loop-node.node / 2)) || is_marked l (2 * (c.loop-node.node / 2) + 1))) c.as_slice.ensures.value c.is_marked_below-below.ensures in
+    rise (set c.args.self.now c.args.place c.args.mark) c.loop-node.self-inside.nodes.items c.loop-node.node c.is_marked_below-below.result c.loop-node-test.true c.loop-node.invariant is
