@@ -1,101 +1,47 @@
--- What a search through the tests, or through the queue, says of the choice.
-use Rattle.std.proofs.Common.{◌≡◌, ◌∙◌, sym, ap, subst, Bool, true, false, ℕ, ◌+◌, ◌-◌, ◌<◌, ◌^◌, List, [], ◌∷◌, ◌++◌, length, refl, arith, inl, inr, get_or, suc, take, drop}
-use Rattle.std.specs.Prelude.{Option, Some, None, ◌==◌, ◌&&◌, not, map, find, cond, is_some, MatchOption}
+-- What is kept beside the history says of the choice: which test is settled, and which starts.
+use Rattle.std.proofs.Common.{◌≡◌, ◌≢◌, ◌∙◌, sym, ap, subst, Bool, true, false, ℕ, ◌+◌, ◌-◌, ◌<◌, ◌≤◌, ◌^◌, List, [], ◌∷◌, ◌++◌, length, refl, arith, inl, inr, get_or, suc, take, drop}
+use Rattle.std.specs.Prelude.{Option, Some, None, ◌==◌, ◌&&◌, ◌||◌, not, is_some, nat_le, option_and_then, slice_get, if◌then◌else◌, MatchOption}
 use Rattle.std.proofs.Math.Path.{fun_ext}
-use Rattle.std.proofs.lemmas.Bool.{and_from, and_parts, cases_Bool, false_from_ne_true}
-use Rattle.std.proofs.lemmas.Bool.Decides.{nat_tests}
+use Rattle.std.proofs.lemmas.Bool.{and_from, and_parts, cases_Bool, false_from_ne_true, leb-true, ne_eqb}
 use Rattle.std.proofs.Math.Seq.{split_at}
-use Rattle.std.proofs.lemmas.List.{take_more}
+use Rattle.std.proofs.lemmas.List.{length-map, take_more}
 use Rattle.std.proofs.lemmas.List.Elements.{All-contains, All-push}
+use Rattle.std.proofs.lemmas.Option.{none-some, same_Some, slice_get_read}
 use Rattle.ct_alloc.specs.declared.placement.Placement.{Placement}
 use Rattle.ct_alloc.specs.Free.{FreeValue, NoneFits, used_at}
 use Rattle.ct_alloc.specs.Placement.{fits_beside, is_placement}
 use Rattle.ct_base.specs.declared.defs.Need.{Need}
 use Rattle.ct_base.specs.declared.defs.Resource.{Resource}
 use Rattle.ct_verdict.specs.declared.verdict.Cause.{Cause}
+use Rattle.ct_verdict.specs.declared.verdict.Cause.TheVariants.{Stopped}
+use Rattle.ct_verdict.specs.declared.verdict.Verdict.{Verdict}
 use Rattle.ct_history.specs.declared.plan.PlanTest.{PlanTest}
 use Rattle.ct_history.specs.declared.plan.PlanParts.{PlanParts}
 use Rattle.ct_history.specs.declared.history.Entry.{Entry}
-use Rattle.ct_history.specs.Plan.{IsAscendingFrom, IsSound, test_at}
-use Rattle.ct_history.specs.History.{attempts_of, has_stop, used_slots}
-use Rattle.ct_history.specs.Rules.{CanStart, has_room, is_idle, is_pending, is_placed, is_ready, may_start, may_start_at, may_start_if_placed, settle_cause, settle_cause_at}
+use Rattle.ct_history.specs.Plan.{IsSound, test_at}
+use Rattle.ct_history.specs.History.{attempts_of, has_stop, open_starts, used_slots}
+use Rattle.ct_history.specs.Rules.{CanStart, has_room, is_idle, is_passed_verdict, is_pending, is_placed, is_ready, may_start, may_start_at, may_start_if_placed, settle_cause}
+use Rattle.ct_history.specs.Verdicts.{are_all_final, verdict_of_test}
 use Rattle.ct_history.proofs.AttemptLemmas.{attempts_left}
-use Rattle.ct_history.proofs.PlanLemmas.{find_passes, found_at, found_bound}
 use Rattle.ct_history.proofs.ProgressLemmas.{GoesOn, goes_on, idle_empty}
 use Rattle.ct_history.proofs.ProgressLemmas.GoesOn.{settles_on, starts_on}
 use Rattle.ct_core.specs.declared.choice.Startable.{Startable}
-use Rattle.ct_core.specs.Choice.{IsLeastToSettle, IsStartOf, IsStartable, IsStuck, NoneSettles, NoneStarts, attempt_after}
+use Rattle.ct_core.specs.declared.in_use.InUse.{InUse}
+use Rattle.ct_core.specs.declared.parts.Parts.{Parts}
+use Rattle.ct_core.specs.declared.state.State.{State}
+use Rattle.ct_core.specs.declared.state.State.TheVariants.{Pending}
+use Rattle.ct_core.specs.Choice.{IsLeastToSettle, IsStartOf, IsStartable, IsStuck, NoneStarts, attempt_after}
+use Rattle.ct_core.specs.InUse.{IsInUse, has_room_beside}
+use Rattle.ct_core.specs.Parts.{AreTold, IsKept}
 use Rattle.ct_core.specs.Slots.{IsFreeBeside, resources_of, used_of}
+use Rattle.ct_core.specs.Standing.{IsPlaceOf, count_unfinished, state_of, states_of, verdict_of_state}
+use Rattle.ct_core.specs.Waiting.{IsDue, cause_then}
+use Rattle.ct_core.proofs.InUseLemmas.{room_beside}
+use Rattle.ct_core.proofs.PickLemmas.{MayBeNext, SettlesAt, cause_going, cause_stopped, none_beside_serial, none_when_full}
+use Rattle.ct_core.proofs.StandingLemmas.{all_finished, pending_at, verdict_state_at}
 
 true_is_false : true ≡ false → ⊥
 true_is_false is = cc
-
-no_some : {A : Type 0} (o : Option A) → is_some o ≡ false → o ≡ None
-no_some None is = refl
-no_some (Some x) is = cc
-
--- where nothing is found, what stands in the list fails
-none_found : {A : Type 0} (p q : A → Bool) (xs : List A) (x : A) → find p xs ≡ None → find q xs ≡ Some x → p x ≡ false
-none_found p q [] x none is = cc
-none_found p q (y ∷ ys) x none is = elim (cases_Bool (p y)) [
-  | inl here ↦
-      let found : Some y ≡ None = sym (ap (λ (b : Bool). cond b (Some y) (find p ys)) here) ∙ none in
-      absurd (cc)
-  | inr not_here ↦ elim (cases_Bool (q y)) [
-    | inl this ↦
-        let found : Some y ≡ Some x = sym (ap (λ (b : Bool). cond b (Some y) (find q ys)) this) ∙ is in
-        let same : y ≡ x = cc in
-        ap p (sym same) ∙ not_here
-    | inr other ↦ none_found p q ys x (sym (ap (λ (b : Bool). cond b (Some y) (find p ys)) not_here) ∙ none) (sym (ap (λ (b : Bool). cond b (Some y) (find q ys)) other) ∙ is)
-  ]
-]
-
--- a test of a lesser number than the found one fails
-lesser_fails : (p : PlanTest → Bool) (least : ℕ) (ts : List PlanTest) (t u : PlanTest) (n : ℕ) → IsAscendingFrom least (map (λ (x : PlanTest). x.number) ts) → find p ts ≡ Some t → n < t.number → test_at ts n ≡ Some u → p u ≡ false
-lesser_fails p least [] t u n ascends is lt at = cc
-lesser_fails p least (x ∷ xs) t u n ascends is lt at = elim (cases_Bool (p x)) [
-  | inl here ↦
-      let found : Some x ≡ Some t = sym (ap (λ (b : Bool). cond b (Some x) (find p xs)) here) ∙ is in
-      let same : x ≡ t = cc in
-      let above : n < x.number = subst (λ (y : PlanTest). n < y.number) (sym same) lt in
-      let unlike : (x.number == n) ≡ false = grind (arith, nat_tests) in
-      let later : test_at xs n ≡ Some u = sym (ap (λ (b : Bool). cond b (Some x) (test_at xs n)) unlike) ∙ at in
-      let bound = found_bound (λ (y : PlanTest). y.number == n) (x.number + 1) xs u ascends.1 later in
-      let number = find_passes (λ (y : PlanTest). y.number == n) xs u later in
-      let equal : u.number ≡ n = grind (arith, nat_tests) in
-      absurd (omega (arith, bound, equal, above))
-  | inr not_here ↦ elim (cases_Bool (x.number == n)) [
-    | inl this ↦
-        let found : Some x ≡ Some u = sym (ap (λ (b : Bool). cond b (Some x) (test_at xs n)) this) ∙ at in
-        let same : x ≡ u = cc in
-        ap p (sym same) ∙ not_here
-    | inr other ↦
-        lesser_fails p (x.number + 1) xs t u n ascends.1 (sym (ap (λ (b : Bool). cond b (Some x) (find p xs)) not_here) ∙ is) lt
-        (sym (ap (λ (b : Bool). cond b (Some x) (test_at xs n)) other) ∙ at)
-  ]
-]
-
--- no cause of a test that was looked up, where each test fails
-cause_none : (plan : PlanParts) (es : List Entry) (o : Option PlanTest) → ((u : PlanTest) → o ≡ Some u → is_some (settle_cause plan u es) ≡ false) → settle_cause_at plan es o ≡ None
-cause_none plan es None fails = refl
-cause_none plan es (Some u) fails = no_some (settle_cause plan u es) (fails u refl)
-
-module _ (plan : PlanParts) (es : List Entry) where
-  settles : PlanTest → Bool
-  settles t = is_some (settle_cause plan t es)
-
-  pub none_settles : find (λ t. is_some (settle_cause plan t es)) plan.tests ≡ None → NoneSettles plan es
-  none_settles none = λ n. cause_none plan es (test_at plan.tests n) (λ u is. none_found (λ t. is_some (settle_cause plan t es)) (λ (t : PlanTest). t.number == n) plan.tests u none is)
-
-  pub least_settles : (t : PlanTest) (cause : Cause) → IsSound plan → find (λ t. is_some (settle_cause plan t es)) plan.tests ≡ Some t → settle_cause plan t es ≡ Some cause → IsLeastToSettle plan es t.number cause
-  least_settles t cause sound is has = record {
-    may = ap (λ (o : Option PlanTest). settle_cause_at plan es o) (found_at (λ t. is_some (settle_cause plan t es)) 1 plan.tests t sound.numbers is) ∙ has;
-    least = λ n lt. cause_none plan es (test_at plan.tests n) (λ u at. lesser_fails (λ t. is_some (settle_cause plan t es)) 1 plan.tests t u n sound.numbers is lt at);
-  }
-
-  -- what is found has a cause
-  pub cause_found : (t : PlanTest) → find (λ t. is_some (settle_cause plan t es)) plan.tests ≡ Some t → settle_cause plan t es ≡ None → ⊥
-  cause_found t is none = true_is_false (sym (find_passes (λ t. is_some (settle_cause plan t es)) plan.tests t is) ∙ ap is_some none)
 
 -- where no placement fits, needs are met by none
 pub none_placed : (free : FreeValue) (needs : List Need) → NoneFits free needs → (length needs == 0) ≡ false → (p : Option Placement) → is_placed (Some free.resources) needs (used_at free) p ≡ true → ⊥
@@ -125,14 +71,10 @@ module _ (plan : PlanParts) (es : List Entry) where
     next = next ∙ ap (λ (o : Option PlanTest). attempt_after es o) (sym found);
   }
 
-  -- a test that is not in the plan can't start
-  pub no_test : (n : ℕ) → test_at plan.tests n ≡ None → CanStart plan es n → ⊥
-  no_test n none can = true_is_false (sym can.may ∙ ap (λ (o : Option PlanTest). may_start_at plan es can.placement o) none)
-
   found_may : (t : PlanTest) (n : ℕ) → test_at plan.tests n ≡ Some t → (can : CanStart plan es n) → may_start plan t can.placement es ≡ true
   found_may t n found can = sym (ap (λ (o : Option PlanTest). may_start_at plan es can.placement o) found) ∙ can.may
 
-  -- nor one that something but its placement keeps from it
+  -- a test that something but its placement keeps from it can't start
   pub not_due : (t : PlanTest) (n : ℕ) → test_at plan.tests n ≡ Some t → may_start_if_placed plan t es ≡ false → CanStart plan es n → ⊥
   not_due t n found may_not can =
       let both = and_parts (may_start_if_placed plan t es) (is_placed plan.resources t.needs (used_slots es) can.placement) (found_may t n found can) in
@@ -187,3 +129,105 @@ attempt_fits plan t es may small =
       | inl none ↦ omega (arith, none)
       | inr fewer ↦ omega (arith, fewer, small)
     ]
+
+-- what is kept says whether each test is final
+finished_kept : (plan : PlanParts) (es : List Entry) (room : ℕ) (parts : Parts) → IsKept plan es room parts → (parts.unfinished == 0) ≡ are_all_final plan es
+finished_kept plan es room parts kept =
+    ap (λ (n : ℕ). n == 0) (kept.unfinished ∙ ap (λ (ss : List State). count_unfinished ss) kept.told.states) ∙ all_finished plan es
+
+pub all_kept : (plan : PlanParts) (es : List Entry) (room : ℕ) (parts : Parts) → IsKept plan es room parts → parts.unfinished ≡ 0 → are_all_final plan es ≡ true
+all_kept plan es room parts kept none = sym (finished_kept plan es room parts kept) ∙ ap (λ (n : ℕ). n == 0) none
+
+pub some_kept : (plan : PlanParts) (es : List Entry) (room : ℕ) (parts : Parts) → IsKept plan es room parts → parts.unfinished ≢ 0 → are_all_final plan es ≡ false
+some_kept plan es room parts kept some = sym (finished_kept plan es room parts kept) ∙ ne_eqb parts.unfinished 0 some
+
+-- the cause of a test that may be settled
+cause_given : (plan : PlanParts) (es : List Entry) (t : PlanTest) → is_some (settle_cause plan t es) ≡ true → settle_cause plan t es ≡ (if has_stop es then Some Stopped else cause_then plan es t)
+cause_given plan es t some = elim (cases_Bool (has_stop es)) [
+  | inl stop ↦ cause_stopped plan t es stop some ∙ sym (ap (λ (b : Bool). if b then Some Stopped else cause_then plan es t) stop)
+  | inr on ↦ cause_going plan t es on some ∙ sym (ap (λ (b : Bool). if b then Some Stopped else cause_then plan es t) on)
+]
+
+-- the test at the least mark is settled with the cause that is found
+module _ (plan : PlanParts) (es : List Entry) (place : ℕ) (t : PlanTest) (settles : SettlesAt plan es place) (there : slice_get plan.tests place ≡ Some t) where
+  marked_cause : (given : Option Cause) → given ≡ (if has_stop es then Some Stopped else cause_then plan es t) → given ≡ Some settles.cause
+  marked_cause given is =
+      let same : settles.test ≡ t = same_Some settles.test t (sym settles.there ∙ there) in
+      let has : settle_cause plan t es ≡ Some settles.cause = ap (λ (u : PlanTest). settle_cause plan u es) (sym same) ∙ settles.has in
+      is ∙ sym (cause_given plan es t (ap is_some has)) ∙ has
+
+  pub marked_settles : (given : Option Cause) (cause : Cause) → given ≡ (if has_stop es then Some Stopped else cause_then plan es t) → given ≡ Some cause → IsLeastToSettle plan es t.number cause
+  marked_settles given cause is some =
+      let same : settles.test ≡ t = same_Some settles.test t (sym settles.there ∙ there) in
+      let caused : settles.cause ≡ cause = same_Some settles.cause cause (sym (marked_cause given is) ∙ some) in
+      subst (λ (u : PlanTest). IsLeastToSettle plan es u.number cause) same (subst (λ (x : Cause). IsLeastToSettle plan es settles.test.number x) caused settles.least)
+
+  pub marked_some : (given : Option Cause) → given ≡ (if has_stop es then Some Stopped else cause_then plan es t) → given ≡ None → ⊥
+  marked_some given is none = none-some settles.cause (sym none ∙ marked_cause given is)
+
+-- how a test stands is read at its place
+state_there : (plan : PlanParts) (es : List Entry) (parts : Parts) (n place : ℕ) (s : State) → AreTold plan es parts → IsPlaceOf plan.tests n place → s ≡ get_or parts.states.items place s → slice_get (states_of plan es) place ≡ Some s
+state_there plan es parts n place s told here is =
+    let mapped : length (states_of plan es) ≡ length plan.tests = length-map plan.tests (state_of plan.repeat es) in
+    slice_get_read (states_of plan es) (length plan.tests) place s (sym mapped) here.within (is ∙ ap (λ (ss : List State). get_or ss place s) told.states)
+
+-- a test passed where it stands so at its place
+pub passed_there : (plan : PlanParts) (es : List Entry) (parts : Parts) (n place : ℕ) (s : State) → AreTold plan es parts → IsPlaceOf plan.tests n place → s ≡ get_or parts.states.items place s → is_passed_verdict (verdict_of_state s) ≡ is_passed_verdict (verdict_of_test plan es n)
+passed_there plan es parts n place s told here is =
+    let there = state_there plan es parts n place s told here is in
+    ap (λ (v : Option Verdict). is_passed_verdict v)
+    (sym (ap (λ (o : Option State). option_and_then verdict_of_state o) there) ∙ sym (verdict_state_at plan es n place here))
+
+-- a test that is due may start where there is room
+due_may : (plan : PlanParts) (es : List Entry) (n : ℕ) (t : PlanTest) → IsDue plan es n → test_at plan.tests n ≡ Some t → may_start_if_placed plan t es ≡ has_room plan t es
+due_may plan es n t due found =
+    let u = due.test in
+    let same : u ≡ t = same_Some u t (sym due.planned ∙ found) in
+    subst (λ (v : PlanTest). may_start_if_placed plan v es ≡ has_room plan v es) same
+    (ap (λ (b : Bool). not b && is_pending plan u es && is_ready plan u es && has_room plan u es) due.goes_on
+    ∙ ap (λ (b : Bool). b && is_ready plan u es && has_room plan u es) due.pending
+    ∙ ap (λ (b : Bool). b && has_room plan u es) due.ready)
+
+-- a test that is due, as it is found at its place: where it may start, and how many of its attempts have ended
+pub record IsDueAt (plan : PlanParts) (es : List Entry) (parts : Parts) (number place : ℕ) (t : PlanTest) : Type 0 where
+  pub found : test_at plan.tests number ≡ Some t
+  pub room : may_start_if_placed plan t es ≡ has_room_beside plan.level parts.in_use t
+  pub stands : (s : State) → s ≡ get_or parts.states.items place s → s ≡ Pending (length (attempts_of t.number t.rules es))
+
+pub due_at : (plan : PlanParts) (es : List Entry) (parts : Parts) (n place : ℕ) (t : PlanTest) (tests : List PlanTest) → AreTold plan es parts → IsDue plan es n → tests ≡ plan.tests → IsPlaceOf tests n place → t ≡ get_or tests place t → IsDueAt plan es parts n place t
+due_at plan es parts n place t tests told due same at is =
+    let here : IsPlaceOf plan.tests n place = subst (λ (ts : List PlanTest). IsPlaceOf ts n place) same at in
+    let there : slice_get plan.tests place ≡ Some t = slice_get_read plan.tests (length plan.tests) place t refl here.within (is ∙ ap (λ (ts : List PlanTest). get_or ts place t) same) in
+    let found : test_at plan.tests n ≡ Some t = sym here.there ∙ there in
+    let this : due.test ≡ t = same_Some due.test t (sym due.planned ∙ found) in
+    let pending : is_pending plan t es ≡ true = subst (λ (v : PlanTest). is_pending plan v es ≡ true) this due.pending in
+    record {
+      found = found;
+      room = due_may plan es n t due found ∙ sym (room_beside plan es parts.in_use t told.in_use);
+      stands = λ s read.
+          same_Some s (Pending (length (attempts_of t.number t.rules es)))
+          (sym (state_there plan es parts n place s told here read) ∙ pending_at plan es n place t here found pending);
+    }
+
+pub attempts_stand : (s : State) (k most : ℕ) → s ≡ Pending k → s ≡ Pending most → k ≡ most
+attempts_stand s k most is stands = let same : Pending k ≡ Pending most = sym is ∙ stands in (cc)
+
+-- the test at a place of the queue is due
+pub next_due : (plan : PlanParts) (es : List Entry) (place : ℕ) → MayBeNext plan es place → has_stop es ≡ false → IsDue plan es (get_or plan.queue place 0)
+next_due plan es place next on = record {
+  test = next.test;
+  planned = next.found;
+  goes_on = on;
+  pending = next.pending;
+  ready = next.ready;
+}
+
+-- where all processors are in use, or a test that runs alone is open, none may start
+pub none_full : (plan : PlanParts) (es : List Entry) (u : InUse) → IsSound plan → IsInUse plan (open_starts es) u → (nat_le plan.level u.processors || u.serial) ≡ true → NoneStarts plan es plan.queue
+none_full plan es u sound is full = elim (cases_Bool (nat_le plan.level u.processors)) [
+  | inl used ↦
+      none_when_full plan sound es plan.queue (subst (λ (n : ℕ). plan.level ≤ n) is.processors (leb-true plan.level u.processors used))
+  | inr left ↦
+      none_beside_serial plan sound es plan.queue
+      (sym is.serial ∙ sym (ap (λ (b : Bool). b || u.serial) left) ∙ full)
+]

@@ -1,5 +1,5 @@
--- What a core keeps, with one entry more.
-use Rattle.std.proofs.Common.{◌≡◌, ◌∙◌, sym, ap, subst, Bool, true, false, ℕ, ◌+◌, ◌-◌, ◌<◌, ◌≤◌, List, [], ◌∷◌, ◌++◌, length, refl, arith, length-append, inl, inr}
+-- Which entry is allowed next, and what it makes of a legal history.
+use Rattle.std.proofs.Common.{◌≡◌, ◌∙◌, sym, ap, subst, Bool, true, false, ℕ, ◌+◌, List, [], ◌∷◌, ◌++◌, length, refl, arith, length-append, inl, inr}
 use Rattle.std.specs.Prelude.{Option, Some, None, map, not, ◌&&◌, ◌||◌, ◌==◌, if◌then◌else◌}
 use Rattle.std.proofs.lemmas.Bool.{and_from, cases_Bool, false_from_ne_true}
 use Rattle.std.proofs.lemmas.Bool.Decides.{nat_tests}
@@ -15,11 +15,11 @@ use Rattle.ct_history.specs.Plan.{IsAscendingFrom, test_at}
 use Rattle.ct_history.specs.History.{Running, attempts_of, has_stop, holds_start, is_busy_in, is_stop, open_starts}
 use Rattle.ct_history.specs.Rules.{may_start, may_start_at, settle_cause_at, settle_cause_of_test}
 use Rattle.ct_history.specs.Legal.{is_allowed, is_legal, is_next_attempt, is_stop_due, same_cause, settles, starts}
-use Rattle.ct_history.proofs.LegalLemmas.{allowed-snoc, failing_not_due, legal_allowed, legal_from, legal_not_due, legal_with_stop, same_cause_refl, start_not_due, stop_failed, stop-snoc}
-use Rattle.ct_history.proofs.OpenLemmas.{one_less_held, open_starts-snoc}
+use Rattle.ct_history.proofs.LegalLemmas.{allowed-snoc, failing_not_due, legal_allowed, legal_from, legal_not_due, legal_with_stop, same_cause_refl, stop_failed, stop-snoc}
+use Rattle.ct_history.proofs.OpenLemmas.{open_starts-snoc}
 use Rattle.ct_core.specs.Choice.{attempt_after}
 use Rattle.ct_core.specs.Core.{with_due_stop}
-use Rattle.ct_core.specs.CoreInside.{IsKept, stop_places}
+use Rattle.ct_core.specs.Places.{stop_places}
 
 true_is_false : true ≡ false → ⊥
 true_is_false is = cc
@@ -98,68 +98,3 @@ module _ (plan : PlanParts) (ascends : IsAscendingFrom 1 (map (λ (t : PlanTest)
         | inl due ↦ subst (λ (ys : List Entry). IsFinalStep plan es e ys) (sym (ap (λ (b : Bool). if b then xs ++ Is.Stop ∷ [] else xs) due)) (with_stop e plain allowed due)
         | inr not_due ↦ subst (λ (ys : List Entry). IsFinalStep plan es e ys) (sym (ap (λ (b : Bool). if b then xs ++ Is.Stop ∷ [] else xs) not_due)) (without_stop e plain allowed not_due)
       ]
-
-module _ (plan : PlanParts) (ascends : IsAscendingFrom 1 (map (λ (t : PlanTest). t.number) plan.tests)) (es : List Entry) (room count : ℕ) (kept : IsKept plan es room count) (more : List Entry) (room' : ℕ) where
-  -- the places for an End and the Stop behind it are there
-  pub end_room : (t a w : ℕ) (s : Seen) → holds_start t a w es ≡ true → (length es < room) × (is_stop_due plan (es ++ Is.End t a w s ∷ []) ≡ true → length es + 1 < room)
-  end_room t a w s holds =
-      let less = one_less_held es t a w w s holds in
-      let open_one : 0 < count = omega (arith, less, kept.counted) in
-      let reserved = kept.reserved open_one in (
-        omega (arith, open_one, reserved),
-        λ due.
-            let one : stop_places es ≡ 1 = ap (λ (b : Bool). if b then 0 else 1) (due_first plan ascends es kept.legal (Is.End t a w s) due) in
-            omega (arith, open_one, reserved, one),
-      )
-
-  pub kept-end : (t a w : ℕ) (s : Seen) → holds_start t a w es ≡ true → room ≤ room' → more ≡ with_due_stop plan (es ++ Is.End t a w s ∷ []) → IsKept plan more room' (count - 1)
-  kept-end t a w s holds le is =
-      let less = one_less_held es t a w w s holds in
-      let open_one : 0 < count = omega (arith, less, kept.counted) in
-      let reserved = kept.reserved open_one in
-      let counted = kept.counted in
-      let step = subst (λ (ys : List Entry). IsFinalStep plan es (Is.End t a w s) ys) (sym is) (final_step plan ascends es kept.legal (Is.End t a w s) refl (end_allowed plan es kept.legal t a w s holds)) in
-      let places = step.places in
-      let opens = step.opens in
-      record {
-        legal = step.legal;
-        counted = omega (arith, less, counted, opens);
-        reserved = λ more_open. omega (arith, reserved, places, le, open_one);
-      }
-
-  pub kept-settle : (t : ℕ) (c : Cause) → settle_cause_of_test plan es t ≡ Some c → length es + (count + 2) ≤ room' → more ≡ with_due_stop plan (es ++ Is.Settle t c ∷ []) → IsKept plan more room' count
-  kept-settle t c may le is =
-      let settle = Is.Settle t c in
-      let counted = kept.counted in
-      let step = subst (λ (ys : List Entry). IsFinalStep plan es settle ys) (sym is) (final_step plan ascends es kept.legal settle refl (settle_allowed plan es kept.legal t c may)) in
-      let places = step.places in
-      let opens : length (open_starts more) ≡ length (open_starts es) = step.opens ∙ ap (λ (rs : List Running). length rs) (open_starts-snoc es settle refl ∙ append-nil (open_starts es)) in
-      let most : stop_places es ≤ 1 = most_one (has_stop es) in
-      record {
-        legal = step.legal;
-        counted = omega (arith, counted, opens);
-        reserved = λ more_open. omega (arith, places, le, most);
-      }
-    where
-      most_one : (b : Bool) → (if b then 0 else 1) ≤ 1
-      most_one true = omega arith
-      most_one false = omega arith
-
-module _ (plan : PlanParts) (es : List Entry) (room count : ℕ) (kept : IsKept plan es room count) (more : List Entry) (room' : ℕ) where
-  pub kept-start : (t a w : ℕ) (p : Option Placement) → is_busy_in w es ≡ false → may_start_at plan es p (test_at plan.tests t) ≡ true → a ≡ attempt_after es (test_at plan.tests t) → length es + (count + 3) ≤ room' → more ≡ es ++ Is.Start t a w p ∷ [] → IsKept plan more room' (count + 1)
-  kept-start t a w p free may next le is =
-      let start = Is.Start t a w p in
-      let opens : length (open_starts (es ++ start ∷ [])) ≡ length (open_starts es) + 1 =
-      ap (λ (rs : List Running). length rs) (open_starts-snoc es start refl) ∙ length-append (open_starts es) (record { test = t; attempt = a; worker = w; placement = p } ∷ []) in
-      let counted = kept.counted in
-      let longer : length (es ++ start ∷ []) ≡ length es + 1 = length-append es (start ∷ []) in
-      let most : stop_places (es ++ start ∷ []) ≤ 1 = most_one (has_stop (es ++ start ∷ [])) in
-      subst (λ (xs : List Entry). IsKept plan xs room' (count + 1)) (sym is) (record {
-        legal = legal_from plan (es ++ start ∷ []) (allowed-snoc plan es start (legal_allowed plan es kept.legal) (start_allowed plan es kept.legal t a w p free may next)) (start_not_due plan es t a w p);
-        counted = omega (arith, opens, counted);
-        reserved = λ more_open. omega (arith, longer, le, most);
-      })
-    where
-      most_one : (b : Bool) → (if b then 0 else 1) ≤ 1
-      most_one true = omega arith
-      most_one false = omega arith

@@ -3,7 +3,15 @@ pub mod Slots
 pub mod Choice
 pub mod Ticket
 pub mod CoreValue
-pub mod CoreInside
 pub mod Core
+pub mod Standing
+pub mod Followers
+pub mod Waiting
+pub mod Begin
+pub mod Locks
+pub mod InUse
+pub mod Places
+pub mod Parts
+pub mod Run
 pub mod Gate
 pub mod ScriptValue

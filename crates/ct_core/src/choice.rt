@@ -1,19 +1,21 @@
-ghost use Rattle.std.specs.Prelude.{◌≡◌, find, is_some, false, true, IfOk, MatchOption, Some};
-ghost use Rattle.std.specs.Option.{option_copied};
-ghost use Rattle.ct_core.specs.Choice.{IsChoice, IsLeastToSettle, IsStartOf, IsStartable, NoneSettles, NoneStarts, attempt_after};
-ghost use Rattle.ct_core.specs.Slots.{IsFreeBeside};
-ghost use Rattle.ct_history.specs.Legal.{is_allowed_so_far};
+ghost use Rattle.std.specs.Prelude.{◌≡◌, find, not, IfOk, MatchOption, Some, if◌then◌else◌};
+ghost use Rattle.ct_core.specs.Choice.{IsChoice, IsLeastToSettle, IsStartOf, IsStartable, NoneSettles, NoneStarts};
+ghost use Rattle.ct_core.specs.Parts.{AreTold};
+ghost use Rattle.ct_core.specs.Run.{IsKeptRun, entries_of};
+ghost use Rattle.ct_core.specs.Waiting.{IsDue, cause_then};
+ghost use Rattle.ct_history.specs.History.{has_stop};
 ghost use Rattle.ct_history.specs.Plan.{IsSound};
-ghost use Rattle.ct_history.specs.Rules.{CanStart, may_start_if_placed, settle_cause as cause_in};
-ghost use Rattle.ct_history.specs.Verdicts.{are_all_final as all_final_in};
+ghost use Rattle.ct_history.specs.Rules.{CanStart, is_passed_verdict};
+ghost use Rattle.ct_history.specs.Verdicts.{verdict_of_test};
+ghost use Rattle.ct_verdict.specs.declared.verdict.Cause.TheVariants.{Stopped};
 
-use crate::slots::{Place, free_beside, place_for};
-use ct_alloc::{Free, Placement};
+use crate::places::{expect_place, place_of};
+use crate::run::Run;
+use crate::slots::{Place, place_for};
+use crate::state::State;
+use ct_alloc::Placement;
 use ct_base::NoMemory;
-use ct_history::{
-    Entry, PlanParts, PlanTest, are_all_final, count_attempts, may_start_if_placed, settle_cause,
-    test_at,
-};
+use ct_history::PlanTest;
 use ct_verdict::Cause;
 use std::alloc::Global;
 
@@ -37,121 +39,135 @@ pub(crate) enum Choice {
     Wait,
 }
 
-/// Chooses the first that holds: all is done, a test may be settled, a test may start.
-pub(crate) fn choose(alloc: Global, plan: &PlanParts, entries: &[Entry]) -> Result<Choice, NoMemory>
-    requires sound { IsSound plan.now }
-    requires allowed { is_allowed_so_far plan.now entries.now ≡ true }
-    ensures { IfOk result (λ choice. IsChoice plan.now entries.now choice) }
-{
-    if are_all_final(plan, entries) {
-        return Ok(Choice::Done);
+impl Run {
+    /// Chooses the first that holds: all is done, a test may be settled, a test may start.
+    pub(crate) fn choose(&self, alloc: Global) -> Result<Choice, NoMemory>
+        requires { IsKeptRun self.now }
+        ensures { IfOk result (λ choice. IsChoice self.now.plan (entries_of self.now) choice) }
+    {
+        if self.parts.unfinished == 0 {
+            return Ok(Choice::Done);
+        }
+        if let Some((test, cause)) = self.first_to_settle() {
+            return Ok(Choice::Settle { test, cause });
+        }
+        match self.first_to_start(alloc)? {
+            Some(start) => Ok(Choice::Start(start)),
+            None => Ok(Choice::Wait),
+        }
     }
-    match choose_settled(plan, entries) {
-        Some((test, cause)) => Ok(Choice::Settle { test, cause }),
-        None => choose_start(alloc, plan, entries),
-    }
-}
 
-fn choose_settled(plan: &PlanParts, entries: &[Entry]) -> Option<(u32, Cause)>
-    requires { IsSound plan.now }
-    ensures { MatchOption result (NoneSettles plan.now entries.now)
-        (λ found. IsLeastToSettle plan.now entries.now found.0 found.1) }
-{
-    match find_settled(plan, plan.tests.as_slice(), entries) {
-        Some(test) => match settle_cause(plan, test, entries) {
+    /// Finds the test of the least number that may be settled, and its cause.
+    fn first_to_settle(&self) -> Option<(u32, Cause)>
+        requires { IsKeptRun self.now }
+        ensures found { MatchOption result (NoneSettles self.now.plan (entries_of self.now))
+            (λ found. IsLeastToSettle self.now.plan (entries_of self.now) found.0 found.1) }
+        ensures sound { IsSound self.now.plan }
+    {
+        let tests = self.plan.parts().tests.as_slice();
+        let Some(place) = self.parts.settleable.first_from(0) else {
+            return None;
+        };
+        let test = &tests[place];
+        match self.cause(test) {
             Some(cause) => Some((test.number, cause)),
-            None => None,
-        },
-        None => None,
-    }
-}
-
-fn find_settled<'a>(
-    plan: &PlanParts,
-    tests: &'a [PlanTest],
-    entries: &[Entry],
-) -> Option<&'a PlanTest>
-    ensures { option_copied result ≡ find (λ t. is_some (cause_in plan.now t entries.now)) tests.now }
-{
-    for test in tests {
-        if may_settle(plan, test, entries) {
-            return Some(test);
+            None => unreachable!(),
         }
     }
-    None
-}
 
-fn may_settle(plan: &PlanParts, test: &PlanTest, entries: &[Entry]) -> bool
-    ensures { result ≡ is_some (cause_in plan.now test.now entries.now) }
-{
-    settle_cause(plan, test, entries).is_some()
-}
-
-fn choose_start(alloc: Global, plan: &PlanParts, entries: &[Entry]) -> Result<Choice, NoMemory>
-    requires sound { IsSound plan.now }
-    requires allowed { is_allowed_so_far plan.now entries.now ≡ true }
-    requires unfinished { all_final_in plan.now entries.now ≡ false }
-    requires unsettled { NoneSettles plan.now entries.now }
-    ensures { IfOk result (λ choice. IsChoice plan.now entries.now choice) }
-{
-    let free = free_beside(alloc, plan, entries)?;
-    match find_startable(alloc, plan, entries, free.as_ref())? {
-        Some(start) => Ok(Choice::Start(start)),
-        None => Ok(Choice::Wait),
-    }
-}
-
-fn find_startable(
-    alloc: Global,
-    plan: &PlanParts,
-    entries: &[Entry],
-    free: Option<&Free>,
-) -> Result<Option<Startable>, NoMemory>
-    requires { IsFreeBeside plan.now entries.now (option_copied free) }
-    ensures { IfOk result (λ found. MatchOption found (NoneStarts plan.now entries.now plan.now.queue)
-        (λ start. IsStartable plan.now entries.now start)) }
-{
-    for number in plan.queue.as_slice() {
-        let found = next_start(alloc, plan, entries, free, *number)?;
-        if found.is_some() {
-            return Ok(found);
+    /// Gives the cause of a test that may be settled.
+    fn cause(&self, test: &PlanTest) -> Option<Cause>
+        requires { AreTold self.now.plan (entries_of self.now) self.now.parts }
+        ensures { result ≡ (if has_stop (entries_of self.now) then Some Stopped else cause_then self.now.plan (entries_of self.now) test.now) }
+    {
+        if self.parts.stopped {
+            Some(Cause::Stopped)
+        } else {
+            self.cause_then(test)
         }
     }
-    Ok(None)
-}
 
-/// Finds the next attempt of a test and its placement, where it may start with some.
-fn next_start(
-    alloc: Global,
-    plan: &PlanParts,
-    entries: &[Entry],
-    free: Option<&Free>,
-    number: u32,
-) -> Result<Option<Startable>, NoMemory>
-    requires { IsFreeBeside plan.now entries.now (option_copied free) }
-    ensures { IfOk result (λ found. MatchOption found (CanStart plan.now entries.now number → ⊥)
-        (λ start. IsStartOf plan.now entries.now number start)) }
-{
-    let Some(test) = test_at(plan.tests.as_slice(), number) else {
-        return Ok(None);
-    };
-    if !may_start_if_placed(plan, test, entries) {
-        return Ok(None);
+    /// Gives the cause that a test is settled with once its predecessors are final, where there is one.
+    pub(crate) fn cause_then(&self, test: &PlanTest) -> Option<Cause>
+        requires { AreTold self.now.plan (entries_of self.now) self.now.parts }
+        ensures { result ≡ cause_then self.now.plan (entries_of self.now) test.now }
+    {
+        match self.first_unpassed(test.setups.as_slice()) {
+            Some(setup) => Some(Cause::Fixture(setup)),
+            None => test.fixed,
+        }
     }
-    match place_for(alloc, free, &test.needs)? {
-        Place::Here(placement) => Ok(Some(Startable {
-            test: number,
-            attempt: next_attempt(plan, test, entries),
-            placement,
-        })),
-        Place::Nowhere => Ok(None),
-    }
-}
 
-fn next_attempt(plan: &PlanParts, test: &PlanTest, entries: &[Entry]) -> u32
-    requires { may_start_if_placed plan.now test.now entries.now ≡ true }
-    ensures { result ≡ attempt_after entries.now (Some test.now) }
-{
-    let _times = plan.repeat.times;
-    count_attempts(test, entries) + 1
+    fn first_unpassed(&self, setups: &[u32]) -> Option<u32>
+        requires { AreTold self.now.plan (entries_of self.now) self.now.parts }
+        ensures { result ≡ find (λ s. not (is_passed_verdict (verdict_of_test self.now.plan (entries_of self.now) s))) setups.now }
+    {
+        for setup in setups {
+            if !self.has_passed(*setup) {
+                return Some(*setup);
+            }
+        }
+        None
+    }
+
+    fn has_passed(&self, number: u32) -> bool
+        requires { AreTold self.now.plan (entries_of self.now) self.now.parts }
+        ensures { result ≡ is_passed_verdict (verdict_of_test self.now.plan (entries_of self.now) number) }
+    {
+        match place_of(self.plan.parts().tests.as_slice(), number) {
+            Some(place) => self.parts.states[place].has_passed(),
+            None => false,
+        }
+    }
+
+    /// Finds the first test of the queue that may start, with its placement.
+    fn first_to_start(&self, alloc: Global) -> Result<Option<Startable>, NoMemory>
+        requires kept { IsKeptRun self.now }
+        requires unsettled { NoneSettles self.now.plan (entries_of self.now) }
+        ensures { IfOk result (λ found. MatchOption found (NoneStarts self.now.plan (entries_of self.now) self.now.plan.queue)
+            (λ start. IsStartable self.now.plan (entries_of self.now) start)) }
+    {
+        let plan = self.plan.parts();
+        if self.parts.stopped || self.parts.in_use.is_full(plan.level) {
+            return Ok(None);
+        }
+        let queue = plan.queue.as_slice();
+        let mut behind = None;
+        while let Some(place) = self.parts.ready.after(behind) {
+            let found = self.next_start(alloc, queue[place as usize])?;
+            if found.is_some() {
+                return Ok(found);
+            }
+            behind = Some(place);
+        }
+        Ok(None)
+    }
+
+    /// Finds the next attempt of a test that is ready, and its placement, where it may start with some.
+    fn next_start(&self, alloc: Global, number: u32) -> Result<Option<Startable>, NoMemory>
+        requires kept { IsKeptRun self.now }
+        requires due { IsDue self.now.plan (entries_of self.now) number }
+        ensures { IfOk result (λ found. MatchOption found (CanStart self.now.plan (entries_of self.now) number → ⊥)
+            (λ start. IsStartOf self.now.plan (entries_of self.now) number start)) }
+    {
+        let plan = self.plan.parts();
+        let _times = plan.repeat.times;
+        let tests = plan.tests.as_slice();
+        let place = expect_place(tests, number);
+        let test = &tests[place];
+        if !self.parts.in_use.has_room(plan.level, test) {
+            return Ok(None);
+        }
+        let State::Pending(attempts) = self.parts.states[place] else {
+            unreachable!();
+        };
+        match place_for(alloc, self.parts.in_use.free.as_ref(), &test.needs)? {
+            Place::Here(placement) => Ok(Some(Startable {
+                test: number,
+                attempt: attempts + 1,
+                placement,
+            })),
+            Place::Nowhere => Ok(None),
+        }
+    }
 }

@@ -1,15 +1,24 @@
 //! The scheduling core of a run, and the gate through which programs are asked.
 //!
 //! Hands up: `Core`, which starts and ends attempts; `Ticket`, the right to run one; `Gate`.
-//! Stands on: ct_base, ct_alloc, ct_verdict, ct_history.
-//! Read first: `specs/Choice.antt`, `specs/Core.antt`, `specs/Gate.antt`, then `scheduler.rt`, `gate.rt`.
+//! Stands on: ct_base, ct_alloc, ct_verdict, ct_history, ct_queue and `indexmap`.
+//! Read first: `specs/Choice.antt`, `specs/Core.antt`, `specs/Gate.antt`, then `scheduler.rt`, `gate.rt`; what the core
+//! keeps beside its history: `specs/Parts.antt`, then `run.rt`.
 #![tactic(auto)]
 
+mod begin;
 mod choice;
+mod followers;
 mod gate;
+mod in_use;
+mod locks;
+mod parts;
+mod places;
+mod run;
 mod scheduler;
 mod script;
 mod slots;
+mod state;
 mod ticket;
 
 pub use gate::{Asked, Ended, Gate, Request, Told, copy_names, copy_pairs, lacks_memory};

@@ -1,13 +1,11 @@
-ghost use Rattle.std.specs.Prelude.{◌≡◌, Bool, true, false, [], Some, None, IfOk, IfErr, length, vec_len, vec_capacity, ◌+◌, ◌<◌, ◌≤◌, ◌^◌, ◌∷◌, ◌++◌};
-ghost use Rattle.ct_core.specs.Core.{with_due_stop};
-ghost use Rattle.ct_history.specs.Legal.{is_stop_due as is_due};
-ghost use Rattle.ct_history.specs.declared.plan.PlanParts.{PlanParts};
+ghost use Rattle.std.specs.Prelude.{◌≡◌, true, false, [], IfOk, IfErr};
 
 use crate::Ticket;
-use crate::choice::{Choice, Startable, choose};
-use crate::slots::copy_placement;
+use crate::choice::{Choice, Startable};
+use crate::parts::Parts;
+use crate::run::Run;
 use ct_base::NoMemory;
-use ct_history::{Board, Entry, History, Plan, PlanParts, is_stop_due, verdict_of};
+use ct_history::{Board, History, Plan};
 use ct_verdict::{Cause, Seen, Verdict};
 use std::alloc::Global;
 use std::marker::Model;
@@ -30,26 +28,23 @@ pub enum Next {
 
 /// Decides which attempt starts when, and keeps the history of the run.
 ///
-/// Contracts see its plan, its entries and whether it was aborted. It looks through its whole
-/// history at each call.
+/// Contracts see its plan, its entries and whether it was aborted. It keeps beside its history what that says of each
+/// test, so that a call costs what it changes.
 #[derive(Drop)]
 pub struct Core {
-    plan: Plan,
-    history: History,
-    open_count: usize,
+    run: Run,
     aborted: bool,
 }
 
 impl Model for Core {
-    ghost use Rattle.std.specs.Prelude.{vec_capacity};
-    ghost use Rattle.ct_core.specs.CoreInside.{IsKept};
     ghost use Rattle.ct_core.specs.CoreValue.{CoreValue};
+    ghost use Rattle.ct_core.specs.Run.{IsKeptRun};
 
     ghost Value = { CoreValue };
 
-    ghost view = { λ c. record { plan = c.plan; entries = c.history.entries.items; aborted = c.aborted } };
+    ghost view = { λ c. record { plan = c.run.plan; entries = c.run.history.entries.items; aborted = c.aborted } };
 
-    ghost invariant = { λ c. IsKept c.plan c.history.entries.items (vec_capacity c.history.entries) c.open_count };
+    ghost invariant = { λ c. IsKeptRun c.run };
 }
 
 impl Core {
@@ -62,26 +57,31 @@ impl Core {
     ghost use Rattle.ct_history.specs.Plan.{IsSound};
     ghost use Rattle.ct_history.specs.Verdicts.{verdict_of_test};
 
-    /// Opens a run of the plan, with the empty history. It takes no memory yet.
+    /// Opens a run of the plan, with the empty history. Where memory is wanting the plan comes back.
     pub fn open(alloc: Global, plan: Plan) -> Result<Core, Plan>
         ensures ok { IfOk result (λ core. core ≡ record { plan = plan; entries = []; aborted = false }) }
         ensures err { IfErr result (λ back. back ≡ plan) }
     {
-        Ok(Core {
-            plan,
-            history: History {
-                entries: Vec::new(alloc),
-            },
-            open_count: 0,
-            aborted: false,
-        })
+        match Parts::begin(alloc, plan.parts()) {
+            Ok(parts) => Ok(Core {
+                run: Run {
+                    plan,
+                    history: History {
+                        entries: Vec::new(alloc),
+                    },
+                    parts,
+                },
+                aborted: false,
+            }),
+            Err(NoMemory) => Err(plan),
+        }
     }
 
     /// Lends the plan of the run.
     pub fn plan(&self) -> &Plan
         ensures { result.now ≡ self.now.plan }
     {
-        &self.plan
+        &self.run.plan
     }
 
     /// Lends the history, which is legal and has stayed within what the plan declares.
@@ -90,7 +90,7 @@ impl Core {
         ensures legal { is_legal self.now.plan self.now.entries ≡ true }
         ensures within { StaysWithin self.now.plan self.now.entries }
     {
-        &self.history
+        &self.run.history
     }
 
     /// Says what this worker has to do next, and appends what that makes of the history.
@@ -105,7 +105,8 @@ impl Core {
         if self.aborted {
             return Next::Aborted;
         }
-        match self.chosen() {
+        let alloc = *self.run.history.entries.allocator();
+        match self.run.choose(alloc) {
             Ok(Choice::Done) => Next::Done,
             Ok(Choice::Settle { test, cause }) => self.settle(test, cause),
             Ok(Choice::Start(start)) => self.start(start, worker),
@@ -129,15 +130,7 @@ impl Core {
             worker,
             placement: _,
         } = ticket;
-        let end = Entry::End {
-            test,
-            attempt,
-            worker,
-            seen,
-        };
-        append_final(self.plan.parts(), &mut self.history.entries, end);
-        self.open_count -= 1;
-        verdict_of(self.plan.parts(), self.history.entries.as_slice(), test)
+        self.run.end(test, attempt, worker, seen)
     }
 
     /// Gives the run up: from now on nothing starts, and what is open may end.
@@ -154,16 +147,8 @@ impl Core {
         ensures legal { is_legal self.plan self.entries ≡ true }
         ensures within { StaysWithin self.plan self.entries }
     {
-        let Core { plan, history, .. } = self;
+        let Run { plan, history, .. } = self.run;
         (plan, history)
-    }
-
-    fn chosen(&self) -> Result<Choice, NoMemory>
-        ensures is { IfOk result (λ choice. IsChoice self.now.plan self.now.entries choice) }
-        ensures sound { IsSound self.now.plan }
-    {
-        let alloc = *self.history.entries.allocator();
-        choose(alloc, self.plan.parts(), self.history.entries.as_slice())
     }
 
     fn start(&mut self, start: Startable, worker: u32) -> Next
@@ -173,28 +158,15 @@ impl Core {
         requires startable { IsStartable self.old.plan self.old.entries start }
         ensures { IsNext self.old worker result self.new }
     {
-        let alloc = *self.history.entries.allocator();
-        let copy = match copy_placement(alloc, start.placement.as_ref()) {
-            Ok(copy) => copy,
-            Err(NoMemory) => return Next::NoMemory,
-        };
-        match self.history.entries.reserve(self.open_count + 3) {
+        match self.run.start(&start, worker) {
             Ok(()) => {}
-            Err(_) => return Next::NoMemory,
+            Err(NoMemory) => return Next::NoMemory,
         }
         let Startable {
             test,
             attempt,
             placement,
         } = start;
-        let entry = Entry::Start {
-            test,
-            attempt,
-            worker,
-            placement: copy,
-        };
-        append_reserved(&mut self.history.entries, entry);
-        self.open_count += 1;
         Next::Start(Ticket {
             test,
             attempt,
@@ -204,21 +176,14 @@ impl Core {
     }
 
     fn settle(&mut self, test: u32, cause: Cause) -> Next
-        requires sound { IsSound self.old.plan }
         requires goes_on { self.old.aborted ≡ false }
         requires least { IsLeastToSettle self.old.plan self.old.entries test cause }
         ensures { IsNext self.old 0 result self.new }
     {
-        match self.history.entries.reserve(self.open_count + 2) {
-            Ok(()) => {}
-            Err(_) => return Next::NoMemory,
+        match self.run.settle(test, cause) {
+            Ok(()) => Next::Settled(test),
+            Err(NoMemory) => Next::NoMemory,
         }
-        append_final(
-            self.plan.parts(),
-            &mut self.history.entries,
-            Entry::Settle { test, cause },
-        );
-        Next::Settled(test)
     }
 }
 
@@ -234,34 +199,10 @@ impl Board for Core {
     ghost halted = { λ c. c.aborted };
 
     fn length(&self) -> usize {
-        self.history.entries.len()
+        self.run.history.entries.len()
     }
 
     fn is_halted(&self) -> bool {
         self.aborted
     }
-}
-
-/// Appends an entry, and a Stop behind it where that entry makes one due.
-fn append_final(plan: &PlanParts, entries: &mut Vec<Entry>, entry: Entry)
-    requires room { vec_len entries.old < vec_capacity entries.old }
-    requires stop_room { is_due plan.now (entries.old.items ++ entry ∷ []) ≡ true →
-        vec_len entries.old + 1 < vec_capacity entries.old }
-    ensures items { entries.new.items ≡ with_due_stop plan.now (entries.old.items ++ entry ∷ []) }
-    ensures room { vec_capacity entries.old ≤ vec_capacity entries.new }
-{
-    append_reserved(entries, entry);
-    if is_stop_due(plan, entries.as_slice()) {
-        append_reserved(entries, Entry::Stop);
-    }
-}
-
-fn append_reserved(entries: &mut Vec<Entry>, entry: Entry)
-    requires { vec_len entries.old < vec_capacity entries.old }
-    ensures items { entries.new.items ≡ entries.old.items ++ entry ∷ [] }
-    ensures len { vec_len entries.new ≡ vec_len entries.old + 1 }
-    ensures room { vec_capacity entries.old ≤ vec_capacity entries.new }
-{
-    let pushed = entries.push(entry);
-    prove!(pushed.is_ok());
 }

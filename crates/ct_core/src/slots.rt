@@ -1,12 +1,9 @@
-ghost use Rattle.std.specs.Prelude.{◌≡◌, ℕ, true, IfOk};
+ghost use Rattle.std.specs.Prelude.{◌≡◌, IfOk};
 ghost use Rattle.std.specs.Option.{option_copied};
-ghost use Rattle.ct_alloc.specs.Free.{used_at};
-ghost use Rattle.ct_history.specs.Legal.{is_allowed_so_far};
-ghost use Rattle.ct_core.specs.Slots.{IsFreeBeside, IsPlaceFor};
+ghost use Rattle.ct_core.specs.Slots.{IsPlaceFor};
 
 use ct_alloc::{Free, Pick, Placement};
-use ct_base::{List, Need, NoMemory, Resource};
-use ct_history::{Entry, PlanParts, open_placement};
+use ct_base::{List, Need, NoMemory};
 use std::alloc::Global;
 
 /// Where the needs of a test are met now.
@@ -16,38 +13,6 @@ pub(crate) enum Place {
     Nowhere,
     /// By this placement, or without one where none is wanted.
     Here(Option<Placement>),
-}
-
-/// Finds what is free of the plan's resources, where some are given: all that no open start uses.
-pub(crate) fn free_beside(
-    alloc: Global,
-    plan: &PlanParts,
-    entries: &[Entry],
-) -> Result<Option<Free>, NoMemory>
-    requires { is_allowed_so_far plan.now entries.now ≡ true }
-    ensures { IfOk result (λ free. IsFreeBeside plan.now entries.now free) }
-{
-    let Some(resources) = &plan.resources else {
-        return Ok(None);
-    };
-    let mut free = all_free(alloc, resources)?;
-    for at in 0..entries.len() {
-        if let Some(placement) = open_placement(&entries[at], &entries[at + 1..]) {
-            free.take(placement);
-        }
-    }
-    Ok(Some(free))
-}
-
-/// Copies resources, of which nothing is used. More than a placement can name are never had.
-fn all_free(alloc: Global, resources: &List<Resource>) -> Result<Free, NoMemory>
-    ensures whole { IfOk result (λ free. free.resources ≡ resources.now) }
-    ensures unused { IfOk result (λ free. (place : ℕ) → used_at free place ≡ 0) }
-{
-    if resources.len() >= u32::MAX as usize {
-        return Err(NoMemory);
-    }
-    Free::all(alloc, resources)
 }
 
 /// Places the needs of a test on what is free, where resources are given and it has needs.

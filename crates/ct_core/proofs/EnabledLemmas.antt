@@ -1,0 +1,82 @@
+-- The queue of a sound plan has its enabled tests, and what is said of one of them leaves the others.
+use Rattle.std.proofs.Common.{◌≡◌, ◌∙◌, sym, ap, Bool, true, false, ℕ, List, [], ◌∷◌, refl, inl, inr}
+use Rattle.std.specs.Prelude.{Option, Some, None, not, ◌||◌, ◌==◌, cond, find, map}
+use Rattle.std.specs.List.{list_any}
+use Rattle.std.proofs.lemmas.Bool.{cases_Bool, not-true}
+use Rattle.std.proofs.lemmas.List.{get_or-set_other}
+use Rattle.std.proofs.lemmas.List.Folds.{find_at, list_any_at}
+use Rattle.std.proofs.lemmas.List.Sorted.{list_any-IsPermutation}
+use Rattle.std.proofs.lemmas.List.Sums.{passes_at_first}
+use Rattle.std.proofs.lemmas.Option.{slice_get_within}
+use Rattle.ct_history.specs.declared.plan.PlanTest.{PlanTest}
+use Rattle.ct_history.specs.declared.plan.PlanParts.{PlanParts}
+use Rattle.ct_history.specs.Plan.{IsSound, enabled, test_at}
+use Rattle.ct_queue.specs.Ready.{ReadyValue, StandsIn, is_out, place_of, with_out}
+use Rattle.ct_queue.proofs.CallerLemmas.{places_apart}
+use Rattle.ct_core.specs.Waiting.{is_one_of}
+use Rattle.ct_core.proofs.AllowedLemmas.{number_at}
+use Rattle.ct_core.proofs.NumberLemmas.{listed, numbers_of, unlisted}
+
+true_is_false : true ≡ false → ⊥
+true_is_false is = cc
+
+-- what stands in an order is one of it, and the other way round
+stands_one : (order : List ℕ) (j : ℕ) → StandsIn order j → is_one_of j order ≡ true
+stands_one order j stands = list_any_at (λ (n : ℕ). n == j) order (place_of order j) 0 stands (passes_at_first (λ (n : ℕ). n == j) order 0 stands)
+
+any_find : (p : ℕ → Bool) (xs : List ℕ) → list_any p xs ≡ true → (x : ℕ) × (find p xs ≡ Some x)
+any_find p [] any = cc
+any_find p (x ∷ xs) any = elim (cases_Bool (p x)) [
+  | inl here ↦ (x, ap (λ (b : Bool). cond b (Some x) (find p xs)) here)
+  | inr other ↦
+      let later = any_find p xs (sym (ap (λ (b : Bool). b || list_any p xs) other) ∙ any) in
+      (later.0, ap (λ (b : Bool). cond b (Some x) (find p xs)) other ∙ later.1)
+]
+
+one_stands : (order : List ℕ) (j : ℕ) → is_one_of j order ≡ true → StandsIn order j
+one_stands order j one =
+    let some = any_find (λ (n : ℕ). n == j) order one in
+    slice_get_within order (place_of order j) some.0 (sym (find_at (λ (n : ℕ). n == j) order) ∙ some.1)
+
+-- an enabled test of the plan
+pub record IsEnabled (plan : PlanParts) (j : ℕ) : Type 0 where
+  pub test : PlanTest
+  pub found : test_at plan.tests j ≡ Some test
+  pub number : test.number ≡ j
+  pub itself : test_at plan.tests test.number ≡ Some test
+  pub enabled : test.disabled ≡ false
+
+module _ (plan : PlanParts) (sound : IsSound plan) where
+  in_queue : (j : ℕ) → is_one_of j plan.queue ≡ is_one_of j (numbers_of (λ (t : PlanTest). not t.disabled) plan.tests)
+  in_queue j = list_any-IsPermutation (λ (n : ℕ). n == j) plan.queue (map (λ (t : PlanTest). t.number) (enabled plan.tests)) sound.queue
+
+  -- each test of the queue is an enabled one
+  pub queued_enabled : (j : ℕ) → StandsIn plan.queue j → IsEnabled plan j
+  queued_enabled j stands = by_test (test_at plan.tests j) refl
+    where
+      one : is_one_of j (numbers_of (λ (t : PlanTest). not t.disabled) plan.tests) ≡ true
+      one = sym (in_queue j) ∙ stands_one plan.queue j stands
+
+      by_test : (o : Option PlanTest) → test_at plan.tests j ≡ o → IsEnabled plan j
+      by_test None found = absurd (true_is_false (sym one ∙ unlisted (λ (t : PlanTest). not t.disabled) plan.tests j found))
+      by_test (Some t) found =
+          let number = number_at plan.tests j t found in
+          let itself : test_at plan.tests t.number ≡ Some t = ap (λ (m : ℕ). test_at plan.tests m) number ∙ found in
+          let passes : not t.disabled ≡ true = sym (listed (λ (u : PlanTest). not u.disabled) 1 plan.tests t sound.numbers itself) ∙ ap (λ (m : ℕ). is_one_of m (numbers_of (λ (u : PlanTest). not u.disabled) plan.tests)) number ∙ one in
+          record { test = t; found = found; number = number; itself = itself; enabled = not-true t.disabled passes }
+
+  -- each enabled test stands in the queue
+  pub enabled_queued : (n : ℕ) (t : PlanTest) → test_at plan.tests n ≡ Some t → t.disabled ≡ false → StandsIn plan.queue n
+  enabled_queued n t found enabled =
+      let number = number_at plan.tests n t found in
+      let itself : test_at plan.tests t.number ≡ Some t = ap (λ (m : ℕ). test_at plan.tests m) number ∙ found in
+      one_stands plan.queue n
+      (in_queue n
+      ∙ ap (λ (m : ℕ). is_one_of m (numbers_of (λ (u : PlanTest). not u.disabled) plan.tests)) (sym number)
+      ∙ listed (λ (u : PlanTest). not u.disabled) 1 plan.tests t sound.numbers itself
+      ∙ ap not enabled)
+
+-- what is said of one test leaves whether the others are out
+pub out_other : (ready : ReadyValue) (n j : ℕ) (is : Bool) → StandsIn ready.order n → StandsIn ready.order j → (j ≡ n → ⊥) → is_out (with_out ready n is) j ≡ is_out ready j
+out_other ready n j is stands there apart =
+    get_or-set_other ready.outs (place_of ready.order n) (place_of ready.order j) is false (λ same. apart (places_apart ready.order j n there stands same))

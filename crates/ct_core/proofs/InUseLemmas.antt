@@ -1,0 +1,335 @@
+-- What the open starts use together, with one start more, with one less, and beside a test that may start.
+use Rattle.std.proofs.Common.{◌≡◌, ◌≢◌, ◌∙◌, sym, ap, subst, Bool, true, false, ℕ, suc, ◌+◌, ◌^◌, ◌<◌, ◌≤◌, List, [], ◌∷◌, ◌++◌, length, get_or, arith, refl, inl, inr, leb-true}
+use Rattle.std.specs.Prelude.{Option, Some, All, AllPairs, find, filter, not, ◌&&◌, ◌||◌, ◌==◌, bytes_eq, cond, nat_le, nat_lt, sum_by}
+use Rattle.std.specs.List.{list_any, list_all}
+use Rattle.std.proofs.lemmas.Bool.{cases_Bool, eqb-true, false_from_ne_true, lt-ltb, or_parts}
+use Rattle.std.proofs.lemmas.List.{length-append}
+use Rattle.std.proofs.lemmas.List.Elements.{All-head, All-tail}
+use Rattle.std.proofs.lemmas.List.Folds.{list_any-append}
+use Rattle.std.proofs.lemmas.List.Sums.{sum_by-cons, sum_by_push}
+use Rattle.std.proofs.lemmas.Slice.Eq.{bytes_eq-Decides}
+use Rattle.ct_base.specs.declared.defs.Resource.{Resource}
+use Rattle.ct_alloc.specs.declared.placement.Placement.{Placement}
+use Rattle.ct_history.specs.declared.plan.PlanTest.{PlanTest}
+use Rattle.ct_history.specs.declared.plan.PlanParts.{PlanParts}
+use Rattle.ct_history.specs.declared.history.Entry.{Entry}
+use Rattle.ct_history.specs.Plan.{test_at}
+use Rattle.ct_history.specs.History.{Running, open_starts, placed_slots, processors_of, used_processors, used_slots}
+use Rattle.ct_history.specs.Rules.{exclude, has_room, is_among, is_placed, is_serial, locks_of, may_start, shares_name}
+use Rattle.ct_history.specs.Legal.{GetAlong}
+use Rattle.ct_history.proofs.ExcludeLemmas.{exclude-sym}
+use Rattle.ct_history.proofs.MayLemmas.{may_start-parts}
+use Rattle.ct_history.proofs.PlanLemmas.{find_passes}
+use Rattle.ct_core.specs.Locks.{is_held, knows}
+use Rattle.ct_core.specs.Slots.{IsFreeBeside, used_of}
+use Rattle.ct_core.specs.declared.in_use.InUse.{InUse}
+use Rattle.ct_core.specs.InUse.{CanGive, CanTake, Gives, IsInUse, KnowsLocks, Takes, has_room_beside, is_excluded_beside}
+use Rattle.ct_core.proofs.FreeLemmas.{placed_beside, taken_for, used_if_some}
+
+-- what is known stays known
+still_known : (tests : List PlanTest) (old new : InUse) → ((name : List ℕ) → knows new.locks name ≡ knows old.locks name) → KnowsLocks tests old → KnowsLocks tests new
+still_known tests old new same known = λ k d lt.
+    let all : knows new.locks ≡ knows old.locks = λ j name. same name j in
+    ap (λ (p : List ℕ → Bool). list_all p (get_or tests k d).locks) all ∙ known k d lt
+
+any_one : (p : Running → Bool) (rs : List Running) (r : Running) → list_any p (rs ++ r ∷ []) ≡ (list_any p rs || p r)
+any_one p rs r = list_any-append p rs (r ∷ []) ∙ ap (λ (b : Bool). list_any p rs || b) (or_false (p r))
+  where
+    or_false : (b : Bool) → (b || false) ≡ b
+    or_false true = refl
+    or_false false = refl
+
+-- one start more is in use together with the others
+pub taken : (plan : PlanParts) (rs : List Running) (r : Running) (t : PlanTest) (old new : InUse) → IsInUse plan rs old → test_at plan.tests r.test ≡ Some t → Takes t r.placement old new → IsInUse plan (rs ++ r ∷ []) new
+taken plan rs r t old new is found takes = record {
+  processors =
+      let same : processors_of (test_at plan.tests r.test) ≡ t.processors = ap processors_of found in
+      omega (arith, takes.processors, is.processors, same, sum_by_push (λ (q : Running). processors_of (test_at plan.tests q.test)) rs r);
+  opens = omega (arith, takes.opens, is.opens, length-append rs (r ∷ []));
+  serial =
+      takes.serial
+      ∙ ap (λ (b : Bool). b || t.serial) is.serial
+      ∙ ap (λ (o : Option PlanTest). list_any (λ (q : Running). is_serial (test_at plan.tests q.test)) rs || is_serial o) (sym found)
+      ∙ sym (any_one (λ (q : Running). is_serial (test_at plan.tests q.test)) rs r);
+  known = still_known plan.tests old new takes.known is.known;
+  locks = λ name.
+      takes.locks name
+      ∙ ap (λ (b : Bool). b || is_among name t.locks) (is.locks name)
+      ∙ ap (λ (o : Option PlanTest). list_any (λ (q : Running). is_among name (locks_of (test_at plan.tests q.test))) rs || is_among name (locks_of o)) (sym found)
+      ∙ sym (any_one (λ (q : Running). is_among name (locks_of (test_at plan.tests q.test))) rs r);
+  resources = takes.resources ∙ is.resources;
+  slots = λ place. omega (arith, takes.slots place, is.slots place, sum_by_push (λ (q : Running). placed_slots place q.placement) rs r);
+}
+
+-- one start taken out of some, and the others
+record IsTakenOut (tests : List PlanTest) (rs : List Running) (r : Running) (others : List Running) : Type 0 where
+  sums : (f : Running → ℕ) → sum_by f rs ≡ f r + sum_by f others
+  lengths : length rs ≡ length others + 1
+  anys : (p : Running → Bool) → list_any p rs ≡ (p r || list_any p others)
+  alone : list_any (λ (q : Running). exclude (test_at tests r.test) (test_at tests q.test)) others ≡ false
+
+-- the others, where the start of one test is taken out
+abbrev others_of : ℕ → List Running → List Running
+others_of n rs = filter (λ (q : Running). not (q.test == n)) rs
+
+pairs-head : (R : Running → Running → Type 0) (x : Running) (xs : List Running) → AllPairs R (x ∷ xs) → All (R x) xs
+pairs-head R x xs all = λ k d lt. all 0 (suc k) d (omega arith) (omega (arith, lt))
+
+pairs-tail : (R : Running → Running → Type 0) (x : Running) (xs : List Running) → AllPairs R (x ∷ xs) → AllPairs R xs
+pairs-tail R x xs all = λ i j d less lt. all (suc i) (suc j) d (omega (arith, less)) (omega (arith, lt))
+
+-- a start of another test than all of these takes none of them out
+others-all : (n : ℕ) (x : Running) (xs : List Running) → (x.test == n) ≡ true → All (λ (y : Running). x.test ≢ y.test) xs → others_of n xs ≡ xs
+others-all n x [] here all = refl
+others-all n x (y ∷ ys) here all =
+    let apart : x.test ≢ y.test = All-head (λ (z : Running). x.test ≢ z.test) y ys all in
+    let other : (y.test == n) ≡ false = false_from_ne_true (y.test == n) (λ same. apart (eqb-true x.test n here ∙ sym (eqb-true y.test n same))) in
+    ap (λ (b : Bool). cond (not b) (y ∷ others_of n ys) (others_of n ys)) other
+    ∙ ap (λ (zs : List Running). y ∷ zs) (others-all n x ys here (All-tail (λ (z : Running). x.test ≢ z.test) y ys all))
+
+none_excluded : (tests : List PlanTest) (x : Running) (xs : List Running) → All (GetAlong tests x) xs → list_any (λ (q : Running). exclude (test_at tests x.test) (test_at tests q.test)) xs ≡ false
+none_excluded tests x [] all = refl
+none_excluded tests x (y ∷ ys) all =
+    ap (λ (b : Bool). b || list_any (λ (q : Running). exclude (test_at tests x.test) (test_at tests q.test)) ys) (All-head (GetAlong tests x) y ys all)
+    ∙ none_excluded tests x ys (All-tail (GetAlong tests x) y ys all)
+
+found_along : (P : Running → Type 0) (p : Running → Bool) (xs : List Running) (r : Running) → find p xs ≡ Some r → All P xs → P r
+found_along P p [] r is all = cc
+found_along P p (x ∷ xs) r is all = elim (cases_Bool (p x)) [
+  | inl passes ↦
+      let here : Some x ≡ Some r = sym (ap (λ (b : Bool). cond b (Some x) (find p xs)) passes) ∙ is in
+      let same : x ≡ r = cc in
+      subst P same (All-head P x xs all)
+  | inr fails ↦ found_along P p xs r (sym (ap (λ (b : Bool). cond b (Some x) (find p xs)) fails) ∙ is) (All-tail P x xs all)
+]
+
+swapped : (a b c : Bool) → (a || (b || c)) ≡ (b || (a || c))
+swapped true true c = refl
+swapped true false c = refl
+swapped false true c = refl
+swapped false false c = refl
+
+-- the one start of a test is taken out
+taken_out : (tests : List PlanTest) (n : ℕ) (rs : List Running) (r : Running) → find (λ (q : Running). q.test == n) rs ≡ Some r → AllPairs (λ (x y : Running). x.test ≢ y.test) rs → AllPairs (GetAlong tests) rs → IsTakenOut tests rs r (others_of n rs)
+taken_out tests n [] r is once along = cc
+taken_out tests n (x ∷ xs) r is once along = elim (cases_Bool (x.test == n)) [
+  | inl here ↦
+      let some : Some x ≡ Some r = sym (ap (λ (b : Bool). cond b (Some x) (find (λ (q : Running). q.test == n) xs)) here) ∙ is in
+      let same : x ≡ r = cc in
+      let others : xs ≡ others_of n (x ∷ xs) =
+      sym (others-all n x xs here (pairs-head (λ (y z : Running). y.test ≢ z.test) x xs once)) ∙ sym (ap (λ (b : Bool). cond (not b) (x ∷ others_of n xs) (others_of n xs)) here) in
+      let first : IsTakenOut tests (x ∷ xs) x xs = record {
+        sums = λ f. sum_by-cons f x xs;
+        lengths = omega arith;
+        anys = λ p. refl;
+        alone = none_excluded tests x xs (pairs-head (GetAlong tests) x xs along);
+      } in
+      subst (λ (os : List Running). IsTakenOut tests (x ∷ xs) r os) others (subst (λ (q : Running). IsTakenOut tests (x ∷ xs) q xs) same first)
+  | inr other ↦
+      let rest = sym (ap (λ (b : Bool). cond b (Some x) (find (λ (q : Running). q.test == n) xs)) other) ∙ is in
+      let later = taken_out tests n xs r rest (pairs-tail (λ (y z : Running). y.test ≢ z.test) x xs once) (pairs-tail (GetAlong tests) x xs along) in
+      let others : x ∷ others_of n xs ≡ others_of n (x ∷ xs) = sym (ap (λ (b : Bool). cond (not b) (x ∷ others_of n xs) (others_of n xs)) other) in
+      let gets_along : exclude (test_at tests x.test) (test_at tests r.test) ≡ false = found_along (GetAlong tests x) (λ (q : Running). q.test == n) xs r rest (pairs-head (GetAlong tests) x xs along) in
+      let behind : IsTakenOut tests (x ∷ xs) r (x ∷ others_of n xs) = record {
+        sums = λ f. omega (arith, later.sums f, sum_by-cons f x xs, sum_by-cons f x (others_of n xs));
+        lengths = omega (arith, later.lengths);
+        anys = λ p. ap (λ (b : Bool). p x || b) (later.anys p) ∙ swapped (p x) (p r) (list_any p (others_of n xs));
+        alone =
+            ap (λ (b : Bool). b || list_any (λ (q : Running). exclude (test_at tests r.test) (test_at tests q.test)) (others_of n xs))
+            (exclude-sym (test_at tests r.test) (test_at tests x.test) ∙ gets_along)
+            ∙ later.alone;
+      } in
+      subst (λ (os : List Running). IsTakenOut tests (x ∷ xs) r os) others behind
+]
+
+-- what two tests that get along have
+record GoTogether (one other : Option PlanTest) : Type 0 where
+  shares : shares_name (locks_of one) (locks_of other) ≡ false
+  first : is_serial one ≡ false
+  second : is_serial other ≡ false
+
+together : (one other : Option PlanTest) → exclude one other ≡ false → GoTogether one other
+unfolding exclude
+together one other apart =
+    let both = or_parts (shares_name (locks_of one) (locks_of other) || is_serial one) (is_serial other) apart in
+    let rest = or_parts (shares_name (locks_of one) (locks_of other)) (is_serial one) both.0 in
+    record { shares = rest.0; first = rest.1; second = both.1 }
+
+any_less : (p q : Running → Bool) → ((r : Running) → q r ≡ false → p r ≡ false) → (rs : List Running) → list_any q rs ≡ false → list_any p rs ≡ false
+any_less p q less [] none = refl
+any_less p q less (r ∷ rs) none =
+    let both = or_parts (q r) (list_any q rs) none in
+    ap (λ (b : Bool). b || list_any p rs) (less r both.0) ∙ any_less p q less rs both.1
+
+-- a name of one list that stands in the other is shared
+shared_among : (name : List ℕ) (names others : List (List ℕ)) → shares_name names others ≡ false → is_among name names ≡ true → is_among name others ≡ false
+shared_among name [] others apart among = cc
+shared_among name (x ∷ xs) others apart among =
+    let both = or_parts (is_among x others) (shares_name xs others) apart in
+    elim (cases_Bool (bytes_eq name x)) [
+      | inl here ↦ ap (λ (bytes : List ℕ). is_among bytes others) ((bytes_eq-Decides name x).0 here) ∙ both.0
+      | inr other ↦ shared_among name xs others both.1 (sym (ap (λ (b : Bool). b || is_among name xs) other) ∙ among)
+    ]
+
+-- what stays of a disjunction, once its first part is taken away
+left_over : (old new mine theirs : Bool) → old ≡ (mine || theirs) → new ≡ (old && not mine) → (mine ≡ true → theirs ≡ false) → new ≡ theirs
+left_over old new true theirs was is apart = is ∙ ap (λ (b : Bool). b && false) was ∙ sym (apart refl)
+left_over old new false true was is apart = is ∙ ap (λ (b : Bool). b && true) was
+left_over old new false false was is apart = is ∙ ap (λ (b : Bool). b && true) was
+
+-- where the start of a test is given back, the others are in use together
+pub given : (plan : PlanParts) (rs : List Running) (n : ℕ) (r : Running) (t : PlanTest) (old new : InUse) → IsInUse plan rs old → find (λ (q : Running). q.test == n) rs ≡ Some r → AllPairs (λ (x y : Running). x.test ≢ y.test) rs → AllPairs (GetAlong plan.tests) rs → test_at plan.tests n ≡ Some t → Gives t r.placement old new → IsInUse plan (filter (λ (q : Running). not (q.test == n)) rs) new
+given plan rs n r t old new is finds once along looked gives =
+    let out = taken_out plan.tests n rs r finds once along in
+    let same : r.test ≡ n = eqb-true r.test n (find_passes (λ (q : Running). q.test == n) rs r finds) in
+    let found : test_at plan.tests r.test ≡ Some t = ap (test_at plan.tests) same ∙ looked in
+    let others = others_of n rs in
+    record {
+      processors =
+          let mine : processors_of (test_at plan.tests r.test) ≡ t.processors = ap processors_of found in
+          omega (arith, gives.processors, is.processors, mine, out.sums (λ (q : Running). processors_of (test_at plan.tests q.test)));
+      opens = omega (arith, gives.opens, is.opens, out.lengths);
+      serial =
+          left_over old.serial new.serial t.serial (list_any (λ (q : Running). is_serial (test_at plan.tests q.test)) others)
+          (is.serial ∙ out.anys (λ (q : Running). is_serial (test_at plan.tests q.test)) ∙ ap (λ (o : Option PlanTest). is_serial o || list_any (λ (q : Running). is_serial (test_at plan.tests q.test)) others) found)
+          gives.serial
+          (λ mine. any_less (λ (q : Running). is_serial (test_at plan.tests q.test)) (λ (q : Running). exclude (test_at plan.tests r.test) (test_at plan.tests q.test)) (λ q apart. (together (test_at plan.tests r.test) (test_at plan.tests q.test) apart).second) others out.alone);
+      known = still_known plan.tests old new gives.known is.known;
+      locks = λ name.
+          left_over (is_held old.locks name) (is_held new.locks name) (is_among name t.locks) (list_any (λ (q : Running). is_among name (locks_of (test_at plan.tests q.test))) others)
+          (is.locks name ∙ out.anys (λ (q : Running). is_among name (locks_of (test_at plan.tests q.test))) ∙ ap (λ (o : Option PlanTest). is_among name (locks_of o) || list_any (λ (q : Running). is_among name (locks_of (test_at plan.tests q.test))) others) found)
+          (gives.locks name)
+          (λ mine. any_less (λ (q : Running). is_among name (locks_of (test_at plan.tests q.test))) (λ (q : Running). exclude (test_at plan.tests r.test) (test_at plan.tests q.test))
+          (λ q apart. shared_among name t.locks (locks_of (test_at plan.tests q.test)) (ap (λ (o : Option PlanTest). shares_name (locks_of o) (locks_of (test_at plan.tests q.test))) (sym found) ∙ (together (test_at plan.tests r.test) (test_at plan.tests q.test) apart).shares) mine)
+          others out.alone);
+      resources = gives.resources ∙ is.resources;
+      slots = λ place. omega (arith, gives.slots place, is.slots place, out.sums (λ (q : Running). placed_slots place q.placement));
+    }
+
+found_sum : (f : Running → ℕ) (p : Running → Bool) (rs : List Running) (r : Running) → find p rs ≡ Some r → f r ≤ sum_by f rs
+found_sum f p [] r is = cc
+found_sum f p (x ∷ xs) r is = elim (cases_Bool (p x)) [
+  | inl passes ↦
+      let here : Some x ≡ Some r = sym (ap (λ (b : Bool). cond b (Some x) (find p xs)) passes) ∙ is in
+      let same : x ≡ r = cc in
+      let most : f x ≤ sum_by f (x ∷ xs) = omega (arith, sum_by-cons f x xs) in
+      subst (λ (q : Running). f q ≤ sum_by f (x ∷ xs)) same most
+  | inr fails ↦
+      let later = found_sum f p xs r (sym (ap (λ (b : Bool). cond b (Some x) (find p xs)) fails) ∙ is) in
+      omega (arith, later, sum_by-cons f x xs)
+]
+
+found_any : (p : Running → Bool) (rs : List Running) (r : Running) → find p rs ≡ Some r → 0 < length rs
+found_any p [] r is = cc
+found_any p (x ∷ xs) r is = omega arith
+
+-- what holds of each test holds of the one that is looked up
+looked_up : (P : PlanTest → Type 0) (n : ℕ) (tests : List PlanTest) (t : PlanTest) → test_at tests n ≡ Some t → All P tests → P t
+looked_up P n [] t is all = cc
+looked_up P n (x ∷ xs) t is all = elim (cases_Bool (x.number == n)) [
+  | inl passes ↦
+      let here : Some x ≡ Some t = sym (ap (λ (b : Bool). cond b (Some x) (test_at xs n)) passes) ∙ is in
+      let same : x ≡ t = cc in
+      subst P same (All-head P x xs all)
+  | inr fails ↦ looked_up P n xs t (sym (ap (λ (b : Bool). cond b (Some x) (test_at xs n)) fails) ∙ is) (All-tail P x xs all)
+]
+
+-- the start of a test can be given back
+pub give_possible : (plan : PlanParts) (rs : List Running) (n : ℕ) (r : Running) (t : PlanTest) (u : InUse) (used : ℕ → ℕ) → IsInUse plan rs u → find (λ (q : Running). q.test == n) rs ≡ Some r → test_at plan.tests n ≡ Some t → is_placed plan.resources t.needs used r.placement ≡ true → CanGive t r.placement u
+give_possible plan rs n r t u used is finds looked placed =
+    let same : r.test ≡ n = eqb-true r.test n (find_passes (λ (q : Running). q.test == n) rs r finds) in
+    record {
+      processors =
+          let mine : processors_of (test_at plan.tests r.test) ≡ t.processors = ap (λ (m : ℕ). processors_of (test_at plan.tests m)) same ∙ ap processors_of looked in
+          omega (arith, is.processors, mine, found_sum (λ (q : Running). processors_of (test_at plan.tests q.test)) (λ (q : Running). q.test == n) rs r finds);
+      opens = omega (arith, is.opens, found_any (λ (q : Running). q.test == n) rs r finds);
+      known = looked_up (λ (x : PlanTest). list_all (knows u.locks) x.locks ≡ true) n plan.tests t looked is.known;
+      slots = taken_for u.free plan.resources t.needs used r.placement is.resources placed
+          (λ place. omega (arith, is.slots place, found_sum (λ (q : Running). placed_slots place q.placement) (λ (q : Running). q.test == n) rs r finds));
+    }
+
+-- a test that may start can take what it needs
+pub take_possible : (plan : PlanParts) (entries : List Entry) (n : ℕ) (t : PlanTest) (placement : Option Placement) (u : InUse) → IsInUse plan (open_starts entries) u → test_at plan.tests n ≡ Some t → may_start plan t placement entries ≡ true → plan.level < 2 ^ 32 → length (open_starts entries) + 1 < 2 ^ 64 → CanTake t placement u
+take_possible plan entries n t placement u is looked may level few =
+    let parts = may_start-parts plan t placement entries may in
+    record {
+      processors =
+          let fits = leb-true (t.processors + used_processors plan.tests entries) plan.level parts.processors in
+          omega (arith, is.processors, fits);
+      opens = omega (arith, is.opens);
+      known = looked_up (λ (x : PlanTest). list_all (knows u.locks) x.locks ≡ true) n plan.tests t looked is.known;
+      placed =
+          ap (λ (o : Option (List Resource)). is_placed o t.needs (used_of u.free) placement) is.resources
+          ∙ placed_beside plan.resources t.needs (used_slots entries) (used_of u.free) placement (λ place. sym (is.slots place)) parts.placed;
+    }
+
+-- what is free beside the open starts
+pub free_beside : (plan : PlanParts) (entries : List Entry) (u : InUse) → IsInUse plan (open_starts entries) u → IsFreeBeside plan entries u.free
+free_beside plan entries u is = record {
+  resources = is.resources;
+  used = used_if_some u.free (used_slots entries) is.slots;
+}
+
+any_same : {A : Type 0} (p q : A → Bool) → ((x : A) → p x ≡ q x) → (xs : List A) → list_any p xs ≡ list_any q xs
+any_same p q same [] = refl
+any_same p q same (x ∷ xs) = ap (λ (b : Bool). b || list_any p xs) (same x) ∙ ap (λ (b : Bool). q x || b) (any_same p q same xs)
+
+any_nowhere : {A : Type 0} (xs : List A) → list_any (λ x. false) xs ≡ false
+any_nowhere [] = refl
+any_nowhere (x ∷ xs) = any_nowhere xs
+
+any_either : {A : Type 0} (p q : A → Bool) (xs : List A) → list_any (λ x. p x || q x) xs ≡ (list_any p xs || list_any q xs)
+any_either p q [] = refl
+any_either p q (x ∷ xs) = ap (λ (b : Bool). p x || q x || b) (any_either p q xs) ∙ in_pairs (p x) (q x) (list_any p xs) (list_any q xs)
+  where
+    in_pairs : (a b c d : Bool) → (a || b || (c || d)) ≡ (a || c || (b || d))
+    in_pairs true b c d = refl
+    in_pairs false true true d = refl
+    in_pairs false true false d = refl
+    in_pairs false false c d = refl
+
+-- some start holds a lock that the test names: looked at by lock, or by start
+any_shared : (tests : List PlanTest) (names : List (List ℕ)) (rs : List Running) → list_any (λ (name : List ℕ). list_any (λ (r : Running). is_among name (locks_of (test_at tests r.test))) rs) names ≡ list_any (λ (r : Running). shares_name names (locks_of (test_at tests r.test))) rs
+any_shared tests [] rs = sym (any_nowhere rs)
+any_shared tests (name ∷ names) rs =
+    ap (λ (b : Bool). list_any (λ (r : Running). is_among name (locks_of (test_at tests r.test))) rs || b) (any_shared tests names rs)
+    ∙ sym (any_either (λ (r : Running). is_among name (locks_of (test_at tests r.test))) (λ (r : Running). shares_name names (locks_of (test_at tests r.test))) rs)
+
+any_alike : (b : Bool) (rs : List Running) → list_any (λ (r : Running). b) rs ≡ (b && nat_lt 0 (length rs))
+any_alike true [] = refl
+any_alike true (r ∷ rs) = sym (lt-ltb 0 (length (r ∷ rs)) (omega arith))
+any_alike false rs = any_nowhere rs
+
+excluded_any : (tests : List PlanTest) (t : PlanTest) (rs : List Running) → list_any (λ (r : Running). exclude (Some t) (test_at tests r.test)) rs ≡ (list_any (λ (r : Running). shares_name t.locks (locks_of (test_at tests r.test))) rs || (t.serial && nat_lt 0 (length rs)) || list_any (λ (r : Running). is_serial (test_at tests r.test)) rs)
+unfolding exclude
+excluded_any tests t rs =
+    any_either (λ (r : Running). shares_name t.locks (locks_of (test_at tests r.test)) || t.serial) (λ (r : Running). is_serial (test_at tests r.test)) rs
+    ∙ ap (λ (b : Bool). b || list_any (λ (r : Running). is_serial (test_at tests r.test)) rs)
+    (any_either (λ (r : Running). shares_name t.locks (locks_of (test_at tests r.test))) (λ (r : Running). t.serial) rs
+    ∙ ap (λ (b : Bool). list_any (λ (r : Running). shares_name t.locks (locks_of (test_at tests r.test))) rs || b) (any_alike t.serial rs))
+
+turned : (a b c : Bool) → (a || b || c) ≡ (c || b || a)
+turned true true true = refl
+turned true true false = refl
+turned true false true = refl
+turned true false false = refl
+turned false true true = refl
+turned false true false = refl
+turned false false true = refl
+turned false false false = refl
+
+-- what is in use excludes a test just where an open test does
+excluded_beside : (plan : PlanParts) (rs : List Running) (u : InUse) (t : PlanTest) → IsInUse plan rs u → is_excluded_beside u t ≡ list_any (λ (r : Running). exclude (Some t) (test_at plan.tests r.test)) rs
+excluded_beside plan rs u t is =
+    ap (λ (b : Bool). b || t.serial && nat_lt 0 u.open_count || list_any (is_held u.locks) t.locks) is.serial
+    ∙ ap (λ (n : ℕ). list_any (λ (r : Running). is_serial (test_at plan.tests r.test)) rs || t.serial && nat_lt 0 n || list_any (is_held u.locks) t.locks) is.opens
+    ∙ ap (λ (b : Bool). list_any (λ (r : Running). is_serial (test_at plan.tests r.test)) rs || t.serial && nat_lt 0 (length rs) || b)
+    (any_same (is_held u.locks) (λ (name : List ℕ). list_any (λ (r : Running). is_among name (locks_of (test_at plan.tests r.test))) rs) is.locks t.locks ∙ any_shared plan.tests t.locks rs)
+    ∙ turned (list_any (λ (r : Running). is_serial (test_at plan.tests r.test)) rs) (t.serial && nat_lt 0 (length rs)) (list_any (λ (r : Running). shares_name t.locks (locks_of (test_at plan.tests r.test))) rs)
+    ∙ sym (excluded_any plan.tests t rs)
+
+-- there is room beside what is in use just where there is room by the history
+pub room_beside : (plan : PlanParts) (entries : List Entry) (u : InUse) (t : PlanTest) → IsInUse plan (open_starts entries) u → has_room_beside plan.level u t ≡ has_room plan t entries
+room_beside plan entries u t is =
+    ap (λ (n : ℕ). nat_le (t.processors + n) plan.level && not (is_excluded_beside u t)) is.processors
+    ∙ ap (λ (b : Bool). nat_le (t.processors + used_processors plan.tests entries) plan.level && not b) (excluded_beside plan (open_starts entries) u t is)

@@ -1,0 +1,93 @@
+-- The numbers of some tests of a plan, and the places of its tests.
+use Rattle.std.proofs.Common.{◌≡◌, ◌∙◌, sym, ap, Bool, false, ℕ, zero, suc, ◌+◌, ◌<◌, List, [], ◌∷◌, refl, arith, inl, inr}
+use Rattle.std.specs.Prelude.{Some, None, ◌||◌, ◌==◌, cond, map, filter, slice_get}
+use Rattle.std.proofs.lemmas.Bool.{cases_Bool}
+use Rattle.std.proofs.lemmas.Option.{slice_get_within, get_or_from_slice_get}
+use Rattle.ct_history.specs.declared.plan.PlanTest.{PlanTest}
+use Rattle.ct_history.specs.Plan.{IsAscendingFrom, test_at}
+use Rattle.ct_history.proofs.BoolLemmas.{eq_more}
+use Rattle.ct_history.proofs.PlanLemmas.{contained_at, found_bound}
+use Rattle.ct_core.specs.Waiting.{is_one_of}
+
+-- the numbers of the tests that pass
+abbrev pub numbers_of : (PlanTest → Bool) → List PlanTest → List ℕ
+numbers_of p ts = map (λ (t : PlanTest). t.number) (filter p ts)
+
+none_listed : (p : PlanTest → Bool) (m least : ℕ) (ts : List PlanTest) → IsAscendingFrom least (map (λ (x : PlanTest). x.number) ts) → m < least → is_one_of m (numbers_of p ts) ≡ false
+none_listed p m least [] ascends lt = refl
+none_listed p m least (x ∷ xs) ascends lt =
+    let le = ascends.0 in
+    let rest = none_listed p m (x.number + 1) xs ascends.1 (omega (arith, lt, le)) in
+    let other : (x.number == m) ≡ false = eq_more x.number m (omega (arith, lt, le)) in
+    elim (cases_Bool (p x)) [
+      | inl kept ↦
+          ap (λ (b : Bool). is_one_of m (map (λ (t : PlanTest). t.number) (cond b (x ∷ filter p xs) (filter p xs)))) kept
+          ∙ ap (λ (b : Bool). b || is_one_of m (numbers_of p xs)) other ∙ rest
+      | inr gone ↦ ap (λ (b : Bool). is_one_of m (map (λ (t : PlanTest). t.number) (cond b (x ∷ filter p xs) (filter p xs)))) gone ∙ rest
+    ]
+
+-- a test's number is one of them exactly where the test passes
+pub listed : (p : PlanTest → Bool) (least : ℕ) (ts : List PlanTest) (t : PlanTest) → IsAscendingFrom least (map (λ (x : PlanTest). x.number) ts) → test_at ts t.number ≡ Some t → is_one_of t.number (numbers_of p ts) ≡ p t
+listed p least [] t ascends found = cc
+listed p least (x ∷ xs) t ascends found =
+    let rest : List ℕ = numbers_of p xs in
+    elim (cases_Bool (x.number == t.number)) [
+      | inl here ↦
+          let both : Some x ≡ Some t = sym (ap (λ (b : Bool). cond b (Some x) (test_at xs t.number)) here) ∙ found in
+          let this : x ≡ t = cc in
+          let equal : x.number ≡ t.number = ap (λ (y : PlanTest). y.number) this in
+          let none : is_one_of t.number rest ≡ false = none_listed p t.number (x.number + 1) xs ascends.1 (omega (arith, equal)) in
+          elim (cases_Bool (p x)) [
+            | inl kept ↦
+                ap (λ (b : Bool). is_one_of t.number (map (λ (y : PlanTest). y.number) (cond b (x ∷ filter p xs) (filter p xs)))) kept
+                ∙ ap (λ (b : Bool). b || is_one_of t.number rest) here ∙ sym kept ∙ ap p this
+            | inr gone ↦
+                ap (λ (b : Bool). is_one_of t.number (map (λ (y : PlanTest). y.number) (cond b (x ∷ filter p xs) (filter p xs)))) gone
+                ∙ none ∙ sym gone ∙ ap p this
+          ]
+      | inr other ↦
+          let later = listed p (x.number + 1) xs t ascends.1 (sym (ap (λ (b : Bool). cond b (Some x) (test_at xs t.number)) other) ∙ found) in
+          elim (cases_Bool (p x)) [
+            | inl kept ↦
+                ap (λ (b : Bool). is_one_of t.number (map (λ (y : PlanTest). y.number) (cond b (x ∷ filter p xs) (filter p xs)))) kept
+                ∙ ap (λ (b : Bool). b || is_one_of t.number rest) other ∙ later
+            | inr gone ↦ ap (λ (b : Bool). is_one_of t.number (map (λ (y : PlanTest). y.number) (cond b (x ∷ filter p xs) (filter p xs)))) gone ∙ later
+          ]
+    ]
+
+-- a number that no test has is none of them
+pub unlisted : (p : PlanTest → Bool) (ts : List PlanTest) (m : ℕ) → test_at ts m ≡ None → is_one_of m (numbers_of p ts) ≡ false
+unlisted p [] m none = refl
+unlisted p (x ∷ xs) m none = elim (cases_Bool (x.number == m)) [
+  | inl here ↦
+      let found : Some x ≡ None = sym (ap (λ (b : Bool). cond b (Some x) (test_at xs m)) here) ∙ none in
+      absurd (cc)
+  | inr other ↦
+      let later = unlisted p xs m (sym (ap (λ (b : Bool). cond b (Some x) (test_at xs m)) other) ∙ none) in
+      elim (cases_Bool (p x)) [
+        | inl kept ↦
+            ap (λ (b : Bool). is_one_of m (map (λ (y : PlanTest). y.number) (cond b (x ∷ filter p xs) (filter p xs)))) kept
+            ∙ ap (λ (b : Bool). b || is_one_of m (numbers_of p xs)) other ∙ later
+        | inr gone ↦ ap (λ (b : Bool). is_one_of m (map (λ (y : PlanTest). y.number) (cond b (x ∷ filter p xs) (filter p xs)))) gone ∙ later
+      ]
+]
+
+-- a test at a place is found by its number
+pub at_place : (least : ℕ) (ts : List PlanTest) (place : ℕ) (t : PlanTest) → IsAscendingFrom least (map (λ (x : PlanTest). x.number) ts) → slice_get ts place ≡ Some t → test_at ts t.number ≡ Some t
+at_place least ts place t ascends is = contained_at least ts t ascends (place, slice_get_within ts place t is, get_or_from_slice_get ts place t t is)
+
+-- two places have tests of two numbers
+pub one_place : (least : ℕ) (ts : List PlanTest) (p q : ℕ) (t u : PlanTest) → IsAscendingFrom least (map (λ (x : PlanTest). x.number) ts) → slice_get ts p ≡ Some t → slice_get ts q ≡ Some u → u.number ≡ t.number → q ≡ p
+one_place least [] p q t u ascends here there same = cc
+one_place least (x ∷ xs) zero zero t u ascends here there same = refl
+one_place least (x ∷ xs) zero (suc q) t u ascends here there same =
+    let this : x ≡ t = cc in
+    let above = found_bound (λ (y : PlanTest). y.number == u.number) (x.number + 1) xs u ascends.1 (at_place (x.number + 1) xs q u ascends.1 there) in
+    let equal : x.number ≡ t.number = ap (λ (y : PlanTest). y.number) this in
+    absurd (omega (arith, above, equal, same))
+one_place least (x ∷ xs) (suc p) zero t u ascends here there same =
+    let this : x ≡ u = cc in
+    let above = found_bound (λ (y : PlanTest). y.number == t.number) (x.number + 1) xs t ascends.1 (at_place (x.number + 1) xs p t ascends.1 here) in
+    let equal : x.number ≡ u.number = ap (λ (y : PlanTest). y.number) this in
+    absurd (omega (arith, above, equal, same))
+one_place least (x ∷ xs) (suc p) (suc q) t u ascends here there same = ap suc (one_place (x.number + 1) xs p q t u ascends.1 here there same)

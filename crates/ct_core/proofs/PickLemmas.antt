@@ -1,0 +1,295 @@
+-- What the marks and the set of ready tests say of the choice: which test is settled, and which may start.
+use Rattle.std.proofs.Common.{◌≡◌, ◌∙◌, sym, ap, subst, Bool, true, false, not, ◌&&◌, ◌||◌, ◌⊎◌, ◌==◌, if◌then◌else◌, ℕ, ◌+◌, ◌<◌, ◌≤◌, List, [], ◌∷◌, length, take, get_or, slice_get, is_some, is_none, ltb, nat_le, refl, arith, inl, inr}
+use Rattle.std.specs.Prelude.{Option, Some, None}
+use Rattle.std.specs.List.{list_any}
+use Rattle.std.proofs.lemmas.Bool.{true≢false, and_from, and_parts, cases_Bool, cases_lt, leb-true, ltb-true, or_right}
+use Rattle.std.proofs.lemmas.List.{get_or_default, get_or-take, length-take}
+use Rattle.std.proofs.lemmas.List.Elements.{All-more}
+use Rattle.std.proofs.lemmas.Option.{none-some, same_Some, slice_get_within}
+use Rattle.ct_alloc.specs.declared.placement.Placement.{Placement}
+use Rattle.ct_verdict.specs.declared.verdict.Cause.{Cause}
+use Rattle.ct_verdict.specs.declared.verdict.Cause.TheVariants.{Fixture, Stopped}
+use Rattle.ct_history.specs.declared.plan.PlanTest.{PlanTest}
+use Rattle.ct_history.specs.declared.plan.PlanParts.{PlanParts}
+use Rattle.ct_history.specs.declared.history.Entry.{Entry}
+use Rattle.ct_history.specs.Plan.{IsSound, has_sound_processors, test_at}
+use Rattle.ct_history.specs.History.{Running, has_stop, open_starts, used_processors}
+use Rattle.ct_history.specs.Rules.{CanStart, cause_behind, exclude, first_unpassed, follows_finals, has_room, is_pending, is_ready, is_serial, locks_of, may_start_at, may_start_if_placed, settle_cause, settle_cause_at, shares_name}
+use Rattle.ct_history.proofs.MayLemmas.{MayStart, may_start-parts}
+use Rattle.ct_queue.specs.Ready.{ReadyValue, IsBehind, IsLeastBehind, NoneBehind, count_at, is_member, is_out_at, place_of}
+use Rattle.ct_queue.specs.Marks.{is_marked, IsLeastWithin, NoneWithin}
+use Rattle.ct_core.specs.Choice.{IsLeastToSettle, NoneSettles, NoneStarts}
+use Rattle.ct_core.specs.Waiting.{AreSettleable, IsQueued, cause_then, settles_but}
+use Rattle.ct_core.proofs.QueueLemmas.{all_found, found_number, found_place, place_there, places_ascend, queued_test, stands_there, there_found}
+use Rattle.ct_core.proofs.LowerLemmas.{ready_says, settle_going}
+
+-- the least test that may be settled stands at this place, and is settled with this cause
+pub record SettlesAt (plan : PlanParts) (es : List Entry) (place : ℕ) : Type 0 where
+  pub test : PlanTest
+  pub cause : Cause
+  pub there : slice_get plan.tests place ≡ Some test
+  pub has : settle_cause plan test es ≡ Some cause
+  pub least : IsLeastToSettle plan es test.number cause
+
+no_cause : (o : Option Cause) → (is_some o && true) ≡ false → o ≡ None
+no_cause None is = refl
+no_cause (Some c) is = absurd (true≢false is)
+
+some_cause : (o : Option Cause) → (is_some o && true) ≡ true → (c : Cause) × (o ≡ Some c)
+some_cause None is = absurd (true≢false (sym is))
+some_cause (Some c) is = (c, refl)
+
+-- the test that was looked up, where it may be settled
+pub record HasCause (plan : PlanParts) (es : List Entry) (looked_up : Option PlanTest) : Type 0 where
+  pub test : PlanTest
+  pub cause : Cause
+  pub found : looked_up ≡ Some test
+  pub has : settle_cause plan test es ≡ Some cause
+
+has_cause : (plan : PlanParts) (es : List Entry) (o : Option PlanTest) → settles_but plan es [] o ≡ true → HasCause plan es o
+has_cause plan es None is = absurd (true≢false (sym is))
+has_cause plan es (Some t) is =
+    let some = some_cause (settle_cause plan t es) is in
+    record { test = t; cause = some.0; found = refl; has = some.1 }
+
+cause_none : (plan : PlanParts) (es : List Entry) (o : Option PlanTest) → ((u : PlanTest) → o ≡ Some u → settle_cause plan u es ≡ None) → settle_cause_at plan es o ≡ None
+cause_none plan es None none = refl
+cause_none plan es (Some u) none = none u refl
+
+module _ (plan : PlanParts) (sound : IsSound plan) (es : List Entry) (m : List Bool) (marks : AreSettleable plan es [] m) where
+  -- a test at a place without a mark can't be settled
+  unsettled : (place : ℕ) (u : PlanTest) → is_marked m place ≡ false → slice_get plan.tests place ≡ Some u → settle_cause plan u es ≡ None
+  unsettled place u bare there =
+      no_cause (settle_cause plan u es) (sym (marks.marked place ∙ ap (λ (o : Option PlanTest). settles_but plan es [] o) there) ∙ bare)
+
+  -- nor one of a lesser number
+  unsettled_lesser : (place n : ℕ) (t u : PlanTest) → NoneWithin m 0 0 place → slice_get plan.tests place ≡ Some t → n < t.number → test_at plan.tests n ≡ Some u → settle_cause plan u es ≡ None
+  unsettled_lesser place n t u none there less found =
+      let at = found_place plan.tests n u found in
+      let number = found_number plan.tests n u found in
+      unsettled at.0 u (none at.0 (omega arith) (omega arith) (before at.0 at.1 number)) at.1
+    where
+      before : (k : ℕ) → slice_get plan.tests k ≡ Some u → u.number ≡ n → k < place
+      before k at number = elim (cases_lt k place) [
+        | inl lesser ↦ lesser
+        | inr behind ↦ elim (cases_lt place k) [
+          | inl more ↦ absurd (omega (arith, less, number, places_ascend 1 plan.tests place k t u sound.numbers there at more))
+          | inr same ↦
+              let here : k ≡ place = omega (arith, behind, same) in
+              let is : t ≡ u = same_Some t u (sym there ∙ ap (λ (j : ℕ). slice_get plan.tests j) (sym here) ∙ at) in
+              let equal : t.number ≡ u.number = ap (λ (x : PlanTest). x.number) is in
+              absurd (omega (arith, less, number, equal))
+        ]
+      ]
+
+  -- the least mark is that of the least test that may be settled
+  pub least_mark_settles : (place : ℕ) → IsLeastWithin m 0 0 (length m) place → SettlesAt plan es place
+  least_mark_settles place least =
+      let at = has_cause plan es (slice_get plan.tests place) (sym (marks.marked place) ∙ least.marked) in
+      record {
+        test = at.test;
+        cause = at.cause;
+        there = at.found;
+        has = at.has;
+        least = record {
+          may = ap (λ (o : Option PlanTest). settle_cause_at plan es o) (there_found plan.tests place at.test sound.numbers at.found) ∙ at.has;
+          least = λ n less. cause_none plan es (test_at plan.tests n) (λ u found. unsettled_lesser place n at.test u least.least at.found less found);
+        };
+      }
+
+  -- where there is no mark no test may be settled
+  pub no_mark_settles : NoneWithin m 0 0 (length m) → NoneSettles plan es
+  no_mark_settles none = λ n. cause_none plan es (test_at plan.tests n) (λ u found.
+      let at = found_place plan.tests n u found in
+      let within = slice_get_within plan.tests at.0 u at.1 in
+      let room = marks.room in
+      unsettled at.0 u (none at.0 (omega arith) (omega arith) (omega (arith, within, room))) at.1)
+
+-- a test that may be settled is so because of a Stop, or else of its setups, or of what was known before the run
+pub cause_stopped : (plan : PlanParts) (t : PlanTest) (es : List Entry) → has_stop es ≡ true → is_some (settle_cause plan t es) ≡ true → settle_cause plan t es ≡ Some Stopped
+cause_stopped plan t es stop some = by_parts (is_pending plan t es) (has_stop es) (if follows_finals plan t es then cause_behind (first_unpassed plan t es) t.fixed else None) stop some
+  where
+    by_parts : (pending stop : Bool) (rest : Option Cause) → stop ≡ true → is_some (if not pending then None else (if stop then Some Stopped else rest)) ≡ true → (if not pending then None else (if stop then Some Stopped else rest)) ≡ Some Stopped
+    by_parts true true rest is has = refl
+    by_parts true false rest is has = absurd (true≢false (sym is))
+    by_parts false stop rest is has = absurd (true≢false (sym has))
+
+pub cause_going : (plan : PlanParts) (t : PlanTest) (es : List Entry) → has_stop es ≡ false → is_some (settle_cause plan t es) ≡ true → settle_cause plan t es ≡ cause_then plan es t
+cause_going plan t es on some =
+    let is = settle_going plan t es on in
+    is ∙ by_cases (follows_finals plan t es && is_pending plan t es) (cause_then plan es t) (sym (ap is_some is) ∙ some)
+  where
+    by_cases : (b : Bool) (c : Option Cause) → is_some (if b then c else None) ≡ true → (if b then c else None) ≡ c
+    by_cases true c has = refl
+    by_cases false c has = absurd (true≢false (sym has))
+
+-- a test that has neither a setup that did not pass nor a fixed cause is not kept from running
+not_kept : (setup : Option ℕ) (fixed : Option Cause) → cause_behind setup fixed ≡ None → (is_none setup ≡ true) × (is_none fixed ≡ true)
+not_kept None None none = (refl, refl)
+not_kept None (Some c) none = absurd (none-some c (sym none))
+not_kept (Some s) fixed none = absurd (none-some (Fixture s) (sym none))
+
+-- the test at this place of the queue is pending and ready, and may start where there is room for it
+pub record MayBeNext (plan : PlanParts) (es : List Entry) (place : ℕ) : Type 0 where
+  pub test : PlanTest
+  pub within : place < length plan.queue
+  pub found : test_at plan.tests (get_or plan.queue place 0) ≡ Some test
+  pub pending : is_pending plan test es ≡ true
+  pub ready : is_ready plan test es ≡ true
+  pub may : may_start_if_placed plan test es ≡ has_room plan test es
+
+module _ (plan : PlanParts) (sound : IsSound plan) (es : List Entry) (r : ReadyValue) (q : IsQueued plan es [] r) where
+  -- a member is a pending test whose predecessors are final
+  member_says : (place : ℕ) (t : PlanTest) → place < length plan.queue → test_at plan.tests (get_or plan.queue place 0) ≡ Some t → is_member r place ≡ (follows_finals plan t es && is_pending plan t es)
+  member_says place t within found =
+      let n = get_or plan.queue place 0 in
+      let at : place_of r.order n ≡ place = ap (λ (o : List ℕ). place_of o n) q.order ∙ place_there plan sound place within in
+      ap (λ (p : ℕ). is_member r p) (sym at) ∙ ready_says plan es [] r n t q (stands_there plan sound place within) refl found
+
+  member_within : (place : ℕ) → is_member r place ≡ true → place < length plan.queue
+  member_within place member =
+      let two = and_parts (ltb place (length r.order) && count_at r place == 0) (not (is_out_at r place)) member in
+      let one = and_parts (ltb place (length r.order)) (count_at r place == 0) two.0 in
+      subst (λ (o : List ℕ). place < length o) q.order (ltb-true place (length r.order) one.0)
+
+  pub member_may : (place : ℕ) → has_stop es ≡ false → NoneSettles plan es → is_member r place ≡ true → MayBeNext plan es place
+  member_may place on unsettled member =
+      let within = member_within place member in
+      let n = get_or plan.queue place 0 in
+      let at = queued_test plan sound n (stands_there plan sound place within) in
+      let t = at.test in
+      let both = and_parts (follows_finals plan t es) (is_pending plan t es) (sym (member_says place t within at.found) ∙ member) in
+      let none : settle_cause plan t es ≡ None = sym (ap (λ (o : Option PlanTest). settle_cause_at plan es o) at.found) ∙ unsettled n in
+      let ripe : settle_cause plan t es ≡ cause_then plan es t =
+      settle_going plan t es on ∙ ap (λ (b : Bool). if b then cause_then plan es t else None) (and_from (follows_finals plan t es) (is_pending plan t es) both.0 both.1) in
+      let free = not_kept (first_unpassed plan t es) t.fixed (sym ripe ∙ none) in
+      let ready = and_from (follows_finals plan t es && is_none (first_unpassed plan t es)) (is_none t.fixed) (and_from (follows_finals plan t es) (is_none (first_unpassed plan t es)) both.0 free.0) free.1 in
+      record {
+        test = t;
+        within = within;
+        found = at.found;
+        pending = both.1;
+        ready = ready;
+        may =
+            ap (λ (b : Bool). not b && is_pending plan t es && is_ready plan t es && has_room plan t es) on
+            ∙ ap (λ (b : Bool). b && is_ready plan t es && has_room plan t es) both.1
+            ∙ ap (λ (b : Bool). b && has_room plan t es) ready;
+      }
+
+  -- a test that is no member can't start
+  pub no_member : (place : ℕ) → place < length plan.queue → is_member r place ≡ false → CanStart plan es (get_or plan.queue place 0) → ⊥
+  no_member place within none can =
+      let n = get_or plan.queue place 0 in
+      let at = queued_test plan sound n (stands_there plan sound place within) in
+      let t = at.test in
+      let may = may_start-parts plan t can.placement es (sym (ap (λ (o : Option PlanTest). may_start_at plan es can.placement o) at.found) ∙ can.may) in
+      let ready = and_parts (follows_finals plan t es && is_none (first_unpassed plan t es)) (is_none t.fixed) may.ready in
+      let follows = and_parts (follows_finals plan t es) (is_none (first_unpassed plan t es)) ready.0 in
+      true≢false (sym (member_says place t within at.found ∙ and_from (follows_finals plan t es) (is_pending plan t es) follows.0 may.pending) ∙ none)
+
+-- none of these tests may start where none at all may
+none_starts : (plan : PlanParts) (es : List Entry) (numbers : List ℕ) → ((n : ℕ) → CanStart plan es n → ⊥) → NoneStarts plan es numbers
+none_starts plan es numbers none = λ i d within. none (get_or numbers i d)
+
+-- what a test that can start shows
+found_parts : (plan : PlanParts) (es : List Entry) (p : Option Placement) (o : Option PlanTest) → may_start_at plan es p o ≡ true → (t : PlanTest) × (o ≡ Some t) × MayStart plan t p es
+found_parts plan es p None may = absurd (true≢false (sym may))
+found_parts plan es p (Some t) may = (t, refl, may_start-parts plan t p es may)
+
+-- behind a Stop no test may start
+pub none_stopped : (plan : PlanParts) (es : List Entry) (numbers : List ℕ) → has_stop es ≡ true → NoneStarts plan es numbers
+none_stopped plan es numbers stop = none_starts plan es numbers (λ n can.
+    let parts = found_parts plan es can.placement (test_at plan.tests n) can.may in
+    let may = parts.2 in
+    true≢false (sym stop ∙ may.goes_on))
+
+-- how many places stand up to the given one
+abbrev pub places_to : Option ℕ → ℕ
+places_to None = 0
+places_to (Some given) = given + 1
+
+behind_or_before : (given : Option ℕ) (place : ℕ) → (place < places_to given) ⊎ IsBehind given place
+behind_or_before None place = inr tt
+behind_or_before (Some given) place = elim (cases_lt place (given + 1)) [
+  | inl before ↦ inl before
+  | inr behind ↦ inr (omega (arith, behind))
+]
+
+module _ (plan : PlanParts) (es : List Entry) where
+  -- tests of the queue in front of a place, one by one and all together
+  none_before : (k : ℕ) → ((place : ℕ) → place < k → place < length plan.queue → CanStart plan es (get_or plan.queue place 0) → ⊥) → NoneStarts plan es (take k plan.queue)
+  none_before k none = λ place d within.
+      let len = length-take k plan.queue in
+      let before : place < k = omega (arith, within, len) in
+      let inside : place < length plan.queue = omega (arith, within, len) in
+      let same : get_or (take k plan.queue) place d ≡ get_or plan.queue place 0 = get_or-take k plan.queue place d before ∙ get_or_default plan.queue place d 0 inside in
+      subst (λ (n : ℕ). CanStart plan es n → ⊥) (sym same) (none place before inside)
+
+  each_before : (k : ℕ) → NoneStarts plan es (take k plan.queue) → (place : ℕ) → place < k → place < length plan.queue → CanStart plan es (get_or plan.queue place 0) → ⊥
+  each_before k none place before inside =
+      let len = length-take k plan.queue in
+      let within : place < length (take k plan.queue) = omega (arith, before, inside, len) in
+      subst (λ (n : ℕ). CanStart plan es n → ⊥) (get_or-take k plan.queue place 0 before) (none place 0 within)
+
+  -- no test is skipped in front of the first
+  pub walk_begins : NoneStarts plan es (take (places_to None) plan.queue)
+  walk_begins = λ place d within. absurd (omega (arith, within))
+
+  -- one test more that can't start
+  pub walk_on : (found : ℕ) → found < length plan.queue → NoneStarts plan es (take found plan.queue) → (CanStart plan es (get_or plan.queue found 0) → ⊥) → NoneStarts plan es (take (places_to (Some found)) plan.queue)
+  walk_on found within none this = All-more (λ n. CanStart plan es n → ⊥) plan.queue found 0 within none this
+
+module _ (plan : PlanParts) (sound : IsSound plan) (es : List Entry) (r : ReadyValue) (q : IsQueued plan es [] r) (given : Option ℕ) (none : NoneStarts plan es (take (places_to given) plan.queue)) where
+  -- no test in front of the next member may start
+  pub walk_to : (found : ℕ) → IsLeastBehind r given found → NoneStarts plan es (take found plan.queue)
+  walk_to found next = none_before plan es found (λ place before inside. elim (behind_or_before given place) [
+    | inl earlier ↦ each_before plan es (places_to given) none place earlier inside
+    | inr behind ↦ no_member plan sound es r q place inside (next.least place behind before)
+  ])
+
+  -- and none at all where there is no further member
+  pub walk_ends : NoneBehind r given → NoneStarts plan es plan.queue
+  walk_ends bare = λ place d inside.
+      subst (λ (n : ℕ). CanStart plan es n → ⊥) (get_or_default plan.queue place 0 d inside) (elim (behind_or_before given place) [
+        | inl earlier ↦ each_before plan es (places_to given) none place earlier inside
+        | inr behind ↦ no_member plan sound es r q place inside (bare place behind)
+      ])
+
+-- where one test passes and each that does passes another, one passes the other
+any_wider : {A : Type 0} (p q : A → Bool) → ((x : A) → p x ≡ true → q x ≡ true) → (xs : List A) → list_any p xs ≡ true → list_any q xs ≡ true
+any_wider p q wider [] any = any
+any_wider p q wider (x ∷ xs) any = elim (cases_Bool (p x)) [
+  | inl here ↦ ap (λ (b : Bool). b || list_any q xs) (wider x here)
+  | inr not_here ↦ or_right (q x) (list_any q xs) (any_wider p q wider xs (sym (ap (λ (b : Bool). b || list_any p xs) not_here) ∙ any))
+]
+
+-- a test that runs alone excludes each
+serial_excludes : (one other : Option PlanTest) → is_serial other ≡ true → exclude one other ≡ true
+unfolding exclude
+serial_excludes one other serial = last (shares_name (locks_of one) (locks_of other)) (is_serial one) (is_serial other) serial
+  where
+    last : (a b c : Bool) → c ≡ true → (a || b || c) ≡ true
+    last true b c is = refl
+    last false true c is = refl
+    last false false c is = is
+
+module _ (plan : PlanParts) (sound : IsSound plan) (es : List Entry) (numbers : List ℕ) where
+  -- where all processors are used no test may start
+  pub none_when_full : plan.level ≤ used_processors plan.tests es → NoneStarts plan es numbers
+  none_when_full full = none_starts plan es numbers (λ n can.
+      let parts = found_parts plan es can.placement (test_at plan.tests n) can.may in
+      let t = parts.0 in
+      let may = parts.2 in
+      let fits = all_found (has_sound_processors plan.level) (λ (x : PlanTest). x.number == n) plan.tests t sound.processors parts.1 in
+      let least = leb-true 1 t.processors (and_parts (nat_le 1 t.processors) (nat_le t.processors plan.level) fits).0 in
+      let most = leb-true (t.processors + used_processors plan.tests es) plan.level may.processors in
+      omega (arith, full, least, most))
+
+  -- nor where a test that runs alone is open
+  pub none_beside_serial : list_any (λ (u : Running). is_serial (test_at plan.tests u.test)) (open_starts es) ≡ true → NoneStarts plan es numbers
+  none_beside_serial alone = none_starts plan es numbers (λ n can.
+      let parts = found_parts plan es can.placement (test_at plan.tests n) can.may in
+      let t = parts.0 in
+      let may = parts.2 in
+      let excluded = any_wider (λ (u : Running). is_serial (test_at plan.tests u.test)) (λ (u : Running). exclude (Some t) (test_at plan.tests u.test)) (λ u serial. serial_excludes (Some t) (test_at plan.tests u.test) serial) (open_starts es) alone in
+      true≢false (sym excluded ∙ may.apart))

@@ -1,0 +1,217 @@
+-- Where the tests of a plan stand: by their number, by their place, and in the queue.
+use Rattle.std.proofs.Common.{◌≡◌, ◌∙◌, sym, ap, subst, Bool, true, false, not, cond, ◌==◌, eqb, ℕ, zero, suc, ◌+◌, ◌<◌, ◌≤◌, List, [], ◌∷◌, length, map, filter, get_or, drop, Contains, slice_get, refl, arith, inl, inr}
+use Rattle.std.specs.Prelude.{Some}
+use Rattle.std.specs.List.{IsDistinct, find, list_all}
+use Rattle.std.proofs.lemmas.Bool.{true≢false, and_parts, cases_Bool, cases_eq, cases_lt, cases_order, eq-eqb, eqb-true, ne_eqb, or_from}
+use Rattle.std.proofs.lemmas.Bool.Decides.{Decides-eqb}
+use Rattle.std.proofs.lemmas.List.{length-map}
+use Rattle.std.proofs.lemmas.List.Elements.{All-cons, All-nil, All-weaker, Contains-get_or}
+use Rattle.std.proofs.lemmas.List.Kept.{AllPairs-cons}
+use Rattle.std.proofs.lemmas.List.Sorted.{Contains-permutation, IsPermutation-sym, length_permutation}
+use Rattle.std.proofs.lemmas.List.Sums.{count_by-le-length, fails_before_first, length-filter, passes_at_first}
+use Rattle.std.proofs.lemmas.Map.Keys.{IsDistinct-IsPermutation}
+use Rattle.std.proofs.lemmas.Map.Made.{AllPairs-from_IsDistinct, IsDistinct-from_AllPairs}
+use Rattle.std.proofs.lemmas.Option.{get_or_from_slice_get, none-some, same_Some, slice_get_read, slice_get_within}
+use Rattle.std.specs.List.{All, AllPairs}
+use Rattle.ct_history.specs.declared.plan.PlanTest.{PlanTest}
+use Rattle.ct_history.specs.declared.plan.PlanParts.{PlanParts}
+use Rattle.ct_history.specs.Plan.{IsAscendingFrom, IsSound, enabled, test_at}
+use Rattle.ct_history.proofs.BoolLemmas.{eq_is, eq_less, eq_more}
+use Rattle.ct_history.proofs.PlanLemmas.{contained_at, find_passes, found_bound}
+use Rattle.ct_history.proofs.ProgressLemmas.{found_contains}
+use Rattle.ct_queue.specs.Ready.{NamesOnce, StandsIn, place_of}
+use Rattle.ct_queue.proofs.CallerLemmas.{place_of_test}
+use Rattle.ct_core.specs.Waiting.{is_one_of}
+
+-- the numbers of tests
+abbrev pub numbers_of : List PlanTest → List ℕ
+numbers_of tests = map (λ (t : PlanTest). t.number) tests
+
+-- numbers that ascend from one on do so from a lesser one on
+ascend_sooner : (most least : ℕ) (ns : List ℕ) → least ≤ most → IsAscendingFrom most ns → IsAscendingFrom least ns
+ascend_sooner most least [] le ascends = tt
+ascend_sooner most least (n ∷ ns) le ascends = (omega (arith, le, ascends.0), ascends.1)
+
+pub ascend-filter : (p : PlanTest → Bool) (least : ℕ) (ts : List PlanTest) → IsAscendingFrom least (numbers_of ts) → IsAscendingFrom least (numbers_of (filter p ts))
+ascend-filter p least [] ascends = tt
+ascend-filter p least (t ∷ ts) ascends =
+    let rest = ascend-filter p (t.number + 1) ts ascends.1 in
+    elim (cases_Bool (p t)) [
+      | inl kept ↦ subst (λ (b : Bool). IsAscendingFrom least (numbers_of (cond b (t ∷ filter p ts) (filter p ts)))) (sym kept) (ascends.0, rest)
+      | inr gone ↦
+          subst (λ (b : Bool). IsAscendingFrom least (numbers_of (cond b (t ∷ filter p ts) (filter p ts)))) (sym gone)
+          (ascend_sooner (t.number + 1) least (numbers_of (filter p ts)) (omega (arith, ascends.0)) rest)
+    ]
+
+pub ascend-drop : (least at : ℕ) (ns : List ℕ) → IsAscendingFrom least ns → IsAscendingFrom least (drop at ns)
+ascend-drop least zero ns ascends = ascends
+ascend-drop least (suc at) [] ascends = tt
+ascend-drop least (suc at) (n ∷ ns) ascends = ascend_sooner (n + 1) least (drop at ns) (omega (arith, ascends.0)) (ascend-drop (n + 1) at ns ascends.1)
+
+-- a number below those is none of them
+pub none_lesser : (least n : ℕ) (ns : List ℕ) → IsAscendingFrom least ns → n < least → is_one_of n ns ≡ false
+none_lesser least n [] ascends less = refl
+none_lesser least n (m ∷ ms) ascends less =
+    or_from (m == n) (is_one_of n ms) (eq_more m n (omega (arith, ascends.0, less))) (none_lesser (m + 1) n ms ascends.1 (omega (arith, ascends.0, less)))
+
+all_behind : (least : ℕ) (ns : List ℕ) → IsAscendingFrom least ns → All (λ n. least ≤ n) ns
+all_behind least [] ascends = All-nil (λ n. least ≤ n)
+all_behind least (m ∷ ms) ascends =
+    All-cons (λ n. least ≤ n) m ms ascends.0
+    (All-weaker (λ n. m + 1 ≤ n) (λ n. least ≤ n) (λ n more. omega (arith, more, ascends.0)) ms (all_behind (m + 1) ms ascends.1))
+
+-- of numbers that ascend, each is below those behind it
+pairs_ascend : (least : ℕ) (ns : List ℕ) → IsAscendingFrom least ns → AllPairs (λ one other. one < other) ns
+pairs_ascend least [] ascends = λ i j d before within. absurd (omega (arith, before, within))
+pairs_ascend least (m ∷ ms) ascends =
+    AllPairs-cons (λ one other. one < other) m ms
+    (All-weaker (λ n. m + 1 ≤ n) (λ n. m < n) (λ n more. omega (arith, more)) ms (all_behind (m + 1) ms ascends.1))
+    (pairs_ascend (m + 1) ms ascends.1)
+
+there_bound : (least : ℕ) (ts : List PlanTest) (place : ℕ) (t : PlanTest) → IsAscendingFrom least (numbers_of ts) → slice_get ts place ≡ Some t → least ≤ t.number
+there_bound least [] place t ascends there = absurd (none-some t there)
+there_bound least (x ∷ xs) zero t ascends there = subst (λ (y : PlanTest). least ≤ y.number) (same_Some x t there) ascends.0
+there_bound least (x ∷ xs) (suc place) t ascends there =
+    let later = there_bound (x.number + 1) xs place t ascends.1 there in
+    omega (arith, ascends.0, later)
+
+-- the numbers ascend with the places
+pub places_ascend : (least : ℕ) (ts : List PlanTest) (p q : ℕ) (t u : PlanTest) → IsAscendingFrom least (numbers_of ts) → slice_get ts p ≡ Some t → slice_get ts q ≡ Some u → p < q → t.number < u.number
+places_ascend least [] p q t u ascends there other less = absurd (none-some t there)
+places_ascend least (x ∷ xs) p zero t u ascends there other less = absurd (omega (arith, less))
+places_ascend least (x ∷ xs) zero (suc q) t u ascends there other less =
+    let later = there_bound (x.number + 1) xs q u ascends.1 other in
+    subst (λ (y : PlanTest). y.number < u.number) (same_Some x t there) (omega (arith, later))
+places_ascend least (x ∷ xs) (suc p) (suc q) t u ascends there other less = places_ascend (x.number + 1) xs p q t u ascends.1 there other (omega (arith, less))
+
+-- tests of one number stand at one place
+pub one_place : (ts : List PlanTest) (p q : ℕ) (t u : PlanTest) → IsAscendingFrom 1 (numbers_of ts) → slice_get ts p ≡ Some t → slice_get ts q ≡ Some u → t.number ≡ u.number → p ≡ q
+one_place ts p q t u ascends there other same = elim (cases_order p q) [
+  | inl is ↦ is
+  | inr apart ↦ elim apart [
+    | inl less ↦ absurd (omega (arith, same, places_ascend 1 ts p q t u ascends there other less))
+    | inr more ↦ absurd (omega (arith, same, places_ascend 1 ts q p u t ascends other there more))
+  ]
+]
+
+-- a test that was looked up has its number, and a place
+pub found_number : (ts : List PlanTest) (n : ℕ) (t : PlanTest) → test_at ts n ≡ Some t → t.number ≡ n
+found_number ts n t found = eqb-true t.number n (find_passes (λ (x : PlanTest). x.number == n) ts t found)
+
+pub found_place : (ts : List PlanTest) (n : ℕ) (t : PlanTest) → test_at ts n ≡ Some t → (place : ℕ) × (slice_get ts place ≡ Some t)
+found_place ts n t found =
+    let at = found_contains (λ (x : PlanTest). x.number == n) ts t found in
+    (at.0, slice_get_read ts (length ts) at.0 t refl at.1 (sym at.2))
+
+-- a test at a place is found by its number
+pub there_found : (ts : List PlanTest) (place : ℕ) (t : PlanTest) → IsAscendingFrom 1 (numbers_of ts) → slice_get ts place ≡ Some t → test_at ts t.number ≡ Some t
+there_found ts place t ascends there = contained_at 1 ts t ascends (place, slice_get_within ts place t there, get_or_from_slice_get ts place t t there)
+
+-- a test stands in an order that contains it
+pub stands_from_contains : (order : List ℕ) (n : ℕ) → Contains order n → StandsIn order n
+stands_from_contains order n is = elim (cases_lt (place_of order n) (length order)) [
+  | inl stands ↦ stands
+  | inr past ↦
+      let fails : eqb (get_or order is.0 n) n ≡ false = fails_before_first (λ t. eqb t n) order is.0 n (omega (arith, past, is.1)) in
+      absurd (true≢false (sym (eq-eqb (get_or order is.0 n) n is.2) ∙ fails))
+]
+
+contains_from_stands : (order : List ℕ) (n : ℕ) → StandsIn order n → Contains order n
+contains_from_stands order n stands =
+    (place_of order n, stands, eqb-true (get_or order (place_of order n) n) n (passes_at_first (λ t. eqb t n) order n stands))
+
+-- what holds of each element holds of the one that was found
+pub all_found : {A : Type 0} (p q : A → Bool) (xs : List A) (x : A) → list_all p xs ≡ true → find q xs ≡ Some x → p x ≡ true
+all_found p q [] x all is = absurd (none-some x is)
+all_found p q (y ∷ ys) x all is = elim (cases_Bool (q y)) [
+  | inl here ↦
+      let found : Some y ≡ Some x = sym (ap (λ (b : Bool). cond b (Some y) (find q ys)) here) ∙ is in
+      ap p (sym (same_Some y x found)) ∙ (and_parts (p y) (list_all p ys) all).0
+  | inr not_here ↦ all_found p q ys x (and_parts (p y) (list_all p ys) all).1 (sym (ap (λ (b : Bool). cond b (Some y) (find q ys)) not_here) ∙ is)
+]
+
+-- a test of the plan with this number, which is not disabled
+pub record IsEnabledAt (tests : List PlanTest) (number : ℕ) : Type 0 where
+  pub test : PlanTest
+  pub found : test_at tests number ≡ Some test
+  pub works : test.disabled ≡ false
+
+found_behind : (u : PlanTest) (us : List PlanTest) (n : ℕ) → IsAscendingFrom (u.number + 1) (numbers_of us) → IsEnabledAt us n → IsEnabledAt (u ∷ us) n
+found_behind u us n ascends later =
+    let bound = found_bound (λ (x : PlanTest). x.number == n) (u.number + 1) us later.test ascends later.found in
+    let number = found_number us n later.test later.found in
+    record {
+      test = later.test;
+      found = ap (λ (b : Bool). cond b (Some u) (test_at us n)) (eq_less u.number n (omega (arith, bound, number))) ∙ later.found;
+      works = later.works;
+    }
+
+first_or_behind : (u : PlanTest) (us : List PlanTest) (n : ℕ) → u.disabled ≡ false → IsAscendingFrom (u.number + 1) (numbers_of us) → (Contains (numbers_of (enabled us)) n → IsEnabledAt us n) → Contains (u.number ∷ numbers_of (enabled us)) n → IsEnabledAt (u ∷ us) n
+first_or_behind u us n works ascends more (zero, lt, same) = record {
+  test = u;
+  found = ap (λ (b : Bool). cond b (Some u) (test_at us n)) (eq_is u.number n same);
+  works = works;
+}
+first_or_behind u us n works ascends more (suc k, lt, same) = found_behind u us n ascends (more (k, omega (arith, lt), same))
+
+enabled_found : (least : ℕ) (ts : List PlanTest) (n : ℕ) → IsAscendingFrom least (numbers_of ts) → Contains (numbers_of (enabled ts)) n → IsEnabledAt ts n
+enabled_found least [] n ascends is = absurd (omega (arith, is.1))
+enabled_found least (u ∷ us) n ascends is = elim (cases_Bool u.disabled) [
+  | inl off ↦
+      found_behind u us n ascends.1
+      (enabled_found (u.number + 1) us n ascends.1 (subst (λ (b : Bool). Contains (numbers_of (cond (not b) (u ∷ enabled us) (enabled us))) n) off is))
+  | inr works ↦
+      first_or_behind u us n works ascends.1 (λ more. enabled_found (u.number + 1) us n ascends.1 more)
+      (subst (λ (b : Bool). Contains (numbers_of (cond (not b) (u ∷ enabled us) (enabled us))) n) works is)
+]
+
+eqb_flips : (x y : ℕ) → eqb x y ≡ eqb y x
+eqb_flips x y = elim (cases_eq x y) [
+  | inl same ↦ eq-eqb x y same ∙ sym (eq-eqb y x (sym same))
+  | inr apart ↦ ne_eqb x y apart ∙ sym (ne_eqb y x (λ same. apart (sym same)))
+]
+
+module _ (plan : PlanParts) (sound : IsSound plan) where
+  -- what stands in the queue is the number of a test that is not disabled
+  pub queued_test : (n : ℕ) → StandsIn plan.queue n → IsEnabledAt plan.tests n
+  queued_test n stands =
+      enabled_found 1 plan.tests n sound.numbers
+      (Contains-permutation plan.queue (numbers_of (enabled plan.tests)) n sound.queue (contains_from_stands plan.queue n stands))
+
+  -- and such a number stands in the queue
+  pub enabled_stands : (n : ℕ) → Contains (numbers_of (enabled plan.tests)) n → StandsIn plan.queue n
+  enabled_stands n is =
+      stands_from_contains plan.queue n
+      (Contains-permutation (numbers_of (enabled plan.tests)) plan.queue n (IsPermutation-sym plan.queue (numbers_of (enabled plan.tests)) sound.queue) is)
+
+  distinct_numbers : IsDistinct eqb (numbers_of (enabled plan.tests))
+  distinct_numbers =
+      let ns = numbers_of (enabled plan.tests) in
+      let ascends : IsAscendingFrom 1 ns = ascend-filter (λ (t : PlanTest). not t.disabled) 1 plan.tests sound.numbers in
+      IsDistinct-from_AllPairs Decides-eqb ns (λ i j d before within.
+      let less : get_or ns i d < get_or ns j d = pairs_ascend 1 ns ascends i j d before within in
+      λ same. omega (arith, less, same))
+
+  -- the queue names each test once
+  pub queue_once : NamesOnce plan.queue
+  queue_once =
+      let ns = numbers_of (enabled plan.tests) in
+      AllPairs-from_IsDistinct Decides-eqb plan.queue
+      (IsDistinct-IsPermutation eqb eqb_flips ns plan.queue (IsPermutation-sym plan.queue ns sound.queue) distinct_numbers)
+
+  -- and has at most as many as the plan
+  pub queue_fits : length plan.queue ≤ length plan.tests
+  queue_fits =
+      let ns = numbers_of (enabled plan.tests) in
+      let same : length ns ≡ length plan.queue = length_permutation plan.queue ns sound.queue in
+      let mapped : length ns ≡ length (enabled plan.tests) = length-map (enabled plan.tests) (λ (t : PlanTest). t.number) in
+      let counted = length-filter (λ (t : PlanTest). not t.disabled) plan.tests in
+      let most = count_by-le-length (λ (t : PlanTest). not t.disabled) plan.tests in
+      omega (arith, same, mapped, counted, most)
+
+  -- the test at a place of the queue stands there
+  pub stands_there : (place : ℕ) → place < length plan.queue → StandsIn plan.queue (get_or plan.queue place 0)
+  stands_there place within = stands_from_contains plan.queue (get_or plan.queue place 0) (Contains-get_or plan.queue place 0 within)
+
+  pub place_there : (place : ℕ) → place < length plan.queue → place_of plan.queue (get_or plan.queue place 0) ≡ place
+  place_there place within = place_of_test plan.queue place queue_once within

@@ -1,0 +1,19 @@
+use Rattle.std.proofs.Common.{◌∙◌, List, ap, refl}
+use Rattle.std.specs.List.{list_any}
+use Rattle.ct_history.specs.declared.plan.PlanTest.{PlanTest}
+use Rattle.ct_history.specs.Rules.{is_among}
+use Rattle.ct_core.proofs.LockLemmas.{knows_named}
+use Rattle.ct_core.proofs.in_use.nothing.Goals as goal
+
+pub returns : goal.returns
+returns c = record {
+  processors = refl;
+  opens = refl;
+  serial = refl;
+  known =
+      knows_named c.in_ok-none_held.field-0 c.args.plan.now.tests
+      (λ name. c.in_ok-none_held.ensures.known name ∙ ap (λ (ts : List PlanTest). list_any (λ (t : PlanTest). is_among name t.locks) ts) c.as_slice.ensures);
+  locks = λ name. c.in_ok-none_held.ensures.none name;
+  resources = c.in_ok-all_free.ensures.whole;
+  slots = λ place. c.in_ok-all_free.ensures.unused place;
+}

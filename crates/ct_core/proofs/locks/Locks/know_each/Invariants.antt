@@ -1,0 +1,10 @@
+use Rattle.std.proofs.Common.{◌≡◌, ◌||◌, ℕ, List, take, false}
+use Rattle.ct_history.specs.Rules.{is_among}
+use Rattle.ct_core.specs.Locks.{is_held, knows}
+use Rattle.ct_core.proofs.locks.Locks.know_each.Given as goal
+
+abbrev pub invariant-loop-name : goal.invariant-loop-name
+invariant-loop-name l = record {
+  known : (name : List ℕ) → knows l.self name ≡ (knows l.initial.self name || is_among name (take l.name-index l.names));
+  none : (name : List ℕ) → is_held l.self name ≡ false;
+}

@@ -1,0 +1,18 @@
+-- What holds of a run between its steps. This project's own.
+use Rattle.std.specs.Prelude.{ℕ, List, vec_capacity}
+use Rattle.ct_verdict.specs.declared.verdict.Verdict.{Verdict}
+use Rattle.ct_history.specs.declared.history.Entry.{Entry}
+use Rattle.ct_core.specs.declared.run.Run.{Run}
+use Rattle.ct_core.specs.Parts.{IsConcluding, IsKept}
+
+-- what happened in the run
+abbrev pub entries_of : Run → List Entry
+entries_of run = run.history.entries.items
+
+-- its history is legal, and its parts say what it says
+abbrev pub IsKeptRun : Run → Type 0
+IsKeptRun run = IsKept run.plan (entries_of run) (vec_capacity run.history.entries) run.parts
+
+-- its last entry made the test final with this verdict, and that alone is not noted yet
+abbrev pub IsConcludingRun : ℕ → Verdict → Run → Type 0
+IsConcludingRun number verdict run = IsConcluding run.plan (entries_of run) (vec_capacity run.history.entries) number verdict run.parts

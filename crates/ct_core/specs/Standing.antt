@@ -1,0 +1,55 @@
+-- How the tests of a plan stand by a history. Source: CMake manual, ctest(1), --repeat; the states are this project's own.
+use Rattle.std.specs.Prelude.{◌≡◌, ℕ, ◌<◌, Bool, true, false, List, length, map, filter, find, Option, Some, None, is_none, slice_get, ◌==◌}
+use Rattle.ct_verdict.specs.declared.verdict.Verdict.{Verdict}
+use Rattle.ct_verdict.specs.declared.repeat.Repeat.{Repeat}
+use Rattle.ct_history.specs.declared.plan.PlanTest.{PlanTest}
+use Rattle.ct_history.specs.declared.plan.PlanParts.{PlanParts}
+use Rattle.ct_history.specs.declared.history.Entry.{Entry}
+use Rattle.ct_history.specs.Plan.{test_at}
+use Rattle.ct_history.specs.History.{Running, open_starts, attempts_of}
+use Rattle.ct_history.specs.Verdicts.{verdict_in, verdict_of_test}
+use Rattle.ct_core.specs.declared.state.State.{State}
+use Rattle.ct_core.specs.declared.state.State.TheVariants.{Pending, Open, Final}
+
+-- the open start of a test
+abbrev pub open_start : ℕ → List Entry → Option Running
+open_start test entries = find (λ (r : Running). r.test == test) (open_starts entries)
+
+-- final with a verdict, or open with a placement, or pending, after so many attempts that have ended
+abbrev pub standing : Option Verdict → Option Running → ℕ → State
+standing (Some v) running attempts = Final v
+standing None (Some r) attempts = Open attempts r.placement
+standing None None attempts = Pending attempts
+
+-- how a test stands
+abbrev pub state_of : Repeat → List Entry → PlanTest → State
+state_of repeat entries t = standing (verdict_in repeat t entries) (open_start t.number entries) (length (attempts_of t.number t.rules entries))
+
+-- how each test of the plan stands, in order
+abbrev pub states_of : PlanParts → List Entry → List State
+states_of plan entries = map (state_of plan.repeat entries) plan.tests
+
+-- the verdict of a test that stands so
+abbrev pub verdict_of_state : State → Option Verdict
+verdict_of_state (Pending attempts) = None
+verdict_of_state (Open attempts placement) = None
+verdict_of_state (Final v) = Some v
+
+-- a test that stands so is neither final nor open
+abbrev pub is_pending_state : State → Bool
+is_pending_state (Pending attempts) = true
+is_pending_state (Open attempts placement) = false
+is_pending_state (Final v) = false
+
+-- how many of these are not final
+abbrev pub count_unfinished : List State → ℕ
+count_unfinished states = length (filter (λ s. is_none (verdict_of_state s)) states)
+
+-- the test with this number stands at this place, counted from 0
+pub record IsPlaceOf (tests : List PlanTest) (number place : ℕ) : Type 0 where
+  pub within : place < length tests
+  pub there : slice_get tests place ≡ test_at tests number
+
+-- how many of a test's predecessors are not final
+abbrev pub open_before : PlanParts → List Entry → PlanTest → ℕ
+open_before plan entries t = length (filter (λ j. is_none (verdict_of_test plan entries j)) t.before)

@@ -1,0 +1,60 @@
+-- Which tests of a plan wait for others, and which of them may be settled.
+-- Source: CMake manual, cmake-properties(7), DEPENDS, FIXTURES_REQUIRED. The sets are this project's own.
+use Rattle.std.specs.Prelude.{◌≡◌, ℕ, ◌+◌, ◌≤◌, Bool, true, false, not, ◌&&◌, List, length, Option, Some, None, is_some, slice_get, ◌==◌, if◌then◌else◌}
+use Rattle.std.specs.List.{list_any}
+use Rattle.ct_verdict.specs.declared.verdict.Cause.{Cause}
+use Rattle.ct_history.specs.declared.plan.PlanTest.{PlanTest}
+use Rattle.ct_history.specs.declared.plan.PlanParts.{PlanParts}
+use Rattle.ct_history.specs.declared.history.Entry.{Entry}
+use Rattle.ct_history.specs.Plan.{test_at}
+use Rattle.ct_history.specs.Rules.{cause_behind, first_unpassed, is_pending, is_ready, settle_cause}
+use Rattle.ct_history.specs.History.{has_stop}
+use Rattle.ct_queue.specs.Ready.{ReadyValue, StandsIn, count_of, is_out}
+use Rattle.ct_queue.specs.Marks.{is_marked}
+use Rattle.ct_core.specs.Standing.{open_before}
+pub use Rattle.ct_core.specs.Followers.{followers_of}
+
+-- the number is one of these
+abbrev pub is_one_of : ℕ → List ℕ → Bool
+is_one_of number numbers = list_any (λ n. n == number) numbers
+
+-- how many predecessors of the test that was looked up are not final
+abbrev pub open_before_at : PlanParts → List Entry → Option PlanTest → ℕ
+open_before_at plan entries None = 0
+open_before_at plan entries (Some t) = open_before plan entries t
+
+-- the test that was looked up is neither final nor open
+abbrev pub is_pending_at : PlanParts → List Entry → Option PlanTest → Bool
+is_pending_at plan entries None = false
+is_pending_at plan entries (Some t) = is_pending plan t entries
+
+-- the cause that a test would be settled with once its predecessors are final
+abbrev pub cause_then : PlanParts → List Entry → PlanTest → Option Cause
+cause_then plan entries t = cause_behind (first_unpassed plan t entries) t.fixed
+
+-- each test of the queue stands in the set with its predecessors that are not final, those of `left` with one more;
+-- out are those that are final or open
+pub record IsQueued (plan : PlanParts) (entries : List Entry) (left : List ℕ) (ready : ReadyValue) : Type 0 where
+  pub order : ready.order ≡ plan.queue
+  pub counted : length ready.counts ≡ length plan.queue
+  pub said : length ready.outs ≡ length plan.queue
+  pub counts : (n : ℕ) → StandsIn plan.queue n → count_of ready n ≡ open_before_at plan entries (test_at plan.tests n) + (if is_one_of n left then 1 else 0)
+  pub outs : (n : ℕ) → StandsIn plan.queue n → is_out ready n ≡ not (is_pending_at plan entries (test_at plan.tests n))
+
+-- the test that was looked up may be settled, and is none of `left`
+abbrev pub settles_but : PlanParts → List Entry → List ℕ → Option PlanTest → Bool
+settles_but plan entries left None = false
+settles_but plan entries left (Some t) = is_some (settle_cause plan t entries) && not (is_one_of t.number left)
+
+-- the marks stand at the places of the tests that may be settled, but for those of `left`
+pub record AreSettleable (plan : PlanParts) (entries : List Entry) (left : List ℕ) (marks : List Bool) : Type 0 where
+  pub room : length plan.tests ≤ length marks
+  pub marked : (place : ℕ) → is_marked marks place ≡ settles_but plan entries left (slice_get plan.tests place)
+
+-- the test with this number waits for nothing but room: it is pending and ready, and no Stop stands
+pub record IsDue (plan : PlanParts) (entries : List Entry) (number : ℕ) : Type 0 where
+  pub test : PlanTest
+  pub planned : test_at plan.tests number ≡ Some test
+  pub goes_on : has_stop entries ≡ false
+  pub pending : is_pending plan test entries ≡ true
+  pub ready : is_ready plan test entries ≡ true

@@ -1,0 +1,114 @@
+ghost use Rattle.std.specs.Prelude.{◌≡◌, ℕ, ◌-◌, ◌<◌, ◌≤◌, ◌^◌, Some, [], IfOk, length, map, slice_get};
+ghost use Rattle.ct_core.specs.Begin.{count_before, first_counts, first_state, settles_first};
+ghost use Rattle.ct_core.specs.Parts.{IsKept};
+ghost use Rattle.ct_core.specs.Waiting.{AreSettleable, IsQueued};
+ghost use Rattle.ct_history.specs.Plan.{IsAscendingFrom, IsSound, test_at};
+ghost use Rattle.ct_queue.specs.Marks.{is_marked};
+
+use crate::followers::followers;
+use crate::in_use::nothing;
+use crate::parts::Parts;
+use crate::places::place_of;
+use crate::state::State;
+use ct_base::{List, NoMemory};
+use ct_history::{PlanParts, PlanTest};
+use ct_queue::{Marks, Ready};
+use ct_verdict::Verdict;
+use std::alloc::Global;
+
+impl Parts {
+    /// Makes the parts of a run in which nothing has happened. More tests than a place can name are never had.
+    pub(crate) fn begin(alloc: Global, plan: &PlanParts) -> Result<Parts, NoMemory>
+        requires { IsSound plan.now }
+        ensures { IfOk result (λ parts. IsKept plan.now [] 0 parts) }
+    {
+        let tests = plan.tests.as_slice();
+        if tests.len() >= u32::MAX as usize {
+            return Err(NoMemory);
+        }
+        Ok(Parts {
+            states: first_states(alloc, tests)?,
+            unfinished: plan.queue.len(),
+            in_use: nothing(alloc, plan)?,
+            followers: followers(alloc, tests)?,
+            ready: first_ready(alloc, plan)?,
+            settleable: first_settleable(alloc, plan)?,
+            stopped: false,
+        })
+    }
+}
+
+/// Says of each test how it stands before any entry.
+fn first_states(alloc: Global, tests: &[PlanTest]) -> Result<Vec<State>, NoMemory>
+    ensures { IfOk result (λ states. states.items ≡ map first_state tests.now) }
+{
+    let mut states = Vec::new(alloc);
+    for test in tests {
+        states.push(first_state(test))?;
+    }
+    Ok(states)
+}
+
+fn first_state(test: &PlanTest) -> State
+    ensures { result ≡ first_state test.now }
+{
+    if test.disabled {
+        State::Final(Verdict::Disabled)
+    } else {
+        State::Pending(0)
+    }
+}
+
+/// Has each test of the queue wait for its predecessors.
+fn first_ready(alloc: Global, plan: &PlanParts) -> Result<Ready, NoMemory>
+    requires sound { IsSound plan.now }
+    requires few { length plan.now.tests < 2 ^ 32 - 1 }
+    ensures { IfOk result (λ ready. IsQueued plan.now [] [] ready) }
+{
+    let counts = first_counts(alloc, plan)?;
+    Ok(Ready::new(alloc, &plan.queue, &counts)?)
+}
+
+fn first_counts(alloc: Global, plan: &PlanParts) -> Result<List<u32>, NoMemory>
+    requires { IsAscendingFrom 1 (map (λ t. t.number) plan.now.tests) }
+    ensures { IfOk result (λ counts. counts ≡ first_counts plan.now) }
+{
+    let mut counts = List::new(alloc);
+    for number in plan.queue.as_slice() {
+        counts.push(count_before(plan.tests.as_slice(), *number)?)?;
+    }
+    Ok(counts)
+}
+
+fn count_before(tests: &[PlanTest], number: u32) -> Result<u32, NoMemory>
+    requires { IsAscendingFrom 1 (map (λ t. t.number) tests.now) }
+    ensures { IfOk result (λ count. count ≡ count_before (test_at tests.now number)) }
+{
+    let Some(place) = place_of(tests, number) else {
+        return Ok(0);
+    };
+    let Ok(count) = u32::try_from(tests[place].before.len()) else {
+        return Err(NoMemory);
+    };
+    Ok(count)
+}
+
+/// Marks the tests that may be settled before any entry.
+fn first_settleable(alloc: Global, plan: &PlanParts) -> Result<Marks, NoMemory>
+    requires sound { IsSound plan.now }
+    requires few { length plan.now.tests < 2 ^ 32 - 1 }
+    ensures { IfOk result (λ marks. AreSettleable plan.now [] [] marks) }
+{
+    let tests = plan.tests.as_slice();
+    let mut marks = Marks::new(alloc, tests.len())?;
+    for (place, test) in tests.iter().enumerate() {
+        marks.set(place, settles_first(test));
+    }
+    Ok(marks)
+}
+
+fn settles_first(test: &PlanTest) -> bool
+    ensures { result ≡ settles_first (Some test.now) }
+{
+    !test.disabled && test.before.is_empty() && test.fixed.is_some()
+}

@@ -1,0 +1,52 @@
+ghost use Rattle.std.specs.Prelude.{◌≡◌, ◌+◌, ◌<◌, [], IfOk, OnOk, length, map, take};
+ghost use Rattle.ct_history.specs.Plan.{AllAscend, IsAscendingFrom};
+ghost use Rattle.ct_core.specs.Followers.{followers_among, followers_of};
+
+use crate::places::place_of;
+use ct_base::{List, NoMemory};
+use ct_history::PlanTest;
+use std::alloc::Global;
+
+/// Lists, by the place of each test, the tests that wait for it.
+pub(crate) fn followers(alloc: Global, tests: &[PlanTest]) -> Result<Vec<List<u32>>, NoMemory>
+    requires numbers { IsAscendingFrom 1 (map (λ t. t.number) tests.now) }
+    requires before { AllAscend (λ t. t.before) tests.now }
+    ensures { IfOk result (λ followers. followers.items ≡ map (λ t. followers_of tests.now t.number) tests.now) }
+{
+    let mut followers = none_each(alloc, tests)?;
+    for at in 0..tests.len() {
+        follow(tests, at, &mut followers)?;
+    }
+    Ok(followers)
+}
+
+/// Makes an empty list for each test.
+fn none_each(alloc: Global, tests: &[PlanTest]) -> Result<Vec<List<u32>>, NoMemory>
+    ensures { IfOk result (λ followers. followers.items ≡ followers_among [] tests.now) }
+{
+    let mut followers = Vec::new(alloc);
+    for _test in tests {
+        followers.push(List::new(alloc))?;
+    }
+    Ok(followers)
+}
+
+/// Puts the test at a place behind those in front of it that wait for the same tests.
+fn follow(tests: &[PlanTest], at: usize, followers: &mut Vec<List<u32>>) -> Result<(), NoMemory>
+    requires numbers { IsAscendingFrom 1 (map (λ t. t.number) tests.now) }
+    requires before { AllAscend (λ t. t.before) tests.now }
+    requires there { at < length tests.now }
+    requires earlier { followers.old.items ≡ followers_among (take at tests.now) tests.now }
+    ensures { OnOk result (followers.new.items ≡ followers_among (take (at + 1) tests.now) tests.now) }
+{
+    let test = &tests[at];
+    if test.disabled {
+        return Ok(());
+    }
+    for predecessor in test.before.as_slice() {
+        if let Some(place) = place_of(tests, *predecessor) {
+            followers[place].push(test.number)?;
+        }
+    }
+    Ok(())
+}

@@ -1,0 +1,132 @@
+ghost use Rattle.std.specs.Prelude.{◌≡◌, ℕ, ◌+◌, ◌-◌, ◌||◌, [], IfOk, nat_le};
+ghost use Rattle.std.specs.Option.{option_copied};
+ghost use Rattle.ct_history.specs.History.{placed_slots};
+ghost use Rattle.ct_core.specs.Slots.{resources_of, used_of};
+ghost use Rattle.ct_core.specs.InUse.{CanGive, CanTake, Gives, HasFreeFor, HasTaken, IsInUse, Takes, has_room_beside, is_excluded_beside};
+
+use crate::locks::{Locks, none_held};
+use ct_alloc::{Free, Placement};
+use ct_base::NoMemory;
+use ct_history::{PlanParts, PlanTest};
+use std::alloc::Global;
+
+/// What the open starts of a run use together.
+///
+/// Source: CMake manual, cmake-properties(7), PROCESSORS, RESOURCE_LOCK, RUN_SERIAL; ctest(1), Resource Allocation.
+#[derive(Drop)]
+pub(crate) struct InUse {
+    pub(crate) processors: u64,
+    pub(crate) open_count: usize,
+    /// Whether a serial test is open.
+    pub(crate) serial: bool,
+    pub(crate) locks: Locks,
+    /// What is free of the plan's resources, where some are given.
+    pub(crate) free: Option<Free>,
+}
+
+/// Says that nothing is in use yet.
+pub(crate) fn nothing(alloc: Global, plan: &PlanParts) -> Result<InUse, NoMemory>
+    ensures { IfOk result (λ in_use. IsInUse plan.now [] in_use) }
+{
+    Ok(InUse {
+        processors: 0,
+        open_count: 0,
+        serial: false,
+        locks: none_held(alloc, plan.tests.as_slice())?,
+        free: all_free(alloc, plan)?,
+    })
+}
+
+/// Copies the plan's resources, where some are given. More than a placement can name are never had.
+fn all_free(alloc: Global, plan: &PlanParts) -> Result<Option<Free>, NoMemory>
+    ensures whole { IfOk result (λ free. resources_of free ≡ plan.now.resources) }
+    ensures unused { IfOk result (λ free. (place : ℕ) → used_of free place ≡ 0) }
+{
+    let Some(resources) = &plan.resources else {
+        return Ok(None);
+    };
+    if resources.len() >= u32::MAX as usize {
+        return Err(NoMemory);
+    }
+    Ok(Some(Free::all(alloc, resources)?))
+}
+
+impl InUse {
+    /// Tells whether there are processors for a test, and no open test excludes it.
+    pub(crate) fn has_room(&self, level: u32, test: &PlanTest) -> bool
+        ensures { result ≡ has_room_beside level self.now test.now }
+    {
+        self.has_processors(level, test.processors) && !self.excludes(test)
+    }
+
+    /// Tells whether no further test can start before an attempt ends: all processors are in use, or a serial test runs.
+    pub(crate) fn is_full(&self, level: u32) -> bool
+        ensures { result ≡ (nat_le level self.now.processors || self.now.serial) }
+    {
+        self.processors >= u64::from(level) || self.serial
+    }
+
+    fn has_processors(&self, level: u32, processors: u32) -> bool
+        ensures { result ≡ nat_le (processors + self.now.processors) level }
+    {
+        processors <= level && self.processors <= u64::from(level - processors)
+    }
+
+    fn excludes(&self, test: &PlanTest) -> bool
+        ensures { result ≡ is_excluded_beside self.now test.now }
+    {
+        self.serial
+            || test.serial && self.open_count > 0
+            || self.locks.is_any_held(test.locks.as_slice())
+    }
+
+    /// Has a test with this placement use what it needs.
+    pub(crate) fn take(&mut self, test: &PlanTest, placement: Option<&Placement>)
+        requires { CanTake test.now (option_copied placement) self.old }
+        ensures { Takes test.now (option_copied placement.entry) self.old self.new }
+    {
+        self.processors += u64::from(test.processors);
+        self.open_count += 1;
+        self.serial = self.serial || test.serial;
+        self.locks.hold(test.locks.as_slice());
+        take_slots(&mut self.free, placement);
+    }
+
+    /// Has a test with this placement give back what it used.
+    pub(crate) fn give(&mut self, test: &PlanTest, placement: Option<&Placement>)
+        requires { CanGive test.now (option_copied placement) self.old }
+        ensures { Gives test.now (option_copied placement.entry) self.old self.new }
+    {
+        self.processors -= u64::from(test.processors);
+        self.open_count -= 1;
+        self.serial = self.serial && !test.serial;
+        self.locks.release(test.locks.as_slice());
+        give_slots(&mut self.free, placement);
+    }
+}
+
+fn take_slots(free: &mut Option<Free>, placement: Option<&Placement>)
+    requires { HasFreeFor free.old (option_copied placement) }
+    ensures kept { resources_of free.new ≡ resources_of free.old }
+    ensures used { (place : ℕ) → used_of free.new place
+        ≡ used_of free.old place + placed_slots place (option_copied placement.entry) }
+{
+    if let Some(free) = free {
+        if let Some(placement) = placement {
+            free.take(placement);
+        }
+    }
+}
+
+fn give_slots(free: &mut Option<Free>, placement: Option<&Placement>)
+    requires { HasTaken free.old (option_copied placement) }
+    ensures kept { resources_of free.new ≡ resources_of free.old }
+    ensures used { (place : ℕ) → used_of free.new place
+        ≡ used_of free.old place - placed_slots place (option_copied placement.entry) }
+{
+    if let Some(free) = free {
+        if let Some(placement) = placement {
+            free.give(placement);
+        }
+    }
+}

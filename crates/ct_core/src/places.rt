@@ -1,0 +1,39 @@
+ghost use Rattle.std.specs.Prelude.{◌≡◌, None, IsSome, MatchOption, map};
+ghost use Rattle.ct_history.specs.Plan.{IsAscendingFrom, test_at};
+ghost use Rattle.ct_core.specs.Standing.{IsPlaceOf};
+
+use ct_history::PlanTest;
+
+/// Finds the place of a test by its number, in a time that grows with the logarithm of the tests.
+pub(crate) fn place_of(tests: &[PlanTest], number: u32) -> Option<usize>
+    requires { IsAscendingFrom 1 (map (λ t. t.number) tests.now) }
+    ensures { MatchOption result (test_at tests.now number ≡ None) (λ place. IsPlaceOf tests.now number place) }
+{
+    let mut low = 0;
+    let mut high = tests.len();
+    while low < high {
+        let middle = low + (high - low) / 2;
+        if tests[middle].number < number {
+            low = middle + 1;
+        } else {
+            high = middle;
+        }
+    }
+    if low < tests.len() && tests[low].number == number {
+        Some(low)
+    } else {
+        None
+    }
+}
+
+/// Finds the place of a test that is there.
+pub(crate) fn expect_place(tests: &[PlanTest], number: u32) -> usize
+    requires ascends { IsAscendingFrom 1 (map (λ t. t.number) tests.now) }
+    requires there { IsSome (test_at tests.now number) }
+    ensures { IsPlaceOf tests.now number result }
+{
+    match place_of(tests, number) {
+        Some(place) => place,
+        None => unreachable!(),
+    }
+}

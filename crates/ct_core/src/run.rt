@@ -1,0 +1,213 @@
+ghost use Rattle.std.specs.Prelude.{◌≡◌, ◌+◌, ◌<◌, ◌≤◌, ◌&&◌, ◌∷◌, ◌++◌, [], false, true, drop, length, vec_len, vec_capacity, OnErr, OnOk, Some};
+ghost use Rattle.ct_core.specs.Choice.{IsStartable};
+ghost use Rattle.ct_core.specs.Core.{with_due_stop};
+ghost use Rattle.ct_core.specs.Parts.{AreQueued, AreTold, IsLowered, followers_at};
+ghost use Rattle.ct_core.specs.Run.{IsConcludingRun, IsKeptRun, entries_of};
+ghost use Rattle.ct_core.specs.Standing.{IsPlaceOf};
+ghost use Rattle.ct_history.specs.History.{has_stop, holds_start, is_busy_in};
+ghost use Rattle.ct_history.specs.Rules.{settle_cause_of_test};
+ghost use Rattle.ct_history.specs.Verdicts.{verdict_of_test};
+ghost use Rattle.ct_verdict.specs.Verdict.{is_failing_verdict};
+ghost use Rattle.ct_history.specs.declared.history.Entry.TheVariants.{Start, End, Settle};
+
+use crate::choice::Startable;
+use crate::parts::Parts;
+use crate::places::expect_place;
+use crate::slots::copy_placement;
+use crate::state::State;
+use ct_base::NoMemory;
+use ct_history::{Entry, History, Plan, PlanParts};
+use ct_verdict::{Cause, Seen, Verdict, one};
+use std::mem;
+
+/// A run of a plan: what happened in it, and what that says of it now.
+#[derive(Drop)]
+pub(crate) struct Run {
+    pub(crate) plan: Plan,
+    pub(crate) history: History,
+    pub(crate) parts: Parts,
+}
+
+impl Run {
+    /// Starts the next attempt of a test that may start.
+    pub(crate) fn start(&mut self, start: &Startable, worker: u32) -> Result<(), NoMemory>
+        requires kept { IsKeptRun self.old }
+        requires free { is_busy_in worker (entries_of self.old) ≡ false }
+        requires startable { IsStartable self.old.plan (entries_of self.old) start.now }
+        ensures kept { IsKeptRun self.new }
+        ensures plan { self.new.plan ≡ self.old.plan }
+        ensures started { OnOk result (entries_of self.new ≡ entries_of self.old ++ Start start.now.test start.now.attempt worker start.now.placement ∷ []) }
+        ensures unstarted { OnErr result (entries_of self.new ≡ entries_of self.old) }
+    {
+        let alloc = *self.history.entries.allocator();
+        let told = copy_placement(alloc, start.placement.as_ref())?;
+        let kept = copy_placement(alloc, start.placement.as_ref())?;
+        self.history
+            .entries
+            .reserve(self.parts.in_use.open_count + 3)?;
+        let plan = self.plan.parts();
+        let _level = plan.level;
+        let place = expect_place(plan.tests.as_slice(), start.test);
+        self.parts
+            .in_use
+            .take(&plan.tests.as_slice()[place], kept.as_ref());
+        self.parts.states[place] = State::Open(start.attempt - 1, kept);
+        self.parts.ready.out(start.test);
+        append_reserved(
+            &mut self.history.entries,
+            Entry::Start {
+                test: start.test,
+                attempt: start.attempt,
+                worker,
+                placement: told,
+            },
+        );
+        Ok(())
+    }
+
+    /// Ends an attempt that is open, and gives the test's verdict where it is now final. It takes no memory.
+    pub(crate) fn end(
+        &mut self,
+        number: u32,
+        attempt: u32,
+        worker: u32,
+        seen: Seen,
+    ) -> Option<Verdict>
+        requires kept { IsKeptRun self.old }
+        requires holds { holds_start number attempt worker (entries_of self.old) ≡ true }
+        ensures kept { IsKeptRun self.new }
+        ensures plan { self.new.plan ≡ self.old.plan }
+        ensures ended { entries_of self.new ≡ with_due_stop self.old.plan (entries_of self.old ++ End number attempt worker seen ∷ []) }
+        ensures verdict { result ≡ verdict_of_test self.old.plan (entries_of self.new) number }
+    {
+        let plan = self.plan.parts();
+        let place = expect_place(plan.tests.as_slice(), number);
+        let test = &plan.tests.as_slice()[place];
+        let verdict = one(&test.rules, &seen);
+        let State::Open(_, placement) = mem::replace(
+            &mut self.parts.states[place],
+            State::Pending(0),
+        ) else {
+            unreachable!();
+        };
+        self.parts.in_use.give(test, placement.as_ref());
+        append_reserved(
+            &mut self.history.entries,
+            Entry::End {
+                test: number,
+                attempt,
+                worker,
+                seen,
+            },
+        );
+        if plan.repeat.again(attempt, Some(verdict)) {
+            self.parts.go_on(place, number, attempt);
+            return None;
+        }
+        self.parts.states[place] = State::Final(verdict);
+        self.conclude(number, verdict);
+        Some(verdict)
+    }
+
+    /// Settles a test that may be settled with this cause.
+    pub(crate) fn settle(&mut self, number: u32, cause: Cause) -> Result<(), NoMemory>
+        requires kept { IsKeptRun self.old }
+        requires may { settle_cause_of_test self.old.plan (entries_of self.old) number ≡ Some cause }
+        ensures kept { IsKeptRun self.new }
+        ensures plan { self.new.plan ≡ self.old.plan }
+        ensures settled { OnOk result (entries_of self.new ≡ with_due_stop self.old.plan (entries_of self.old ++ Settle number cause ∷ [])) }
+        ensures unsettled { OnErr result (entries_of self.new ≡ entries_of self.old) }
+    {
+        self.history
+            .entries
+            .reserve(self.parts.in_use.open_count + 2)?;
+        let place = expect_place(self.plan.parts().tests.as_slice(), number);
+        append_reserved(
+            &mut self.history.entries,
+            Entry::Settle {
+                test: number,
+                cause,
+            },
+        );
+        self.parts.settle(place, number, cause);
+        self.conclude(number, Verdict::NotRun(cause));
+        Ok(())
+    }
+
+    /// Notes what follows from a test's being final: the Stop that is due, or that others wait for it no longer.
+    fn conclude(&mut self, number: u32, verdict: Verdict)
+        requires concluding { IsConcludingRun number verdict self.old }
+        ensures kept { IsKeptRun self.new }
+        ensures plan { self.new.plan ≡ self.old.plan }
+        ensures stopped { entries_of self.new ≡ with_due_stop self.old.plan (entries_of self.old) }
+    {
+        self.parts.unfinished -= 1;
+        if self.parts.stopped {
+            return;
+        }
+        if stops_at(self.plan.parts(), verdict) {
+            append_reserved(&mut self.history.entries, Entry::Stop);
+            self.parts.stop();
+        } else {
+            let place = expect_place(self.plan.parts().tests.as_slice(), number);
+            self.lower_followers(place);
+        }
+    }
+
+    /// Notes of the tests that wait for the one at a place that they do so no longer.
+    fn lower_followers(&mut self, place: usize)
+        requires there { place < length self.old.plan.tests }
+        requires goes_on { has_stop (entries_of self.old) ≡ false }
+        requires told { AreTold self.old.plan (entries_of self.old) self.old.parts }
+        requires queued { AreQueued self.old.plan (entries_of self.old) (followers_at self.old.parts place) self.old.parts }
+        ensures plan { self.new.plan ≡ self.old.plan }
+        ensures history { self.new.history ≡ self.old.history }
+        ensures lowered { IsLowered self.old.parts self.new.parts }
+        ensures queued { AreQueued self.old.plan (entries_of self.old) [] self.new.parts }
+    {
+        for at in 0..self.parts.followers[place].len() {
+            self.lower_follower(place, at);
+        }
+    }
+
+    /// Notes of one of the tests that wait for the one at a place that it does so no longer, and whether it may be settled now.
+    fn lower_follower(&mut self, place: usize, at: usize)
+        requires there { place < length self.old.plan.tests }
+        requires within { at < length (followers_at self.old.parts place) }
+        requires goes_on { has_stop (entries_of self.old) ≡ false }
+        requires told { AreTold self.old.plan (entries_of self.old) self.old.parts }
+        requires queued { AreQueued self.old.plan (entries_of self.old) (drop at (followers_at self.old.parts place)) self.old.parts }
+        ensures plan { self.new.plan ≡ self.old.plan }
+        ensures history { self.new.history ≡ self.old.history }
+        ensures lowered { IsLowered self.old.parts self.new.parts }
+        ensures queued { AreQueued self.old.plan (entries_of self.old) (drop (at + 1) (followers_at self.old.parts place)) self.new.parts }
+    {
+        let follower = self.parts.followers[place].as_slice()[at];
+        self.parts.ready.lower(follower);
+        if !self.parts.ready.is_ready(follower) {
+            return;
+        }
+        let tests = self.plan.parts().tests.as_slice();
+        let here = expect_place(tests, follower);
+        if self.cause_then(&tests[here]).is_some() {
+            self.parts.settleable.set(here, true);
+        }
+    }
+}
+
+/// Tells whether a test with this verdict stops the run, where it is the first one that makes it fail.
+fn stops_at(plan: &PlanParts, verdict: Verdict) -> bool
+    ensures { result ≡ (plan.now.stop_on_failure && is_failing_verdict verdict) }
+{
+    plan.stop_on_failure && verdict.is_failing()
+}
+
+fn append_reserved(entries: &mut Vec<Entry>, entry: Entry)
+    requires { vec_len entries.old < vec_capacity entries.old }
+    ensures items { entries.new.items ≡ entries.old.items ++ entry ∷ [] }
+    ensures len { vec_len entries.new ≡ vec_len entries.old + 1 }
+    ensures room { vec_capacity entries.old ≤ vec_capacity entries.new }
+{
+    let pushed = entries.push(entry);
+    prove!(pushed.is_ok());
+}

@@ -1,0 +1,25 @@
+ghost use Rattle.std.specs.Prelude.{◌≡◌};
+ghost use Rattle.ct_core.specs.Standing.{verdict_of_state};
+ghost use Rattle.ct_history.specs.Verdicts.{is_passed_verdict};
+
+use ct_alloc::Placement;
+use ct_verdict::Verdict;
+
+/// How a test of a plan stands in a run.
+#[derive(Drop)]
+pub(crate) enum State {
+    /// Neither open nor final, after so many attempts.
+    Pending(u32),
+    /// An attempt is open with this placement, behind so many that have ended.
+    Open(u32, Option<Placement>),
+    /// It has this verdict.
+    Final(Verdict),
+}
+
+impl State {
+    pub(crate) fn has_passed(&self) -> bool
+        ensures { result ≡ is_passed_verdict (verdict_of_state self.now) }
+    {
+        matches!(self, State::Final(Verdict::Passed))
+    }
+}
