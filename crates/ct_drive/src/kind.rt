@@ -1,0 +1,107 @@
+//! What the driven tests have in common, and what sets each apart.
+
+use ct_base::{Name, NoMemory, Pair};
+use ct_verdict::How;
+use std::alloc::Global;
+
+/// What the tests ask for.
+#[derive(Clone, Copy)]
+pub enum Kind {
+    /// Nothing; every tenth test fails.
+    Plain,
+    /// Each comes behind the one before.
+    Chain,
+    /// The first sets up what all others require, and the last cleans it up.
+    Fixture,
+    /// Every tenth test holds the same lock.
+    Lock,
+    /// One to three processors in turn.
+    Wide,
+    /// Each needs one slot of a card that has 32.
+    Slots,
+    /// Every test holds the same lock.
+    Locked,
+    /// Each needs all slots of the one card.
+    Spent,
+}
+
+impl Kind {
+    pub fn of(word: &str) -> Option<Kind> {
+        match word {
+            "plain" => Some(Kind::Plain),
+            "chain" => Some(Kind::Chain),
+            "fixture" => Some(Kind::Fixture),
+            "lock" => Some(Kind::Lock),
+            "wide" => Some(Kind::Wide),
+            "slots" => Some(Kind::Slots),
+            "locked" => Some(Kind::Locked),
+            "spent" => Some(Kind::Spent),
+            _ => None,
+        }
+    }
+
+    /// How the test with this number ends.
+    pub fn how(self, number: u32) -> How {
+        match self {
+            Kind::Plain if number % 10 == 0 => How::Exited(1),
+            _ => How::Exited(0),
+        }
+    }
+
+    /// The property of the test at this place of so many, where it has one.
+    pub fn property(self, alloc: Global, place: u32, count: u32) -> Result<Option<Pair>, NoMemory> {
+        match self {
+            Kind::Plain => Ok(None),
+            Kind::Chain => chained(alloc, place),
+            Kind::Fixture => fixed(alloc, place, count),
+            Kind::Lock if place % 10 == 0 => pair(alloc, "RESOURCE_LOCK", "lock"),
+            Kind::Lock => Ok(None),
+            Kind::Wide => pair(alloc, "PROCESSORS", widths(place)),
+            Kind::Slots => pair(alloc, "RESOURCE_GROUPS", "gpus:1"),
+            Kind::Locked => pair(alloc, "RESOURCE_LOCK", "lock"),
+            Kind::Spent => pair(alloc, "RESOURCE_GROUPS", "gpus:32"),
+        }
+    }
+}
+
+/// The name of the test at this place.
+pub fn name_at(alloc: Global, place: u32) -> Result<Name, NoMemory> {
+    let text = format!(in alloc; "t{place}")?;
+    Name::of(alloc, text.as_bytes())
+}
+
+fn chained(alloc: Global, place: u32) -> Result<Option<Pair>, NoMemory> {
+    let Some(before) = place.checked_sub(1) else {
+        return Ok(None);
+    };
+    Ok(Some(Pair {
+        name: Name::of(alloc, b"DEPENDS")?,
+        value: name_at(alloc, before)?,
+    }))
+}
+
+fn fixed(alloc: Global, place: u32, count: u32) -> Result<Option<Pair>, NoMemory> {
+    let key = if place == 0 {
+        "FIXTURES_SETUP"
+    } else if place.saturating_add(1) < count {
+        "FIXTURES_REQUIRED"
+    } else {
+        "FIXTURES_CLEANUP"
+    };
+    pair(alloc, key, "fixture")
+}
+
+fn widths(place: u32) -> &'static str {
+    match place % 3 {
+        0 => "1",
+        1 => "2",
+        _ => "3",
+    }
+}
+
+fn pair(alloc: Global, key: &str, value: &str) -> Result<Option<Pair>, NoMemory> {
+    Ok(Some(Pair {
+        name: Name::of(alloc, key.as_bytes())?,
+        value: Name::of(alloc, value.as_bytes())?,
+    }))
+}

@@ -1,0 +1,101 @@
+//! The program `ct_drive`: it drives the scheduling core through tests of one kind, and prints how many started, passed and
+//! failed and how long that took.
+//!
+//! Hands up: nothing; it is the program that `measure/core` calls.
+//! Stands on: ct_base, ct_props, ct_verdict, ct_history, ct_core, ct_cost, ct_spec, ct_plan and `anyhow`.
+//! Read first: `kind.rt`, `planning.rt`, `specs/Held.antt`, then `run.rt`.
+#![tactic(auto)]
+
+mod kind;
+mod planning;
+mod run;
+mod tally;
+
+use crate::kind::Kind;
+use crate::planning::plan_of;
+use crate::run::Run;
+use crate::tally::Tally;
+use anyhow::{anyhow, bail};
+use ct_base::NoMemory;
+use ct_history::Plan;
+use std::alloc::Global;
+use std::env;
+use std::time::{Clock, Duration, Instant};
+
+/// The most tests that are driven.
+const MOST_TESTS: u32 = 1_000_000;
+
+fn main(rt: HostRuntime) -> anyhow::Result<()> {
+    let alloc = rt.alloc();
+    let words: Vec<String> = env::args(&rt)?.skip(1).collect(alloc)?;
+    let [kind, count, shown] = words.as_slice() else {
+        bail!("ct_drive wants three words: KIND COUNT times|counts");
+    };
+    let Some(kind) = Kind::of(kind.as_str()) else {
+        bail!("the kind is plain, chain, fixture, lock, wide, slots, locked or spent");
+    };
+    let count: u32 = count.as_str().parse().unwrap_or(0);
+    if count == 0 || count > MOST_TESTS {
+        bail!("the number of tests is from 1 to {MOST_TESTS}");
+    }
+    let plan = plan_of(alloc, kind, count)?;
+    let driven = drive(&rt, alloc, plan, kind, count).map_err(|_| anyhow!("memory was wanting"))?;
+    let tally = &driven.tally;
+    println!(rt;
+        "{} starts, {} passed, {} failed",
+        tally.starts, tally.passed, tally.failed
+    )?;
+    if shown.as_str() == "times" {
+        println!(rt;
+            "open {} us, next and finish {} us",
+            driven.opening.as_micros(),
+            driven.steps.as_micros()
+        )?;
+        println!(rt; "each start and end {} ns", driven.nanos_each())?;
+    }
+    Ok(())
+}
+
+/// What came of a run, and how long it took.
+#[derive(Drop)]
+struct Driven {
+    tally: Tally,
+    opening: Duration,
+    steps: Duration,
+}
+
+impl Driven {
+    /// The nanoseconds of each start together with its end.
+    fn nanos_each(&self) -> u128 {
+        self.steps.as_nanos() / u128::from(self.tally.starts.max(1))
+    }
+}
+
+/// Opens a run of a plan of so many tests, and drives it to its end.
+fn drive(
+    rt: &impl Clock,
+    alloc: Global,
+    plan: Plan,
+    kind: Kind,
+    count: u32,
+) -> Result<Driven, NoMemory> {
+    let start = Instant::now(rt).ok();
+    let run = Run::open(alloc, plan, kind)?;
+    let opening = since(rt, start);
+    let start = Instant::now(rt).ok();
+    let tally = run.drive(count)?;
+    let steps = since(rt, start);
+    Ok(Driven {
+        tally,
+        opening,
+        steps,
+    })
+}
+
+/// How long ago that was, and no time where the clock does not tell.
+fn since(rt: &impl Clock, start: Option<Instant>) -> Duration {
+    match start {
+        Some(start) => start.elapsed(rt).unwrap_or(Duration::ZERO),
+        None => Duration::ZERO,
+    }
+}
