@@ -103,7 +103,10 @@ module _ (words : List (List ℕ)) (env : List Pair) (files files_now : FilesTel
 
   refusal_late : (refusal : Refusal) → IsRefusal (sides words env files files_now (gate ∷ []) (gate_now ∷ []) sink mid plan history) refusal names → IsRefusal (sides words env files files_now gates gates_now sink now plan history) refusal names
   refusal_late refusal (inl was) = inl (record { invocation = was.invocation; words = was.words; refused = was.refused; files = was.files; unrun = unrun_late was.unrun })
-  refusal_late refusal (inr was) = inr (record { invocation = was.invocation; words = was.words; source = was.source; read = was.read; refused = was.refused; files = was.files; unrun = unrun_late was.unrun })
+  refusal_late refusal (inr (inl was)) =
+      inr (inl (record { invocation = was.invocation; words = was.words; defs = was.defs; props = was.props; read = was.read; refused = was.refused; files = was.files; unrun = unrun_late was.unrun }))
+  refusal_late refusal (inr (inr was)) =
+      inr (inr (record { invocation = was.invocation; words = was.words; source = was.source; read = was.read; refused = was.refused; files = was.files; unrun = unrun_late was.unrun }))
 
   -- the files failed behind the report
   write_fault_told : (path : List ℕ) (outcome : Outcome) (status : ℕ) → HasRunWith (sides words env files files_now (gate ∷ []) (gate_now ∷ []) sink mid plan history) (λ i p es. RunLeaves (sides words env files files_now (gate ∷ []) (gate_now ∷ []) sink mid plan history) i p es (Err (FilesFault path))) → Told names (FilesFault path) outcome mid now → status ≡ fault_status outcome → AnswersRun (sides words env files files_now gates gates_now sink now plan history) outcome status

@@ -17,6 +17,7 @@ use Rattle.ct_core.specs.declared.gate.Request.{Request}
 use Rattle.ct_core.specs.declared.gate.Told.{Told}
 use Rattle.ct_core.specs.Gate.{GateTell, HearsTold, IsTold, RunsRequest, asked_for, is_no_memory, is_not_started, told}
 use Rattle.ct_report.proofs.PutLemmas.{adds_none}
+use Rattle.ct_app.specs.declared.props.Terms.{Terms}
 use Rattle.ct_app.specs.Attempt.{AsksNone, AsksOnce, RunsAttempt, SeesEnd}
 use Rattle.ct_app.specs.Gates.{IsRequestOf, asked_run, seen_of}
 
@@ -32,15 +33,15 @@ no_memory_starts (Ends.Lacks place) is failed = cc
 no_memory_starts Ends.NoMemory is failed = cc
 
 -- no memory for the request: the gate is not asked
-pub unasked_attempt : (env : List Pair) (limit : ℕ) (def : TestDef) (own : Props) (run : Running) (seen : Seen) (tell : GateTell) → is_no_memory seen.how ≡ true → RunsAttempt env limit def own run seen tell tell
-unasked_attempt env limit def own run seen tell lacks = record {
+pub unasked_attempt : (env : List Pair) (terms : Terms) (def : TestDef) (own : Props) (run : Running) (seen : Seen) (tell : GateTell) → is_no_memory seen.how ≡ true → RunsAttempt env terms def own run seen tell tell
+unasked_attempt env terms def own run seen tell lacks = record {
   told = λ memory. absurd (both_ways (is_no_memory seen.how) lacks memory);
   calls = inr (record { lacks = lacks; asked = adds_none tell.asked; sent = adds_none tell.sent });
   world = refl;
   cause = record { later = omega arith; failed = λ failed. absurd (no_memory_starts seen.how lacks failed); unfailed = λ passed memory. refl };
 }
 
-module _ (env : List Pair) (limit : ℕ) (def : TestDef) (own : Props) (run : Running) (request : Request) (is_of : IsRequestOf env limit def own run request) (old new : GateTell) (before ear : CollectValue) (fresh : before ≡ record { heard = []; short = false }) (ended : Ended) (seen : Seen) (runs : RunsRequest request old new (MayHaveHeard before) (MayHaveHeard ear) ended) (sees : SeesEnd own ear ended seen) where
+module _ (env : List Pair) (terms : Terms) (def : TestDef) (own : Props) (run : Running) (request : Request) (is_of : IsRequestOf env terms def own run request) (old new : GateTell) (before ear : CollectValue) (fresh : before ≡ record { heard = []; short = false }) (ended : Ended) (seen : Seen) (runs : RunsRequest request old new (MayHaveHeard before) (MayHaveHeard ear) ended) (sees : SeesEnd own ear ended seen) where
   test_is : request.test ≡ run.test
   test_is = ap (λ (r : Request). r.test) is_of.is
 
@@ -81,7 +82,7 @@ module _ (env : List Pair) (limit : ℕ) (def : TestDef) (own : Props) (run : Ru
   asked_is : asked_for request.test request.attempt ≡ asked_run run
   asked_is = ap (λ (n : ℕ). asked_for n request.attempt) test_is ∙ ap (λ (n : ℕ). asked_for run.test n) attempt_is
 
-  calls : AsksOnce env limit def own run old new ⊎ AsksNone seen.how old new
+  calls : AsksOnce env terms def own run old new ⊎ AsksNone seen.how old new
   calls = elim (cases_Bool (is_no_memory ended.how)) [
     | inl lacks ↦ inr (record {
       lacks = lacks_too lacks sees;
@@ -106,7 +107,7 @@ module _ (env : List Pair) (limit : ℕ) (def : TestDef) (own : Props) (run : Ru
   passed_too passed memory (inr (long, is)) = sym (ap (λ (s : Seen). is_not_started s.how) is) ∙ passed
 
   -- the gate is asked once, unless memory is wanting
-  pub ran_attempt : RunsAttempt env limit def own run seen old new
+  pub ran_attempt : RunsAttempt env terms def own run seen old new
   ran_attempt = record {
     told = told_seen sees;
     calls = calls;

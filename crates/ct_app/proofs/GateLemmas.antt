@@ -116,7 +116,7 @@ module _ (t a w : ℕ) (p : Option Placement) (seen : Seen) (es : List Entry) wh
 
 -- one attempt more
 module _ (env : List Pair) (tests : Tests) (w : ℕ) (start old new : GateTell) (es : List Entry) (t a : ℕ) (p : Option Placement) (seen : Seen) (def : TestDef) (own : Props) where
-  counts_more : CountsUnstarted (unstarted_count w es) (unsure_count w es) start.faults old.faults → RunsAttempt env tests.limit def own (record { test = t; attempt = a; worker = w; placement = p }) seen old new → CountsUnstarted (unstarted_count w (es ++ Start t a w p ∷ End t a w seen ∷ [])) (unsure_count w (es ++ Start t a w p ∷ End t a w seen ∷ [])) start.faults new.faults
+  counts_more : CountsUnstarted (unstarted_count w es) (unsure_count w es) start.faults old.faults → RunsAttempt env tests.terms def own (record { test = t; attempt = a; worker = w; placement = p }) seen old new → CountsUnstarted (unstarted_count w (es ++ Start t a w p ∷ End t a w seen ∷ [])) (unsure_count w (es ++ Start t a w p ∷ End t a w seen ∷ [])) start.faults new.faults
   counts_more before runs = elim (cases_Bool (is_not_started seen.how)) [
     | inl failed ↦
         let count : unstarted_count w (es ++ Start t a w p ∷ End t a w seen ∷ []) ≡ unstarted_count w es + 1 = unstarted-both t a w p seen es ∙ ap (λ (b : Bool). unstarted_count w es + cond b 1 0) failed in
@@ -147,7 +147,7 @@ module _ (env : List Pair) (tests : Tests) (w : ℕ) (start old new : GateTell) 
   ]
 
   -- with what was recorded of it
-  grown : (more : List Running) (requests : List Request) → MayMiss (ended_lacking (es ++ Start t a w p ∷ End t a w seen ∷ [])) (record { test = t; attempt = a; worker = w; placement = p } ∷ []) more → AreRequests env tests more requests → Becomes old.asked new.asked (Adds (map asked_run more)) → Becomes old.sent new.sent (Adds requests) → at_number tests.props t ≡ Some own → IsAsked env tests w start old es → RunsAttempt env tests.limit def own (record { test = t; attempt = a; worker = w; placement = p }) seen old new → IsAsked env tests w start new (es ++ Start t a w p ∷ End t a w seen ∷ [])
+  grown : (more : List Running) (requests : List Request) → MayMiss (ended_lacking (es ++ Start t a w p ∷ End t a w seen ∷ [])) (record { test = t; attempt = a; worker = w; placement = p } ∷ []) more → AreRequests env tests more requests → Becomes old.asked new.asked (Adds (map asked_run more)) → Becomes old.sent new.sent (Adds requests) → at_number tests.props t ≡ Some own → IsAsked env tests w start old es → RunsAttempt env tests.terms def own (record { test = t; attempt = a; worker = w; placement = p }) seen old new → IsAsked env tests w start new (es ++ Start t a w p ∷ End t a w seen ∷ [])
   grown more requests missed are asked sent has was runs =
       let now = es ++ Start t a w p ∷ End t a w seen ∷ [] in
       let left = may_miss-more (ended_lacking es) (ended_lacking now) (λ run is. lacking_stays es (Start t a w p ∷ End t a w seen ∷ []) run is) (starts_of w es) was.runs was.kept in
@@ -171,15 +171,15 @@ module _ (env : List Pair) (tests : Tests) (w : ℕ) (start old new : GateTell) 
       saw : IfSome old.world (λ world. AreTold tests.props world w (Start t a w p ∷ End t a w seen ∷ []))
       saw = by_world old.world runs.told
 
-  pub asked_more : at_number tests.defs t ≡ Some def → at_number tests.props t ≡ Some own → IsAsked env tests w start old es → RunsAttempt env tests.limit def own (record { test = t; attempt = a; worker = w; placement = p }) seen old new → IsAsked env tests w start new (es ++ Start t a w p ∷ End t a w seen ∷ [])
+  pub asked_more : at_number tests.defs t ≡ Some def → at_number tests.props t ≡ Some own → IsAsked env tests w start old es → RunsAttempt env tests.terms def own (record { test = t; attempt = a; worker = w; placement = p }) seen old new → IsAsked env tests w start new (es ++ Start t a w p ∷ End t a w seen ∷ [])
   asked_more there has was runs = by_calls runs.calls
     where
-      request_for : (request : Request) → IsRequestOf env tests.limit def own (record { test = t; attempt = a; worker = w; placement = p }) request → IsRequestFor env tests (record { test = t; attempt = a; worker = w; placement = p }) request
+      request_for : (request : Request) → IsRequestOf env tests.terms def own (record { test = t; attempt = a; worker = w; placement = p }) request → IsRequestFor env tests (record { test = t; attempt = a; worker = w; placement = p }) request
       request_for request is =
-          subst (λ (o : Option TestDef). IsSomeAnd o (λ d. IsSomeAnd (at_number tests.props t) (λ x. IsRequestOf env tests.limit d x (record { test = t; attempt = a; worker = w; placement = p }) request))) (sym there)
-          (subst (λ (o : Option Props). IsSomeAnd o (λ x. IsRequestOf env tests.limit def x (record { test = t; attempt = a; worker = w; placement = p }) request)) (sym has) is)
+          subst (λ (o : Option TestDef). IsSomeAnd o (λ d. IsSomeAnd (at_number tests.props t) (λ x. IsRequestOf env tests.terms d x (record { test = t; attempt = a; worker = w; placement = p }) request))) (sym there)
+          (subst (λ (o : Option Props). IsSomeAnd o (λ x. IsRequestOf env tests.terms def x (record { test = t; attempt = a; worker = w; placement = p }) request)) (sym has) is)
 
-      by_calls : (AsksOnce env tests.limit def own (record { test = t; attempt = a; worker = w; placement = p }) old new ⊎ AsksNone seen.how old new) → IsAsked env tests w start new (es ++ Start t a w p ∷ End t a w seen ∷ [])
+      by_calls : (AsksOnce env tests.terms def own (record { test = t; attempt = a; worker = w; placement = p }) old new ⊎ AsksNone seen.how old new) → IsAsked env tests w start new (es ++ Start t a w p ∷ End t a w seen ∷ [])
       by_calls (inl once) = grown (record { test = t; attempt = a; worker = w; placement = p } ∷ []) (once.request ∷ []) (inl (refl, refl)) (request_for once.request once.is, tt) once.asked once.sent has was runs
       by_calls (inr none) = grown [] [] (lacking_now t a w p seen es none.lacks, refl) tt none.asked none.sent has was runs
 

@@ -8,10 +8,16 @@ pub mod StepLemmas
 pub mod AlongLemmas
 pub mod ReportLemmas
 pub mod ChangeLemmas
+pub mod FrontLemmas
 pub mod RunFilesLemmas
+pub mod SpecLemmas
 pub mod ReadLemmas
 pub mod PlanLemmas
 pub mod EndLemmas
 pub mod LeaveLemmas
 pub mod AnswerLemmas
 pub mod ListLemmas
+pub mod MeantLemmas
+pub mod EntryLemmas
+pub mod MeantRunLemmas
+pub mod MeantAnswerLemmas

@@ -1,17 +1,10 @@
 -- How a list ended, and the answer of a call that was asked for one.
-use Rattle.std.proofs.Common.{◌≡◌, sym, subst, Bool, ℕ, zero, suc, ◌+◌, ◌≤◌, List, [], length, refl, arith, inl, inr}
-use Rattle.std.specs.Prelude.{Option, All, Result, Ok, Err, filter}
-use Rattle.std.specs.List.{range_with_len}
-use Rattle.std.proofs.lemmas.Bool.{cases_Bool}
-use Rattle.std.proofs.lemmas.List.Elements.{All-cons, All-nil}
+use Rattle.std.proofs.Common.{◌≡◌, sym, subst, ℕ, List, [], refl, inl, inr}
+use Rattle.std.specs.Prelude.{Option, Result, Ok, Err}
 use Rattle.ct_base.specs.declared.defs.Pair.{Pair}
-use Rattle.ct_base.specs.declared.defs.TestDef.{TestDef}
 use Rattle.ct_base.specs.declared.sink.SinkFault.{SinkFault}
 use Rattle.ct_base.specs.declared.sink.SinkFault.TheVariants as Sinks
 use Rattle.ct_base.specs.Outside.{FilesTell, Puts, SinkTell}
-use Rattle.ct_props.specs.declared.props.Props.{Props}
-use Rattle.ct_props.specs.declared.wanted.Choice.{Choice}
-use Rattle.ct_select.specs.Chosen.{chosen_tests, is_chosen_at}
 use Rattle.ct_history.specs.declared.plan.PlanParts.{PlanParts}
 use Rattle.ct_history.specs.declared.history.Entry.{Entry}
 use Rattle.ct_core.specs.Gate.{GateTell}
@@ -25,19 +18,6 @@ use Rattle.ct_app.specs.Lists.{AnswersList, HasList, IsShortList, list_text}
 use Rattle.ct_app.specs.Outcome.{fault_line, fault_status}
 use Rattle.ct_app.specs.Reading.{AskFor}
 use Rattle.ct_app.proofs.AnswerLemmas.{tried}
-
--- the numbers of the chosen tests are those of tests
-within_range : (p : ℕ → Bool) (first count most : ℕ) → 1 ≤ first → first + count ≤ most + 1 → All (λ n. (1 ≤ n) × (n ≤ most)) (filter p (range_with_len first count))
-within_range p first zero most low fits = All-nil (λ n. (1 ≤ n) × (n ≤ most))
-within_range p first (suc count) most low fits =
-    let rest = within_range p (first + 1) count most (omega arith) (omega (arith, fits)) in
-    elim (cases_Bool (p first)) [
-      | inl passes ↦ rw passes (All-cons (λ n. (1 ≤ n) × (n ≤ most)) first (filter p (range_with_len (first + 1) count)) (omega (arith, low), omega (arith, fits)) rest)
-      | inr fails ↦ rw fails rest
-    ]
-
-pub chosen_within : (defs : List TestDef) (props : List Props) (choice : Choice) → length props ≡ length defs → All (λ n. (1 ≤ n) × (n ≤ length props)) (chosen_tests defs props choice)
-chosen_within defs props choice same = within_range (is_chosen_at defs props choice) 1 (length defs) (length props) (omega arith) (omega (arith, same))
 
 -- a list of the tests that were read was put, or could not be
 module _ (words : List (List ℕ)) (invocation : Invocation) (asked : AskFor words invocation) (files files_now : FilesTell) (sink sink_now : SinkTell) where

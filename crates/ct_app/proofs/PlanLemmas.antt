@@ -1,17 +1,12 @@
 -- A plan is one of tests among those that it was made of.
-use Rattle.std.proofs.Common.{◌≡◌, ◌∙◌, sym, ap, subst, Bool, true, false, ℕ, zero, suc, ◌+◌, ◌≤◌, List, [], ◌∷◌, length, refl, arith, inl, inr}
-use Rattle.std.specs.Prelude.{Option, Some, None, IfSome, option_map, filter, ◌==◌, ◌||◌, cond}
-use Rattle.std.specs.List.{range_with_len}
+use Rattle.std.proofs.Common.{◌≡◌, ◌∙◌, sym, ap, subst, Bool, true, false, ℕ, List, [], ◌∷◌, length, refl, arith, inl, inr}
+use Rattle.std.specs.Prelude.{Option, Some, None, IfSome, option_map, ◌==◌, cond}
 use Rattle.std.proofs.lemmas.Bool.{cases_Bool}
 use Rattle.std.proofs.lemmas.Bool.Decides.{nat_tests}
-use Rattle.ct_base.specs.declared.defs.TestDef.{TestDef}
-use Rattle.ct_props.specs.Numbered.{at_number, is_in}
+use Rattle.ct_props.specs.Numbered.{at_number}
 use Rattle.ct_props.proofs.NumberedLemmas.{number_within}
 use Rattle.ct_props.specs.declared.props.Props.{Props}
-use Rattle.ct_props.specs.declared.wanted.Choice.{Choice}
 use Rattle.ct_env.specs.Modification.{first_bad}
-use Rattle.ct_select.specs.Chosen.{chosen_tests, is_chosen_at}
-use Rattle.ct_fixture.specs.Drawing.{after_rounds, fixtures_required, is_drawn, members_of, next_round}
 use Rattle.ct_verdict.specs.declared.verdict.Cause.{Cause}
 use Rattle.ct_verdict.specs.declared.verdict.Cause.TheVariants.{NotAvailable, BadOperation}
 use Rattle.ct_history.specs.declared.plan.PlanTest.{PlanTest}
@@ -22,7 +17,7 @@ use Rattle.ct_plan.specs.Planned.{ArePlaceable, ArePlannedTests, IsFixedBy, IsPl
 use Rattle.ct_plan.specs.Source.{HaveProps, Source, run_members}
 use Rattle.ct_app.specs.Run.{IsAmong, PlansTests}
 use Rattle.ct_app.specs.Tests.{tests_of}
-use Rattle.ct_app.proofs.TestLemmas.{length-have_props}
+use Rattle.ct_plan.proofs.CallerLemmas.{few_members, length-have_props}
 
 -- a test that is found is planned by its number
 planned_at : (s : Source) (numbers : List ℕ) (tests : List PlanTest) → ArePlannedTests s numbers tests → (n : ℕ) (t : PlanTest) → test_at tests n ≡ Some t → IsPlannedTest s n t
@@ -44,33 +39,6 @@ as_many s [] [] are = refl
 as_many s [] (x ∷ xs) are = absurd are
 as_many s (m ∷ ms) [] are = absurd are
 as_many s (m ∷ ms) (x ∷ xs) are = omega (arith, as_many s ms xs are.1)
-
-length-filter : {A : Type 0} (p : A → Bool) (xs : List A) → length (filter p xs) ≤ length xs
-length-filter p [] = omega arith
-length-filter p (x ∷ xs) = elim (cases_Bool (p x)) [
-  | inl passes ↦ rw passes (omega (arith, length-filter p xs))
-  | inr fails ↦ rw fails (omega (arith, length-filter p xs))
-]
-
-length-range : (first count : ℕ) → length (range_with_len first count) ≡ count
-length-range first zero = refl
-length-range first (suc count) = omega (arith, length-range (first + 1) count)
-
--- there are no more members than tests
-few_members : (choice : Choice) (defs : List TestDef) (props : List Props) → length props ≡ length defs → length (members_of choice props (chosen_tests defs props choice)) ≤ length defs
-few_members choice defs props same = by (length props) refl
-  where
-    round : (rounds : ℕ) → length (next_round choice props (after_rounds choice props (chosen_tests defs props choice) rounds)) ≤ length props
-    round rounds =
-        let tests = after_rounds choice props (chosen_tests defs props choice) rounds in
-        let most = length-filter (λ number. is_in tests number || is_drawn choice (fixtures_required props tests) (at_number props number)) (range_with_len 1 (length props)) in
-        omega (arith, most, length-range 1 (length props))
-
-    by : (rounds : ℕ) → length props ≡ rounds → length (after_rounds choice props (chosen_tests defs props choice) rounds) ≤ length defs
-    by zero is =
-        let most = length-filter (is_chosen_at defs props choice) (range_with_len 1 (length defs)) in
-        omega (arith, most, length-range 1 (length defs))
-    by (suc rounds) is = omega (arith, round rounds, same)
 
 -- what keeps a test from running is told, so that each entry of a modification names an operation where nothing does
 free_operations : (gone : Bool) (bad : Option ℕ) (Fits : Type 0) → IsFixedBy (cond gone (Some NotAvailable) (option_map BadOperation bad)) Fits None → bad ≡ None

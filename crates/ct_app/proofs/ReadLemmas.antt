@@ -1,6 +1,7 @@
--- Why the tests of a folder, or what the last run tells of them, were not read.
-use Rattle.std.proofs.Common.{◌≡◌, ◌∙◌, sym, ap, subst, ℕ, List}
-use Rattle.std.specs.Prelude.{Option, Some, None, Ok, Err, IfSome}
+-- What is read for the tests of a folder, and why it was not.
+use Rattle.std.proofs.Common.{◌≡◌, ◌∙◌, sym, ap, subst, ℕ, List, inl, inr}
+use Rattle.std.specs.Prelude.{Option, Some, None, Result, Ok, Err, IfSome}
+use Rattle.ct_base.specs.declared.defs.Resource.{Resource}
 use Rattle.ct_base.specs.declared.defs.TestDef.{TestDef}
 use Rattle.ct_base.specs.Outside.{Becomes, FilesTell, Held, SameHeld}
 use Rattle.ct_testfile.specs.Tree.{tree_of}
@@ -8,12 +9,17 @@ use Rattle.ct_cost.specs.declared.cost_data.CostData.{CostData}
 use Rattle.ct_args.specs.declared.invocation.Invocation.{Invocation}
 use Rattle.ct_app.specs.declared.outcome.Outcome.{Outcome}
 use Rattle.ct_app.specs.declared.outcome.Outcome.TheVariants.{Completed, Listed, Usage, Refused, FilesFault, OutputFault, Memory}
-use Rattle.ct_app.specs.declared.outcome.Refusal.TheVariants.{TestFile, Prop, Cycle, TooManyEdges}
+use Rattle.ct_app.specs.declared.outcome.Refusal.TheVariants.{TestFile, Prop, Spec, Cycle, TooManyEdges}
 use Rattle.ct_app.specs.declared.run_files.RunFileFault.{RunFileFault}
 use Rattle.ct_app.specs.declared.run_files.RunFileFault.TheVariants as Fault
-use Rattle.ct_app.specs.Ends.{IsUnread}
-use Rattle.ct_app.specs.Outcome.{outcome_of_file}
+use Rattle.ct_app.specs.declared.outcome.SpecRefusal.{SpecRefusal}
+use Rattle.ct_app.specs.declared.props.Tests.{Tests}
+use Rattle.ct_app.specs.declared.spec_file.SpecFileFault.{SpecFileFault}
+use Rattle.ct_app.specs.declared.spec_file.SpecFileFault.TheVariants as Named
+use Rattle.ct_app.specs.Ends.{HasTests, IsReadFolder, IsUnread, IsUnreadFolder}
+use Rattle.ct_app.specs.Outcome.{outcome_of_file, outcome_of_spec}
 use Rattle.ct_app.specs.RunFiles.{FilesStay, ReadsCosts, costs_of, costs_path, last_costs}
+use Rattle.ct_app.specs.SpecFile.{AreLent, ReadsSpec, RefusesFile, declared_in}
 use Rattle.ct_app.specs.Tests.{RefusesTests}
 use Rattle.ct_app.proofs.ChangeLemmas.{fails_then, same_then_same, serves_then}
 
@@ -24,6 +30,7 @@ unread_props invocation before now defs Listed refused read stay = absurd refuse
 unread_props invocation before now defs (Usage word kind) refused read stay = absurd refused
 unread_props invocation before now defs (Refused (TestFile file line kind)) refused read stay = absurd refused
 unread_props invocation before now defs (Refused (Prop test key kind)) refused read stay = ((defs, read, refused), stay)
+unread_props invocation before now defs (Refused (Spec why)) refused read stay = absurd refused
 unread_props invocation before now defs (Refused (Cycle tests)) refused read stay = absurd refused
 unread_props invocation before now defs (Refused TooManyEdges) refused read stay = absurd refused
 unread_props invocation before now defs (FilesFault path) refused read stay = absurd refused
@@ -36,13 +43,60 @@ same_last dir costs None between same read = tt
 same_last dir costs (Some x) None same read = absurd same
 same_last dir costs (Some x) (Some y) same read = read ∙ ap costs_of (same (costs_path dir))
 
-pub reads_behind : (dir : List ℕ) (before between now : FilesTell) (costs : CostData) → FilesStay before between → ReadsCosts dir between now (Ok costs) → IfSome before.held (λ held. costs ≡ last_costs dir held) × FilesStay before now
-reads_behind dir before between now costs stay read =
-    (same_last dir costs before.held between.held stay.held read.0, serves_then SameHeld SameHeld SameHeld same_then_same before between now stay read.1)
+same_declared : (path : List ℕ) (result : Result (List Resource) SpecRefusal) (before between : Option Held) → Becomes before between SameHeld → IfSome between (λ held. declared_in (held path) ≡ result) → IfSome before (λ held. declared_in (held path) ≡ result)
+same_declared path result None between same read = tt
+same_declared path result (Some x) None same read = absurd same
+same_declared path result (Some x) (Some y) same read = sym (ap declared_in (same path)) ∙ read
 
--- the cost data could not be read
-pub unread_costs : (invocation : Invocation) (dir : List ℕ) (before between now : FilesTell) (fault : RunFileFault) (outcome : Outcome) → outcome ≡ outcome_of_file fault → FilesStay before between → ReadsCosts dir between now (Err fault) → IsUnread invocation before now outcome
-unread_costs invocation dir before between now (Fault.Failed path) outcome is stay fails =
-    subst (λ (o : Outcome). IsUnread invocation before now o) (sym is) (fails_then SameHeld SameHeld SameHeld same_then_same path before between now stay fails)
-unread_costs invocation dir before between now Fault.NoMemory outcome is stay stays =
-    subst (λ (o : Outcome). IsUnread invocation before now o) (sym is) (serves_then SameHeld SameHeld SameHeld same_then_same before between now stay stays)
+same_lent : (file : Option (List ℕ)) (lent : Option (List Resource)) (before between : Option Held) → Becomes before between SameHeld → AreLent between file lent → AreLent before file lent
+same_lent None lent before between same is = is
+same_lent (Some path) None before between same is = absurd is
+same_lent (Some path) (Some resources) before between same is = same_declared path (Ok resources) before between same is
+
+same_refused : (file : Option (List ℕ)) (why : SpecRefusal) (before between : Option Held) → Becomes before between SameHeld → RefusesFile between file why → RefusesFile before file why
+same_refused None why before between same is = absurd is
+same_refused (Some path) why before between same is = same_declared path (Err why) before between same is
+
+-- files that stayed stay behind more that did not change them
+then_stay : (before between now : FilesTell) → FilesStay before between → FilesStay between now → FilesStay before now
+then_stay before between now = serves_then SameHeld SameHeld SameHeld same_then_same before between now
+
+-- all of a folder was read
+module _ (invocation : Invocation) (before between : FilesTell) (tests : Tests) (read : HasTests invocation before between tests) where
+  pub read_folder : (behind now : FilesTell) (lent : Option (List Resource)) (costs : CostData) → ReadsSpec invocation.spec_file between behind (Ok lent) → ReadsCosts invocation.wanted.dir behind now (Ok costs) → IsReadFolder invocation before now tests lent costs
+  read_folder behind now lent costs named last =
+      let stay = then_stay before between behind read.files named.1 in
+      record {
+        read = record { read = read.read; few = read.few; terms = read.terms; files = then_stay before behind now stay last.1 };
+        lent = same_lent invocation.spec_file lent before.held between.held read.files.held named.0;
+        last = same_last invocation.wanted.dir costs before.held behind.held stay.held last.0;
+      }
+
+  -- the specification was not
+  pub unread_spec : (now : FilesTell) (fault : SpecFileFault) (outcome : Outcome) → outcome ≡ outcome_of_spec fault → ReadsSpec invocation.spec_file between now (Err fault) → IsUnreadFolder invocation before now outcome
+  unread_spec now (Named.Refused why) outcome is refused =
+      subst (λ (o : Outcome). IsUnreadFolder invocation before now o) (sym is)
+      (inr (record { tests = tests; read = read.read; refused = same_refused invocation.spec_file why before.held between.held read.files.held refused.0; files = then_stay before between now read.files refused.1 }))
+  unread_spec now (Named.Failed path) outcome is fails =
+      subst (λ (o : Outcome). IsUnreadFolder invocation before now o) (sym is) (fails_then SameHeld SameHeld SameHeld same_then_same path before between now read.files fails)
+  unread_spec now Named.NoMemory outcome is stays =
+      subst (λ (o : Outcome). IsUnreadFolder invocation before now o) (sym is) (then_stay before between now read.files stays)
+
+  -- the cost data was not
+  pub unread_costs : (behind now : FilesTell) (lent : Option (List Resource)) (fault : RunFileFault) (outcome : Outcome) → outcome ≡ outcome_of_file fault → ReadsSpec invocation.spec_file between behind (Ok lent) → ReadsCosts invocation.wanted.dir behind now (Err fault) → IsUnreadFolder invocation before now outcome
+  unread_costs behind now lent (Fault.Failed path) outcome is named fails =
+      subst (λ (o : Outcome). IsUnreadFolder invocation before now o) (sym is)
+      (fails_then SameHeld SameHeld SameHeld same_then_same path before behind now (then_stay before between behind read.files named.1) fails)
+  unread_costs behind now lent Fault.NoMemory outcome is named stays =
+      subst (λ (o : Outcome). IsUnreadFolder invocation before now o) (sym is)
+      (then_stay before behind now (then_stay before between behind read.files named.1) stays)
+
+-- why the tests were not read is why the folder was not
+pub unread_tests : (invocation : Invocation) (before now : FilesTell) (outcome : Outcome) → IsUnread invocation before now outcome → IsUnreadFolder invocation before now outcome
+unread_tests invocation before now Completed unread = unread
+unread_tests invocation before now Listed unread = unread
+unread_tests invocation before now (Usage word kind) unread = unread
+unread_tests invocation before now (Refused refusal) unread = inl unread
+unread_tests invocation before now (FilesFault path) unread = unread
+unread_tests invocation before now OutputFault unread = unread
+unread_tests invocation before now Memory unread = unread

@@ -16,23 +16,17 @@ use Rattle.ct_history.specs.Legal.{has_failing}
 use Rattle.ct_history.specs.Verdicts.{is_failing_in, verdict_in}
 use Rattle.ct_cost.specs.declared.cost_data.CostData.{CostData}
 use Rattle.ct_cost.specs.After.{failed_log_text, logged}
+use Rattle.ct_cost.specs.Costs.{costs_in}
 use Rattle.ct_app.specs.declared.run_files.RunFileFault.{RunFileFault}
 use Rattle.ct_app.specs.declared.run_files.RunFileFault.TheVariants as Fault
 use Rattle.ct_app.specs.RunFiles.{FilesFail, FilesServe, FilesStay, Leaves, LeavesBoth, LeavesFor, LeavesPart, LeavesTorn, WritesFiles, WritesText, costs_of, costs_path, last_costs, log_path, most_cost_bytes, new_costs}
+use Rattle.ct_app.proofs.FrontLemmas.{made_of_front}
 use Rattle.ct_app.proofs.ChangeLemmas.{fails_as, fails_then, same_then_fails, same_then_same, same_then_writes, serves_as, serves_then, stays, writes_then_same}
 
 -- the first bytes of a long text are too many too
 pub costs_of_front : (held : Option (List ℕ)) → costs_of (option_map (take (most_cost_bytes + 1)) held) ≡ costs_of held
 costs_of_front None = refl
-costs_of_front (Some text) = by_test (nat_le (length text) most_cost_bytes) refl
-  where
-    by_test : (fits : Bool) → nat_le (length text) most_cost_bytes ≡ fits → costs_of (Some (take (most_cost_bytes + 1) text)) ≡ costs_of (Some text)
-    by_test true fits = let within = leb-true (length text) most_cost_bytes fits in ap (λ t. costs_of (Some t)) (take_all (most_cost_bytes + 1) text (omega (arith, within)))
-    by_test false fits =
-        let above = leb-false (length text) most_cost_bytes fits in
-        let front = length-take (most_cost_bytes + 1) text in
-        let long : most_cost_bytes < length (take (most_cost_bytes + 1) text) = omega (arith, above, front) in
-        rw (lt-leb (length (take (most_cost_bytes + 1) text)) most_cost_bytes long, fits) refl
+costs_of_front (Some text) = made_of_front costs_in (costs_in []) most_cost_bytes text
 
 -- the cost data of the last run, by the first bytes of its file
 pub reads_last : (dir path : List ℕ) (told : Option Held) (got : Option (List ℕ)) (costs : CostData) → path ≡ costs_path dir → IfSome told (λ held. got ≡ option_map (take (most_cost_bytes + 1)) (held path)) → costs ≡ costs_of got → IfSome told (λ held. costs ≡ last_costs dir held)

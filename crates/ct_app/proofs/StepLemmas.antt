@@ -230,11 +230,11 @@ module _ (tests : Tests) (old : CoreValue) (ticket : Ticket) (mid : CoreValue) (
             fewer = subst (λ (n : ℕ). IsSome (verdict_of_test now.plan now.entries n) → left_count now.plan now.entries < left_count old.plan old.entries) (sym is) (fewer_now tests old now was es grown legal_both closed_now below ticket.test next stays grows (inr once_more));
           }
 
-      pub asked_now : (env : List Pair) (def : TestDef) (own : Props) (gate new : GateTell) → at_number tests.defs number ≡ Some def → at_number tests.props number ≡ Some own → RunsAttempt env tests.limit def own (run_of ticket) seen gate new → StaysAsked env tests 0 gate new old.entries now.entries
+      pub asked_now : (env : List Pair) (def : TestDef) (own : Props) (gate new : GateTell) → at_number tests.defs number ≡ Some def → at_number tests.props number ≡ Some own → RunsAttempt env tests.terms def own (run_of ticket) seen gate new → StaysAsked env tests 0 gate new old.entries now.entries
       asked_now env def own gate new there has runs start asked =
           let there_now = subst (λ (n : ℕ). at_number tests.defs n ≡ Some def) is there in
           let has_now = subst (λ (n : ℕ). at_number tests.props n ≡ Some own) is has in
-          let of_first = subst (λ (w : ℕ). RunsAttempt env tests.limit def own (record { test = ticket.test; attempt = ticket.attempt; worker = w; placement = ticket.placement }) seen gate new) starts.by runs in
+          let of_first = subst (λ (w : ℕ). RunsAttempt env tests.terms def own (record { test = ticket.test; attempt = ticket.attempt; worker = w; placement = ticket.placement }) seen gate new) starts.by runs in
           let es = old.entries ++ Is.Start ticket.test ticket.attempt 0 ticket.placement ∷ Is.End ticket.test ticket.attempt 0 seen ∷ [] in
           let asks = asked_more env tests 0 start gate new old.entries ticket.test ticket.attempt ticket.placement seen def own there_now has_now asked of_first in
           let entries : now.entries ≡ with_due_stop old.plan es = ap (λ (c : CoreValue). c.entries) grown ∙ ap (λ (w : ℕ). with_due_stop old.plan (old.entries ++ Is.Start ticket.test ticket.attempt w ticket.placement ∷ Is.End ticket.test ticket.attempt w seen ∷ [])) starts.by in

@@ -12,24 +12,12 @@ use Rattle.ct_props.specs.declared.fault.PropFault.TheVariants.{Bad, NoMemory}
 use Rattle.ct_props.specs.Numbered.{at_number}
 use Rattle.ct_props.proofs.NumberedLemmas.{at_number_here}
 use Rattle.ct_plan.specs.Source.{HaveProps}
+use Rattle.ct_plan.proofs.CallerLemmas.{have_props-snoc}
 use Rattle.ct_app.specs.declared.outcome.Outcome.{Outcome}
 use Rattle.ct_app.specs.declared.outcome.Outcome.TheVariants.{Completed, Listed, Usage, Refused, FilesFault, OutputFault, Memory}
-use Rattle.ct_app.specs.declared.outcome.Refusal.TheVariants.{TestFile, Prop, Cycle, TooManyEdges}
+use Rattle.ct_app.specs.declared.outcome.Refusal.TheVariants.{TestFile, Prop, Spec, Cycle, TooManyEdges}
 use Rattle.ct_app.specs.Outcome.{outcome_of_prop}
 use Rattle.ct_app.specs.Tests.{IsUnrefused, RefusesTest, RefusesTests}
-
--- there are as many properties as tests
-pub length-have_props : (defs : List TestDef) (owns : List Props) → HaveProps defs owns → length owns ≡ length defs
-length-have_props [] [] have = refl
-length-have_props [] (own ∷ owns) have = absurd have
-length-have_props (def ∷ defs) [] have = absurd have
-length-have_props (def ∷ defs) (own ∷ owns) have = omega (arith, length-have_props defs owns have.1)
-
-have_props-snoc : (defs : List TestDef) (owns : List Props) (def : TestDef) (own : Props) → HaveProps defs owns → HasProps def own → HaveProps (defs ++ def ∷ []) (owns ++ own ∷ [])
-have_props-snoc [] [] def own have has = (has, tt)
-have_props-snoc [] (x ∷ xs) def own have has = absurd have
-have_props-snoc (y ∷ ys) [] def own have has = absurd have
-have_props-snoc (y ∷ ys) (x ∷ xs) def own have has = (have.0, have_props-snoc ys xs def own have.1 has)
 
 -- a fault of the properties of a test refuses it
 pub refuses_as : (number : ℕ) (def : TestDef) (fault : PropFault) (outcome : Outcome) → IsPropFault def.props fault → outcome ≡ outcome_of_prop number fault → RefusesTest number def outcome
@@ -77,6 +65,7 @@ module _ (defs : List TestDef) (at : ℕ) (def : TestDef) (within : at < length 
         least = refused.1;
         first = subst (λ (n : ℕ). All IsUnrefused (take n defs)) (sym place) read.unrefused;
       }
+  refuses number owns (Refused (Spec why)) numbered read refused = refused
   refuses number owns (Refused (Cycle tests)) numbered read refused = refused
   refuses number owns (Refused TooManyEdges) numbered read refused = refused
   refuses number owns (FilesFault path) numbered read refused = refused

@@ -20,6 +20,7 @@ use Rattle.ct_core.specs.declared.ticket.Ticket.{Ticket}
 use Rattle.ct_core.specs.Core.{with_due_stop, with_final}
 use Rattle.ct_core.specs.CoreValue.{CoreValue}
 use Rattle.ct_core.specs.Gate.{GateTell, is_no_memory, is_not_started, told}
+use Rattle.ct_app.specs.declared.props.Terms.{Terms}
 use Rattle.ct_app.specs.declared.props.Tests.{Tests}
 use Rattle.ct_app.specs.Run.{left_count, tries_left}
 use Rattle.ct_app.specs.Gates.{IsAsked, IsRequestOf, asked_run, seen_of}
@@ -29,9 +30,9 @@ abbrev pub run_of : Ticket → Running
 run_of ticket = record { test = ticket.test; attempt = ticket.attempt; worker = ticket.worker; placement = ticket.placement }
 
 -- the gate was asked once, for this attempt
-pub record AsksOnce (env : List Pair) (limit : ℕ) (def : TestDef) (props : Props) (run : Running) (old new : GateTell) : Type 0 where
+pub record AsksOnce (env : List Pair) (terms : Terms) (def : TestDef) (props : Props) (run : Running) (old new : GateTell) : Type 0 where
   pub request : Request
-  pub is : IsRequestOf env limit def props run request
+  pub is : IsRequestOf env terms def props run request
   pub asked : Becomes old.asked new.asked (Adds (asked_run run ∷ []))
   pub sent : Becomes old.sent new.sent (Adds (request ∷ []))
 
@@ -48,9 +49,9 @@ pub record HasAttemptCause (before now : ℕ) (how : How) : Type 0 where
   pub unfailed : is_not_started how ≡ false → is_no_memory how ≡ false → now ≡ before
 
 -- an attempt of a test was run on a gate, and was so seen
-pub record RunsAttempt (env : List Pair) (limit : ℕ) (def : TestDef) (props : Props) (run : Running) (seen : Seen) (old new : GateTell) : Type 0 where
+pub record RunsAttempt (env : List Pair) (terms : Terms) (def : TestDef) (props : Props) (run : Running) (seen : Seen) (old new : GateTell) : Type 0 where
   pub told : is_no_memory seen.how ≡ false → IfSome old.world (λ world. seen ≡ seen_of props (told world run.test run.attempt).heard (told world run.test run.attempt).ended)
-  pub calls : AsksOnce env limit def props run old new ⊎ AsksNone seen.how old new
+  pub calls : AsksOnce env terms def props run old new ⊎ AsksNone seen.how old new
   pub world : new.world ≡ old.world
   pub cause : HasAttemptCause old.faults new.faults seen.how
 

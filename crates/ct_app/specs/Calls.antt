@@ -1,9 +1,11 @@
 -- What every call has, and what keeps one from what its words ask for. This project's own.
 use Rattle.std.specs.Prelude.{◌≡◌, ◌⊎◌, ℕ, List, [], Option, None, Result, Ok, Err}
 use Rattle.ct_base.specs.declared.defs.Pair.{Pair}
+use Rattle.ct_base.specs.declared.defs.TestDef.{TestDef}
 use Rattle.ct_base.specs.declared.sink.SinkFault.{SinkFault}
 use Rattle.ct_base.specs.declared.sink.SinkFault.TheVariants as Sinks
 use Rattle.ct_base.specs.Outside.{FilesTell, Puts, SameHeld, SinkTell}
+use Rattle.ct_props.specs.declared.props.Props.{Props}
 use Rattle.ct_history.specs.declared.plan.PlanParts.{PlanParts}
 use Rattle.ct_history.specs.declared.history.Entry.{Entry}
 use Rattle.ct_core.specs.Gate.{GateTell}
@@ -12,7 +14,7 @@ use Rattle.ct_args.specs.declared.usage.UsageFault.TheVariants.{At}
 use Rattle.ct_args.specs.declared.invocation.Invocation.{Invocation}
 use Rattle.ct_args.specs.Invocation.{invocation_in}
 use Rattle.ct_app.specs.declared.outcome.Refusal.{Refusal}
-use Rattle.ct_app.specs.Reading.{AskFor, RefusesReading}
+use Rattle.ct_app.specs.Reading.{AreRead, AskFor, RefusesReading, RefusesSpec}
 use Rattle.ct_app.specs.RunFiles.{FilesFail, FilesStay}
 
 -- the values of a call, before it and behind it; plan and history are those that it gives back
@@ -81,7 +83,18 @@ pub record IsUnreadable (s : Sides) (refusal : Refusal) : Type 0 where
   pub files : FilesStay s.files_before s.files_now
   pub unrun : IsUnrun s
 
--- the files failed at a path while the tests or the cost data were read, and nothing was run
+-- the tests that the words ask for were read, the file is refused that declares the resources, and nothing was run
+pub record IsUndeclared (s : Sides) (refusal : Refusal) : Type 0 where
+  pub invocation : Invocation
+  pub words : AskFor s.words invocation
+  pub defs : List TestDef
+  pub props : List Props
+  pub read : AreRead s.files_before.held invocation defs props
+  pub refused : RefusesSpec s.files_before.held invocation refusal
+  pub files : FilesStay s.files_before s.files_now
+  pub unrun : IsUnrun s
+
+-- the files failed at a path that is read in front of a run or a list, and nothing was run
 pub record IsReadFault (s : Sides) (path : List ℕ) : Type 0 where
   pub invocation : Invocation
   pub words : AskFor s.words invocation

@@ -1,6 +1,7 @@
 -- How a call ended, before its outcome is told. This project's own.
-use Rattle.std.specs.Prelude.{◌≡◌, ◌⊎◌, ℕ, ◌-◌, ◌^◌, ◌<◌, Bool, true, List, [], length, Result, Ok, Err, IfSome}
+use Rattle.std.specs.Prelude.{◌≡◌, ◌⊎◌, ℕ, ◌-◌, ◌^◌, ◌<◌, Bool, true, List, [], length, Option, is_some, Result, Ok, Err, IfSome}
 use Rattle.ct_base.specs.declared.defs.Pair.{Pair}
+use Rattle.ct_base.specs.declared.defs.Resource.{Resource}
 use Rattle.ct_base.specs.declared.defs.TestDef.{TestDef}
 use Rattle.ct_base.specs.declared.sink.SinkFault.{SinkFault}
 use Rattle.ct_base.specs.declared.sink.SinkFault.TheVariants as Sinks
@@ -17,15 +18,18 @@ use Rattle.ct_plan.specs.declared.fault.PlanFault.{PlanFault}
 use Rattle.ct_plan.specs.declared.fault.PlanFault.TheVariants as Plans
 use Rattle.ct_app.specs.declared.outcome.Outcome.{Outcome}
 use Rattle.ct_app.specs.declared.outcome.Outcome.TheVariants.{Completed, Listed, Usage, Refused, FilesFault, OutputFault, Memory}
+use Rattle.ct_app.specs.declared.outcome.Refusal.{Refusal}
 use Rattle.ct_app.specs.declared.outcome.Refusal.TheVariants.{Cycle, TooManyEdges}
+use Rattle.ct_app.specs.declared.props.Terms.{Terms}
 use Rattle.ct_app.specs.declared.props.Tests.{Tests}
 use Rattle.ct_app.specs.Calls.{IsReadFault, IsUnreadable, IsUnrun, IsUsage, PutsOrFails, Sides}
 use Rattle.ct_app.specs.Runs.{HasRunWith, IsCutOff, IsCutShort, IsGivenUp, IsLeft, IsRefusal, IsReported, IsWriteFault}
 use Rattle.ct_app.specs.Gates.{IsAsked, are_below}
 use Rattle.ct_app.specs.Lists.{HasList}
 use Rattle.ct_app.specs.Outcome.{fault_line, fault_status, names_at, outcome_of_sink, status_of}
-use Rattle.ct_app.specs.Reading.{AreRead, AskFor, RefusesReading}
+use Rattle.ct_app.specs.Reading.{AreRead, AskFor, RefusesReading, RefusesSpec}
 use Rattle.ct_app.specs.RunFiles.{FilesFail, FilesServe, FilesStay, IsWritten, Leaves, LeavesPart, LeavesTorn, last_costs}
+use Rattle.ct_app.specs.SpecFile.{AreLent}
 
 -- the entries of a history
 abbrev pub history_entries : History → List Entry
@@ -75,11 +79,15 @@ abbrev pub with_status : Bool → PlanParts → List Entry → Result (Unit {0})
 with_status empty_is_error plan entries (Ok done) = Ok (status_of empty_is_error plan entries)
 with_status empty_is_error plan entries (Err outcome) = Err outcome
 
+-- what an invocation says of each attempt: how long one may run that does not say so itself, and whether resources are lent
+abbrev pub terms_asked : Invocation → Terms
+terms_asked invocation = record { limit = invocation.timeout; lends = is_some invocation.spec_file }
+
 -- the tests that an invocation asks for were read, and the files stay
 pub record HasTests (invocation : Invocation) (before now : FilesTell) (tests : Tests) : Type 0 where
   pub read : AreRead before.held invocation tests.defs tests.props
   pub few : length tests.defs < 2 ^ 32 - 1
-  pub limit : tests.limit ≡ invocation.timeout
+  pub terms : tests.terms ≡ terms_asked invocation
   pub files : FilesStay before now
 
 -- why they were not: a test file or a property is refused, or the files failed at a path that was read, or memory was wanting
@@ -92,9 +100,22 @@ IsUnread invocation before now (FilesFault path) = FilesFail path SameHeld befor
 IsUnread invocation before now OutputFault = ⊥
 IsUnread invocation before now Memory = FilesStay before now
 
--- and what the last run tells of them was read too
-pub record IsReadFolder (invocation : Invocation) (before now : FilesTell) (tests : Tests) (costs : CostData) : Type 0 where
+-- the tests that an invocation asks for were read, and the file is refused that declares the resources
+pub record HasBadSpec (invocation : Invocation) (before now : FilesTell) (refusal : Refusal) : Type 0 where
+  pub tests : Tests
+  pub read : AreRead before.held invocation tests.defs tests.props
+  pub refused : RefusesSpec before.held invocation refusal
+  pub files : FilesStay before now
+
+-- why the folder of a run was not read: its tests or the cost data were not, or behind the tests the specification was refused
+abbrev pub IsUnreadFolder : Invocation → FilesTell → FilesTell → Outcome → Type 0
+IsUnreadFolder invocation before now (Refused refusal) = IsUnread invocation before now (Refused refusal) ⊎ HasBadSpec invocation before now refusal
+IsUnreadFolder invocation before now outcome = IsUnread invocation before now outcome
+
+-- the tests were read, and the resources that are lent and what the last run tells of the tests were too
+pub record IsReadFolder (invocation : Invocation) (before now : FilesTell) (tests : Tests) (resources : Option (List Resource)) (costs : CostData) : Type 0 where
   pub read : HasTests invocation before now tests
+  pub lent : AreLent before.held invocation.spec_file resources
   pub last : IfSome before.held (λ held. costs ≡ last_costs invocation.wanted.dir held)
 
 -- why the tests of a folder have no plan, with the names of the tests of a cycle; memory may be wanting for these

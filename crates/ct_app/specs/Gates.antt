@@ -1,5 +1,5 @@
 -- What the gates of a run were asked and told, by the entries of their workers. This project's own; the request of a start
--- is after CMake manual, cmake-properties(7), REQUIRED_FILES, TIMEOUT, WORKING_DIRECTORY.
+-- is after CMake manual, cmake-properties(7), REQUIRED_FILES, TIMEOUT, WORKING_DIRECTORY; ctest(1), Resource Allocation.
 use Rattle.std.specs.Prelude.{◌≡◌, ◌⊎◌, ℕ, ◌+◌, ◌-◌, ◌^◌, ◌≤◌, ⊤, min, nat_lt, Bool, true, false, not, ◌&&◌, ◌||◌, List, [], ◌∷◌, ◌++◌, map, filter_map, count_by, Option, Some, None, unwrap_or, IfSome, IsSomeAnd, ◌==◌, if◌then◌else◌}
 use Rattle.std.specs.List.{list_all, list_any}
 use Rattle.ct_base.specs.declared.defs.Pair.{Pair}
@@ -9,6 +9,7 @@ use Rattle.ct_regex.specs.declared.pattern.Regex.{Regex}
 use Rattle.ct_regex.specs.Ends.{hits}
 use Rattle.ct_regex.specs.TreeOf.{regex_tree}
 use Rattle.ct_props.specs.declared.props.Props.{Props}
+use Rattle.ct_alloc.specs.declared.placement.Placement.{Placement}
 use Rattle.ct_env.specs.Environment.{IsEnvironment}
 use Rattle.ct_props.specs.Numbered.{at_number}
 use Rattle.ct_verdict.specs.declared.attempt.Seen.{Seen}
@@ -20,6 +21,7 @@ use Rattle.ct_core.specs.declared.gate.Ended.{Ended}
 use Rattle.ct_core.specs.declared.gate.Request.{Request}
 use Rattle.ct_core.specs.declared.gate.Told.{Told}
 use Rattle.ct_core.specs.Gate.{GateTell, asked_for, is_no_memory, is_not_started, told}
+use Rattle.ct_app.specs.declared.props.Terms.{Terms}
 use Rattle.ct_app.specs.declared.props.Tests.{Tests}
 
 -- the entry ends an attempt for want of memory, for which its gate may not have been asked
@@ -66,6 +68,20 @@ asked_run run = asked_for run.test run.attempt
 abbrev pub limit_of : ℕ → Option ℕ
 limit_of micros = if micros == 0 then None else Some micros
 
+-- the test has groups
+abbrev pub has_groups : Props → Bool
+has_groups props = nat_lt 0 props.groups.count
+
+-- a placement without picks
+abbrev pub no_picks : Placement
+no_picks = record { picks = [] }
+
+-- the placement that an attempt of a test tells its program of: its own, or else one without picks, where the test has groups and
+-- resources are lent
+abbrev pub placement_told : Bool → Props → Option Placement → Option Placement
+placement_told lends props (Some placement) = Some placement
+placement_told lends props None = if lends && has_groups props then Some no_picks else None
+
 -- what a gate is asked to run for an attempt of this test: its command, in its folder, with this environment, and for so long
 -- where the test does not say that itself
 abbrev pub request_in : List Pair → ℕ → TestDef → Props → Running → Request
@@ -80,14 +96,14 @@ request_in env limit def props run = record {
   required = props.required_files;
 }
 
--- the request is that of an attempt of this test, with the environment that its properties make of the run's own
-pub record IsRequestOf (own : List Pair) (limit : ℕ) (def : TestDef) (props : Props) (run : Running) (request : Request) : Type 0 where
-  pub env : IsEnvironment own props run.placement request.env
-  pub is : request ≡ request_in request.env limit def props run
+-- the request is that of an attempt of this test, with the environment that its properties and its placement make of the run's own
+pub record IsRequestOf (own : List Pair) (terms : Terms) (def : TestDef) (props : Props) (run : Running) (request : Request) : Type 0 where
+  pub env : IsEnvironment own props (placement_told terms.lends props run.placement) request.env
+  pub is : request ≡ request_in request.env terms.limit def props run
 
 -- the request is that of an attempt of one of these tests
 abbrev pub IsRequestFor : List Pair → Tests → Running → Request → Type 0
-IsRequestFor own tests run request = IsSomeAnd (at_number tests.defs run.test) (λ def. IsSomeAnd (at_number tests.props run.test) (λ props. IsRequestOf own tests.limit def props run request))
+IsRequestFor own tests run request = IsSomeAnd (at_number tests.defs run.test) (λ def. IsSomeAnd (at_number tests.props run.test) (λ props. IsRequestOf own tests.terms def props run request))
 
 -- the requests are those of these attempts, one for each, in order
 abbrev pub AreRequests : List Pair → Tests → List Running → List Request → Type 0

@@ -2,11 +2,15 @@
 pub mod Tests
 pub mod Outcome
 pub mod Gates
+pub mod Meant
+pub mod MeantTold
 pub mod RunFiles
+pub mod SpecFile
 pub mod Reading
 pub mod Calls
 pub mod Run
 pub mod Runs
+pub mod MeantRuns
 pub mod Lists
 pub mod Answers
 pub mod Attempt

@@ -5,13 +5,11 @@ use Rattle.ct_base.specs.declared.defs.TestDef.{TestDef}
 use Rattle.ct_base.specs.declared.sink.SinkFault.TheVariants as Sinks
 use Rattle.ct_base.specs.Outside.{Puts}
 use Rattle.ct_props.specs.declared.props.Props.{Props}
-use Rattle.ct_props.specs.declared.wanted.Choice.{Choice}
-use Rattle.ct_select.specs.Chosen.{chosen_tests}
-use Rattle.ct_fixture.specs.Drawing.{members_of}
 use Rattle.ct_props.specs.Numbered.{at_number}
 use Rattle.ct_args.specs.declared.invocation.Task.{Task}
 use Rattle.ct_args.specs.declared.invocation.Task.TheVariants.{Run, ListTests, ListLabels}
 use Rattle.ct_args.specs.declared.invocation.Invocation.{Invocation}
+use Rattle.ct_plan.specs.Source.{members_in}
 use Rattle.ct_report.specs.Lists.{Listed as Line, label_list, test_list}
 use Rattle.ct_report.specs.Report.{text_of}
 use Rattle.ct_app.specs.declared.outcome.Outcome.{Outcome}
@@ -20,10 +18,6 @@ use Rattle.ct_app.specs.Calls.{IsReadFault, IsUnreadable, IsUnrun, IsUsage, Puts
 use Rattle.ct_app.specs.Outcome.{fault_line}
 use Rattle.ct_app.specs.Reading.{AreRead, AskFor}
 use Rattle.ct_app.specs.RunFiles.{FilesStay}
-
--- the numbers of the members, which ascend: the tests that are chosen, and those that fixtures draw in
-abbrev pub members_in : Choice → List TestDef → List Props → List ℕ
-members_in choice defs props = members_of choice props (chosen_tests defs props choice)
 
 -- a test with this number as it is listed, where it is there
 abbrev pub listed_there : ℕ → Option TestDef → Option Props → Option Line

@@ -11,6 +11,8 @@ use Rattle.ct_props.specs.declared.fault.PropKind.{PropKind}
 use Rattle.ct_props.specs.declared.fault.PropKind.TheVariants as Bad
 use Rattle.ct_props.specs.declared.fault.PropFault.{PropFault}
 use Rattle.ct_props.specs.declared.fault.PropFault.TheVariants as Props
+use Rattle.ct_spec.specs.declared.fault.SpecFault.{SpecFault}
+use Rattle.ct_spec.specs.declared.fault.SpecFault.TheVariants as Says
 use Rattle.ct_args.specs.declared.usage.UsageKind.{UsageKind}
 use Rattle.ct_args.specs.declared.usage.UsageKind.TheVariants as Word
 use Rattle.ct_args.specs.declared.usage.UsageFault.{UsageFault}
@@ -19,10 +21,14 @@ use Rattle.ct_props.specs.Numbered.{at_number}
 use Rattle.ct_history.specs.declared.plan.PlanParts.{PlanParts}
 use Rattle.ct_history.specs.declared.history.Entry.{Entry}
 use Rattle.ct_history.specs.Legal.{has_failing}
+use Rattle.ct_app.specs.declared.spec_file.SpecFileFault.{SpecFileFault}
+use Rattle.ct_app.specs.declared.spec_file.SpecFileFault.TheVariants as Named
 use Rattle.ct_app.specs.declared.run_files.RunFileFault.{RunFileFault}
 use Rattle.ct_app.specs.declared.run_files.RunFileFault.TheVariants as Files
 use Rattle.ct_app.specs.declared.outcome.Refusal.{Refusal}
-use Rattle.ct_app.specs.declared.outcome.Refusal.TheVariants.{TestFile, Prop, Cycle, TooManyEdges}
+use Rattle.ct_app.specs.declared.outcome.Refusal.TheVariants.{TestFile, Prop, Spec, Cycle, TooManyEdges}
+use Rattle.ct_app.specs.declared.outcome.SpecRefusal.{SpecRefusal}
+use Rattle.ct_app.specs.declared.outcome.SpecRefusal.TheVariants as Specs
 use Rattle.ct_app.specs.declared.outcome.Outcome.{Outcome}
 use Rattle.ct_app.specs.declared.outcome.Outcome.TheVariants.{Completed, Listed, Usage, Refused, FilesFault, OutputFault, Memory}
 
@@ -41,6 +47,17 @@ outcome_of Read.NoMemory = Memory
 abbrev pub outcome_of_prop : ℕ → PropFault → Outcome
 outcome_of_prop test (Props.Bad key kind) = Refused (Prop test key kind)
 outcome_of_prop test Props.NoMemory = Memory
+
+-- what a fault of a specification is to the file that holds it
+abbrev pub fault_of_spec : SpecFault → SpecFileFault
+fault_of_spec Says.NoMemory = Named.NoMemory
+fault_of_spec fault = Named.Refused (Specs.Fault fault)
+
+-- what a fault of the file that declares the resources is to a call
+abbrev pub outcome_of_spec : SpecFileFault → Outcome
+outcome_of_spec (Named.Refused why) = Refused (Spec why)
+outcome_of_spec (Named.Failed path) = FilesFault path
+outcome_of_spec Named.NoMemory = Memory
 
 -- what a fault of a file that is read or left is to a call
 abbrev pub outcome_of_file : RunFileFault → Outcome
@@ -94,6 +111,24 @@ prop_text Bad.BadNumber = codes "bad number"
 prop_text (Bad.BadPattern why) = codes "bad pattern"
 prop_text (Bad.BadGroups why) = codes "bad resource groups"
 
+-- what is wrong with a specification; of want of memory no refusal tells
+abbrev pub spec_fault_text : SpecFault → List ℕ
+spec_fault_text Says.NotJson = codes "not JSON"
+spec_fault_text Says.BadVersion = codes "bad version"
+spec_fault_text Says.BadLocal = codes "bad local"
+spec_fault_text (Says.BadKind kind) = codes "bad type " ++ kind
+spec_fault_text (Says.BadId kind entry) = codes "bad id in " ++ kind
+spec_fault_text (Says.TwiceId kind entry) = codes "repeated id in " ++ kind
+spec_fault_text (Says.BadSlots kind entry) = codes "bad slots in " ++ kind
+spec_fault_text Says.TooMany = codes "too many resources"
+spec_fault_text Says.NoMemory = codes "out of memory"
+
+-- what is wrong with the file that declares the resources
+abbrev pub spec_text : SpecRefusal → List ℕ
+spec_text Specs.Absent = codes "absent"
+spec_text Specs.TooLong = codes "too long"
+spec_text (Specs.Fault fault) = spec_fault_text fault
+
 -- the name of a test that was looked up
 abbrev pub name_there : Option TestDef → List ℕ
 name_there None = []
@@ -116,6 +151,7 @@ cycle_text (first ∷ others) = codes "cycle: " ++ first ++ arrows_to others ++ 
 abbrev pub refusal_text : List (List ℕ) → Refusal → List ℕ
 refusal_text names (TestFile file line kind) = file ++ codes ":" ++ decimal line ++ codes ": " ++ kind_text kind
 refusal_text names (Prop test key kind) = codes "test " ++ decimal test ++ codes ": " ++ key ++ codes ": " ++ prop_text kind
+refusal_text names (Spec why) = codes "resource specification: " ++ spec_text why
 refusal_text names (Cycle tests) = cycle_text names
 refusal_text names TooManyEdges = codes "too many dependencies"
 

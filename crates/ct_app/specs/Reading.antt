@@ -1,6 +1,6 @@
 -- What the words of a call ask for, what is read for that, and why it can't be.
 -- Source: CMake manual, ctest(1), Options, Run Tests. What is refused is this project's choice.
-use Rattle.std.specs.Prelude.{◌≡◌, ℕ, ◌<◌, ◌≤◌, Bool, true, false, List, Option, None, Result, Ok, Err, IfSome}
+use Rattle.std.specs.Prelude.{◌≡◌, ℕ, ◌<◌, ◌≤◌, Bool, true, false, List, Option, Result, Ok, Err, IfSome}
 use Rattle.ct_base.specs.declared.defs.TestDef.{TestDef}
 use Rattle.ct_base.specs.Outside.{Held}
 use Rattle.ct_testfile.specs.declared.fault.ReadFault.TheVariants as Read
@@ -14,9 +14,10 @@ use Rattle.ct_args.specs.declared.invocation.Task.TheVariants.{Run, ListTests, L
 use Rattle.ct_args.specs.Invocation.{InvocationValue, invocation_in, invocation_seen}
 use Rattle.ct_plan.specs.Source.{HaveProps, Source, edge_count, members_before}
 use Rattle.ct_app.specs.declared.outcome.Refusal.{Refusal}
-use Rattle.ct_app.specs.declared.outcome.Refusal.TheVariants.{TestFile, Prop, Cycle, TooManyEdges}
+use Rattle.ct_app.specs.declared.outcome.Refusal.TheVariants.{TestFile, Prop, Spec, Cycle, TooManyEdges}
 use Rattle.ct_app.specs.Outcome.{names_at}
 use Rattle.ct_app.specs.RunFiles.{last_costs}
+use Rattle.ct_app.specs.SpecFile.{AreLent, RefusesFile}
 use Rattle.ct_app.specs.Tests.{RefusesFirst}
 
 -- the task is one of the two lists
@@ -43,11 +44,11 @@ pub record AreRead (told : Option Held) (invocation : Invocation) (defs : List T
   pub tree : IfSome told (λ held. tree_of held invocation.wanted.dir invocation.config ≡ Ok defs)
   pub have : HaveProps defs props
 
--- a plan is made of these tests, of what is wanted, and of what the last run cost; no resources are lent
+-- a plan is made of these tests, of what is wanted, of the resources that are lent, and of what the last run cost
 pub record IsSource (told : Option Held) (invocation : Invocation) (source : Source) : Type 0 where
   pub tests : AreRead told invocation source.defs source.props
   pub wanted : source.wanted ≡ invocation.wanted
-  pub resources : source.resources ≡ None
+  pub resources : AreLent told invocation.spec_file source.resources
   pub costs : IfSome told (λ held. source.costs ≡ last_costs invocation.wanted.dir held)
 
 -- a test file is refused, or else the first test that has a bad property
@@ -55,8 +56,17 @@ abbrev pub RefusesReading : Option Held → Invocation → Refusal → Type 0
 RefusesReading told invocation (TestFile file line kind) = IfSome told (λ held. tree_of held invocation.wanted.dir invocation.config ≡ Err (Read.At file line kind))
 RefusesReading told invocation (Prop test key kind) =
     (defs : List TestDef) × IfSome told (λ held. tree_of held invocation.wanted.dir invocation.config ≡ Ok defs) × RefusesFirst defs test key kind
+RefusesReading told invocation (Spec why) = ⊥
 RefusesReading told invocation (Cycle tests) = ⊥
 RefusesReading told invocation TooManyEdges = ⊥
+
+-- the file that declares the resources is refused
+abbrev pub RefusesSpec : Option Held → Invocation → Refusal → Type 0
+RefusesSpec told invocation (TestFile file line kind) = ⊥
+RefusesSpec told invocation (Prop test key kind) = ⊥
+RefusesSpec told invocation (Spec why) = RefusesFile told invocation.spec_file why
+RefusesSpec told invocation (Cycle tests) = ⊥
+RefusesSpec told invocation TooManyEdges = ⊥
 
 -- how many tests may come before the tests of a run, counted for each of them
 abbrev pub most_edges : ℕ
@@ -66,5 +76,6 @@ most_edges = 4000000
 abbrev pub RefusesPlan : Source → Refusal → List (List ℕ) → Type 0
 RefusesPlan source (TestFile file line kind) names = ⊥
 RefusesPlan source (Prop test key kind) names = ⊥
+RefusesPlan source (Spec why) names = ⊥
 RefusesPlan source (Cycle tests) names = (edge_count source ≤ most_edges) × (is_cycle (members_before source) tests ≡ true) × (names ≡ names_at source.defs tests)
 RefusesPlan source TooManyEdges names = most_edges < edge_count source

@@ -21,7 +21,7 @@ use Rattle.ct_app.specs.Outcome.{fault_line, status_of}
 use Rattle.ct_app.specs.Reading.{AskFor, IsSource, RefusesPlan, most_edges}
 use Rattle.ct_app.specs.Run.{RunEnds}
 use Rattle.ct_app.specs.RunFiles.{FilesFail, FilesServe, FilesStay, IsWritten, Leaves, LeavesPart, LeavesTorn, WithLast}
-use Rattle.ct_app.specs.Calls.{IsReadFault, IsUnreadable, IsUnrun, IsUsage, PutsOrFails, Sides, ThenLine, Tries}
+use Rattle.ct_app.specs.Calls.{IsReadFault, IsUndeclared, IsUnreadable, IsUnrun, IsUsage, PutsOrFails, Sides, ThenLine, Tries}
 
 -- a plan was made of these tests, and they ran as far as the history goes: it is legal and leaves nothing open, at no moment
 -- was more given than is declared, no more workers took part than the level and the gates admit, and it says what the gates
@@ -78,9 +78,9 @@ pub record IsUnplannable (s : Sides) (refusal : Refusal) (names : List (List ℕ
   pub files : FilesStay s.files_before s.files_now
   pub unrun : IsUnrun s
 
--- what was read, or a plan of it, is refused; the tests of a cycle have these names
+-- the tests, the specification or the plan is refused; the tests of a cycle have these names
 abbrev pub IsRefusal : Sides → Refusal → List (List ℕ) → Type 0
-IsRefusal s refusal names = IsUnreadable s refusal ⊎ IsUnplannable s refusal names
+IsRefusal s refusal names = IsUnreadable s refusal ⊎ (IsUndeclared s refusal ⊎ IsUnplannable s refusal names)
 
 -- a refusal was told by this line, which names the tests of a cycle
 pub record TellsRefusal (s : Sides) (refusal : Refusal) (Line : List ℕ → Type 0) : Type 0 where

@@ -1,19 +1,25 @@
 -- The tests of a call, and the first property of them that is refused.
 -- Source: CMake manual, cmake-properties(7), Properties on Tests. The order of refusals is this project's own.
-use Rattle.std.specs.Prelude.{◌≡◌, ℕ, ◌-◌, ◌≤◌, List, take, All, Some, None, ⊤}
+use Rattle.std.specs.Prelude.{◌≡◌, ℕ, ◌-◌, ◌≤◌, List, take, All, Option, Some, None, is_some, ⊤}
+use Rattle.ct_base.specs.declared.defs.Resource.{Resource}
 use Rattle.ct_base.specs.declared.defs.TestDef.{TestDef}
 use Rattle.ct_props.specs.declared.fault.PropKind.{PropKind}
 use Rattle.ct_props.specs.Refusal.{IsLeastRefused, refused_as}
 use Rattle.ct_props.specs.Numbered.{at_number}
 use Rattle.ct_plan.specs.Source.{Source}
+use Rattle.ct_app.specs.declared.props.Terms.{Terms}
 use Rattle.ct_app.specs.declared.props.Tests.{Tests}
 use Rattle.ct_app.specs.declared.outcome.Outcome.{Outcome}
 use Rattle.ct_app.specs.declared.outcome.Outcome.TheVariants.{Completed, Listed, Usage, Refused, FilesFault, OutputFault, Memory}
-use Rattle.ct_app.specs.declared.outcome.Refusal.TheVariants.{TestFile, Prop, Cycle, TooManyEdges}
+use Rattle.ct_app.specs.declared.outcome.Refusal.TheVariants.{TestFile, Prop, Spec, Cycle, TooManyEdges}
 
--- the tests of a plan's source with their properties, and how long an attempt may run that does not say so itself
+-- what a run says of each attempt of its tests: how long one may run that does not say so itself, and whether resources are lent
+abbrev pub terms_of : Option (List Resource) → ℕ → Terms
+terms_of lent limit = record { limit = limit; lends = is_some lent }
+
+-- the tests of a plan's source with their properties, and what the run says of their attempts
 abbrev pub tests_of : Source → ℕ → Tests
-tests_of source limit = record { defs = source.defs; props = source.props; limit = limit }
+tests_of source limit = record { defs = source.defs; props = source.props; terms = terms_of source.resources limit }
 
 -- no property of the test is refused
 abbrev pub IsUnrefused : TestDef → Type 0
@@ -34,6 +40,7 @@ RefusesTest number def Listed = ⊥
 RefusesTest number def (Usage word kind) = ⊥
 RefusesTest number def (Refused (TestFile file line kind)) = ⊥
 RefusesTest number def (Refused (Prop test key kind)) = (test ≡ number) × IsLeastRefused def.props key kind
+RefusesTest number def (Refused (Spec why)) = ⊥
 RefusesTest number def (Refused (Cycle tests)) = ⊥
 RefusesTest number def (Refused TooManyEdges) = ⊥
 RefusesTest number def (FilesFault path) = ⊥
@@ -47,6 +54,7 @@ RefusesTests defs Listed = ⊥
 RefusesTests defs (Usage word kind) = ⊥
 RefusesTests defs (Refused (TestFile file line kind)) = ⊥
 RefusesTests defs (Refused (Prop test key kind)) = RefusesFirst defs test key kind
+RefusesTests defs (Refused (Spec why)) = ⊥
 RefusesTests defs (Refused (Cycle tests)) = ⊥
 RefusesTests defs (Refused TooManyEdges) = ⊥
 RefusesTests defs (FilesFault path) = ⊥

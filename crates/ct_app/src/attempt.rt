@@ -1,11 +1,14 @@
 ghost use Rattle.std.specs.Prelude.{◌≡◌, true, IfOk, unwrap_or};
+ghost use Rattle.std.specs.Option.{option_copied};
+ghost use Rattle.ct_env.specs.Environment.{IsEnvironment};
 ghost use Rattle.ct_core.specs.Gate.{is_no_memory};
 ghost use Rattle.ct_app.specs.Attempt.{IsStep, RunsAttempt, SeesEnd, StaysAsked, run_of};
-ghost use Rattle.ct_app.specs.Gates.{IsRequestOf, limit_of, seen_of, some_hits};
+ghost use Rattle.ct_app.specs.Gates.{IsRequestOf, limit_of, placement_told, seen_of, some_hits};
 ghost use Rattle.ct_app.specs.Run.{IsBetween};
 
-use crate::props::Tests;
-use ct_base::{Collect, NoMemory, Pair, TestDef};
+use crate::props::{Terms, Tests};
+use ct_alloc::Placement;
+use ct_base::{Collect, List, NoMemory, Pair, TestDef};
 use ct_core::{Core, Ended, Gate, Next, Request, Ticket, copy_names, lacks_memory};
 use ct_env::environment;
 use ct_props::Props;
@@ -36,7 +39,7 @@ pub(crate) fn step<G: Gate>(
                 alloc,
                 &ticket,
                 env,
-                tests.limit,
+                tests.terms,
                 tests.def(test),
                 tests.props(test),
                 gate,
@@ -62,14 +65,14 @@ fn ask<G: Gate>(
     alloc: Global,
     ticket: &Ticket,
     env: &[Pair],
-    run_limit: u64,
+    terms: Terms,
     def: &TestDef,
     props: &Props,
     gate: &mut G,
 ) -> Seen
-    ensures { RunsAttempt env.now run_limit def.now props.now (run_of ticket.now) result (G.tells gate.old) (G.tells gate.new) }
+    ensures { RunsAttempt env.now terms def.now props.now (run_of ticket.now) result (G.tells gate.old) (G.tells gate.new) }
 {
-    match request(alloc, ticket, env, run_limit, def, props) {
+    match request(alloc, ticket, env, terms, def, props) {
         Ok(request) => {
             let mut ear = Collect::new(alloc);
             let ended = gate.run(alloc, ticket, &request, &mut ear);
@@ -82,16 +85,16 @@ fn ask<G: Gate>(
 /// Makes the request for the attempt of a ticket.
 ///
 /// Source: CMake manual, cmake-properties(7), ENVIRONMENT, REQUIRED_FILES, TIMEOUT,
-/// WORKING_DIRECTORY; ctest(1), --timeout.
+/// WORKING_DIRECTORY; ctest(1), --timeout, Resource Allocation.
 fn request(
     alloc: Global,
     ticket: &Ticket,
     env: &[Pair],
-    run_limit: u64,
+    terms: Terms,
     def: &TestDef,
     props: &Props,
 ) -> Result<Request, NoMemory>
-    ensures { IfOk result (λ request. IsRequestOf env.now run_limit def.now props.now (run_of ticket.now) request) }
+    ensures { IfOk result (λ request. IsRequestOf env.now terms def.now props.now (run_of ticket.now) request) }
 {
     Ok(Request {
         test: ticket.test(),
@@ -99,10 +102,33 @@ fn request(
         name: def.name.copy(alloc)?,
         command: copy_names(alloc, def.command.as_slice())?,
         dir: props.working_dir.copy(alloc)?,
-        env: environment(alloc, env, props, ticket.placement())?,
-        limit: limit(props.timeout, run_limit),
+        env: env_of(alloc, env, terms.lends, props, ticket.placement())?,
+        limit: limit(props.timeout, terms.limit),
         required: copy_names(alloc, props.required_files.as_slice())?,
     })
+}
+
+/// Makes the environment of an attempt with this placement. A test with groups but without a placement
+/// is told of one without picks, where resources are lent.
+///
+/// Source: CMake manual, ctest(1), Resource Allocation, Environment Variables.
+fn env_of(
+    alloc: Global,
+    env: &[Pair],
+    lends: bool,
+    props: &Props,
+    placement: Option<&Placement>,
+) -> Result<List<Pair>, NoMemory>
+    ensures { IfOk result (λ pairs. IsEnvironment env.now props.now (placement_told lends props.now (option_copied placement.entry)) pairs) }
+{
+    match placement {
+        Some(_) => environment(alloc, env, props, placement),
+        None if lends && props.groups.count() > 0 => {
+            let picks = List::new(alloc);
+            environment(alloc, env, props, Some(&Placement { picks }))
+        }
+        None => environment(alloc, env, props, None),
+    }
 }
 
 /// How long an attempt may run, in microseconds, by TIMEOUT, or else by the run; `None` is no limit,

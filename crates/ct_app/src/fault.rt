@@ -1,9 +1,9 @@
 ghost use Rattle.std.specs.Prelude.{◌≡◌, ◌++◌, codes, decimal, IfOk, OnOk};
 ghost use Rattle.ct_app.specs.Ends.{Tells, TellsEnd};
-ghost use Rattle.ct_app.specs.Outcome.{arrows_to, cycle_text, fault_line, fault_status, kind_text, outcome_text, prop_text, refusal_text, usage_text};
+ghost use Rattle.ct_app.specs.Outcome.{arrows_to, cycle_text, fault_line, fault_status, kind_text, outcome_text, prop_text, refusal_text, spec_fault_text, spec_text, usage_text};
 ghost use Rattle.ct_base.specs.Outside.{Puts};
 
-use crate::{Outcome, Refusal, UsageKind};
+use crate::{Outcome, Refusal, SpecFault, SpecRefusal, UsageKind};
 use ct_base::{Blob, Name, NoMemory, Sink, SinkFault};
 use ct_props::PropKind;
 use ct_testfile::ReadKind;
@@ -138,9 +138,57 @@ fn text_of_refusal(alloc: Global, names: &[Name], refusal: &Refusal) -> Result<B
     match refusal {
         Refusal::TestFile { file, line, kind } => text_of_place(alloc, file, *line, *kind),
         Refusal::Prop { test, key, kind } => text_of_prop(alloc, *test, key, kind),
+        Refusal::Spec(why) => text_of_spec(alloc, why),
         Refusal::Cycle(_) => text_of_cycle(alloc, names),
         Refusal::TooManyEdges => Blob::of(alloc, b"too many dependencies"),
     }
+}
+
+fn text_of_spec(alloc: Global, why: &SpecRefusal) -> Result<Blob, NoMemory>
+    ensures { IfOk result (λ text. text ≡ codes "resource specification: " ++ spec_text why.now) }
+{
+    let mut text = Blob::of(alloc, b"resource specification: ")?;
+    match why {
+        SpecRefusal::Absent => text.append(b"absent")?,
+        SpecRefusal::TooLong => text.append(b"too long")?,
+        SpecRefusal::Fault(fault) => append_spec_fault(&mut text, fault)?,
+    }
+    Ok(text)
+}
+
+fn append_spec_fault(text: &mut Blob, fault: &SpecFault) -> Result<(), NoMemory>
+    ensures { OnOk result (text.new ≡ text.old ++ spec_fault_text fault.now) }
+{
+    match fault {
+        SpecFault::NotJson => text.append(b"not JSON"),
+        SpecFault::BadVersion => text.append(b"bad version"),
+        SpecFault::BadLocal => text.append(b"bad local"),
+        SpecFault::BadKind { kind } => append_both(text, b"bad type ", kind),
+        SpecFault::BadId { kind, .. } => append_both(text, b"bad id in ", kind),
+        SpecFault::TwiceId { kind, .. } => append_both(text, b"repeated id in ", kind),
+        SpecFault::BadSlots { .. } | SpecFault::TooMany | SpecFault::NoMemory => {
+            append_late_fault(text, fault)
+        }
+    }
+}
+
+/// Appends what is found behind the ids of a specification.
+fn append_late_fault(text: &mut Blob, fault: &SpecFault) -> Result<(), NoMemory>
+    ensures { OnOk result (text.new ≡ text.old ++ spec_fault_text fault.now) }
+{
+    match fault {
+        SpecFault::BadSlots { kind, .. } => append_both(text, b"bad slots in ", kind),
+        SpecFault::TooMany => text.append(b"too many resources"),
+        SpecFault::NoMemory => text.append(b"out of memory"),
+        _ => Err(NoMemory),
+    }
+}
+
+fn append_both(text: &mut Blob, cause: &[u8], kind: &Name) -> Result<(), NoMemory>
+    ensures { OnOk result (text.new ≡ text.old ++ (cause.now ++ kind.now)) }
+{
+    text.append(cause)?;
+    text.append(kind.bytes())
 }
 
 fn text_of_cycle(alloc: Global, names: &[Name]) -> Result<Blob, NoMemory>

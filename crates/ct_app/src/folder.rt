@@ -1,7 +1,7 @@
 ghost use Rattle.std.specs.Prelude.{◌≡◌, ◌<◌, ◌-◌, ◌^◌, [], ◌∷◌, None, true, IfOk, IfErr, length, option_map};
 ghost use Rattle.ct_args.specs.Invocation.{IsBounded};
 ghost use Rattle.ct_app.specs.Calls.{sides};
-ghost use Rattle.ct_app.specs.Ends.{EndsFor, EndsWithFiles, HasRun, IsReadFolder, IsUnplanned, IsUnread, PlanEnds, ended_as, history_entries, with_status as ended_with};
+ghost use Rattle.ct_app.specs.Ends.{EndsFor, EndsWithFiles, HasRun, IsReadFolder, IsUnplanned, IsUnreadFolder, PlanEnds, ended_as, history_entries, with_status as ended_with};
 ghost use Rattle.ct_app.specs.Outcome.{is_failed as has_failed, status_of};
 ghost use Rattle.ct_app.specs.Run.{PlansTests};
 ghost use Rattle.ct_history.specs.Plan.{IsSound};
@@ -11,6 +11,7 @@ use crate::props::Tests;
 use crate::reading::{names_at, read_tests};
 use crate::run::run;
 use crate::run_files::{read_costs, write_files};
+use crate::spec_file::read_spec;
 use crate::{Outcome, Refusal};
 use ct_args::Invocation;
 use ct_base::{Files, List, Name, NoMemory, Pair, Sink, SinkFault, TestDef};
@@ -18,6 +19,7 @@ use ct_core::{Core, Gate};
 use ct_cost::CostData;
 use ct_history::{Entry, History, Plan, PlanParts, has_failing};
 use ct_plan::{PlanFault, plan};
+use ct_spec::Spec;
 use std::alloc::Global;
 
 /// What a call came to, before its outcome is told.
@@ -33,10 +35,13 @@ pub(crate) struct Ran {
     pub(crate) history: Option<History>,
 }
 
-/// The tests that an invocation asks for, and what the last run tells of them.
+/// What is read for an invocation before its tests are planned.
 #[derive(Drop)]
 struct Folder {
     tests: Tests,
+    /// The resources that are lent, where the words name a specification.
+    spec: Option<Spec>,
+    /// What the last run tells of the tests.
     costs: CostData,
 }
 
@@ -48,8 +53,8 @@ struct PlanRun {
     history: History,
 }
 
-/// Reads the tests of a folder and what the last run tells of them, plans and runs them, and leaves
-/// the same for the next run.
+/// Reads the tests of a folder, the specification that is named and what the last run tells of the
+/// tests, plans and runs them, and leaves the same for the next run.
 pub(crate) fn run_folder<F: Files, G: Gate, S: Sink>(
     alloc: Global,
     invocation: &Invocation,
@@ -61,12 +66,13 @@ pub(crate) fn run_folder<F: Files, G: Gate, S: Sink>(
     requires { IsBounded invocation.now }
     ensures { EndsFor invocation.now (λ words. sides words env.now (F.tells files.old) (F.tells files.new) (G.tells gate.old ∷ []) (G.tells gate.new ∷ []) (S.tells sink.old) (S.tells sink.new) result.plan (option_map history_entries result.history)) result.names result.ended }
 {
-    let Folder { tests, costs } = match read_folder(alloc, files, invocation) {
+    let Folder { tests, spec, costs } = match read_folder(alloc, files, invocation) {
         Ok(folder) => folder,
         Err(outcome) => return unplanned(alloc, outcome),
     };
     let wanted = &invocation.wanted;
-    let planned = match plan(alloc, &tests.defs, &tests.props, wanted, None, &costs) {
+    let spec = spec.as_ref();
+    let planned = match plan(alloc, &tests.defs, &tests.props, wanted, spec, &costs) {
         Ok(planned) => planned,
         Err(fault) => return refused(alloc, tests.defs.as_slice(), fault),
     };
@@ -125,19 +131,20 @@ fn refused(alloc: Global, defs: &[TestDef], fault: PlanFault) -> Ran
     }
 }
 
-/// Reads the tests of a folder, their properties and the cost data.
-#[tactic(auto, using(crate::proofs::ReadLemmas::unread_costs))]
+/// Reads the tests of a folder, their properties, the specification that is named and the cost data.
+#[tactic(auto, using(crate::proofs::ReadLemmas::read_folder, crate::proofs::ReadLemmas::unread_tests, crate::proofs::ReadLemmas::unread_spec, crate::proofs::ReadLemmas::unread_costs))]
 fn read_folder<F: Files>(
     alloc: Global,
     files: &mut F,
     invocation: &Invocation,
 ) -> Result<Folder, Outcome>
-    ensures ok { IfOk result (λ folder. IsReadFolder invocation.now (F.tells files.old) (F.tells files.new) folder.tests folder.costs) }
-    ensures err { IfErr result (IsUnread invocation.now (F.tells files.old) (F.tells files.new)) }
+    ensures ok { IfOk result (λ folder. IsReadFolder invocation.now (F.tells files.old) (F.tells files.new) folder.tests folder.spec folder.costs) }
+    ensures err { IfErr result (IsUnreadFolder invocation.now (F.tells files.old) (F.tells files.new)) }
 {
     let tests = read_tests(alloc, files, invocation)?;
+    let spec = read_spec(alloc, files, invocation.spec_file.as_ref())?;
     let costs = read_costs(alloc, files, &invocation.wanted.dir)?;
-    Ok(Folder { tests, costs })
+    Ok(Folder { tests, spec, costs })
 }
 
 /// Runs the plan of these tests.

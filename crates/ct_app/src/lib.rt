@@ -2,11 +2,11 @@
 //! to a list.
 //!
 //! Hands up: `ctest_main`, which does all that the program does, and `list_main`, which lists alone.
-//! Stands on: ct_base, ct_testfile, ct_regex, ct_props, ct_env, ct_select, ct_fixture, ct_graph,
-//! ct_verdict, ct_history, ct_core, ct_cost, ct_plan, ct_report, ct_args.
-//! Read first: `specs/Reading.antt`, `specs/Gates.antt`, `specs/RunFiles.antt`, `specs/Answers.antt`,
-//! `specs/Lists.antt`, then `top.rt`, and the steps of a call: `words.rt`, `reading.rt`, `folder.rt`,
-//! `run.rt`, `attempt.rt`, `run_files.rt`, and `list.rt`.
+//! Stands on: ct_base, ct_testfile, ct_regex, ct_props, ct_env, ct_graph, ct_alloc, ct_verdict,
+//! ct_history, ct_core, ct_cost, ct_spec, ct_plan, ct_report, ct_args.
+//! Read first: `specs/Reading.antt`, `specs/SpecFile.antt`, `specs/Gates.antt`, `specs/RunFiles.antt`,
+//! `specs/Answers.antt`, `specs/Lists.antt`, then `top.rt`, and the steps of a call: `words.rt`,
+//! `reading.rt`, `spec_file.rt`, `folder.rt`, `run.rt`, `attempt.rt`, `run_files.rt`, and `list.rt`.
 #![tactic(auto)]
 
 mod attempt;
@@ -18,10 +18,12 @@ mod props;
 mod reading;
 mod run;
 mod run_files;
+mod spec_file;
 mod top;
 mod words;
 
 pub use ct_args::UsageKind;
 pub use ct_props::PropKind;
-pub use outcome::{Finished, Listed, Outcome, Refusal};
+pub use ct_spec::SpecFault;
+pub use outcome::{Finished, Listed, Outcome, Refusal, SpecRefusal};
 pub use top::{ctest_main, list_main};

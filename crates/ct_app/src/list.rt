@@ -6,22 +6,21 @@ ghost use Rattle.ct_report.specs.Lists.{test_list as list_of_tests, label_list a
 ghost use Rattle.ct_report.specs.Report.{text_of};
 ghost use Rattle.ct_app.specs.Calls.{list_sides};
 ghost use Rattle.ct_app.specs.Ends.{ListEndsFor, listed_as};
-ghost use Rattle.ct_app.specs.Lists.{labels_among, labels_there, list_lines, list_text, listed_tests, listed_there, members_in};
+ghost use Rattle.ct_app.specs.Lists.{labels_among, labels_there, list_lines, list_text, listed_tests, listed_there};
 
 use crate::Outcome;
 use crate::props::{Tests, at_number};
 use crate::reading::read_tests;
 use ct_args::{Invocation, Task};
 use ct_base::{Files, List, Name, NoMemory, Sink, SinkFault};
-use ct_fixture::draw_in;
-use ct_props::{Choice, Props};
+use ct_plan::members;
+use ct_props::Props;
 use ct_report::{ListedTest, label_list, test_list};
-use ct_select::select;
 use std::alloc::Global;
 
 /// Puts the list that an invocation asks for, and gives what that came to.
 ///
-/// No specification and no cost data is read, and no plan is made.
+/// No specification and no cost data is read, whatever the words name, and no plan is made.
 pub(crate) fn list_folder<F: Files, S: Sink>(
     alloc: Global,
     invocation: &Invocation,
@@ -59,26 +58,17 @@ fn put_list<S: Sink>(
     requires few { length tests.now.defs < 2 ^ 32 - 1 }
     ensures { Puts (list_text invocation.now tests.now.defs tests.now.props) (S.tells sink.old) (S.tells sink.new) result }
 {
-    let members = members(alloc, tests, &invocation.wanted.choice)?;
+    let wanted = &invocation.wanted;
+    let members = members(alloc, &tests.defs, &tests.props, &wanted.choice)?;
     put_members(
         alloc,
         sink,
         invocation.task,
-        &invocation.wanted.dir,
+        &wanted.dir,
         tests,
         members.as_slice(),
     )?;
     Ok(())
-}
-
-/// The numbers of the tests that are chosen, and of those that fixtures draw in, in order.
-fn members(alloc: Global, tests: &Tests, choice: &Choice) -> Result<List<u32>, NoMemory>
-    requires together { HaveProps tests.now.defs tests.now.props }
-    requires few { length tests.now.defs < 2 ^ 32 - 1 }
-    ensures { IfOk result (λ members. members ≡ members_in choice.now tests.now.defs tests.now.props) }
-{
-    let chosen = select(alloc, &tests.defs, &tests.props, choice)?;
-    draw_in(alloc, &tests.props, &chosen, choice)
 }
 
 /// Puts the list that a task asks for, of the tests with these numbers.

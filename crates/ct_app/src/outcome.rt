@@ -2,11 +2,27 @@ ghost use Rattle.ct_app.specs.declared.outcome.Outcome.TheVariants as Ends;
 ghost use Rattle.std.specs.Prelude.{◌≡◌};
 
 use crate::run_files::RunFileFault;
+use crate::spec_file::SpecFileFault;
 use ct_args::{UsageFault, UsageKind};
 use ct_base::{List, Name, NoMemory, SinkFault};
 use ct_history::{History, Plan};
 use ct_props::PropKind;
+use ct_spec::SpecFault;
 use ct_testfile::{ReadFault, ReadKind};
+
+/// Why the file that declares the resources of the machine is refused.
+///
+/// Source: CMake manual, ctest(1), Resource Specification File. That it is refused is this project's
+/// choice.
+#[derive(Debug, Drop)]
+pub enum SpecRefusal {
+    /// It is not there.
+    Absent,
+    /// It has more than 16 MiB.
+    TooLong,
+    /// The text is no specification. The fault is no want of memory.
+    Fault(SpecFault),
+}
 
 /// What a call refuses.
 #[derive(Debug, Drop)]
@@ -23,6 +39,8 @@ pub enum Refusal {
         key: Name,
         kind: PropKind,
     },
+    /// The file that declares the resources of the machine.
+    Spec(SpecRefusal),
     /// The numbers of the tests of a cycle: each has the next one before it, and the last has the
     /// first before it. Which cycle is told is left open.
     Cycle(List<u32>),
@@ -41,7 +59,7 @@ pub enum Outcome {
     Listed,
     /// A word of the command line, counted from 1, is refused.
     Usage { word: u32, kind: UsageKind },
-    /// A test file, a property or the order of the tests is refused.
+    /// A test file, a property, the specification or the order of the tests is refused.
     Refused(Refusal),
     /// The files could not give or take what the path holds. With a history, it is complete and was
     /// reported.
@@ -123,6 +141,20 @@ impl From<RunFileFault> for Outcome {
         match fault {
             RunFileFault::Failed { path } => Outcome::FilesFault { path },
             RunFileFault::NoMemory => Outcome::Memory,
+        }
+    }
+}
+
+impl From<SpecFileFault> for Outcome {
+    ghost use Rattle.ct_app.specs.Outcome.{outcome_of_spec};
+
+    ghost from_gives = { λ fault e. e ≡ outcome_of_spec fault };
+
+    fn from(fault: SpecFileFault) -> Outcome {
+        match fault {
+            SpecFileFault::Refused(why) => Outcome::Refused(Refusal::Spec(why)),
+            SpecFileFault::Failed { path } => Outcome::FilesFault { path },
+            SpecFileFault::NoMemory => Outcome::Memory,
         }
     }
 }

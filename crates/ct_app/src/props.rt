@@ -11,13 +11,21 @@ use ct_base::{List, TestDef};
 use ct_props::{PropFault, Props};
 use std::alloc::Global;
 
+/// What a run says of each attempt of its tests.
+#[derive(Clone, Copy)]
+pub(crate) struct Terms {
+    /// How long an attempt may run of a test that does not say so, in microseconds; 0 is no limit.
+    pub(crate) limit: u64,
+    /// Whether a specification is given, so that resources are lent.
+    pub(crate) lends: bool,
+}
+
 /// The tests of a call and their properties, which belong together by place.
 #[derive(Drop)]
 pub(crate) struct Tests {
     pub(crate) defs: List<TestDef>,
     pub(crate) props: List<Props>,
-    /// How long an attempt may run of a test that does not say so, in microseconds; 0 is no limit.
-    pub(crate) limit: u64,
+    pub(crate) terms: Terms,
 }
 
 impl Tests {

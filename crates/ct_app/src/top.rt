@@ -3,6 +3,7 @@ ghost use Rattle.ct_app.specs.Answers.{Answers};
 ghost use Rattle.ct_app.specs.Calls.{list_sides, sides};
 ghost use Rattle.ct_app.specs.Ends.{history_entries};
 ghost use Rattle.ct_app.specs.Lists.{AnswersList};
+ghost use Rattle.ct_app.specs.MeantRuns.{AnswersAsMeant};
 ghost use Rattle.ct_app.specs.Reading.{ask_for_list};
 
 use crate::fault::{tell, tell_outcome};
@@ -37,6 +38,9 @@ pub fn ctest_main<F: Files, G: Gate + Send, S: Sink + Send>(
     ensures answer { Answers (sides words.now env.now (F.tells files) (F.tells result.files)
         (map G.tells gates.items) (map G.tells result.gates.items) (S.tells sink) (S.tells result.sink)
         result.plan (option_map history_entries result.history)) result.outcome result.status }
+    ensures meant { AnswersAsMeant (sides words.now env.now (F.tells files) (F.tells result.files)
+        (map G.tells gates.items) (map G.tells result.gates.items) (S.tells sink) (S.tells result.sink)
+        result.plan (option_map history_entries result.history)) result.outcome result.status }
     ensures all { length result.gates.items ≡ length gates.items }
     ensures others { drop 1 result.gates.items ≡ drop 1 gates.items }
     ensures unasked { ask_for_list words.now ≡ true → result.gates.items ≡ gates.items }
@@ -62,7 +66,8 @@ pub fn ctest_main<F: Files, G: Gate + Send, S: Sink + Send>(
 /// Puts the list that the words ask for: of the tests that a run would have, or of their labels.
 /// Where the words ask for a run, its tests are listed.
 ///
-/// It reads no cost data, makes no plan and refuses no cycle.
+/// It reads no specification and no cost data, whatever the words name, makes no plan and refuses no
+/// cycle.
 ///
 /// Source: CMake manual, ctest(1), --show-only, --print-labels. Statuses other than 0 are this
 /// project's choice.

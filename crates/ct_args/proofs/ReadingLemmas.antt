@@ -9,7 +9,7 @@ use Rattle.std.proofs.lemmas.List.Folds.{list_any-append}
 use denote.Enum.Bare.{same_true}
 use Rattle.ct_args.specs.contracts.option.CommandOption.{the_type}
 use Rattle.ct_args.specs.declared.option.CommandOption.{CommandOption}
-use Rattle.ct_args.specs.declared.option.CommandOption.TheVariants.{TestsRegex, ExcludeRegex, LabelRegex, LabelExclude, FixtureExcludeAny, FixtureExcludeSetup, FixtureExcludeCleanup, TestsInformation, Union, Parallel, BuildConfig, TestDir, Timeout, Repeat, NoTests, StopOnFailure, ShowOnly, PrintLabels, Verbosity}
+use Rattle.ct_args.specs.declared.option.CommandOption.TheVariants.{TestsRegex, ExcludeRegex, LabelRegex, LabelExclude, FixtureExcludeAny, FixtureExcludeSetup, FixtureExcludeCleanup, TestsInformation, Union, Parallel, BuildConfig, TestDir, ResourceSpecFile, Timeout, Repeat, NoTests, StopOnFailure, ShowOnly, PrintLabels, Verbosity}
 use Rattle.ct_args.specs.declared.usage.UsageKind.{UsageKind}
 use Rattle.ct_args.specs.declared.usage.UsageKind.TheVariants.{UnknownOption, NoValue, Twice}
 use Rattle.ct_args.specs.declared.usage.UsageFault.{UsageFault}
@@ -148,6 +148,7 @@ record Keeps (before : List Given) (slots : Slots) : Type 0 where
   repeat : IsSlot repeat_in Repeat before slots.repeat
   dir : IsSlot text_in TestDir before slots.dir
   config : IsSlot text_in BuildConfig before slots.config
+  spec_file : IsSlot text_in ResourceSpecFile before slots.spec_file
   timeout : IsSlot limit_in Timeout before slots.timeout
   empty_is_error : IsSlot is_error_in NoTests before slots.empty_is_error
   stop_on_failure : is_given StopOnFailure before ≡ slots.stop_on_failure
@@ -169,6 +170,7 @@ keeps_nothing = record {
   repeat = record { values = refl; full = refl };
   dir = record { values = refl; full = refl };
   config = record { values = refl; full = refl };
+  spec_file = record { values = refl; full = refl };
   timeout = record { values = refl; full = refl };
   empty_is_error = record { values = refl; full = refl };
   stop_on_failure = refl;
@@ -191,6 +193,7 @@ keeps_text before slots word option value kept empty asks good = record {
   repeat = text_slot repeat_in Repeat before slots slots.repeat word option value kept.repeat refl refl empty good;
   dir = text_slot text_in TestDir before slots slots.dir word option value kept.dir refl refl empty good;
   config = text_slot text_in BuildConfig before slots slots.config word option value kept.config refl refl empty good;
+  spec_file = text_slot text_in ResourceSpecFile before slots slots.spec_file word option value kept.spec_file refl refl empty good;
   timeout = text_slot limit_in Timeout before slots slots.timeout word option value kept.timeout refl refl empty good;
   empty_is_error = text_slot is_error_in NoTests before slots slots.empty_is_error word option value kept.empty_is_error refl refl empty good;
   stop_on_failure = text_mark StopOnFailure before slots.stop_on_failure word option (Some value) kept.stop_on_failure refl asks;
@@ -213,6 +216,7 @@ keeps_flag before slots word option value kept asks_not = record {
   repeat = flag_slot repeat_in Repeat before slots.repeat word option value kept.repeat refl asks_not;
   dir = flag_slot text_in TestDir before slots.dir word option value kept.dir refl asks_not;
   config = flag_slot text_in BuildConfig before slots.config word option value kept.config refl asks_not;
+  spec_file = flag_slot text_in ResourceSpecFile before slots.spec_file word option value kept.spec_file refl asks_not;
   timeout = flag_slot limit_in Timeout before slots.timeout word option value kept.timeout refl asks_not;
   empty_is_error = flag_slot is_error_in NoTests before slots.empty_is_error word option value kept.empty_is_error refl asks_not;
   stop_on_failure = flag_mark StopOnFailure before slots.stop_on_failure word option value kept.stop_on_failure;
@@ -234,6 +238,7 @@ twice-full before slots Union kept = refl
 twice-full before slots Parallel kept = kept.level.full
 twice-full before slots BuildConfig kept = kept.config.full
 twice-full before slots TestDir kept = kept.dir.full
+twice-full before slots ResourceSpecFile kept = kept.spec_file.full
 twice-full before slots Timeout kept = kept.timeout.full
 twice-full before slots Repeat kept = kept.repeat.full
 twice-full before slots NoTests kept = kept.empty_is_error.full
@@ -257,6 +262,7 @@ made before slots kept =
     let repeat = slot-value repeat_in Repeat before slots.repeat kept.repeat in
     let dir = slot-value text_in TestDir before slots.dir kept.dir in
     let config = slot-value text_in BuildConfig before slots.config kept.config in
+    let spec_file = slot-value text_in ResourceSpecFile before slots.spec_file kept.spec_file in
     let timeout = slot-value limit_in Timeout before slots.timeout kept.timeout in
     let empty_is_error = slot-value is_error_in NoTests before slots.empty_is_error kept.empty_is_error in
     cc (kept.labels, kept.not_labels, kept.union, kept.stop_on_failure, kept.show_only, kept.print_labels)

@@ -26,7 +26,7 @@ may_repeat LabelRegex = true
 may_repeat LabelExclude = true
 may_repeat option = not (takes_value option)
 
--- why a text is refused as the value of the option, where it is; a configuration and a folder may be any text
+-- why a text is refused as the value of the option, where it is; a configuration, a folder and a file may be any text
 abbrev pub why_refused : CommandOption → List ℕ → Option UsageKind
 why_refused TestsRegex text = result_err (pattern_in text)
 why_refused ExcludeRegex text = result_err (pattern_in text)

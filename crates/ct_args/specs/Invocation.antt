@@ -6,7 +6,7 @@ use Rattle.ct_regex.specs.TreeOf.{regex_tree}
 use Rattle.ct_props.specs.declared.wanted.Numbers.{Numbers}
 use Rattle.ct_verdict.specs.declared.repeat.Mode.TheVariants.{Once}
 use Rattle.ct_verdict.specs.declared.repeat.Repeat.{Repeat}
-use Rattle.ct_args.specs.declared.option.CommandOption.TheVariants.{TestsRegex, ExcludeRegex, LabelRegex, LabelExclude, FixtureExcludeAny, FixtureExcludeSetup, FixtureExcludeCleanup, TestsInformation, Union, Parallel, BuildConfig, TestDir, Timeout, Repeat as RepeatOption, NoTests, StopOnFailure, ShowOnly, PrintLabels}
+use Rattle.ct_args.specs.declared.option.CommandOption.TheVariants.{TestsRegex, ExcludeRegex, LabelRegex, LabelExclude, FixtureExcludeAny, FixtureExcludeSetup, FixtureExcludeCleanup, TestsInformation, Union, Parallel, BuildConfig, TestDir, ResourceSpecFile, Timeout, Repeat as RepeatOption, NoTests, StopOnFailure, ShowOnly, PrintLabels}
 use Rattle.ct_args.specs.declared.usage.UsageFault.{UsageFault}
 use Rattle.ct_args.specs.declared.invocation.Task.{Task}
 use Rattle.ct_args.specs.declared.invocation.Task.TheVariants.{Run, ListTests, ListLabels}
@@ -71,7 +71,7 @@ invocation_of given = record {
   stop_on_failure = is_given StopOnFailure given;
   config = unwrap_or (value_of text_in BuildConfig given) [];
   timeout = unwrap_or (value_of limit_in Timeout given) usual_limit;
-  spec_file = None;
+  spec_file = value_of text_in ResourceSpecFile given;
   empty_is_error = unwrap_or (value_of is_error_in NoTests given) false;
 }
 

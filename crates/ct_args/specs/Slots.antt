@@ -7,7 +7,7 @@ use Rattle.ct_regex.specs.TreeOf.{regex_tree}
 use Rattle.ct_props.specs.declared.wanted.Numbers.{Numbers}
 use Rattle.ct_verdict.specs.declared.repeat.Repeat.{Repeat}
 use Rattle.ct_args.specs.declared.option.CommandOption.{CommandOption}
-use Rattle.ct_args.specs.declared.option.CommandOption.TheVariants.{TestsRegex, ExcludeRegex, LabelRegex, LabelExclude, FixtureExcludeAny, FixtureExcludeSetup, FixtureExcludeCleanup, TestsInformation, Union, Parallel, BuildConfig, TestDir, Timeout, Repeat as RepeatOption, NoTests, StopOnFailure, ShowOnly, PrintLabels}
+use Rattle.ct_args.specs.declared.option.CommandOption.TheVariants.{TestsRegex, ExcludeRegex, LabelRegex, LabelExclude, FixtureExcludeAny, FixtureExcludeSetup, FixtureExcludeCleanup, TestsInformation, Union, Parallel, BuildConfig, TestDir, ResourceSpecFile, Timeout, Repeat as RepeatOption, NoTests, StopOnFailure, ShowOnly, PrintLabels}
 use Rattle.ct_args.specs.declared.usage.UsageKind.{UsageKind}
 use Rattle.ct_args.specs.declared.usage.UsageKind.TheVariants.{UnknownOption, NoValue, Twice}
 use Rattle.ct_args.specs.declared.usage.UsageFault.{UsageFault}
@@ -33,6 +33,7 @@ pub record Slots : Type 0 where
   pub repeat : Option Repeat
   pub dir : Option (List ℕ)
   pub config : Option (List ℕ)
+  pub spec_file : Option (List ℕ)
   pub timeout : Option ℕ
   pub empty_is_error : Option Bool
   pub stop_on_failure : Bool
@@ -55,6 +56,7 @@ no_slots = record {
   repeat = None;
   dir = None;
   config = None;
+  spec_file = None;
   timeout = None;
   empty_is_error = None;
   stop_on_failure = false;
@@ -73,6 +75,7 @@ is_full slots TestsInformation = is_some slots.numbers
 is_full slots Parallel = is_some slots.level
 is_full slots BuildConfig = is_some slots.config
 is_full slots TestDir = is_some slots.dir
+is_full slots ResourceSpecFile = is_some slots.spec_file
 is_full slots Timeout = is_some slots.timeout
 is_full slots RepeatOption = is_some slots.repeat
 is_full slots NoTests = is_some slots.empty_is_error
@@ -102,6 +105,7 @@ with_text option text slots = record {
   repeat = filled repeat_in RepeatOption option text slots.repeat;
   dir = filled text_in TestDir option text slots.dir;
   config = filled text_in BuildConfig option text slots.config;
+  spec_file = filled text_in ResourceSpecFile option text slots.spec_file;
   timeout = filled limit_in Timeout option text slots.timeout;
   empty_is_error = filled is_error_in NoTests option text slots.empty_is_error;
   stop_on_failure = slots.stop_on_failure;
@@ -168,7 +172,7 @@ made_of slots = record {
   stop_on_failure = slots.stop_on_failure;
   config = unwrap_or slots.config [];
   timeout = unwrap_or slots.timeout usual_limit;
-  spec_file = None;
+  spec_file = slots.spec_file;
   empty_is_error = unwrap_or slots.empty_is_error false;
 }
 
@@ -188,6 +192,7 @@ slots_of settings = record {
   repeat = settings.repeat;
   dir = settings.dir;
   config = settings.config;
+  spec_file = settings.spec_file;
   timeout = settings.timeout;
   empty_is_error = settings.empty_is_error;
   stop_on_failure = settings.stop_on_failure;

@@ -5,7 +5,7 @@ use Rattle.std.specs.List.{starts_with}
 use Rattle.std.specs.Option.{option_map, option_or}
 use Rattle.ct_base.specs.Seconds.{is_numeral}
 use Rattle.ct_args.specs.declared.option.CommandOption.{CommandOption}
-use Rattle.ct_args.specs.declared.option.CommandOption.TheVariants.{TestsRegex, ExcludeRegex, LabelRegex, LabelExclude, FixtureExcludeAny, FixtureExcludeSetup, FixtureExcludeCleanup, TestsInformation, Union, Parallel, BuildConfig, TestDir, Timeout, Repeat, NoTests, StopOnFailure, ShowOnly, PrintLabels, Verbosity}
+use Rattle.ct_args.specs.declared.option.CommandOption.TheVariants.{TestsRegex, ExcludeRegex, LabelRegex, LabelExclude, FixtureExcludeAny, FixtureExcludeSetup, FixtureExcludeCleanup, TestsInformation, Union, Parallel, BuildConfig, TestDir, ResourceSpecFile, Timeout, Repeat, NoTests, StopOnFailure, ShowOnly, PrintLabels, Verbosity}
 use Rattle.ct_args.specs.declared.spelling.Form.{Form}
 use Rattle.ct_args.specs.declared.spelling.Form.TheVariants.{Flag, Short, Long, Digits, Inside}
 use Rattle.ct_args.specs.declared.spelling.ValuePlace.{ValuePlace}
@@ -37,6 +37,7 @@ spellings =
     spelled (codes "-j") Parallel Digits ∷ spelled (codes "--parallel") Parallel Long ∷
     spelled (codes "-C") BuildConfig Short ∷ spelled (codes "--build-config") BuildConfig Long ∷
     spelled (codes "--test-dir") TestDir Long ∷
+    spelled (codes "--resource-spec-file") ResourceSpecFile Long ∷
     spelled (codes "--timeout") Timeout Long ∷
     spelled (codes "--repeat") Repeat Long ∷
     spelled (codes "--no-tests") NoTests Inside ∷

@@ -26,7 +26,8 @@ pub struct Invocation {
     pub config: Name,
     /// How long a test may run that does not say so itself, in microseconds; 0 is no limit.
     pub timeout: u64,
-    /// The file that declares the resources of the machine. No option names one yet.
+    /// The file that declares the resources of the machine, as the words name it; `None` is that none are
+    /// given.
     pub spec_file: Option<Name>,
     /// Whether it is an error that there is no test.
     pub empty_is_error: bool,

@@ -30,6 +30,8 @@ pub enum CommandOption {
     BuildConfig,
     /// The folder of the build tree: --test-dir.
     TestDir,
+    /// The file that declares the resources of the machine: --resource-spec-file.
+    ResourceSpecFile,
     /// How long a test may run that does not say so itself: --timeout.
     Timeout,
     /// How often a test is tried: --repeat.

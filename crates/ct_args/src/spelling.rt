@@ -41,7 +41,7 @@ pub struct Said {
 /// The words that name options.
 ///
 /// Source: CMake manual, ctest(1), Options.
-const SPELLINGS: [(&[u8], CommandOption, Form); 36] = [
+const SPELLINGS: [(&[u8], CommandOption, Form); 37] = [
     (b"-R", CommandOption::TestsRegex, Form::Short),
     (b"--tests-regex", CommandOption::TestsRegex, Form::Long),
     (b"-E", CommandOption::ExcludeRegex, Form::Short),
@@ -81,6 +81,11 @@ const SPELLINGS: [(&[u8], CommandOption, Form); 36] = [
     (b"-C", CommandOption::BuildConfig, Form::Short),
     (b"--build-config", CommandOption::BuildConfig, Form::Long),
     (b"--test-dir", CommandOption::TestDir, Form::Long),
+    (
+        b"--resource-spec-file",
+        CommandOption::ResourceSpecFile,
+        Form::Long,
+    ),
     (b"--timeout", CommandOption::Timeout, Form::Long),
     (b"--repeat", CommandOption::Repeat, Form::Long),
     (b"--no-tests", CommandOption::NoTests, Form::Inside),

@@ -4,6 +4,7 @@ use Rattle.ct_history.specs.declared.history.History.{History}
 use Rattle.ct_app.specs.Ends.{TellsEnd, history_entries}
 use Rattle.ct_app.proofs.AnswerLemmas.{some_told, told_answer, unchanged, widened}
 use Rattle.ct_app.proofs.ListLemmas.{list_told}
+use Rattle.ct_app.proofs.MeantAnswerLemmas.{answers_as_meant}
 use Rattle.ct_app.proofs.top.ctest_main.Goals as goal
 
 pub returns-clause-answer : goal.returns-clause-answer
@@ -28,3 +29,6 @@ returns-clause-answer g c =
           })
           ran.result.names ran.result.ended c.tell-outcome.result.0 c.tell-outcome.result.1 (ran.ensures.list asks) told;
     }
+
+pub returns-clause-meant : goal.returns-clause-meant
+returns-clause-meant g c = answers_as_meant (returns-clause-answer g c)

@@ -1,0 +1,164 @@
+-- A completed run has the verdicts and the status that its tests are meant to have, where all its gates tell one world.
+use Rattle.std.proofs.Common.{◌≡◌, ◌∙◌, sym, ap, subst, Bool, true, false, ℕ, zero, suc, ◌+◌, ◌≤◌, ◌<◌, min, List, [], ◌∷◌, length, map, refl, arith, inl, inr}
+use Rattle.std.specs.Prelude.{Option, Some, None, IfSome, IsSomeAnd, filter, not, ◌||◌, ◌==◌, cond, if◌then◌else◌}
+use Rattle.std.specs.List.{range_with_len}
+use Rattle.std.proofs.lemmas.Bool.{and_parts, cases_Bool, ltb-true, not-true}
+use Rattle.std.proofs.lemmas.Bool.Decides.{nat_tests}
+use Rattle.ct_base.specs.declared.defs.Pair.{Pair}
+use Rattle.ct_base.specs.declared.defs.TestDef.{TestDef}
+use Rattle.ct_props.specs.declared.props.Props.{Props}
+use Rattle.ct_props.specs.declared.wanted.Wanted.{Wanted}
+use Rattle.ct_props.specs.declared.wanted.Choice.{Choice}
+use Rattle.ct_props.specs.Numbered.{at_number, is_in}
+use Rattle.ct_select.specs.Chosen.{chosen_tests, is_chosen_at}
+use Rattle.ct_fixture.specs.Drawing.{after_rounds, fixtures_required, is_drawn, members_of}
+use Rattle.ct_verdict.specs.declared.repeat.Repeat.{Repeat}
+use Rattle.ct_history.specs.declared.plan.PlanTest.{PlanTest}
+use Rattle.ct_history.specs.declared.plan.PlanParts.{PlanParts}
+use Rattle.ct_history.specs.declared.history.Entry.{Entry}
+use Rattle.ct_history.specs.declared.history.Entry.TheVariants.{Start, End, Settle, Stop}
+use Rattle.ct_history.specs.Plan.{IsAscendingFrom}
+use Rattle.ct_core.specs.declared.gate.Told.{Told}
+use Rattle.ct_core.specs.Gate.{GateTell, is_no_memory, told}
+use Rattle.ct_args.specs.declared.invocation.Invocation.{Invocation}
+use Rattle.ct_args.proofs.BoundLemmas.{bounded}
+use Rattle.ct_plan.specs.Source.{Source, run_members}
+use Rattle.ct_plan.specs.Planned.{ArePlannedTests}
+use Rattle.ct_app.specs.declared.outcome.Outcome.{Outcome}
+use Rattle.ct_app.specs.declared.outcome.Outcome.TheVariants.{Completed}
+use Rattle.ct_app.specs.declared.props.Tests.{Tests}
+use Rattle.ct_app.specs.Answers.{Answers}
+use Rattle.ct_app.specs.Calls.{Sides}
+use Rattle.ct_app.specs.Gates.{AreAsked, AreTold, SawTold, are_below, had_memory, is_below, lacks_memory, seen_of}
+use Rattle.ct_app.specs.Meant.{AreSeen, IsSeen}
+use Rattle.ct_app.specs.MeantRuns.{AnswersAsMeant, HasRunAsMeant, RanAsMeant}
+use Rattle.ct_app.specs.MeantTold.{AllTell, ComesAsMeant, seen_as_told, seen_in}
+use Rattle.ct_app.specs.Reading.{ask_for_list}
+use Rattle.ct_app.specs.Runs.{HasRunWith, IsCompleted, IsRun, RanWith}
+use Rattle.ct_app.specs.Tests.{tests_of}
+use Rattle.ct_app.proofs.MeantLemmas.{IsRanked}
+use Rattle.ct_app.proofs.MeantRunLemmas.{are_meant}
+
+row_ascends : (first count : ℕ) → IsAscendingFrom first (range_with_len first count)
+row_ascends first zero = tt
+row_ascends first (suc count) = (omega arith, row_ascends (first + 1) count)
+
+ascends_sooner : (least first : ℕ) (numbers : List ℕ) → least ≤ first → IsAscendingFrom first numbers → IsAscendingFrom least numbers
+ascends_sooner least first [] sooner ascends = tt
+ascends_sooner least first (n ∷ ns) sooner ascends = (omega (arith, sooner, ascends.0), ascends.1)
+
+ascends_with : (least first : ℕ) (numbers : List ℕ) → least ≤ first → IsAscendingFrom (first + 1) numbers → (b : Bool) → IsAscendingFrom least (cond b (first ∷ numbers) numbers)
+ascends_with least first numbers low rest true = (low, rest)
+ascends_with least first numbers low rest false = ascends_sooner least (first + 1) numbers (omega (arith, low)) rest
+
+-- some of the numbers that ascend do so
+ascends-filter : (p : ℕ → Bool) (least : ℕ) (numbers : List ℕ) → IsAscendingFrom least numbers → IsAscendingFrom least (filter p numbers)
+ascends-filter p least [] ascends = tt
+ascends-filter p least (n ∷ ns) ascends = ascends_with least n (filter p ns) ascends.0 (ascends-filter p (n + 1) ns ascends.1) (p n)
+
+-- the numbers of the members ascend
+members_ascend : (choice : Choice) (defs : List TestDef) (props : List Props) → IsAscendingFrom 1 (members_of choice props (chosen_tests defs props choice))
+members_ascend choice defs props = by_rounds (length props)
+  where
+    by_rounds : (rounds : ℕ) → IsAscendingFrom 1 (after_rounds choice props (chosen_tests defs props choice) rounds)
+    by_rounds zero = ascends-filter (is_chosen_at defs props choice) 1 (range_with_len 1 (length defs)) (row_ascends 1 (length defs))
+    by_rounds (suc rounds) =
+        let tests = after_rounds choice props (chosen_tests defs props choice) rounds in
+        ascends-filter (λ number. is_in tests number || is_drawn choice (fixtures_required props tests) (at_number props number)) 1 (range_with_len 1 (length props)) (row_ascends 1 (length props))
+
+-- tests have the numbers that they are planned for
+planned_numbers : (s : Source) (numbers : List ℕ) (tests : List PlanTest) → ArePlannedTests s numbers tests → map (λ (t : PlanTest). t.number) tests ≡ numbers
+planned_numbers s [] [] planned = refl
+planned_numbers s [] (t ∷ ts) planned = absurd planned
+planned_numbers s (n ∷ ns) [] planned = absurd planned
+planned_numbers s (n ∷ ns) (t ∷ ts) planned =
+    ap (λ (m : ℕ). m ∷ map (λ (u : PlanTest). u.number) ts) (ap (λ (u : PlanTest). u.number) planned.0.is) ∙ ap (λ (ms : List ℕ). n ∷ ms) (planned_numbers s ns ts planned.1)
+
+-- the plan of a run has numbers that ascend, predecessors with lesser ranks, and at least one attempt
+ranked : (s : Sides) (invocation : Invocation) (source : Source) (plan : PlanParts) (entries : List Entry) → IsRun s invocation source plan entries → IsRanked plan
+ranked s invocation source plan entries run = record {
+  numbers =
+      subst (IsAscendingFrom 1) (sym (planned_numbers source (run_members source) plan.tests run.ran.planned.tests))
+      (members_ascend source.wanted.choice source.defs source.props);
+  links = run.ran.planned.ranks;
+  times =
+      subst (λ (repeat : Repeat). 1 ≤ repeat.times) (sym (run.ran.planned.repeat ∙ ap (λ (wanted : Wanted). wanted.repeat) run.read.wanted))
+      (bounded s.words invocation run.words).some_times;
+}
+
+-- each worker saw what the one world tells
+told_by : (env : List Pair) (tests : Tests) (world : List Told) (entries : List Entry) (first : ℕ) (befores nows : List GateTell) → AreAsked env tests first befores nows entries → AllTell world befores → (worker : ℕ) → first ≤ worker → worker < first + length befores → AreTold tests.props world worker entries
+told_by env tests world entries first [] nows asked all worker low high = absurd (omega (arith, low, high))
+told_by env tests world entries first (before ∷ befores) [] asked all worker low high = absurd asked
+told_by env tests world entries first (before ∷ befores) (now ∷ nows) asked all worker low high = elim (cases_Bool (first == worker)) [
+  | inl same ↦
+      let here : first ≡ worker = grind (arith, nat_tests) in
+      subst (λ (w : ℕ). AreTold tests.props world w entries) here
+      (subst (λ (o : Option (List Told)). IfSome o (λ own. AreTold tests.props own first entries)) all.0 asked.0.told)
+  | inr later ↦
+      let less : first < worker = grind (arith, nat_tests) in
+      told_by env tests world entries (first + 1) befores nows asked.1 all.1 worker (omega (arith, less)) (omega (arith, high))
+]
+
+seen_entry : (props : List Props) (world : List Told) (workers : ℕ) (e : Entry) → is_below workers e ≡ true → not (lacks_memory e) ≡ true → ((worker : ℕ) → worker < workers → SawTold props world worker e) → IsSeen (seen_in props world) e
+seen_entry props world workers (Start t a w p) below had saw = tt
+seen_entry props world workers (End t a w seen) below had saw = by_props (at_number props t) (saw w (ltb-true w workers below) refl (not-true (is_no_memory seen.how) had))
+  where
+    by_props : (o : Option Props) → IsSomeAnd o (λ own. seen ≡ seen_of own (told world t a).heard (told world t a).ended) → seen ≡ seen_as_told o (told world t a)
+    by_props None is = absurd is
+    by_props (Some own) is = is
+seen_entry props world workers (Settle t c) below had saw = tt
+seen_entry props world workers Stop below had saw = tt
+
+-- what the workers saw is what is seen in the world
+seen_entries : (props : List Props) (world : List Told) (workers : ℕ) (entries : List Entry) → are_below workers entries ≡ true → had_memory entries ≡ true → ((worker : ℕ) → worker < workers → AreTold props world worker entries) → AreSeen (seen_in props world) entries
+seen_entries props world workers [] below had saw = tt
+seen_entries props world workers (e ∷ es) below had saw =
+    let few = and_parts (is_below workers e) (are_below workers es) below in
+    let memory = and_parts (not (lacks_memory e)) (had_memory es) had in (
+      seen_entry props world workers e few.0 memory.0 (λ worker less. (saw worker less).0),
+      seen_entries props world workers es few.1 memory.1 (λ worker less. (saw worker less).1),
+    )
+
+-- a completed run came as is meant in the world that its gates tell
+comes_as_meant : (s : Sides) (status : ℕ) (invocation : Invocation) (source : Source) (plan : PlanParts) (entries : List Entry) → IsRun s invocation source plan entries → IsCompleted s status invocation plan entries → (world : List Told) → AllTell world s.gates_before → ComesAsMeant invocation.empty_is_error plan (seen_in source.props world) entries status
+comes_as_meant s status invocation source plan entries run completed world all =
+    let verdicts = are_meant plan (ranked s invocation source plan entries run) (seen_in source.props world) entries run.ran.legal completed.reported.complete are_seen in
+    record {
+      verdicts = verdicts;
+      is = completed.is ∙ ap (λ (b : Bool). if (if length plan.tests == 0 then invocation.empty_is_error else b) then 8 else 0) verdicts.failing;
+    }
+  where
+    are_seen : AreSeen (seen_in source.props world) entries
+    are_seen =
+        seen_entries source.props world (min plan.level (length s.gates_before)) entries run.ran.workers completed.reported.memory
+        (λ worker less. told_by s.env (tests_of source invocation.timeout) world entries 0 s.gates_before s.gates_now run.ran.asked all worker (omega arith) (omega (arith, less)))
+
+some_and : {A : Type 0} (P Q : A → Type 0) (o : Option A) → ((x : A) → P x → Q x) → IsSomeAnd o P → IsSomeAnd o Q
+some_and P Q None each is = absurd is
+some_and P Q (Some x) each is = each x is
+
+-- so is each completed run one that came as is meant
+pub ran_as_meant : (s : Sides) (status : ℕ) → HasRunWith s (IsCompleted s status) → HasRunAsMeant s status
+ran_as_meant s status has =
+    some_and (λ plan. IsSomeAnd s.history (λ entries. RanWith s (IsCompleted s status) plan entries)) (λ plan. IsSomeAnd s.history (λ entries. RanAsMeant s status plan entries)) s.plan
+    (λ plan. some_and (λ entries. RanWith s (IsCompleted s status) plan entries) (λ entries. RanAsMeant s status plan entries) s.history (λ entries ran. by_run plan entries ran)) has
+  where
+    by_run : (plan : PlanParts) (entries : List Entry) → RanWith s (IsCompleted s status) plan entries → RanAsMeant s status plan entries
+    by_run plan entries ran = record {
+      invocation = ran.invocation;
+      source = ran.source;
+      run = ran.run;
+      completed = ran.holds;
+      meant = comes_as_meant s status ran.invocation ran.source plan entries ran.run ran.holds;
+    }
+
+completed_as_meant : (s : Sides) (status : ℕ) → Answers s Completed status → HasRunAsMeant s status
+completed_as_meant s status answer = elim (cases_Bool (ask_for_list s.words)) [
+  | inl list ↦ absurd (answer.list list)
+  | inr run ↦ ran_as_meant s status (answer.run run)
+]
+
+-- and so did each call that answers Completed
+pub answers_as_meant : {s : Sides} {outcome : Outcome} {status : ℕ} → Answers s outcome status → AnswersAsMeant s outcome status
+answers_as_meant {s} {outcome} {status} answer is = completed_as_meant s status (subst (λ (o : Outcome). Answers s o status) is answer)
