@@ -3,54 +3,20 @@
 ghost use Rattle.std.specs.Prelude.{◌<◌};
 
 use crate::dice::Dice;
-use ct_alloc::{Free, Placement};
-use ct_base::{List, Name, Need, NoMemory, Resource};
+use crate::plans::{cards, needs, unused};
+use ct_alloc::Placement;
+use ct_base::NoMemory;
 use std::alloc::Global;
-use std::process::Abort;
 use std::test::Fail;
-
-/// Makes cards of one kind with these slots.
-fn cards(alloc: Global, slots: &[u32]) -> Result<List<Resource>, NoMemory> {
-    let mut cards = List::new(alloc);
-    for (at, slots) in slots.iter().enumerate() {
-        let id = at.to_string(alloc)?;
-        cards.push(Resource {
-            kind: Name::of(alloc, b"gpus")?,
-            id: Name::of(alloc, id.as_bytes())?,
-            slots: *slots,
-        })?;
-    }
-    Ok(cards)
-}
-
-/// Makes needs of one kind with these slots.
-fn needs(alloc: Global, slots: &[u32]) -> Result<List<Need>, NoMemory> {
-    let mut needs = List::new(alloc);
-    for slots in slots {
-        needs.push(Need {
-            group: 0,
-            kind: Name::of(alloc, b"gpus")?,
-            slots: *slots,
-        })?;
-    }
-    Ok(needs)
-}
-
-/// Makes what is free of some cards, of which nothing is used.
-fn unused(rt: &(impl Abort + AllocGlobal), slots: &[u32]) -> Result<Free, NoMemory> {
-    let resources = cards(rt.alloc(), slots)?;
-    assert!(rt; resources.len() < 4_294_967_295);
-    Free::all(rt.alloc(), &resources)
-}
 
 /// Places needs on cards of which nothing is used.
 fn placed(
-    rt: &(impl Abort + AllocGlobal),
+    rt: &impl AllocGlobal,
     slots: &[u32],
     wanted: &[u32],
 ) -> Result<Option<Placement>, NoMemory> {
-    let needs = needs(rt.alloc(), wanted)?;
-    unused(rt, slots)?.place(rt.alloc(), &needs)
+    let free = unused(rt.alloc(), &cards(rt.alloc(), slots)?)?;
+    free.place(rt.alloc(), &needs(rt.alloc(), wanted)?)
 }
 
 /// Counts the picks of so many slots on a card.

@@ -1,11 +1,11 @@
 //! The core over fixed plans, step by step.
 
-use crate::plans::{free, parts_of};
+use crate::plans::{cards, free, need, parts_of};
 use crate::rows::how;
 use crate::workers::{Run, Step, close, end, next, open, seen};
-use ct_base::{List, NoMemory};
+use ct_base::{List, NoMemory, Resource};
 use ct_history::{Entry, History, PlanParts, PlanTest};
-use ct_verdict::{Mode, Repeat, Verdict};
+use ct_verdict::{Cause, Mode, Repeat, Verdict};
 use std::alloc::Global;
 use std::process::Abort;
 use std::test::Fail;
@@ -27,7 +27,7 @@ fn take(rt: &impl Abort, run: &mut Run, wanted: Step) -> Step {
 /// Runs, each with what is asked of it, its tests, and the steps of its workers from 0.
 ///
 /// A step starts or settles a test, waits, or ends a test by an exit code, which is then final or
-/// tried again. A test is plain, or tells what else it is.
+/// tried again. A test is plain, or tells what else it is. Behind `on` stand the slots of cards.
 const STEPS: &str = "\
 level 1 | plain;plain;plain | 0 starts 1, 1 waits, 0 ends 0 passed, 0 starts 2, 0 ends 1 failed, 1 starts 3, 1 ends 0 passed, 0 is done
 level 4 | processors 4;plain | 0 starts 1, 1 waits, 0 ends 0 passed, 1 starts 2, 1 ends 0 passed, 0 is done
@@ -39,6 +39,11 @@ until-pass 3 | plain | 0 starts 1, 0 ends 77 skipped, 0 is done
 until-fail 3 | plain | 0 starts 1, 0 ends 0 again, 0 starts 1, 0 ends 1 failed, 0 is done
 after-timeout 2 | plain | 0 starts 1, 0 ends 1 failed, 0 is done
 after-timeout 2 | plain | 0 starts 1, 0 ends timeout again, 0 starts 1, 0 ends 0 passed, 0 is done
+level 3 on 3,2 | needs 2;needs 2;needs 2;plain | 0 starts 1, 1 starts 2, 2 starts 4, 2 ends 0 passed, 2 waits, 0 ends 0 passed, 2 starts 3, 0 waits, 1 ends 0 passed, 2 ends 0 passed, 0 is done
+level 3 on 5,5 | needs 2, needs 2, needs 3, needs 3;needs 1 | 0 starts 1, 1 waits, 0 ends 0 passed, 1 starts 2, 1 ends 0 passed, 0 is done
+level 1 on 2,4,2,1 | needs 8, insufficient;plain | 0 settles 1, 0 starts 2, 0 ends 0 passed, 0 is done
+level 2 | needs 8;needs 8 | 0 starts 1, 1 starts 2, 0 ends 0 passed, 1 ends 0 passed, 0 is done
+until-pass 2 on 1 | needs 1;needs 1 | 0 starts 1, 0 ends 1 again, 0 starts 1, 0 ends 0 passed, 0 starts 2, 0 ends 0 passed, 0 is done
 ";
 
 /// A run that stops at a failure.
@@ -90,6 +95,8 @@ fn test_of(alloc: Global, number: u32, text: &str) -> Result<PlanTest, NoMemory>
         match word {
             "processors" => test.processors = count,
             "serial" => test.serial = true,
+            "needs" => test.needs.push(need(alloc, count)?)?,
+            "insufficient" => test.fixed = Some(Cause::Insufficient),
             "behind" => test.before.push(count)?,
             "setup" => {
                 test.before.push(count)?;
@@ -107,6 +114,8 @@ fn parts(alloc: Global, asked: &str, texts: &str) -> Result<PlanParts, NoMemory>
         tests.push(test_of(alloc, number, text)?)?;
     }
     let mut parts = parts_of(alloc, 1, tests)?;
+    let (asked, slots) = asked.split_once(" on ").unwrap_or((asked, ""));
+    parts.resources = given(alloc, slots)?;
     let (word, count) = asked.split_once(' ').unwrap_or((asked, ""));
     let count = count.parse().unwrap_or(0);
     match word {
@@ -120,6 +129,18 @@ fn parts(alloc: Global, asked: &str, texts: &str) -> Result<PlanParts, NoMemory>
         }
     }
     Ok(parts)
+}
+
+/// The cards with these slots, where there are any.
+fn given(alloc: Global, text: &str) -> Result<Option<List<Resource>>, NoMemory> {
+    let mut slots = Vec::new(alloc);
+    for count in text.split_terminator(',') {
+        slots.push(number(Some(count)))?;
+    }
+    if slots.is_empty() {
+        return Ok(None);
+    }
+    Ok(Some(cards(alloc, &slots)?))
 }
 
 fn mode_of(word: &str) -> Mode {

@@ -3,22 +3,25 @@
 ghost use Rattle.std.specs.Prelude.{◌<◌};
 
 use crate::dice::Dice;
-use crate::plans::{enabled_numbers, free, list_of};
+use crate::plans::{cards, enabled_numbers, free, list_of, needs, unused};
 use crate::workers::{Run, Step, close, end, next, open, seen};
-use ct_base::{List, Name, NoMemory};
+use ct_alloc::{Pick, Placement};
+use ct_base::{List, Name, NoMemory, Resource};
 use ct_history::{Entry, History, Plan, PlanParts, PlanTest, judge};
 use ct_verdict::{Cause, How, Mode, Repeat, Seen};
 use std::alloc::Global;
 use std::process::Abort;
 use std::test::Fail;
 
-/// Draws the parts of a plan of up to eight tests.
+/// Draws the parts of a plan of up to eight tests, with up to three cards.
 fn drawn_parts(alloc: Global, dice: &mut Dice) -> Result<PlanParts, NoMemory> {
     let level = 1 + dice.roll(4);
     let count = 1 + dice.roll(8);
+    let resources = drawn_cards(alloc, dice)?;
     let mut tests = List::new(alloc);
     for number in 1..count + 1 {
-        let test = drawn_test(alloc, dice, number, level, tests.as_slice())?;
+        let mut test = drawn_test(alloc, dice, number, level, tests.as_slice())?;
+        draw_needs(alloc, dice, &mut test, resources.as_ref())?;
         tests.push(test)?;
     }
     let queue = drawn_queue(alloc, dice, tests.as_slice())?;
@@ -26,7 +29,7 @@ fn drawn_parts(alloc: Global, dice: &mut Dice) -> Result<PlanParts, NoMemory> {
         dir: Name::of(alloc, b".")?,
         tests,
         queue,
-        resources: None,
+        resources,
         level,
         repeat: Repeat {
             mode: drawn_mode(dice),
@@ -34,6 +37,41 @@ fn drawn_parts(alloc: Global, dice: &mut Dice) -> Result<PlanParts, NoMemory> {
         },
         stop_on_failure: dice.is_one_in(2),
     })
+}
+
+fn drawn_cards(alloc: Global, dice: &mut Dice) -> Result<Option<List<Resource>>, NoMemory> {
+    if dice.is_one_in(4) {
+        return Ok(None);
+    }
+    let slots = drawn_slots(alloc, dice)?;
+    Ok(Some(cards(alloc, &slots)?))
+}
+
+/// Draws up to three amounts.
+fn drawn_slots(alloc: Global, dice: &mut Dice) -> Result<Vec<u32>, NoMemory> {
+    let mut slots = Vec::new(alloc);
+    for _ in 0..dice.roll(4) {
+        slots.push(dice.roll(4))?;
+    }
+    Ok(slots)
+}
+
+/// Draws what a test needs, which it may never get.
+fn draw_needs(
+    alloc: Global,
+    dice: &mut Dice,
+    test: &mut PlanTest,
+    resources: Option<&List<Resource>>,
+) -> Result<(), NoMemory> {
+    let slots = drawn_slots(alloc, dice)?;
+    test.needs = needs(alloc, &slots)?;
+    if let Some(resources) = resources {
+        let free = unused(alloc, resources)?;
+        if test.fixed.is_none() && free.place(alloc, &test.needs)?.is_none() {
+            test.fixed = Some(Cause::Insufficient);
+        }
+    }
+    Ok(())
 }
 
 fn drawn_mode(dice: &mut Dice) -> Mode {
@@ -152,9 +190,11 @@ enum Change {
     OtherAttempt,
     OtherWorker,
     OtherCause,
+    OtherCard,
+    NoPlacement,
 }
 
-const CHANGES: [Change; 7] = [
+const CHANGES: [Change; 9] = [
     Change::LeavesOut,
     Change::Doubles,
     Change::Exchanges,
@@ -162,6 +202,8 @@ const CHANGES: [Change; 7] = [
     Change::OtherAttempt,
     Change::OtherWorker,
     Change::OtherCause,
+    Change::OtherCard,
+    Change::NoPlacement,
 ];
 
 impl Change {
@@ -171,6 +213,7 @@ impl Change {
         match self {
             Change::Doubles => true,
             Change::OtherAttempt | Change::OtherWorker | Change::OtherCause => true,
+            Change::OtherCard | Change::NoPlacement => true,
             Change::LeavesOut => matches!(entry, Entry::Start { .. }),
             Change::OtherTest => matches!(entry, Entry::Start { .. } | Entry::End { .. }),
             Change::Exchanges => false,
@@ -178,18 +221,18 @@ impl Change {
     }
 }
 
-fn copy_of(entry: &Entry) -> Entry {
-    match entry {
+fn copy_of(alloc: Global, entry: &Entry) -> Result<Entry, NoMemory> {
+    Ok(match entry {
         Entry::Start {
             test,
             attempt,
             worker,
-            ..
+            placement,
         } => Entry::Start {
             test: *test,
             attempt: *attempt,
             worker: *worker,
-            placement: None,
+            placement: moved(alloc, placement.as_ref(), 0)?,
         },
         Entry::End {
             test,
@@ -207,12 +250,34 @@ fn copy_of(entry: &Entry) -> Entry {
             cause: *cause,
         },
         Entry::Stop => Entry::Stop,
+    })
+}
+
+/// Makes a placement of the same picks, each on the card that stands so many places behind.
+fn moved(
+    alloc: Global,
+    placement: Option<&Placement>,
+    by: u32,
+) -> Result<Option<Placement>, NoMemory> {
+    let Some(placement) = placement else {
+        return Ok(None);
+    };
+    let mut picks = List::new(alloc);
+    for pick in placement.picks.as_slice() {
+        picks.push(Pick {
+            group: pick.group,
+            kind: pick.kind.copy(alloc)?,
+            id: pick.id.copy(alloc)?,
+            slots: pick.slots,
+            resource: pick.resource.wrapping_add(by),
+        })?;
     }
+    Ok(Some(Placement { picks }))
 }
 
 /// Changes an entry in place, and tells whether there was something to change.
-fn alter(entry: &mut Entry, change: Change) -> bool {
-    match (entry, change) {
+fn alter(alloc: Global, entry: &mut Entry, change: Change) -> Result<bool, NoMemory> {
+    Ok(match (entry, change) {
         (
             Entry::Start { test, .. } | Entry::End { test, .. } | Entry::Settle { test, .. },
             Change::OtherTest,
@@ -232,8 +297,13 @@ fn alter(entry: &mut Entry, change: Change) -> bool {
             *cause = other_cause(*cause);
             true
         }
+        (Entry::Start { placement, .. }, Change::OtherCard) => {
+            *placement = moved(alloc, placement.as_ref(), 1)?;
+            placement.is_some()
+        }
+        (Entry::Start { placement, .. }, Change::NoPlacement) => placement.take().is_some(),
         _ => false,
-    }
+    })
 }
 
 fn other_cause(cause: Cause) -> Cause {
@@ -254,7 +324,7 @@ fn changed(
     let mut copies = Vec::new(alloc);
     let mut changes = false;
     for place in 0..entries.len() {
-        let mut copy = copy_of(&entries[place]);
+        let mut copy = copy_of(alloc, &entries[place])?;
         if place == at {
             match change {
                 Change::LeavesOut => {
@@ -263,10 +333,10 @@ fn changed(
                 }
                 Change::Doubles => {
                     changes = true;
-                    copies.push(copy_of(&copy))?;
+                    copies.push(copy_of(alloc, &copy)?)?;
                 }
                 Change::Exchanges => {}
-                _ => changes = alter(&mut copy, change),
+                _ => changes = alter(alloc, &mut copy, change)?,
             }
         }
         copies.push(copy)?;
@@ -281,8 +351,8 @@ fn changed(
 /// How often a change left a history legal, and how often it did not.
 #[derive(Drop)]
 struct Counts {
-    legal: [u32; 7],
-    refused: [u32; 7],
+    legal: [u32; 9],
+    refused: [u32; 9],
 }
 
 /// Judges the history with a drawn change at a drawn place.
@@ -298,7 +368,7 @@ fn judge_change(
         return Ok(());
     }
     let at = dice.roll(1000) as usize % entries.len();
-    let kind = dice.roll(7) as usize;
+    let kind = dice.roll(9) as usize;
     let change = CHANGES[kind];
     if let Some(other) = changed(alloc, entries, at, change)? {
         if judge(plan, &other)? {
@@ -315,15 +385,15 @@ fn judge_change(
 fn drawn_runs_are_legal_and_changed_ones_are_not(rt: HostRuntime) -> Result<(), Fail> {
     let mut dice = Dice::new(2026);
     let mut counts = Counts {
-        legal: [0; 7],
-        refused: [0; 7],
+        legal: [0; 9],
+        refused: [0; 9],
     };
     for _ in 0..10_000 {
         let (plan, history) = drawn_run(&rt, rt.alloc(), &mut dice)?;
         let entries = history.entries.as_slice();
         judge_change(&rt, rt.alloc(), &mut dice, &plan, entries, &mut counts)?;
     }
-    for kind in 0..7 {
+    for kind in 0..9 {
         assert!(rt; 0 < counts.refused[kind], "{:?}", CHANGES[kind]);
     }
     assert!(rt; 0 < counts.legal[0], "the last entry can be left out");

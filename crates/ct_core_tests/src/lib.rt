@@ -24,6 +24,8 @@ mod report;
 #[cfg(test)]
 mod rows;
 #[cfg(test)]
+mod slots;
+#[cfg(test)]
 mod turn;
 #[cfg(test)]
 mod workers;

@@ -1,11 +1,14 @@
-//! Plans of tests that need nothing, and whether parts are a plan.
+//! Tests, cards and needs that plans are made of, and whether parts are a plan.
 
-ghost use Rattle.std.specs.Prelude.{◌≡◌, ◌==◌, IfOk, IsPermutation, None, map};
+ghost use Rattle.std.specs.Prelude.{◌≡◌, ◌==◌, ℕ, All, IfOk, IfSome, IsPermutation, map};
 ghost use Rattle.std.specs.Bool.{OnTrue};
 ghost use Rattle.std.specs.List.{list_all, list_any};
-ghost use Rattle.ct_history.specs.Plan.{AllAscend, IsAscendingFrom, IsSound, has_sound_links, has_sound_processors, is_before_rank, is_fixed_cause, enabled, test_at as planned_test};
+ghost use Rattle.ct_alloc.specs.Free.{used_at};
+ghost use Rattle.ct_alloc.specs.Placement.{AreDistinct, same_resource};
+ghost use Rattle.ct_history.specs.Plan.{AllAscend, IsAscendingFrom, IsPlaceable, IsSound, has_sound_links, has_sound_processors, is_before_rank, is_fixed_cause, enabled, test_at as planned_test};
 
-use ct_base::{List, Name, NoMemory};
+use ct_alloc::Free;
+use ct_base::{List, Name, Need, NoMemory, Resource};
 use ct_history::{Plan, PlanParts, PlanTest, test_at};
 use ct_verdict::{Cause, Mode, Repeat, Rules};
 use std::alloc::Global;
@@ -15,7 +18,6 @@ use std::process::Abort;
 pub(crate) fn plan_of(rt: &impl Abort, alloc: Global, parts: PlanParts) -> Result<Plan, NoMemory> {
     let sound = is_sound(alloc, &parts)?;
     assert!(rt; sound, "the parts are no plan");
-    assert!(rt; parts.resources.is_none());
     Ok(Plan::new(parts))
 }
 
@@ -71,21 +73,64 @@ pub(crate) fn parts_of(
     })
 }
 
-/// Tells whether a plan can be made of the parts, which have no resources.
+/// Makes cards of one kind with these slots, whose ids are their places.
+pub(crate) fn cards(alloc: Global, slots: &[u32]) -> Result<List<Resource>, NoMemory> {
+    let mut cards = List::new(alloc);
+    for (at, slots) in slots.iter().enumerate() {
+        let id = at.to_string(alloc)?;
+        cards.push(Resource {
+            kind: Name::of(alloc, b"gpus")?,
+            id: Name::of(alloc, id.as_bytes())?,
+            slots: *slots,
+        })?;
+    }
+    Ok(cards)
+}
+
+/// Makes needs of one kind with these slots.
+pub(crate) fn needs(alloc: Global, slots: &[u32]) -> Result<List<Need>, NoMemory> {
+    let mut needs = List::new(alloc);
+    for slots in slots {
+        needs.push(need(alloc, *slots)?)?;
+    }
+    Ok(needs)
+}
+
+/// Makes a need of so many slots of a card.
+pub(crate) fn need(alloc: Global, slots: u32) -> Result<Need, NoMemory> {
+    Ok(Need {
+        group: 0,
+        kind: Name::of(alloc, b"gpus")?,
+        slots,
+    })
+}
+
+/// Makes what is free of some cards, of which nothing is used, where there are not too many.
+pub(crate) fn unused(alloc: Global, resources: &List<Resource>) -> Result<Free, NoMemory>
+    ensures whole { IfOk result (λ free. free.resources ≡ resources.now) }
+    ensures unused { IfOk result (λ free. (place : ℕ) → used_at free place ≡ 0) }
+{
+    if resources.len() >= u32::MAX as usize {
+        return Err(NoMemory);
+    }
+    Free::all(alloc, resources)
+}
+
+/// Tells whether a plan can be made of the parts.
 fn is_sound(alloc: Global, parts: &PlanParts) -> Result<bool, NoMemory>
     ensures { IfOk result (λ yes. OnTrue yes (IsSound parts.now)) }
 {
     let tests = parts.tests.as_slice();
     Ok(
-        parts.resources.is_none()
-            && parts.repeat.times >= 1
+        parts.repeat.times >= 1
             && are_numbered(tests)
             && befores_ascend(tests)
             && setups_ascend(tests)
             && are_linked(tests)
             && have_processors(tests, parts.level)
-            && have_causes(tests)
-            && is_queued(alloc, parts)?,
+            && have_causes(tests, &parts.resources)
+            && is_queued(alloc, parts)?
+            && are_met(alloc, parts)?,
     )
 }
 
@@ -191,20 +236,83 @@ fn have_processors(tests: &[PlanTest], level: u32) -> bool
         .all(|test| 1 <= test.processors && test.processors <= level)
 }
 
-fn have_causes(tests: &[PlanTest]) -> bool
-    ensures { result ≡ list_all (λ t. is_fixed_cause None t.fixed) tests.now }
+fn have_causes(tests: &[PlanTest], resources: &Option<List<Resource>>) -> bool
+    ensures { result ≡ list_all (λ t. is_fixed_cause resources.now t.fixed) tests.now }
 {
-    tests.iter().all(|test| is_fixed(test.fixed))
+    tests.iter().all(|test| is_fixed(test.fixed, resources))
 }
 
-fn is_fixed(cause: Option<Cause>) -> bool
-    ensures { result ≡ is_fixed_cause None cause }
+fn is_fixed(cause: Option<Cause>, resources: &Option<List<Resource>>) -> bool
+    ensures { result ≡ is_fixed_cause resources.now cause }
 {
     match cause {
         None => true,
         Some(Cause::NotAvailable) | Some(Cause::BadOperation(_)) => true,
+        Some(Cause::Insufficient) => resources.is_some(),
         Some(_) => false,
     }
+}
+
+/// Tells whether the resources are apart, and each test that nothing keeps from running can be
+/// placed on them.
+fn are_met(alloc: Global, parts: &PlanParts) -> Result<bool, NoMemory>
+    ensures apart { IfOk result (λ yes. OnTrue yes (IfSome parts.now.resources AreDistinct)) }
+    ensures placeable { IfOk result (λ yes. OnTrue yes (IfSome parts.now.resources
+        (λ resources. All (IsPlaceable resources) parts.now.tests))) }
+{
+    match &parts.resources {
+        Some(resources) => Ok(
+            are_apart(resources.as_slice())
+                && are_placeable(alloc, resources, parts.tests.as_slice())?,
+        ),
+        None => Ok(true),
+    }
+}
+
+fn are_apart(resources: &[Resource]) -> bool
+    ensures { OnTrue result (AreDistinct resources.now) }
+{
+    for at in 0..resources.len() {
+        if is_named_among(&resources[at], &resources[..at]) {
+            return false;
+        }
+    }
+    true
+}
+
+fn is_named_among(resource: &Resource, others: &[Resource]) -> bool
+    ensures { result ≡ list_any (λ other. same_resource other resource.now) others.now }
+{
+    others.iter().any(|other| other.kind.is(&resource.kind) && other.id.is(&resource.id))
+}
+
+fn are_placeable(
+    alloc: Global,
+    resources: &List<Resource>,
+    tests: &[PlanTest],
+) -> Result<bool, NoMemory>
+    ensures { IfOk result (λ yes. OnTrue yes (All (IsPlaceable resources.now) tests.now)) }
+{
+    for test in tests {
+        if !is_placeable(alloc, resources, test)? {
+            return Ok(false);
+        }
+    }
+    Ok(true)
+}
+
+fn is_placeable(
+    alloc: Global,
+    resources: &List<Resource>,
+    test: &PlanTest,
+) -> Result<bool, NoMemory>
+    ensures { IfOk result (λ yes. OnTrue yes (IsPlaceable resources.now test.now)) }
+{
+    if test.fixed.is_some() {
+        return Ok(true);
+    }
+    let free = unused(alloc, resources)?;
+    Ok(free.place(alloc, &test.needs)?.is_some())
 }
 
 /// Tells whether each test that is not disabled stands in the queue once.

@@ -56,6 +56,8 @@ const SPELLINGS: &str = "\
 --build-config=Debug is config=Debug
 --test-dir build is dir=build
 --test-dir=build is dir=build
+--resource-spec-file r.json is spec_file=r.json
+--resource-spec-file=r.json is spec_file=r.json
 --timeout 5 is timeout=5000000
 --timeout=5 is timeout=5000000
 --repeat until-fail:3 is repeat=UntilFail:3
@@ -102,6 +104,10 @@ const VALUES: &str = "\
 --test-dir '' is dir=
 --test-dir= is dir=
 --test-dir=/b=c is dir=/b=c
+--resource-spec-file '' is spec_file=
+--resource-spec-file= is spec_file=
+--resource-spec-file=a=b is spec_file=a=b
+--resource-spec-file /b/r.json --test-dir b is dir=b spec_file=/b/r.json
 --timeout 1500 is
 --timeout 0 is timeout=0
 --timeout 1.5 is timeout=1500000
@@ -126,6 +132,8 @@ const VALUES: &str = "\
 -C --no-tests=error is config=--no-tests=error
 --test-dir --test-dir is dir=--test-dir
 --test-dir -- is dir=--
+--resource-spec-file -N is spec_file=-N
+-N --resource-spec-file r.json is task=ListTests spec_file=r.json
 --build-config=-j4 -j2 is level=2 config=-j4
 ";
 
@@ -211,8 +219,8 @@ build is word 1 UnknownOption
 --show-only=json-v1 is word 1 UnknownOption
 --show-only=human is word 1 UnknownOption
 --rerun-failed is word 1 UnknownOption
---resource-spec-file r.json is word 1 UnknownOption
---resource-spec-file=r.json is word 1 UnknownOption
+--resource-spec r.json is word 1 UnknownOption
+--resource-spec-filer.json is word 1 UnknownOption
 --help is word 1 UnknownOption
 --version is word 1 UnknownOption
 --schedule-random is word 1 UnknownOption
@@ -245,6 +253,7 @@ const BAD_VALUES: &str = "\
 -C is word 1 NoValue
 --build-config is word 1 NoValue
 --test-dir is word 1 NoValue
+--resource-spec-file is word 1 NoValue
 --timeout is word 1 NoValue
 --repeat is word 1 NoValue
 -N -R is word 2 NoValue
@@ -320,6 +329,8 @@ const TWICE: &str = "\
 -C '' -C '' is word 3 Twice
 -C -C -C Debug is word 3 Twice
 --test-dir a --test-dir=a is word 3 Twice
+--resource-spec-file r.json --resource-spec-file=r.json is word 3 Twice
+--resource-spec-file= --resource-spec-file is word 2 Twice
 --timeout 1 --timeout 2 is word 3 Twice
 --repeat until-fail:2 --repeat until-pass:2 is word 3 Twice
 --no-tests=error --no-tests=error is word 2 Twice
@@ -461,6 +472,13 @@ fn with_text(
     format!(in alloc; "{told} {label}={text}")
 }
 
+fn with_file(alloc: Global, told: String, file: &Option<Name>) -> Result<String, AllocError> {
+    match file {
+        None => Ok(told),
+        Some(file) => format!(in alloc; "{told} spec_file={}", text_of(file)),
+    }
+}
+
 /// Puts a number behind what is told, if it is another than the usual one.
 fn with_number(
     alloc: Global,
@@ -501,7 +519,7 @@ fn facts(alloc: Global, invocation: &Invocation) -> Result<String, Fail> {
     told = with_flag(alloc, told, "stop", wanted.stop_on_failure)?;
     told = with_text(alloc, told, "config", &invocation.config, "")?;
     told = with_number(alloc, told, "timeout", invocation.timeout, 1_500_000_000)?;
-    told = with_flag(alloc, told, "spec_file", invocation.spec_file.is_some())?;
+    told = with_file(alloc, told, &invocation.spec_file)?;
     told = with_flag(alloc, told, "empty_is_error", invocation.empty_is_error)?;
     Ok(told)
 }

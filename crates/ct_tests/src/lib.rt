@@ -14,6 +14,8 @@ mod fixtures;
 #[cfg(test)]
 mod lists;
 #[cfg(test)]
+mod resources;
+#[cfg(test)]
 mod run_files;
 #[cfg(test)]
 mod words;

@@ -30,6 +30,22 @@ Listed, status 0
 Test project .
 
 Total Tests: 0
+=== a specification is named that is not there, and one that is none; only the tests can be read
+call 2 fails
+---
+add_test(t p)
+set_tests_properties(t PROPERTIES RESOURCE_GROUPS gpus:1)
+--- bad.json
+{
+>>> -N --resource-spec-file r.json
+Listed, status 0
+Test project .
+  Test #1: t
+
+Total Tests: 1
+>>> --resource-spec-file=bad.json --print-labels
+Listed, status 0
+No Labels Exist
 === two folders, of which one is named
 --- build/CTestTestfile.cmake
 add_test([=[unit one]=] \"/home/u/demo/build/unit\")
@@ -255,6 +271,14 @@ add_test(b p)
 add_test(off p)
 set_tests_properties(off PROPERTIES DISABLED ON)
 >>>
+Listed, status 0
+Test project .
+  Test #1: a
+  Test #2: b
+  Test #3: off (Disabled)
+
+Total Tests: 2
+>>> --resource-spec-file r.json
 Listed, status 0
 Test project .
   Test #1: a

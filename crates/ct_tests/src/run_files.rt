@@ -530,41 +530,54 @@ fn expect_held(rt: &impl Abort, files: &MemFiles, path: &Name, want: Option<&[u8
 
 fn expect_case(rt: &(impl Abort + AllocGlobal), case: &Case) -> Result<(), Fail> {
     let alloc = rt.alloc();
-    let finished = run(
+    let ran = run(
         rt,
         case.words,
         files(alloc, case)?,
         case.told,
         case.fails_put,
     )?;
+    expect_written(rt, &ran, case)?;
+    expect_end(rt, &ran, case);
+    expect_files(rt, &ran.files, case)
+}
+
+fn expect_written(rt: &(impl Abort + AllocGlobal), ran: &Ran, case: &Case) -> Result<(), Fail> {
     let Want { output, .. } = &case.want;
-    let mut written = Blob::of(alloc, output.0)?;
+    let mut written = Blob::of(rt.alloc(), output.0)?;
     written.append(output.1)?;
     assert!(rt;
-        finished.sink.written().bytes() == written.bytes(),
+        ran.sink.written().bytes() == written.bytes(),
         "{}",
         case.shows
     );
-    assert_eq!(rt; finished.status, case.want.status, "{}", case.shows);
+    Ok(())
+}
+
+fn expect_end(rt: &impl Abort, ran: &Ran, case: &Case) {
+    assert_eq!(rt; ran.status, case.want.status, "{}", case.shows);
     assert!(rt;
-        refused(&finished.outcome) == case.want.refused,
+        refused(&ran.outcome) == case.want.refused,
         "{}",
         case.shows
     );
-    let entries = finished.history.map(|history| history.entries.len());
+    let entries = ran.history.as_ref().map(|history| history.entries.len());
     assert_eq!(rt; entries, case.want.entries, "{}", case.shows);
-    assert_eq!(rt;
-        finished.plan.is_some(),
-        entries.is_some(),
-        "{}",
-        case.shows
-    );
+    assert_eq!(rt; ran.plan.is_some(), entries.is_some(), "{}", case.shows);
+}
+
+fn expect_files(
+    rt: &(impl Abort + AllocGlobal),
+    files: &MemFiles,
+    case: &Case,
+) -> Result<(), Fail> {
+    let alloc = rt.alloc();
     let costs = Name::of(alloc, COSTS)?;
-    expect_held(rt, &finished.files, &costs, case.want.costs, case.shows);
+    expect_held(rt, files, &costs, case.want.costs, case.shows);
     let log = Name::of(alloc, LOG)?;
-    expect_held(rt, &finished.files, &log, Some(case.want.log), case.shows);
+    expect_held(rt, files, &log, Some(case.want.log), case.shows);
     let tree = Name::of(alloc, TREE)?;
-    expect_held(rt, &finished.files, &tree, Some(case.tests), case.shows);
+    expect_held(rt, files, &tree, Some(case.tests), case.shows);
     Ok(())
 }
 
