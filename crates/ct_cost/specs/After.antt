@@ -1,24 +1,13 @@
 -- What a run says of its tests for the next one, and the log of its failed tests. Source: this project's choice, after what ctest does.
-use Rattle.std.specs.Prelude.{ℕ, min, List, ◌++◌, filter, filter_map, flat_map, codes, decimal, Option, Some, None, ◌==◌, if◌then◌else◌}
+use Rattle.std.specs.Prelude.{ℕ, min, List, ◌++◌, filter, flat_map, codes, decimal, Option, Some, None}
 use Rattle.ct_base.specs.Seconds.{most_micros}
 use Rattle.ct_verdict.specs.declared.attempt.Seen.{Seen}
 use Rattle.ct_history.specs.declared.plan.PlanTest.{PlanTest}
 use Rattle.ct_history.specs.declared.plan.PlanParts.{PlanParts}
 use Rattle.ct_history.specs.declared.history.Entry.{Entry}
-use Rattle.ct_history.specs.declared.history.Entry.TheVariants.{Start, End, Settle, Stop}
-use Rattle.ct_history.specs.Verdicts.{verdict_in, is_passed_verdict, is_failing_in, last_of_list}
+use Rattle.ct_history.specs.Endings.{last_seen}
+use Rattle.ct_history.specs.Verdicts.{verdict_in, is_passed_verdict, is_failing_in}
 use Rattle.ct_cost.specs.CostLine.{CostLine, after_run}
-
--- what was seen of the attempt that the entry ends, where it is one of the test
-abbrev pub seen_at_end : ℕ → Entry → Option Seen
-seen_at_end test (Start t a worker placement) = None
-seen_at_end test (End t a worker seen) = if t == test then Some seen else None
-seen_at_end test (Settle t cause) = None
-seen_at_end test Stop = None
-
--- what was seen of the test's last attempt
-abbrev pub last_seen : ℕ → List Entry → Option Seen
-last_seen test entries = last_of_list (filter_map (seen_at_end test) entries)
 
 -- the microseconds of an attempt that count, up to 10^15
 abbrev pub counted_micros : Option Seen → ℕ

@@ -4,13 +4,12 @@ ghost use Rattle.ct_history.specs.Verdicts.{are_all_final};
 ghost use Rattle.ct_cost.specs.CostLine.{cost_of};
 ghost use Rattle.ct_cost.specs.Costs.{costs_after, costs_in, costs_text};
 
-use crate::endings::endings_of;
 use crate::lines::Lines;
 use crate::log::failed_names;
 use crate::names::Names;
 use crate::reading::Reading;
 use ct_base::{Blob, Name, NoMemory};
-use ct_history::{History, Plan};
+use ct_history::{History, Plan, endings_of};
 use std::alloc::Global;
 
 /// What earlier runs tell: what the tests cost, and which of them failed last time.

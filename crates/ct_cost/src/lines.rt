@@ -5,11 +5,11 @@ ghost use Rattle.ct_cost.specs.Text.{line_in as line_read, line_text};
 ghost use Rattle.ct_cost.specs.Kept.{counts_of, line_for, with_read};
 ghost use Rattle.ct_cost.specs.Endings.{after_ending};
 
-use crate::endings::{Endings, ending_at, passed_micros};
+use crate::endings::passed_micros;
 use crate::line::{Counts, line_in};
 use crate::texts::append_line;
 use ct_base::{Blob, NoMemory};
-use ct_history::PlanTest;
+use ct_history::{Endings, PlanTest, ending_at};
 use indexmap::IndexMap;
 use std::alloc::Global;
 use std::marker::Model;

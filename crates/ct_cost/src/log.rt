@@ -3,11 +3,11 @@ ghost use Rattle.ct_history.specs.Verdicts.{are_all_final};
 ghost use Rattle.ct_cost.specs.After.{failed_log_text, logged};
 ghost use Rattle.ct_cost.specs.Endings.{log_by, with_failed};
 
-use crate::endings::{Endings, ending_at, endings_of, fails_by};
+use crate::endings::fails_by;
 use crate::names::Names;
 use crate::texts::append_number;
 use ct_base::{Blob, NoMemory};
-use ct_history::{History, Plan, PlanTest};
+use ct_history::{Endings, History, Plan, PlanTest, ending_at, endings_of};
 use std::alloc::Global;
 
 /// Writes the log of the tests of the failing class: a line of a number, `:` and a name for each,

@@ -1,7 +1,10 @@
--- The parts of a conjunction and of a disjunction of tests, and the test for equal numbers.
-use Rattle.std.proofs.Common.{◌≡◌, ◌<◌, Bool, true, false, ℕ, refl, arith}
+-- The parts of a conjunction and of a disjunction of tests, a test that each element passes, and the test for equal numbers.
+use Rattle.std.proofs.Common.{◌≡◌, ◌<◌, Bool, true, false, ℕ, refl, sym, ◌∙◌, arith, List, length, get_or, inl, inr}
 use Rattle.std.specs.Prelude.{◌&&◌, ◌||◌, ◌==◌}
+use Rattle.std.specs.List.{list_all}
+use Rattle.std.proofs.lemmas.Bool.{cases_Bool}
 use Rattle.std.proofs.lemmas.Bool.Decides.{nat_tests}
+use Rattle.std.proofs.lemmas.List.Folds.{list_all_at}
 
 pub and_left : (a b : Bool) → (a && b) ≡ true → a ≡ true
 and_left true b both = refl
@@ -26,6 +29,13 @@ or_right false b none = none
 pub and_false : (b : Bool) → (b && false) ≡ false
 and_false true = refl
 and_false false = refl
+
+-- a test that each element passes is passed at a place
+pub all_at : {A : Type 0} (p : A → Bool) (xs : List A) (at : ℕ) (d : A) → list_all p xs ≡ true → at < length xs → p (get_or xs at d) ≡ true
+all_at p xs at d all within = elim (cases_Bool (p (get_or xs at d))) [
+  | inl passes ↦ passes
+  | inr fails ↦ let none = sym all ∙ list_all_at p xs at d within fails in (cc)
+]
 
 pub eq_is : (m n : ℕ) → m ≡ n → (m == n) ≡ true
 eq_is m n is = grind (arith, nat_tests)

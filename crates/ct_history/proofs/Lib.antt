@@ -9,3 +9,4 @@ pub mod FinalLemmas
 pub mod LegalLemmas
 pub mod ProgressLemmas
 pub mod SlotLemmas
+pub mod EndingLemmas

@@ -1,10 +1,9 @@
 -- What the open starts of an allowed history use of each resource, one start after the other.
-use Rattle.std.proofs.Common.{◌≡◌, ◌∙◌, sym, ap, subst, ℕ, suc, ◌+◌, ◌-◌, ◌<◌, ◌≤◌, Bool, true, false, List, [], ◌∷◌, ◌++◌, length, get_or, take, drop, length-drop, refl, arith, inl, inr}
+use Rattle.std.proofs.Common.{◌≡◌, ◌∙◌, sym, ap, subst, ℕ, suc, ◌+◌, ◌-◌, ◌<◌, ◌≤◌, Bool, true, false, List, [], ◌∷◌, ◌++◌, length, get_or, take, drop, length-drop, refl, arith}
 use Rattle.std.specs.Prelude.{Option, Some, None, IfSome, option_and_then, slice_get, nat_le, sum_by, cond, not, ◌&&◌}
 use Rattle.std.specs.List.{list_all, list_any, cons_option}
-use Rattle.std.proofs.lemmas.Bool.{and_from, and_parts, cases_Bool, le-leb}
+use Rattle.std.proofs.lemmas.Bool.{and_from, and_parts, le-leb}
 use Rattle.std.proofs.lemmas.List.{at_drop_more, take_all}
-use Rattle.std.proofs.lemmas.List.Folds.{list_all_at}
 use Rattle.std.proofs.lemmas.List.Sums.{sum_by-append}
 use Rattle.ct_base.specs.declared.defs.Need.{Need}
 use Rattle.ct_base.specs.declared.defs.Resource.{Resource}
@@ -20,6 +19,7 @@ use Rattle.ct_history.specs.Plan.{test_at}
 use Rattle.ct_history.specs.History.{Running, is_busy_in, is_end_of, open_starts, opened, opened_placement, placed_slots, used_slots}
 use Rattle.ct_history.specs.Rules.{is_placed}
 use Rattle.ct_history.specs.Legal.{IsWithin, are_allowed_behind, is_allowed, is_allowed_so_far, is_stop_due, starts}
+use Rattle.ct_history.proofs.BoolLemmas.{all_at}
 use Rattle.ct_history.proofs.MayLemmas.{starts-parts}
 use Rattle.ct_history.proofs.WithinLemmas.{stays_within}
 
@@ -43,12 +43,6 @@ placed_there : (rs : List Resource) (needs : List Need) (used : ℕ → ℕ) (p 
 placed_there rs [] used p placed = cc
 placed_there rs (need ∷ needs) used p placed =
     placed-there rs (need ∷ needs) p.picks (and_parts (is_placement rs (need ∷ needs) p.picks) (fits_beside rs used p.picks) placed).0
-
-all_at : (p : Entry → Bool) (es : List Entry) (i : ℕ) (d : Entry) → list_all p es ≡ true → i < length es → p (get_or es i d) ≡ true
-all_at p es i d all lt = elim (cases_Bool (p (get_or es i d))) [
-  | inl passes ↦ passes
-  | inr fails ↦ let none = sym all ∙ list_all_at p es i d lt fails in (cc)
-]
 
 open_there : (rs : List Resource) (e : Entry) (behind : List Entry) (p : Placement) → is_start_there rs e ≡ true → opened_placement e behind ≡ Some p → are_there rs p.picks ≡ true
 open_there rs (Start t a w q) behind p there is = by_ended (list_any (is_end_of t a) behind) q there is

@@ -2,5 +2,6 @@
 pub mod Plan
 pub mod History
 pub mod Verdicts
+pub mod Endings
 pub mod Rules
 pub mod Legal

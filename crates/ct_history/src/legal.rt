@@ -124,7 +124,7 @@ fn is_same_cause(cause: Cause, other: Option<Cause>) -> bool
 /// Tells whether a Stop is due directly behind these entries.
 ///
 /// Source: CMake manual, ctest(1), --stop-on-failure.
-pub fn is_stop_due(plan: &PlanParts, entries: &[Entry]) -> bool
+fn is_stop_due(plan: &PlanParts, entries: &[Entry]) -> bool
     ensures { result ≡ Legal.is_stop_due plan.now entries.now }
 {
     plan.stop_on_failure && ends_in_first_failure(plan, entries)

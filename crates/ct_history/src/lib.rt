@@ -1,11 +1,12 @@
 //! Plans of a run, histories of what happened in it, and what a history says of each test.
 //!
-//! Hands up: `Plan`, `History`, `Board`, `final_verdict`, and the rules by which tests start and are settled.
-//! Stands on: ct_base, ct_alloc, ct_verdict.
-//! Read first: `specs/History.antt`, `specs/Verdicts.antt`, `specs/Rules.antt`, `specs/Legal.antt`.
+//! Hands up: `Plan`, `History`, `Board`, `judge`, `final_verdict`, and `endings_of`, for the verdicts of all tests at once.
+//! Stands on: ct_base, ct_alloc, ct_verdict and `indexmap`.
+//! Read first: `specs/History.antt`, `specs/Verdicts.antt`, `specs/Rules.antt`, `specs/Legal.antt`, `specs/Endings.antt`.
 #![tactic(auto)]
 
 mod board;
+mod endings;
 mod history;
 mod legal;
 mod open_starts;
@@ -15,11 +16,9 @@ mod rules;
 mod verdicts;
 
 pub use board::{Base, Board};
+pub use endings::{Ending, Endings, ending_at, endings_of, verdict_by};
 pub use history::{Entry, History};
-pub use legal::{is_stop_due, judge};
-pub use open_starts::{holds_start, is_busy, open_placement};
+pub use legal::judge;
+pub use open_starts::{holds_start, is_busy};
 pub use plan::{Plan, PlanParts, PlanTest, test_at};
-pub use rules::{may_start, may_start_if_placed, settle_cause};
-pub use verdicts::{
-    are_all_final, count_attempts, final_verdict, has_failing, verdict, verdict_of,
-};
+pub use verdicts::{are_all_final, final_verdict, has_failing, verdict, verdict_of};

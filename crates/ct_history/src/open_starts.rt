@@ -45,7 +45,7 @@ fn opened(entry: &Entry, behind: &[Entry]) -> Option<OpenStart>
 }
 
 /// Lends the placement of the start that an entry opens, where no End of it stands behind.
-pub fn open_placement<'a>(entry: &'a Entry, behind: &[Entry]) -> Option<&'a Placement>
+pub(crate) fn open_placement<'a>(entry: &'a Entry, behind: &[Entry]) -> Option<&'a Placement>
     ensures { option_copied result ≡ opened_placement entry.now behind.now }
 {
     match entry {

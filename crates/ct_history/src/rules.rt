@@ -15,7 +15,7 @@ use ct_verdict::{Cause, Verdict};
 ///
 /// Source: CMake manual, cmake-properties(7), DEPENDS, FIXTURES_REQUIRED, PROCESSORS,
 /// RESOURCE_LOCK, RUN_SERIAL; ctest(1), Resource Allocation.
-pub fn may_start(
+pub(crate) fn may_start(
     plan: &PlanParts,
     test: &PlanTest,
     placement: Option<&Placement>,
@@ -27,7 +27,7 @@ pub fn may_start(
 }
 
 /// Tells whether a test may start wherever its needs are met.
-pub fn may_start_if_placed(plan: &PlanParts, test: &PlanTest, entries: &[Entry]) -> bool
+fn may_start_if_placed(plan: &PlanParts, test: &PlanTest, entries: &[Entry]) -> bool
     ensures { result ≡ may_start_if_placed plan.now test.now entries.now }
 {
     !has_stop(entries)
@@ -39,7 +39,7 @@ pub fn may_start_if_placed(plan: &PlanParts, test: &PlanTest, entries: &[Entry])
 /// Gives the cause that a test may be settled with, where there is one.
 ///
 /// Source: CMake manual, cmake-properties(7), FIXTURES_REQUIRED; ctest(1), --stop-on-failure.
-pub fn settle_cause(plan: &PlanParts, test: &PlanTest, entries: &[Entry]) -> Option<Cause>
+pub(crate) fn settle_cause(plan: &PlanParts, test: &PlanTest, entries: &[Entry]) -> Option<Cause>
     ensures { result ≡ settle_cause_in plan.now test.now entries.now }
 {
     if !is_pending(plan, test, entries) {

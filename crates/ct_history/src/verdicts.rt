@@ -60,7 +60,7 @@ pub fn are_all_final(plan: &PlanParts, entries: &[Entry]) -> bool
 }
 
 /// Tells whether a test has a verdict.
-pub fn is_final(repeat: &Repeat, test: &PlanTest, entries: &[Entry]) -> bool
+pub(crate) fn is_final(repeat: &Repeat, test: &PlanTest, entries: &[Entry]) -> bool
     ensures { result ≡ is_final_in repeat.now test.now entries.now }
 {
     verdict(repeat, test, entries).is_some()
@@ -126,7 +126,7 @@ fn is_tried_again(
 }
 
 /// Counts the attempts of a test that have ended, up to the greatest number.
-pub fn count_attempts(test: &PlanTest, entries: &[Entry]) -> u32
+pub(crate) fn count_attempts(test: &PlanTest, entries: &[Entry]) -> u32
     ensures { result ≡
         min (length (attempts_of test.now.number test.now.rules entries.now)) (2 ^ 32 - 1) }
 {
