@@ -1,4 +1,7 @@
 pub mod TreeLemmas
 pub mod SearchLemmas
+pub mod SpotLemmas
+pub mod BuildLemmas
+pub mod HeadLemmas
 pub mod ReadyLemmas
 pub mod CallerLemmas

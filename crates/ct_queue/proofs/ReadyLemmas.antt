@@ -5,10 +5,12 @@ use Rattle.std.specs.Ordering.{nat_cmp, is_eq}
 use Rattle.std.specs.declared.cmp.Ordering.TheVariants.{Less, Equal, Greater}
 use Rattle.std.proofs.lemmas.Bool.{cases_eq, cases_lt, lt-ltb, le-ltb, ltb-true, ne_eqb, and_parts}
 use Rattle.std.proofs.lemmas.List.{length-set, length-map, map-set, get_or_past, get_or-set_other, get_or-replicate, length-replicate, set-get_or}
+use Rattle.std.proofs.lemmas.List.FromFn.{get_or-range_with_len, length-range_with_len}
 use Rattle.std.proofs.lemmas.Grind.{get_or-set_at}
-use Rattle.ct_queue.specs.Ready.{ReadyValue, NamesOnce, StandsIn, place_of, count_at, is_out_at, is_member, none_out, lowered, with_out, IsBehind, NoneBehind, IsLeastBehind}
+use Rattle.ct_queue.specs.Ready.{ReadyValue, NamesOnce, StandsIn, place_of, count_at, is_out_at, is_member, none_out, lowered, with_out, IsBehind, NoneBehind, IsLeastBehind, IsHead, NoHeadBehind, IsLeastHeadBehind}
 use Rattle.ct_queue.specs.Marks.{is_marked, NoneWithin, IsLeastWithin}
-use Rattle.ct_queue.specs.Kept.{AreFound, IsReadySet, waiting, ready_of, standing_at, with_standing}
+use Rattle.ct_queue.specs.Lines.{AreNumbered, LinesValue, own_lines, IsHeadIn, IsLeastHeadFrom, NoHeadFrom, with_member}
+use Rattle.ct_queue.specs.Kept.{AreFound, AreMarkedAtZero, IsReadySet, waiting, ready_of, standing_at, with_standing}
 use Rattle.ct_queue.specs.declared.ready.Standing.{Standing}
 use Rattle.ct_queue.proofs.CallerLemmas.{test_at_place}
 
@@ -18,9 +20,9 @@ count_in s = s.count
 abbrev out_in : Standing → Bool
 out_in s = s.is_out
 
--- tests in an order, with their counts and with which of them are out
-abbrev tests_of : List ℕ → List ℕ → List Bool → ReadyValue
-tests_of order counts outs = record { order = order; counts = counts; outs = outs }
+-- tests in an order, with their counts, with which of them are out, and in lines
+abbrev tests_of : List ℕ → List ℕ → List Bool → List ℕ → ReadyValue
+tests_of order counts outs lines = record { order = order; counts = counts; outs = outs; lines = lines }
 
 -- a test is found by its number
 pub found_at : (places : tree.BTreeMap ℕ ℕ) (order : List ℕ) (test : ℕ) → AreFound places order → StandsIn order test → tree.get nat_cmp places test ≡ Some (place_of order test)
@@ -50,56 +52,58 @@ same_member here there count other is was e f g =
     ap (λ (b : Bool). b && eqb count 0 && not is) e ∙ ap (λ (n : ℕ). there && eqb n 0 && not is) f ∙ ap (λ (b : Bool). there && eqb other 0 && not b) g
 
 -- the test at a place stands so from now on, and is marked if it is a member
-module _ (order : List ℕ) (places : tree.BTreeMap ℕ ℕ) (standings : List Standing) (marks : List Bool) (place : ℕ) (s : Standing) (mark : Bool) (kept : IsReadySet order places standings marks) (within : place < length order) (is : mark ≡ (eqb s.count 0 && not s.is_out)) where
-  marked_here : (q : ℕ) → q ≡ place → is_marked (set marks place mark) q ≡ is_member (ready_of order (set standings place s)) q
-  marked_here q same =
-      let room : place < length marks = omega (arith, kept.room) in
+module _ (order : List ℕ) (places : tree.BTreeMap ℕ ℕ) (standings : List Standing) (marks : List Bool) (lines : LinesValue) (place : ℕ) (s : Standing) (mark : Bool) (kept : IsReadySet order places standings marks lines) (within : place < length order) (is : mark ≡ (eqb s.count 0 && not s.is_out)) where
+  marked_here : (ms : List Bool) → place < length ms → (q : ℕ) → q ≡ place → is_marked (set ms place mark) q ≡ is_member (ready_of order (set standings place s) lines.lines) q
+  marked_here ms room q same =
       let counts : place < length (map count_in standings) = omega (arith, length-map standings count_in, kept.stand) in
       let outs : place < length (map out_in standings) = omega (arith, length-map standings out_in, kept.stand) in
       let inner : q < length order = omega arith in
-      get_or-set_at marks place q mark false same room ∙ is
+      get_or-set_at ms place q mark false same room ∙ is
       ∙ sym (same_member (ltb q (length order)) true (get_or (map count_in (set standings place s)) q 0) s.count (get_or (map out_in (set standings place s)) q false) s.is_out
       (lt-ltb q (length order) inner)
       (ap (λ (l : List ℕ). get_or l q 0) (map-set count_in standings place s) ∙ get_or-set_at (map count_in standings) place q s.count 0 same counts)
       (ap (λ (l : List Bool). get_or l q false) (map-set out_in standings place s) ∙ get_or-set_at (map out_in standings) place q s.is_out false same outs))
 
-  marked_there : (q : ℕ) → (q ≡ place → ⊥) → is_marked (set marks place mark) q ≡ is_member (ready_of order (set standings place s)) q
-  marked_there q other =
-      get_or-set_other marks place q mark false other ∙ kept.marked q
+  marked_there : (ms : List Bool) → ((q : ℕ) → is_marked ms q ≡ is_member (ready_of order standings lines.lines) q) → (q : ℕ) → (q ≡ place → ⊥) → is_marked (set ms place mark) q ≡ is_member (ready_of order (set standings place s) lines.lines) q
+  marked_there ms marked q other =
+      get_or-set_other ms place q mark false other ∙ marked q
       ∙ sym (same_member (ltb q (length order)) (ltb q (length order)) (get_or (map count_in (set standings place s)) q 0) (get_or (map count_in standings) q 0) (get_or (map out_in (set standings place s)) q false) (get_or (map out_in standings) q false)
       refl
       (ap (λ (l : List ℕ). get_or l q 0) (map-set count_in standings place s) ∙ get_or-set_other (map count_in standings) place q s.count 0 other)
       (ap (λ (l : List Bool). get_or l q false) (map-set out_in standings place s) ∙ get_or-set_other (map out_in standings) place q s.is_out false other))
 
-  pub kept_set : IsReadySet order places (set standings place s) (set marks place mark)
+  pub kept_set : IsReadySet order places (set standings place s) (set marks place mark) (with_member lines place mark)
   kept_set = record {
     few = kept.few;
     found = kept.found;
     stand = length-set standings place s ∙ kept.stand;
     room = subst (λ (n : ℕ). length order ≤ n) (sym (length-set marks place mark)) kept.room;
-    marked = λ q. ⊎_elim (marked_here q) (marked_there q) (cases_eq q place);
+    marked = λ q. ⊎_elim (marked_here marks (omega (arith, kept.room)) q) (marked_there marks kept.marked q) (cases_eq q place);
+    lined = kept.lined;
+    seated = length-set lines.members place mark ∙ kept.seated;
+    in_lines = λ q. ⊎_elim (marked_here lines.members (omega (arith, kept.seated)) q) (marked_there lines.members kept.in_lines q) (cases_eq q place);
   }
 
-pub ready_set : (order : List ℕ) (standings : List Standing) (place : ℕ) (s : Standing) → ready_of order (set standings place s) ≡ with_standing (ready_of order standings) place s
-ready_set order standings place s =
-    ap (λ (cs : List ℕ). tests_of order cs (map out_in (set standings place s))) (map-set count_in standings place s)
-    ∙ ap (λ (os : List Bool). tests_of order (set (map count_in standings) place s.count) os) (map-set out_in standings place s)
+pub ready_set : (order : List ℕ) (standings : List Standing) (lines : List ℕ) (place : ℕ) (s : Standing) → ready_of order (set standings place s) lines ≡ with_standing (ready_of order standings lines) place s
+ready_set order standings lines place s =
+    ap (λ (cs : List ℕ). tests_of order cs (map out_in (set standings place s)) lines) (map-set count_in standings place s)
+    ∙ ap (λ (os : List Bool). tests_of order (set (map count_in standings) place s.count) os lines) (map-set out_in standings place s)
 
 pub lowered_by : (old new : ReadyValue) (test place : ℕ) (s t : Standing) → place ≡ place_of old.order test → s ≡ standing_at old place → t.count ≡ s.count - 1 → t.is_out ≡ s.is_out → new ≡ with_standing old place t → new ≡ lowered old test
 lowered_by old new test place s t here is count out now =
     now
-    ∙ ap (λ (n : ℕ). tests_of old.order (set old.counts place n) (set old.outs place t.is_out)) (count ∙ ap (λ (n : ℕ). n - 1) (ap count_in is))
-    ∙ ap (λ (b : Bool). tests_of old.order (set old.counts place (count_at old place - 1)) (set old.outs place b)) (out ∙ ap out_in is)
-    ∙ ap (λ (os : List Bool). tests_of old.order (set old.counts place (count_at old place - 1)) os) (set-get_or old.outs place false)
-    ∙ ap (λ (p : ℕ). tests_of old.order (set old.counts p (count_at old p - 1)) old.outs) here
+    ∙ ap (λ (n : ℕ). tests_of old.order (set old.counts place n) (set old.outs place t.is_out) old.lines) (count ∙ ap (λ (n : ℕ). n - 1) (ap count_in is))
+    ∙ ap (λ (b : Bool). tests_of old.order (set old.counts place (count_at old place - 1)) (set old.outs place b) old.lines) (out ∙ ap out_in is)
+    ∙ ap (λ (os : List Bool). tests_of old.order (set old.counts place (count_at old place - 1)) os old.lines) (set-get_or old.outs place false)
+    ∙ ap (λ (p : ℕ). tests_of old.order (set old.counts p (count_at old p - 1)) old.outs old.lines) here
 
 pub with_out_by : (old new : ReadyValue) (test place : ℕ) (s t : Standing) (b : Bool) → place ≡ place_of old.order test → s ≡ standing_at old place → t.count ≡ s.count → t.is_out ≡ b → new ≡ with_standing old place t → new ≡ with_out old test b
 with_out_by old new test place s t b here is count out now =
     now
-    ∙ ap (λ (n : ℕ). tests_of old.order (set old.counts place n) (set old.outs place t.is_out)) (count ∙ ap count_in is)
-    ∙ ap (λ (cs : List ℕ). tests_of old.order cs (set old.outs place t.is_out)) (set-get_or old.counts place 0)
-    ∙ ap (λ (o : Bool). tests_of old.order old.counts (set old.outs place o)) out
-    ∙ ap (λ (p : ℕ). tests_of old.order old.counts (set old.outs p b)) here
+    ∙ ap (λ (n : ℕ). tests_of old.order (set old.counts place n) (set old.outs place t.is_out) old.lines) (count ∙ ap count_in is)
+    ∙ ap (λ (cs : List ℕ). tests_of old.order cs (set old.outs place t.is_out) old.lines) (set-get_or old.counts place 0)
+    ∙ ap (λ (o : Bool). tests_of old.order old.counts (set old.outs place o) old.lines) out
+    ∙ ap (λ (p : ℕ). tests_of old.order old.counts (set old.outs p b) old.lines) here
 
 counts_waiting : (counts : List ℕ) → map count_in (map waiting counts) ≡ counts
 counts_waiting [] = refl
@@ -109,10 +113,10 @@ outs_waiting : (counts : List ℕ) → map out_in (map waiting counts) ≡ repli
 outs_waiting [] = refl
 outs_waiting (n ∷ counts) = ap (λ (bs : List Bool). false ∷ bs) (outs_waiting counts)
 
-pub ready_new : (order counts : List ℕ) → length counts ≡ length order → ready_of order (map waiting counts) ≡ none_out order counts
-ready_new order counts one =
-    ap (λ (cs : List ℕ). tests_of order cs (map out_in (map waiting counts))) (counts_waiting counts)
-    ∙ ap (λ (os : List Bool). tests_of order counts os) (outs_waiting counts ∙ ap (λ (n : ℕ). replicate n false) one)
+pub ready_new : (order counts lines : List ℕ) → length counts ≡ length order → ready_of order (map waiting counts) lines ≡ none_out order counts lines
+ready_new order counts lines one =
+    ap (λ (cs : List ℕ). tests_of order cs (map out_in (map waiting counts)) lines) (counts_waiting counts)
+    ∙ ap (λ (os : List Bool). tests_of order counts os lines) (outs_waiting counts ∙ ap (λ (n : ℕ). replicate n false) one)
 
 get_or_replicate : (n k : ℕ) → get_or (replicate n false) k false ≡ false
 get_or_replicate n k =
@@ -121,24 +125,38 @@ get_or_replicate n k =
     (λ (beyond : n ≤ k). get_or_past (replicate n false) k false (subst (λ (len : ℕ). len ≤ k) (sym (length-replicate n false)) beyond))
     (cases_lt k n)
 
-pub kept_new : (order counts : List ℕ) (places : tree.BTreeMap ℕ ℕ) (marks : List Bool) → length order < 2 ^ 32 - 1 → AreFound places order → length counts ≡ length order → length counts ≤ length marks → ((place : ℕ) → is_marked marks place ≡ (ltb place (length counts) && eqb (get_or counts place 0) 0)) → IsReadySet order places (map waiting counts) marks
-kept_new order counts places marks few found one room marked = record {
-  few = few;
-  found = found;
-  stand = length-map counts waiting ∙ one;
-  room = subst (λ (n : ℕ). n ≤ length marks) one room;
-  marked = λ q.
-      let out : get_or (map out_in (map waiting counts)) q false ≡ false = ap (λ (l : List Bool). get_or l q false) (outs_waiting counts) ∙ get_or_replicate (length counts) q in
-      marked q ∙ and_true (ltb q (length counts) && eqb (get_or counts q 0) 0)
-      ∙ sym (same_member (ltb q (length order)) (ltb q (length counts)) (get_or (map count_in (map waiting counts)) q 0) (get_or counts q 0) (get_or (map out_in (map waiting counts)) q false) false
-      (ap (λ (n : ℕ). ltb q n) (sym one))
-      (ap (λ (l : List ℕ). get_or l q 0) (counts_waiting counts))
-      out);
-}
+-- marks at the tests whose count is 0 stand at the members, as long as none is out
+marked_new : (order counts lines : List ℕ) (marks : List Bool) → length counts ≡ length order → AreMarkedAtZero counts marks → (place : ℕ) → is_marked marks place ≡ is_member (ready_of order (map waiting counts) lines) place
+marked_new order counts lines marks one marked q =
+    let out : get_or (map out_in (map waiting counts)) q false ≡ false = ap (λ (l : List Bool). get_or l q false) (outs_waiting counts) ∙ get_or_replicate (length counts) q in
+    marked q ∙ and_true (ltb q (length counts) && eqb (get_or counts q 0) 0)
+    ∙ sym (same_member (ltb q (length order)) (ltb q (length counts)) (get_or (map count_in (map waiting counts)) q 0) (get_or counts q 0) (get_or (map out_in (map waiting counts)) q false) false
+    (ap (λ (n : ℕ). ltb q n) (sym one))
+    (ap (λ (l : List ℕ). get_or l q 0) (counts_waiting counts))
+    out)
   where
     and_true : (b : Bool) → b ≡ (b && true)
     and_true true = refl
     and_true false = refl
+
+pub kept_new : (order counts : List ℕ) (places : tree.BTreeMap ℕ ℕ) (marks : List Bool) (lines : LinesValue) → length order < 2 ^ 32 - 1 → AreFound places order → length counts ≡ length order → length counts ≤ length marks → AreMarkedAtZero counts marks → length lines.lines ≡ length order → length lines.members ≡ length order → AreMarkedAtZero counts lines.members → IsReadySet order places (map waiting counts) marks lines
+kept_new order counts places marks lines few found one room marked lined seated in_lines = record {
+  few = few;
+  found = found;
+  stand = length-map counts waiting ∙ one;
+  room = subst (λ (n : ℕ). n ≤ length marks) one room;
+  marked = marked_new order counts lines.lines marks one marked;
+  lined = lined;
+  seated = seated;
+  in_lines = marked_new order counts lines.lines lines.members one in_lines;
+}
+
+-- places that are each a line of its own have numbers below their number
+pub own_numbered : (places : ℕ) → AreNumbered (own_lines places)
+own_numbered places place within =
+    let long = length-range_with_len 0 places in
+    let reads = get_or-range_with_len 0 places place 0 (omega arith) in
+    omega arith
 
 -- a member's place is one of the order
 pub member_within : (ready : ReadyValue) (place : ℕ) → is_member ready place ≡ true → place < length ready.order
@@ -147,13 +165,13 @@ member_within ready place is =
     let second = and_parts (ltb place (length ready.order)) (eqb (count_at ready place) 0) first.0 in
     ltb-true place (length ready.order) second.0
 
-module _ (order : List ℕ) (places : tree.BTreeMap ℕ ℕ) (standings : List Standing) (marks : List Bool) (kept : IsReadySet order places standings marks) (given : Option ℕ) (from : ℕ) where
-  pub none_behind : ((place : ℕ) → IsBehind given place → from ≤ place) → NoneWithin marks from 0 (length marks) → NoneBehind (ready_of order standings) given
+module _ (order : List ℕ) (places : tree.BTreeMap ℕ ℕ) (standings : List Standing) (marks : List Bool) (lines : LinesValue) (kept : IsReadySet order places standings marks lines) (given : Option ℕ) (from : ℕ) where
+  pub none_behind : ((place : ℕ) → IsBehind given place → from ≤ place) → NoneWithin marks from 0 (length marks) → NoneBehind (ready_of order standings lines.lines) given
   none_behind reaches none place behind =
       sym (kept.marked place)
       ∙ ⊎_elim (λ (inner : place < length marks). none place (reaches place behind) (omega arith) inner) (λ beyond. get_or_past marks place false beyond) (cases_lt place (length marks))
 
-  pub least_behind : (found : ℕ) → ((place : ℕ) → IsBehind given place → from ≤ place) → ((place : ℕ) → from ≤ place → IsBehind given place) → IsLeastWithin marks from 0 (length marks) found → IsLeastBehind (ready_of order standings) given found
+  pub least_behind : (found : ℕ) → ((place : ℕ) → IsBehind given place → from ≤ place) → ((place : ℕ) → from ≤ place → IsBehind given place) → IsLeastWithin marks from 0 (length marks) found → IsLeastBehind (ready_of order standings lines.lines) given found
   least_behind found reaches begins least = record {
     behind = begins found least.from_there;
     member = sym (kept.marked found) ∙ least.marked;
@@ -163,7 +181,36 @@ module _ (order : List ℕ) (places : tree.BTreeMap ℕ ℕ) (standings : List S
   pub found_fits : (found : ℕ) → IsLeastWithin marks from 0 (length marks) found → found < 2 ^ 32
   found_fits found least =
       let few = kept.few in
-      let within = member_within (ready_of order standings) found (sym (kept.marked found) ∙ least.marked) in
+      let within = member_within (ready_of order standings lines.lines) found (sym (kept.marked found) ∙ least.marked) in
+      omega arith
+
+  -- a head of the tests is a head of their lines, and the other way round
+  head_here : (place : ℕ) → IsHeadIn lines place → IsHead (ready_of order standings lines.lines) place
+  head_here place head = record {
+    member = sym (kept.in_lines place) ∙ head.member;
+    first = λ other before same. sym (kept.in_lines other) ∙ head.first other before same;
+  }
+
+  head_there : (place : ℕ) → IsHead (ready_of order standings lines.lines) place → IsHeadIn lines place
+  head_there place head = record {
+    member = kept.in_lines place ∙ head.member;
+    first = λ other before same. kept.in_lines other ∙ head.first other before same;
+  }
+
+  pub no_head_behind : ((place : ℕ) → IsBehind given place → from ≤ place) → NoHeadFrom lines from → NoHeadBehind (ready_of order standings lines.lines) given
+  no_head_behind reaches none place behind head = none place (reaches place behind) (head_there place head)
+
+  pub least_head_behind : (found : ℕ) → ((place : ℕ) → IsBehind given place → from ≤ place) → ((place : ℕ) → from ≤ place → IsBehind given place) → IsLeastHeadFrom lines from found → IsLeastHeadBehind (ready_of order standings lines.lines) given found
+  least_head_behind found reaches begins least = record {
+    behind = begins found least.from_there;
+    head = head_here found least.head;
+    least = λ place behind before head. least.least place (reaches place behind) before (head_there place head);
+  }
+
+  pub head_fits : (found : ℕ) → IsLeastHeadFrom lines from found → found < 2 ^ 32
+  head_fits found least =
+      let few = kept.few in
+      let within = member_within (ready_of order standings lines.lines) found (sym (kept.in_lines found) ∙ least.head.member) in
       omega arith
 
 -- the marks say of the places up to one which of them have the count 0

@@ -1,9 +1,11 @@
--- What a set of ready tests keeps beside its tests: the place of each test by its number, and marks at its members.
+-- What a set of ready tests keeps beside its tests: the place of each test by its number, marks at its
+-- members, and their lines.
 use Rattle.std.specs.Prelude.{◌≡◌, ℕ, ◌-◌, ◌<◌, ◌≤◌, ◌^◌, Bool, false, ◌&&◌, ◌==◌, nat_lt, List, length, map, slice_index, slice_set, Some}
 use Rattle.std.specs.BTreeMap as tree
 use Rattle.std.specs.Ordering.{nat_cmp}
 use Rattle.ct_queue.specs.Ready.{ReadyValue, count_at, is_out_at, is_member}
 use Rattle.ct_queue.specs.Marks.{is_marked}
+use Rattle.ct_queue.specs.Lines.{LinesValue}
 use Rattle.ct_queue.specs.declared.ready.Standing.{Standing}
 
 -- each test of the order is found by its number
@@ -14,10 +16,10 @@ AreFound places order = (place : ℕ) → place < length order → tree.get nat_
 abbrev pub AreMarkedAtZero : List ℕ → List Bool → Type 0
 AreMarkedAtZero counts marks = (place : ℕ) → is_marked marks place ≡ (nat_lt place (length counts) && (slice_index counts place == 0))
 
--- the tests of an order, as these standings say
-abbrev pub ready_of : List ℕ → List Standing → ReadyValue
-ready_of order standings =
-    record { order = order; counts = map (λ (s : Standing). s.count) standings; outs = map (λ (s : Standing). s.is_out) standings }
+-- the tests of an order in lines, as these standings say
+abbrev pub ready_of : List ℕ → List Standing → List ℕ → ReadyValue
+ready_of order standings lines =
+    record { order = order; counts = map (λ (s : Standing). s.count) standings; outs = map (λ (s : Standing). s.is_out) standings; lines = lines }
 
 -- a test with this count, which is not out
 abbrev pub waiting : ℕ → Standing
@@ -29,12 +31,16 @@ standing_at ready place = record { count = count_at ready place; is_out = is_out
 
 -- the same but for the test at a place, which stands so
 abbrev pub with_standing : ReadyValue → ℕ → Standing → ReadyValue
-with_standing ready place s = record { order = ready.order; counts = slice_set ready.counts place s.count; outs = slice_set ready.outs place s.is_out }
+with_standing ready place s =
+    record { order = ready.order; counts = slice_set ready.counts place s.count; outs = slice_set ready.outs place s.is_out; lines = ready.lines }
 
--- what holds of each set of ready tests: all tests are found, and those marked are its members
-pub record IsReadySet (order : List ℕ) (places : tree.BTreeMap ℕ ℕ) (standings : List Standing) (marks : List Bool) : Type 0 where
+-- what holds of each set of ready tests: all tests are found, and those marked are its members, in their lines too
+pub record IsReadySet (order : List ℕ) (places : tree.BTreeMap ℕ ℕ) (standings : List Standing) (marks : List Bool) (lines : LinesValue) : Type 0 where
   pub few : length order < 2 ^ 32 - 1
   pub found : AreFound places order
   pub stand : length standings ≡ length order
   pub room : length order ≤ length marks
-  pub marked : (place : ℕ) → is_marked marks place ≡ is_member (ready_of order standings) place
+  pub marked : (place : ℕ) → is_marked marks place ≡ is_member (ready_of order standings lines.lines) place
+  pub lined : length lines.lines ≡ length order
+  pub seated : length lines.members ≡ length order
+  pub in_lines : (place : ℕ) → is_marked lines.members place ≡ is_member (ready_of order standings lines.lines) place

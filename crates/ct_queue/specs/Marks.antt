@@ -1,10 +1,15 @@
 -- Marks on places, and the binary tree that finds the least of them. This project's own.
-use Rattle.std.specs.Prelude.{◌≡◌, ℕ, ◌+◌, ◌*◌, ◌/◌, ◌<◌, ◌≤◌, Bool, true, false, ◌||◌, List, length, drop, slice_index_or, Option, MatchOption}
+use Rattle.std.specs.Prelude.{◌≡◌, ℕ, ◌+◌, ◌*◌, ◌/◌, ◌<◌, ◌≤◌, Bool, true, false, ◌||◌, List, length, drop, slice_index_or, slice_set, Option, Some, None, MatchOption}
 use Rattle.std.specs.Int.{IsPowerOfTwo}
 
 -- the place is marked
 abbrev pub is_marked : List Bool → ℕ → Bool
 is_marked marks place = slice_index_or marks place false
+
+-- the same but for the mark of a place, if one is given
+abbrev pub with_mark : List Bool → Option ℕ → Bool → List Bool
+with_mark marks None mark = marks
+with_mark marks (Some place) mark = slice_set marks place mark
 
 -- no place from one on is marked, among those from `low` on and before `end`
 abbrev pub NoneWithin : List Bool → ℕ → ℕ → ℕ → Type 0

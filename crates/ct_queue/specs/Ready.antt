@@ -2,12 +2,15 @@
 -- Source: CMake manual, ctest(1), -j; cmake-properties(7), COST. The set of ready tests is this project's own.
 use Rattle.std.specs.Prelude.{◌≡◌, ◌≢◌, ℕ, ◌-◌, ◌<◌, ⊤, Bool, true, false, not, ◌&&◌, ◌==◌, List, length, replicate, slice_set, slice_index_or, AllPairs, Option, Some, None, nat_lt}
 use Rattle.std.specs.List.{position_or_len}
+use Rattle.ct_queue.specs.Lines.{IsHeadOf}
 
--- tests in an order and, by the place of a test there, how many of its predecessors are open, and whether it is out
+-- tests in an order and, by the place of a test there, how many of its predecessors are open, whether it is out, and
+-- the line that it stands in
 pub record ReadyValue : Type 0 where
   pub order : List ℕ
   pub counts : List ℕ
   pub outs : List Bool
+  pub lines : List ℕ
 
 -- the order names each test once
 abbrev pub NamesOnce : List ℕ → Type 0
@@ -45,18 +48,19 @@ is_out ready test = is_out_at ready (place_of ready.order test)
 abbrev pub is_ready : ReadyValue → ℕ → Bool
 is_ready ready test = is_member ready (place_of ready.order test)
 
--- the tests in this order with these counts, and none of them is out
-abbrev pub none_out : List ℕ → List ℕ → ReadyValue
-none_out order counts = record { order = order; counts = counts; outs = replicate (length order) false }
+-- the tests in this order with these counts and in these lines, and none of them is out
+abbrev pub none_out : List ℕ → List ℕ → List ℕ → ReadyValue
+none_out order counts lines = record { order = order; counts = counts; outs = replicate (length order) false; lines = lines }
 
 -- the same but for one predecessor of a test, which is open no longer
 abbrev pub lowered : ReadyValue → ℕ → ReadyValue
 lowered ready test =
-    record { order = ready.order; counts = slice_set ready.counts (place_of ready.order test) (count_of ready test - 1); outs = ready.outs }
+    record { order = ready.order; counts = slice_set ready.counts (place_of ready.order test) (count_of ready test - 1); outs = ready.outs; lines = ready.lines }
 
 -- the same but for whether one test is out
 abbrev pub with_out : ReadyValue → ℕ → Bool → ReadyValue
-with_out ready test is = record { order = ready.order; counts = ready.counts; outs = slice_set ready.outs (place_of ready.order test) is }
+with_out ready test is =
+    record { order = ready.order; counts = ready.counts; outs = slice_set ready.outs (place_of ready.order test) is; lines = ready.lines }
 
 -- the place stands behind a given one; where none is given, each place does
 abbrev pub IsBehind : Option ℕ → ℕ → Type 0
@@ -72,3 +76,17 @@ pub record IsLeastBehind (ready : ReadyValue) (given : Option ℕ) (found : ℕ)
   pub behind : IsBehind given found
   pub member : is_member ready found ≡ true
   pub least : (place : ℕ) → IsBehind given place → place < found → is_member ready place ≡ false
+
+-- a head stands at the place: a member, and no member of its line stands before it
+abbrev pub IsHead : ReadyValue → ℕ → Type 0
+IsHead ready place = IsHeadOf ready.lines (is_member ready) place
+
+-- no head stands behind the given place
+abbrev pub NoHeadBehind : ReadyValue → Option ℕ → Type 0
+NoHeadBehind ready given = (place : ℕ) → IsBehind given place → IsHead ready place → ⊥
+
+-- the least place behind a given one at which a head stands
+pub record IsLeastHeadBehind (ready : ReadyValue) (given : Option ℕ) (found : ℕ) : Type 0 where
+  pub behind : IsBehind given found
+  pub head : IsHead ready found
+  pub least : (place : ℕ) → IsBehind given place → place < found → IsHead ready place → ⊥

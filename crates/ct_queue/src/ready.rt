@@ -1,7 +1,9 @@
 ghost use Rattle.std.specs.Prelude.{◌≡◌, ℕ, ◌-◌, ◌<◌, ◌≤◌, ◌^◌, ◌&&◌, ◌==◌, not, true, false, IfOk, MatchOption, length, map, slice_index, nat_lt};
-ghost use Rattle.ct_queue.specs.Ready.{IsBehind, IsLeastBehind, NamesOnce, NoneBehind, StandsIn, count_of, is_out, is_ready, lowered, none_out, place_of, with_out};
+ghost use Rattle.ct_queue.specs.Ready.{IsBehind, IsLeastBehind, IsLeastHeadBehind, NamesOnce, NoHeadBehind, NoneBehind, StandsIn, count_of, is_out, is_ready, lowered, none_out, place_of, with_out};
+ghost use Rattle.ct_queue.specs.Lines.{AreNumbered, own_lines};
 ghost use Rattle.ct_queue.specs.Kept.{AreFound, AreMarkedAtZero, waiting, standing_at, with_standing};
 
+use crate::lines::Lines;
 use crate::marks::Marks;
 use ct_base::{List, NoMemory};
 use std::alloc::Global;
@@ -27,8 +29,8 @@ impl Standing {
 
 /// The tests of a run in the order of their cost, with those of them that are ready.
 ///
-/// Its members are the tests that have no open predecessor and are not out. Each call but `new` takes no
-/// memory, and costs at most a logarithm of the number of tests.
+/// Its members are the tests that have no open predecessor and are not out. Each call but `new` and `in_lines` takes
+/// no memory, and costs at most a few logarithms of the number of tests.
 /// Source: CMake manual, ctest(1), -j, and cmake-properties(7), COST. The set is this project's own.
 #[derive(Drop)]
 pub struct Ready {
@@ -36,6 +38,7 @@ pub struct Ready {
     places: BTreeMap<u32, u32>,
     standings: Vec<Standing>,
     marks: Marks,
+    lines: Lines,
 }
 
 impl Model for Ready {
@@ -45,25 +48,45 @@ impl Model for Ready {
 
     ghost use Rattle.ct_queue.specs.Kept.{IsReadySet, ready_of};
 
-    ghost view = { λ r. ready_of r.order.value r.standings.items };
+    ghost view = { λ r. ready_of r.order.value r.standings.items r.lines.lines };
 
-    ghost invariant = { λ r. IsReadySet r.order.value r.places r.standings.items r.marks };
+    ghost invariant = { λ r. IsReadySet r.order.value r.places r.standings.items r.marks r.lines };
 }
 
 impl Ready {
     /// Takes the tests in their order, with how many predecessors of each are open, at the place of the test.
-    /// None of them is out.
+    /// None of them is out, and each is a line of its own.
     pub fn new(alloc: Global, order: &List<u32>, counts: &List<u32>) -> Result<Ready, NoMemory>
         requires few { length order.now < 2 ^ 32 - 1 }
         requires once { NamesOnce order.now }
         requires counted { length counts.now ≡ length order.now }
-        ensures { IfOk result (λ ready. ready ≡ none_out order.now counts.now) }
+        ensures { IfOk result (λ ready. ready ≡ none_out order.now counts.now (own_lines (length order.now))) }
+    {
+        let lines = own_lines(alloc, order.len() as u32)?;
+        Ready::in_lines(alloc, order, counts, &lines)
+    }
+
+    /// Takes the tests in their order, with how many predecessors of each are open and the line that it stands in, at
+    /// the place of the test. None of them is out.
+    pub fn in_lines(
+        alloc: Global,
+        order: &List<u32>,
+        counts: &List<u32>,
+        lines: &List<u32>,
+    ) -> Result<Ready, NoMemory>
+        requires few { length order.now < 2 ^ 32 - 1 }
+        requires once { NamesOnce order.now }
+        requires counted { length counts.now ≡ length order.now }
+        requires lined { length lines.now ≡ length order.now }
+        requires numbered { AreNumbered lines.now }
+        ensures { IfOk result (λ ready. ready ≡ none_out order.now counts.now lines.now) }
     {
         Ok(Ready {
             order: Snapshot::of(order),
             places: places(alloc, order.as_slice())?,
             standings: standings(alloc, counts.as_slice())?,
             marks: marks(alloc, counts.as_slice())?,
+            lines: lines_at_zero(alloc, lines.as_slice(), counts.as_slice())?,
         })
     }
 
@@ -123,6 +146,18 @@ impl Ready {
         }
     }
 
+    /// Finds the least place behind a given one, or from the front, at which a head stands: a member with no member
+    /// of its line before it.
+    pub fn head_after(&self, place: Option<u32>) -> Option<u32>
+        ensures { MatchOption result (NoHeadBehind self.now place) (IsLeastHeadBehind self.now place) }
+    {
+        let from = first_behind(place);
+        match self.lines.first_head_from(from) {
+            Some(head) => Some(head as u32),
+            None => None,
+        }
+    }
+
     /// Finds the place of a test in the order.
     fn place(&self, test: u32) -> usize
         requires { StandsIn self.now.order test }
@@ -148,8 +183,18 @@ impl Ready {
         ensures { self.new ≡ with_standing self.old place standing }
     {
         self.standings[place] = standing;
-        self.marks.set(place, standing.is_ready());
+        let member = standing.is_ready();
+        self.marks.set(place, member);
+        self.lines.set(place, member);
     }
+}
+
+/// Lists so many places, each in a line of its own.
+fn own_lines(alloc: Global, places: u32) -> Result<List<u32>, NoMemory>
+    ensures { IfOk result (λ lines. lines ≡ own_lines places) }
+{
+    let lines = (0..places).collect(alloc)?;
+    Ok(List::from_vec(lines))
 }
 
 /// Gives the first place behind a given one, or the first of all.
@@ -200,6 +245,22 @@ fn marks(alloc: Global, counts: &[u32]) -> Result<Marks, NoMemory>
     Ok(marks)
 }
 
+/// Takes the lines of tests that have these counts, and has a member stand where the count is 0.
+fn lines_at_zero(alloc: Global, lines: &[u32], counts: &[u32]) -> Result<Lines, NoMemory>
+    requires few { length lines.now < 2 ^ 32 - 1 }
+    requires numbered { AreNumbered lines.now }
+    requires counted { length counts.now ≡ length lines.now }
+    ensures lines { IfOk result (λ value. value.lines ≡ lines.now) }
+    ensures room { IfOk result (λ value. length value.members ≡ length lines.now) }
+    ensures marked { IfOk result (λ value. AreMarkedAtZero counts.now value.members) }
+{
+    let mut members = Lines::new(alloc, lines)?;
+    for (place, count) in counts.iter().enumerate() {
+        members.set(place, *count == 0);
+    }
+    Ok(members)
+}
+
 #[cfg(test)]
 mod tests {
     use super::*;
@@ -228,6 +289,43 @@ mod tests {
         assert_eq!(rt;
             [ready.after(Some(1)), ready.after(Some(u32::MAX))],
             [None, None]
+        );
+        Ok(())
+    }
+
+    #[test]
+    fn finds_the_first_ready_test_of_each_line(rt: HostRuntime) -> Result<(), Fail> {
+        let alloc = rt.alloc();
+        let order = List::from_vec([4, 3, 2, 1].to_vec(alloc)?);
+        let counts = List::from_vec([0, 0, 0, 0].to_vec(alloc)?);
+        let lines = List::from_vec([0, 1, 0, 1].to_vec(alloc)?);
+        let mut ready = Ready::in_lines(alloc, &order, &counts, &lines)?;
+        assert_eq!(rt;
+            [
+                ready.head_after(None),
+                ready.head_after(Some(0)),
+                ready.head_after(Some(1))
+            ],
+            [Some(0), Some(1), None]
+        );
+        ready.out(4);
+        assert_eq!(rt;
+            [
+                ready.head_after(None),
+                ready.head_after(Some(1)),
+                ready.head_after(Some(2))
+            ],
+            [Some(1), Some(2), None]
+        );
+        ready.out(3);
+        ready.back(4);
+        assert_eq!(rt;
+            [
+                ready.head_after(None),
+                ready.head_after(Some(0)),
+                ready.head_after(Some(3))
+            ],
+            [Some(0), Some(3), None]
         );
         Ok(())
     }
