@@ -16,6 +16,7 @@ use Rattle.ct_history.specs.Rules.{cause_behind, is_pending, is_passed_verdict}
 use Rattle.ct_queue.specs.Ready.{StandsIn, count_of, none_out, place_of}
 use Rattle.ct_queue.specs.Marks.{is_marked}
 use Rattle.ct_queue.proofs.CallerLemmas.{test_at_place}
+use Rattle.ct_core.specs.Lines.{AreLinesOf}
 use Rattle.ct_core.specs.Standing.{open_before}
 use Rattle.ct_core.specs.Waiting.{AreSettleable, IsQueued, cause_then, is_pending_at, open_before_at, settles_but}
 use Rattle.ct_core.specs.Begin.{count_before, first_counts, settles_first}
@@ -84,14 +85,14 @@ settles_at_first plan t linked =
     by_parts false false c f same = refl
 
 module _ (plan : PlanParts) (sound : IsSound plan) where
-  count_first : (n : ℕ) → StandsIn plan.queue n → count_of (none_out plan.queue (first_counts plan)) n ≡ count_before (test_at plan.tests n)
-  count_first n stands =
+  count_first : (lines : List ℕ) (n : ℕ) → StandsIn plan.queue n → count_of (none_out plan.queue (first_counts plan) lines) n ≡ count_before (test_at plan.tests n)
+  count_first lines n stands =
       get_or-map (λ (k : ℕ). count_before (test_at plan.tests k)) plan.queue (place_of plan.queue n) 0 0 stands
       ∙ ap (λ (k : ℕ). count_before (test_at plan.tests k)) (test_at_place plan.queue n stands)
 
   -- the tests of the queue begin with as many predecessors as they have, and none of them is out
-  pub begins_queued : IsQueued plan [] [] (none_out plan.queue (first_counts plan))
-  begins_queued = record {
+  pub begins_queued : (lines : List ℕ) → AreLinesOf plan lines → IsQueued plan [] [] (none_out plan.queue (first_counts plan) lines)
+  begins_queued lines are = record {
     order = refl;
     counted = length-map plan.queue (λ (k : ℕ). count_before (test_at plan.tests k));
     said = length-replicate (length plan.queue) false;
@@ -100,13 +101,14 @@ module _ (plan : PlanParts) (sound : IsSound plan) where
         let t = at.test in
         let linked = all_found (has_sound_links plan.tests) (λ (x : PlanTest). x.number == n) plan.tests t sound.links at.found in
         let here : length t.before ≡ open_before plan [] t + 0 = omega (arith, open_first plan t linked) in
-        count_first n stands ∙ subst (λ (o : Option PlanTest). count_before o ≡ open_before_at plan [] o + 0) (sym at.found) here;
+        count_first lines n stands ∙ subst (λ (o : Option PlanTest). count_before o ≡ open_before_at plan [] o + 0) (sym at.found) here;
     outs = λ n stands.
         let at = queued_test plan sound n stands in
         let t = at.test in
         let pending : not (is_pending plan t []) ≡ false = ap not (pending_first plan t) ∙ ap (λ (b : Bool). not (not b)) at.works in
         get_or-replicate (length plan.queue) (place_of plan.queue n) false false stands
         ∙ sym (ap (λ (o : Option PlanTest). not (is_pending_at plan [] o)) at.found ∙ pending);
+    lines = are;
   }
 
   -- marks at the tests that wait for none and can't run stand for those that may be settled

@@ -187,6 +187,7 @@ module _ (plan : PlanParts) (sound : IsSound plan) (es more : List Entry) (n : �
       | inl same ↦ pending_here j es same ∙ sym own ∙ sym (pending_here j more same)
       | inr apart ↦ pending_before j stands apart
     ]);
+    lines = queued.lines;
   }
 
   -- the set with the test itself out or back
@@ -205,6 +206,7 @@ module _ (plan : PlanParts) (sound : IsSound plan) (es more : List Entry) (n : �
               out_other r n j b (subst (λ (xs : List ℕ). StandsIn xs n) (sym queued.order) stands) (subst (λ (xs : List ℕ). StandsIn xs j) (sym queued.order) there) apart
               ∙ queued.outs j there ∙ ap not (pending_before j there apart)
         ];
+        lines = queued.lines;
       }
 
   -- the cause of a test by what decides it

@@ -16,6 +16,7 @@ use Rattle.ct_core.specs.declared.state.State.{State}
 use Rattle.ct_core.specs.declared.parts.Parts.{Parts}
 use Rattle.ct_core.specs.Begin.{first_counts, first_state, settles_first}
 use Rattle.ct_core.specs.InUse.{IsInUse}
+use Rattle.ct_core.specs.Lines.{AreLinesOf}
 use Rattle.ct_core.specs.Parts.{IsKept}
 use Rattle.ct_core.specs.Standing.{count_unfinished, state_of, states_of, verdict_of_state}
 use Rattle.ct_core.specs.Waiting.{AreSettleable, IsQueued, followers_of}
@@ -95,9 +96,9 @@ settleable_all tests marks end all marked place =
     ]
 
 -- tests that wait for as many as they have predecessors are those that wait before any entry
-pub queued_first : (plan : PlanParts) → IsSound plan → (counts : List ℕ) (ready : ReadyValue) → counts ≡ first_counts plan → ready ≡ none_out plan.queue counts → IsQueued plan [] [] ready
-queued_first plan sound counts ready counted is =
-    subst (λ (r : ReadyValue). IsQueued plan [] [] r) (sym (is ∙ ap (λ (ns : List ℕ). none_out plan.queue ns) counted)) (begins_queued plan sound)
+pub queued_first : (plan : PlanParts) → IsSound plan → (counts lines : List ℕ) (ready : ReadyValue) → counts ≡ first_counts plan → AreLinesOf plan lines → ready ≡ none_out plan.queue counts lines → IsQueued plan [] [] ready
+queued_first plan sound counts lines ready counted are is =
+    subst (λ (r : ReadyValue). IsQueued plan [] [] r) (sym (is ∙ ap (λ (ns : List ℕ). none_out plan.queue ns lines) counted)) (begins_queued plan sound lines are)
 
 -- what the parts say one by one, they say together
 pub begun : (plan : PlanParts) (parts : Parts) → IsSound plan → parts.states.items ≡ map first_state plan.tests → parts.unfinished ≡ length plan.queue → IsInUse plan [] parts.in_use → parts.followers.items ≡ map (λ (t : PlanTest). followers_of plan.tests t.number) plan.tests → IsQueued plan [] [] parts.ready → AreSettleable plan [] [] parts.settleable → parts.stopped ≡ false → IsKept plan [] 0 parts

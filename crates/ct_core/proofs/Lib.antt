@@ -2,6 +2,7 @@ pub mod AllowedLemmas
 pub mod OpenStartLemmas
 pub mod StateLemmas
 pub mod StandingLemmas
+pub mod VerdictLemmas
 pub mod DueLemmas
 pub mod PlaceLemmas
 pub mod NumberLemmas
@@ -19,6 +20,7 @@ pub mod LowerLemmas
 pub mod PickLemmas
 pub mod BeginLemmas
 pub mod ChoiceLemmas
+pub mod LineLemmas
 pub mod FirstLemmas
 pub mod StopLemmas
 pub mod CallerLemmas

@@ -108,6 +108,7 @@ module _ (plan : PlanParts) (es : List Entry) (n : ℕ) (left : List ℕ) (r : R
       | inr apart ↦ count_there m apart there
     ];
     outs = q.outs;
+    lines = q.lines;
   }
 
 -- a test has been lowered that stands at this place, and these are left

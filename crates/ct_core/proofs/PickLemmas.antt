@@ -16,7 +16,7 @@ use Rattle.ct_history.specs.Plan.{IsSound, has_sound_processors, test_at}
 use Rattle.ct_history.specs.History.{Running, has_stop, open_starts, used_processors}
 use Rattle.ct_history.specs.Rules.{CanStart, cause_behind, exclude, first_unpassed, follows_finals, has_room, is_pending, is_ready, is_serial, locks_of, may_start_at, may_start_if_placed, settle_cause, settle_cause_at, shares_name}
 use Rattle.ct_history.proofs.MayLemmas.{MayStart, may_start-parts}
-use Rattle.ct_queue.specs.Ready.{ReadyValue, IsBehind, IsLeastBehind, NoneBehind, count_at, is_member, is_out_at, place_of}
+use Rattle.ct_queue.specs.Ready.{ReadyValue, IsBehind, count_at, is_member, is_out_at, place_of}
 use Rattle.ct_queue.specs.Marks.{is_marked, IsLeastWithin, NoneWithin}
 use Rattle.ct_core.specs.Choice.{IsLeastToSettle, NoneSettles, NoneStarts}
 use Rattle.ct_core.specs.Waiting.{AreSettleable, IsQueued, cause_then, settles_but}
@@ -192,7 +192,7 @@ none_starts : (plan : PlanParts) (es : List Entry) (numbers : List ℕ) → ((n 
 none_starts plan es numbers none = λ i d within. none (get_or numbers i d)
 
 -- what a test that can start shows
-found_parts : (plan : PlanParts) (es : List Entry) (p : Option Placement) (o : Option PlanTest) → may_start_at plan es p o ≡ true → (t : PlanTest) × (o ≡ Some t) × MayStart plan t p es
+pub found_parts : (plan : PlanParts) (es : List Entry) (p : Option Placement) (o : Option PlanTest) → may_start_at plan es p o ≡ true → (t : PlanTest) × (o ≡ Some t) × MayStart plan t p es
 found_parts plan es p None may = absurd (true≢false (sym may))
 found_parts plan es p (Some t) may = (t, refl, may_start-parts plan t p es may)
 
@@ -208,7 +208,7 @@ abbrev pub places_to : Option ℕ → ℕ
 places_to None = 0
 places_to (Some given) = given + 1
 
-behind_or_before : (given : Option ℕ) (place : ℕ) → (place < places_to given) ⊎ IsBehind given place
+pub behind_or_before : (given : Option ℕ) (place : ℕ) → (place < places_to given) ⊎ IsBehind given place
 behind_or_before None place = inr tt
 behind_or_before (Some given) place = elim (cases_lt place (given + 1)) [
   | inl before ↦ inl before
@@ -217,7 +217,7 @@ behind_or_before (Some given) place = elim (cases_lt place (given + 1)) [
 
 module _ (plan : PlanParts) (es : List Entry) where
   -- tests of the queue in front of a place, one by one and all together
-  none_before : (k : ℕ) → ((place : ℕ) → place < k → place < length plan.queue → CanStart plan es (get_or plan.queue place 0) → ⊥) → NoneStarts plan es (take k plan.queue)
+  pub none_before : (k : ℕ) → ((place : ℕ) → place < k → place < length plan.queue → CanStart plan es (get_or plan.queue place 0) → ⊥) → NoneStarts plan es (take k plan.queue)
   none_before k none = λ place d within.
       let len = length-take k plan.queue in
       let before : place < k = omega (arith, within, len) in
@@ -225,7 +225,7 @@ module _ (plan : PlanParts) (es : List Entry) where
       let same : get_or (take k plan.queue) place d ≡ get_or plan.queue place 0 = get_or-take k plan.queue place d before ∙ get_or_default plan.queue place d 0 inside in
       subst (λ (n : ℕ). CanStart plan es n → ⊥) (sym same) (none place before inside)
 
-  each_before : (k : ℕ) → NoneStarts plan es (take k plan.queue) → (place : ℕ) → place < k → place < length plan.queue → CanStart plan es (get_or plan.queue place 0) → ⊥
+  pub each_before : (k : ℕ) → NoneStarts plan es (take k plan.queue) → (place : ℕ) → place < k → place < length plan.queue → CanStart plan es (get_or plan.queue place 0) → ⊥
   each_before k none place before inside =
       let len = length-take k plan.queue in
       let within : place < length (take k plan.queue) = omega (arith, before, inside, len) in
@@ -238,22 +238,6 @@ module _ (plan : PlanParts) (es : List Entry) where
   -- one test more that can't start
   pub walk_on : (found : ℕ) → found < length plan.queue → NoneStarts plan es (take found plan.queue) → (CanStart plan es (get_or plan.queue found 0) → ⊥) → NoneStarts plan es (take (places_to (Some found)) plan.queue)
   walk_on found within none this = All-more (λ n. CanStart plan es n → ⊥) plan.queue found 0 within none this
-
-module _ (plan : PlanParts) (sound : IsSound plan) (es : List Entry) (r : ReadyValue) (q : IsQueued plan es [] r) (given : Option ℕ) (none : NoneStarts plan es (take (places_to given) plan.queue)) where
-  -- no test in front of the next member may start
-  pub walk_to : (found : ℕ) → IsLeastBehind r given found → NoneStarts plan es (take found plan.queue)
-  walk_to found next = none_before plan es found (λ place before inside. elim (behind_or_before given place) [
-    | inl earlier ↦ each_before plan es (places_to given) none place earlier inside
-    | inr behind ↦ no_member plan sound es r q place inside (next.least place behind before)
-  ])
-
-  -- and none at all where there is no further member
-  pub walk_ends : NoneBehind r given → NoneStarts plan es plan.queue
-  walk_ends bare = λ place d inside.
-      subst (λ (n : ℕ). CanStart plan es n → ⊥) (get_or_default plan.queue place 0 d inside) (elim (behind_or_before given place) [
-        | inl earlier ↦ each_before plan es (places_to given) none place earlier inside
-        | inr behind ↦ no_member plan sound es r q place inside (bare place behind)
-      ])
 
 -- where one test passes and each that does passes another, one passes the other
 any_wider : {A : Type 0} (p q : A → Bool) → ((x : A) → p x ≡ true → q x ≡ true) → (xs : List A) → list_any p xs ≡ true → list_any q xs ≡ true

@@ -6,6 +6,7 @@ pub mod CoreValue
 pub mod Core
 pub mod Standing
 pub mod Followers
+pub mod Lines
 pub mod Waiting
 pub mod Begin
 pub mod Locks

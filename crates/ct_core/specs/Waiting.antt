@@ -11,6 +11,7 @@ use Rattle.ct_history.specs.Rules.{cause_behind, first_unpassed, is_pending, is_
 use Rattle.ct_history.specs.History.{has_stop}
 use Rattle.ct_queue.specs.Ready.{ReadyValue, StandsIn, count_of, is_out}
 use Rattle.ct_queue.specs.Marks.{is_marked}
+use Rattle.ct_core.specs.Lines.{AreLinesOf}
 use Rattle.ct_core.specs.Standing.{open_before}
 pub use Rattle.ct_core.specs.Followers.{followers_of}
 
@@ -33,13 +34,14 @@ abbrev pub cause_then : PlanParts → List Entry → PlanTest → Option Cause
 cause_then plan entries t = cause_behind (first_unpassed plan t entries) t.fixed
 
 -- each test of the queue stands in the set with its predecessors that are not final, those of `left` with one more;
--- out are those that are final or open
+-- out are those that are final or open; those of one line ask for the same
 pub record IsQueued (plan : PlanParts) (entries : List Entry) (left : List ℕ) (ready : ReadyValue) : Type 0 where
   pub order : ready.order ≡ plan.queue
   pub counted : length ready.counts ≡ length plan.queue
   pub said : length ready.outs ≡ length plan.queue
   pub counts : (n : ℕ) → StandsIn plan.queue n → count_of ready n ≡ open_before_at plan entries (test_at plan.tests n) + (if is_one_of n left then 1 else 0)
   pub outs : (n : ℕ) → StandsIn plan.queue n → is_out ready n ≡ not (is_pending_at plan entries (test_at plan.tests n))
+  pub lines : AreLinesOf plan ready.lines
 
 -- the test that was looked up may be settled, and is none of `left`
 abbrev pub settles_but : PlanParts → List Entry → List ℕ → Option PlanTest → Bool

@@ -7,6 +7,7 @@ ghost use Rattle.ct_queue.specs.Marks.{is_marked};
 
 use crate::followers::followers;
 use crate::in_use::nothing;
+use crate::lines::lines_of;
 use crate::parts::Parts;
 use crate::places::place_of;
 use crate::state::State;
@@ -59,14 +60,15 @@ fn first_state(test: &PlanTest) -> State
     }
 }
 
-/// Has each test of the queue wait for its predecessors.
+/// Has each test of the queue wait for its predecessors, in line with those that ask for the same.
 fn first_ready(alloc: Global, plan: &PlanParts) -> Result<Ready, NoMemory>
     requires sound { IsSound plan.now }
     requires few { length plan.now.tests < 2 ^ 32 - 1 }
     ensures { IfOk result (λ ready. IsQueued plan.now [] [] ready) }
 {
     let counts = first_counts(alloc, plan)?;
-    Ok(Ready::new(alloc, &plan.queue, &counts)?)
+    let lines = lines_of(alloc, plan)?;
+    Ok(Ready::in_lines(alloc, &plan.queue, &counts, &lines)?)
 }
 
 fn first_counts(alloc: Global, plan: &PlanParts) -> Result<List<u32>, NoMemory>

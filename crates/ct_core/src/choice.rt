@@ -121,6 +121,8 @@ impl Run {
     }
 
     /// Finds the first test of the queue that may start, with its placement.
+    ///
+    /// It tries the first ready test of each line alone: where that one can't start, no other of its line can.
     fn first_to_start(&self, alloc: Global) -> Result<Option<Startable>, NoMemory>
         requires kept { IsKeptRun self.now }
         requires unsettled { NoneSettles self.now.plan (entries_of self.now) }
@@ -133,7 +135,7 @@ impl Run {
         }
         let queue = plan.queue.as_slice();
         let mut behind = None;
-        while let Some(place) = self.parts.ready.after(behind) {
+        while let Some(place) = self.parts.ready.head_after(behind) {
             let found = self.next_start(alloc, queue[place as usize])?;
             if found.is_some() {
                 return Ok(found);

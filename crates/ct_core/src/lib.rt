@@ -11,6 +11,7 @@ mod choice;
 mod followers;
 mod gate;
 mod in_use;
+mod lines;
 mod locks;
 mod parts;
 mod places;
@@ -20,6 +21,7 @@ mod script;
 mod slots;
 mod state;
 mod ticket;
+mod verdict;
 
 pub use gate::{Asked, Ended, Gate, Request, Told, copy_names, copy_pairs, lacks_memory};
 pub use scheduler::{Core, Next};

@@ -93,6 +93,14 @@ impl Core {
         &self.run.history
     }
 
+    /// Gives the verdict of the test with this number, where it is final, in a time that grows with the
+    /// logarithm of the tests.
+    pub fn verdict(&self, test: u32) -> Option<Verdict>
+        ensures { result ≡ verdict_of_test self.now.plan self.now.entries test }
+    {
+        self.run.verdict(test)
+    }
+
     /// Says what this worker has to do next, and appends what that makes of the history.
     ///
     /// The first that holds: the run was given up; every test is final; a test may be settled, and

@@ -22,4 +22,14 @@ impl State {
     {
         matches!(self, State::Final(Verdict::Passed))
     }
+
+    /// Gives the verdict of a test that stands so, where it is final.
+    pub(crate) fn verdict(&self) -> Option<Verdict>
+        ensures { result ≡ verdict_of_state self.now }
+    {
+        match self {
+            State::Final(verdict) => Some(*verdict),
+            State::Pending(_) | State::Open(..) => None,
+        }
+    }
 }

@@ -1,16 +1,29 @@
 use Rattle.std.proofs.Common.{arith}
 use Rattle.ct_core.proofs.FirstLemmas.{queued_first}
+use Rattle.ct_core.proofs.LineLemmas.{lines_as_many, lines_numbered}
 use Rattle.ct_core.proofs.QueueLemmas.{queue_fits, queue_once}
 use Rattle.ct_core.proofs.begin.first_ready.Goals as goal
 
-pub new-requires-clause-few : goal.new-requires-clause-few
-new-requires-clause-few c =
+pub lines_of-requires-clause-few : goal.lines_of-requires-clause-few
+lines_of-requires-clause-few c =
     let fits = queue_fits c.args.plan.now c.requires.sound in
     let few = c.requires.few in
     omega (arith, fits, few)
 
-pub new-requires-clause-once : goal.new-requires-clause-once
-new-requires-clause-once c = queue_once c.args.plan.now c.requires.sound
+pub in_lines-requires-clause-few : goal.in_lines-requires-clause-few
+in_lines-requires-clause-few c =
+    let fits = queue_fits c.args.plan.now c.requires.sound in
+    let few = c.requires.few in
+    omega (arith, fits, few)
+
+pub in_lines-requires-clause-once : goal.in_lines-requires-clause-once
+in_lines-requires-clause-once c = queue_once c.args.plan.now c.requires.sound
+
+pub in_lines-requires-clause-lined : goal.in_lines-requires-clause-lined
+in_lines-requires-clause-lined c = lines_as_many c.args.plan.now c.in_ok-lines.lines c.in_ok-lines.ensures
+
+pub in_lines-requires-clause-numbered : goal.in_lines-requires-clause-numbered
+in_lines-requires-clause-numbered c = lines_numbered c.args.plan.now c.in_ok-lines.lines c.in_ok-lines.ensures
 
 pub returns : goal.returns
-returns c = queued_first c.args.plan.now c.requires.sound c.in_ok-counts.counts c.in_ok-new.field-0 c.in_ok-counts.ensures c.in_ok-new.ensures
+returns c = queued_first c.args.plan.now c.requires.sound c.in_ok-counts.counts c.in_ok-lines.lines c.in_ok-in_lines.field-0 c.in_ok-counts.ensures c.in_ok-lines.ensures c.in_ok-in_lines.ensures

@@ -3,7 +3,8 @@ use Rattle.ct_history.specs.declared.plan.PlanParts.{PlanParts}
 use Rattle.ct_core.specs.Run.{entries_of}
 use Rattle.ct_core.specs.Waiting.{IsDue}
 use Rattle.ct_core.proofs.ChoiceLemmas.{first_found, next_due, none_full, none_more}
-use Rattle.ct_core.proofs.PickLemmas.{member_may, none_stopped, walk_ends, walk_to}
+use Rattle.ct_core.proofs.LineLemmas.{walk_ends, walk_to}
+use Rattle.ct_core.proofs.PickLemmas.{member_may, none_stopped}
 use Rattle.ct_core.proofs.run.Run.first_to_start.Goals as goal
 use Rattle.ct_core.proofs.run.Run.first_to_start.Goals.{then-self-via-then-self, then-self-via-else-self+then-is_full}
 
@@ -22,7 +23,7 @@ pub next_start-requires-clause-due : goal.next_start-requires-clause-due
 next_start-requires-clause-due c =
     let run = c.args.self.now in
     let on = sym c.requires.kept.told.stopped ∙ c.if-self.false in
-    let may = member_may run.plan c.parts-plan.ensures.sound (entries_of run) run.parts.ready (c.requires.kept.queued.ready on) c.in-Some.place on c.requires.unsettled c.in-Some.ensures.member in
+    let may = member_may run.plan c.parts-plan.ensures.sound (entries_of run) run.parts.ready (c.requires.kept.queued.ready on) c.in-Some.place on c.requires.unsettled c.in-Some.ensures.head.member in
     let queue = c.as_slice-queue.ensures ∙ ap (λ (p : PlanParts). p.queue) c.parts-plan.ensures.is in
     subst (λ (ns : List ℕ). IsDue run.plan (entries_of run) (get_or ns c.in-Some.place 0)) (sym queue) (next_due run.plan (entries_of run) c.in-Some.place may on)
 
@@ -32,9 +33,9 @@ returns-then-is_some c =
     let place = c.in-Some.place in
     let on = sym c.requires.kept.told.stopped ∙ c.if-self.false in
     let queued = c.requires.kept.queued.ready on in
-    let may = member_may run.plan c.parts-plan.ensures.sound (entries_of run) run.parts.ready queued place on c.requires.unsettled c.in-Some.ensures.member in
+    let may = member_may run.plan c.parts-plan.ensures.sound (entries_of run) run.parts.ready queued place on c.requires.unsettled c.in-Some.ensures.head.member in
     let queue = c.as_slice-queue.ensures ∙ ap (λ (p : PlanParts). p.queue) c.parts-plan.ensures.is in
-    let none = walk_to run.plan c.parts-plan.ensures.sound (entries_of run) run.parts.ready queued c.loop-place.behind c.loop-place.invariant place c.in-Some.ensures in
+    let none = walk_to run.plan c.parts-plan.ensures.sound (entries_of run) run.parts.ready queued on c.requires.unsettled c.loop-place.behind c.loop-place.invariant place c.in-Some.ensures in
     first_found run.plan (entries_of run) place (get_or c.as_slice-queue.result.now place 0) c.in_ok-found.found may.within (ap (λ (ns : List ℕ). get_or ns place 0) queue) none (sym c.is_some.ensures ∙ c.if-is_some.true) c.in_ok-found.ensures
 
 pub loop-place-preserved : goal.loop-place-preserved
@@ -43,13 +44,13 @@ loop-place-preserved c =
     let place = c.in-Some.place in
     let on = sym c.requires.kept.told.stopped ∙ c.if-self.false in
     let queued = c.requires.kept.queued.ready on in
-    let may = member_may run.plan c.parts-plan.ensures.sound (entries_of run) run.parts.ready queued place on c.requires.unsettled c.in-Some.ensures.member in
+    let may = member_may run.plan c.parts-plan.ensures.sound (entries_of run) run.parts.ready queued place on c.requires.unsettled c.in-Some.ensures.head.member in
     let queue = c.as_slice-queue.ensures ∙ ap (λ (p : PlanParts). p.queue) c.parts-plan.ensures.is in
-    let none = walk_to run.plan c.parts-plan.ensures.sound (entries_of run) run.parts.ready queued c.loop-place.behind c.loop-place.invariant place c.in-Some.ensures in
+    let none = walk_to run.plan c.parts-plan.ensures.sound (entries_of run) run.parts.ready queued on c.requires.unsettled c.loop-place.behind c.loop-place.invariant place c.in-Some.ensures in
     none_more run.plan (entries_of run) place (get_or c.as_slice-queue.result.now place 0) c.in_ok-found.found may.within (ap (λ (ns : List ℕ). get_or ns place 0) queue) none (sym c.is_some.ensures ∙ c.if-is_some.false) c.in_ok-found.ensures
 
 pub returns : goal.returns
 returns c =
     let run = c.args.self.now in
     let on = sym c.requires.kept.told.stopped ∙ c.if-self.false in
-    walk_ends run.plan c.parts-plan.ensures.sound (entries_of run) run.parts.ready (c.requires.kept.queued.ready on) c.loop-place.behind c.loop-place.invariant c.in_default.ensures
+    walk_ends run.plan c.parts-plan.ensures.sound (entries_of run) run.parts.ready (c.requires.kept.queued.ready on) on c.requires.unsettled c.loop-place.behind c.loop-place.invariant c.in_default.ensures
