@@ -3,3 +3,5 @@ pub mod ListLemmas
 pub mod LineLemmas
 pub mod LabelLemmas
 pub mod TotalLemmas
+pub mod PlaceLemmas
+pub mod RunLineLemmas

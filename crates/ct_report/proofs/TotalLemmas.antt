@@ -1,14 +1,17 @@
 -- The totals with one test more, and what is put under a heading.
-use Rattle.std.proofs.Common.{◌≡◌, ◌∙◌, sym, ap, ℕ, ◌+◌, ◌<◌, Bool, true, false, not, ◌&&◌, cond, List, [], ◌∷◌, ◌++◌, length, get_or, take, map, filter, count_by, codes, refl, append_assoc, arith, eqb-true, ◌==◌, if◌then◌else◌}
-use Rattle.std.proofs.lemmas.List.{map-append}
+use Rattle.std.proofs.Common.{◌≡◌, ◌∙◌, sym, ap, ℕ, ◌+◌, ◌-◌, ◌^◌, ◌<◌, ◌≤◌, Bool, true, false, not, ◌&&◌, cond, List, [], ◌∷◌, ◌++◌, length, get_or, take, map, filter, count_by, codes, refl, append_assoc, arith, eqb-true, ◌==◌, if◌then◌else◌}
+use Rattle.std.proofs.lemmas.List.{length-take-le, map-append}
 use Rattle.std.proofs.lemmas.List.Elements.{filter_more}
-use Rattle.std.proofs.lemmas.List.Sums.{sum_by_more}
+use Rattle.std.proofs.lemmas.List.Sums.{count_by-le-length, sum_by_more}
+use Rattle.std.specs.Prelude.{Vec}
+use Rattle.std.specs.BTreeMap.{BTreeMap}
 use Rattle.ct_history.specs.declared.plan.PlanTest.{PlanTest}
 use Rattle.ct_history.specs.declared.plan.PlanParts.{PlanParts}
 use Rattle.ct_history.specs.declared.history.Entry.{Entry}
-use Rattle.ct_history.specs.Verdicts.{verdict_in, is_failing_in}
+use Rattle.ct_history.specs.Verdicts.{are_all_final, verdict_in, is_failing_in, is_final_in}
+use Rattle.ct_history.proofs.BoolLemmas.{all_at}
 use Rattle.ct_report.specs.declared.totals.Totals.{Totals}
-use Rattle.ct_report.specs.Labels.{count_at, CountsTest}
+use Rattle.ct_report.specs.Labels.{count_at, CountsTest, HasRoom}
 use Rattle.ct_report.specs.Report.{failed_lines, has_label, is_good_in, is_unrun_in, label_line, label_lines, labelled_count, labelled_good_count, labels_in_order, listed_line, under}
 use Rattle.ct_report.specs.Totals.{AreTotals}
 
@@ -28,6 +31,17 @@ more_listed {A = A} {B = B} f p xs at x within is =
 more_counted : {A : Type 0} (p : A → Bool) (xs : List A) (at : ℕ) (x : A) → at < length xs → x ≡ get_or xs at x → count_by p (take (at + 1) xs) ≡ count_by p (take at xs) + cond (p x) 1 0
 more_counted {A = A} p xs at x within is =
     sum_by_more (λ y. cond (p y) 1 0) xs at x within ∙ ap (λ (y : A). count_by p (take at xs) + cond (p y) 1 0) (sym is)
+
+-- a test is final where each is
+pub final_there : (plan : PlanParts) (entries : List Entry) (at : ℕ) (t : PlanTest) → are_all_final plan entries ≡ true → at < length plan.tests → t ≡ get_or plan.tests at t → is_final_in plan.repeat t entries ≡ true
+final_there plan entries at t all within is = ap (λ (u : PlanTest). is_final_in plan.repeat u entries) is ∙ all_at (λ u. is_final_in plan.repeat u entries) plan.tests at t all within
+
+fewer : (bound place count sum len : ℕ) → place < bound → count ≡ sum → sum ≤ len → len ≡ place → count < bound
+fewer bound place count sum len below is most long = omega (arith, below, is, most, long)
+
+-- what is counted in front of a place leaves room for one test more
+pub has_room : {Y : Type 0} (counts : BTreeMap (Vec ℕ Y) ℕ) (counted : List ℕ → PlanTest → Bool) (tests : List PlanTest) (at : ℕ) → at < length tests → at < 2 ^ 64 - 1 → ((label : List ℕ) → count_at counts label ≡ count_by (counted label) (take at tests)) → HasRoom counts
+has_room counts counted tests at within below are = λ label. fewer (2 ^ 64 - 1) at (count_at counts label) (count_by (counted label) (take at tests)) (length (take at tests)) below (are label) (count_by-le-length (counted label) (take at tests)) (length-take-le at tests (omega (arith, within)))
 
 -- the totals of the tests in front of one, and of that one too
 module _ (plan : PlanParts) (entries : List Entry) (tests : List PlanTest) (at : ℕ) (t : PlanTest) (within : at < length tests) (is : t ≡ get_or tests at t) (before after : Totals) (were : AreTotals plan entries (take at tests) before) where

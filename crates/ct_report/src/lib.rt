@@ -1,6 +1,7 @@
 //! The texts of a run, put to a sink line by line.
 //!
-//! Hands up: `header`, `line`, `summary` and `no_tests`; the lists, `label_list` and `test_list`.
+//! Hands up: `header`, `line`, `summary` and `no_tests`; `TestLines` for the lines of a whole run; the lists, `label_list`
+//! and `test_list`.
 //! Stands on: ct_base, ct_verdict, ct_history.
 //! Read first: `specs/Report.antt`, then `report.rt`.
 #![tactic(auto)]
@@ -8,8 +9,10 @@
 mod labels;
 mod lists;
 mod numbers;
+mod places;
 mod puts;
 mod report;
+mod run_lines;
 mod summaries;
 mod test_lines;
 mod totals;
@@ -17,3 +20,4 @@ mod verdict_texts;
 
 pub use lists::{ListedTest, label_list, test_list};
 pub use report::{header, line, no_tests, summary};
+pub use run_lines::TestLines;

@@ -1,7 +1,7 @@
-ghost use Rattle.std.specs.Prelude.{◌≡◌, ◌<◌, ◌^◌, ◌∷◌, [], codes, length, IfOk, IsSome};
+ghost use Rattle.std.specs.Prelude.{◌≡◌, ◌<◌, ◌^◌, ◌∷◌, [], codes, length, true, IfOk, IsSome};
 ghost use Rattle.ct_base.specs.Outside.{Puts, PutsEach};
 ghost use Rattle.ct_history.specs.Plan.{test_at};
-ghost use Rattle.ct_history.specs.Verdicts.{verdict_of_test};
+ghost use Rattle.ct_history.specs.Verdicts.{are_all_final, verdict_of_test};
 ghost use Rattle.ct_report.specs.Report.{header_line, project_line, summary_lines, test_line, text_of};
 
 use crate::puts::put_lines;
@@ -43,8 +43,8 @@ pub fn line<S: Sink>(
     Ok(())
 }
 
-/// Puts the counts of a run, and where there are some the labels, the tests that did not run, and
-/// those that failed.
+/// Puts the counts of a run in which each test is final, and where there are some the labels, the
+/// tests that did not run, and those that failed.
 ///
 /// Source: CMake manual, ctest(1), Description. The wording is this project's choice.
 pub fn summary<S: Sink>(
@@ -53,6 +53,7 @@ pub fn summary<S: Sink>(
     plan: &Plan,
     history: &History,
 ) -> Result<(), SinkFault>
+    requires ended { are_all_final plan.now history.now.entries.items ≡ true }
     ensures text { Puts (text_of (summary_lines plan.now history.now.entries.items)) (S.tells sink.old) (S.tells sink.new) result }
     ensures each { PutsEach (summary_lines plan.now history.now.entries.items) (S.tells sink.old) (S.tells sink.new) result }
 {

@@ -1,4 +1,5 @@
-ghost use Rattle.std.specs.Prelude.{◌≡◌, ◌++◌, codes, length, IfOk, OnOk};
+ghost use Rattle.std.specs.Prelude.{◌≡◌, ◌++◌, codes, length, true, IfOk, OnOk};
+ghost use Rattle.ct_history.specs.Verdicts.{are_all_final};
 ghost use Rattle.ct_report.specs.Report.{counts_with, failed_lines, label_lines, percent, summary_lines, under};
 ghost use Rattle.ct_report.specs.Totals.{AreTotals};
 
@@ -15,6 +16,7 @@ pub(crate) fn summary_lines(
     plan: &PlanParts,
     entries: &[Entry],
 ) -> Result<List<Blob>, NoMemory>
+    requires ended { are_all_final plan.now entries.now ≡ true }
     ensures { IfOk result (λ lines. lines ≡ summary_lines plan.now entries.now) }
 {
     let totals = totals_of(alloc, plan, entries)?;

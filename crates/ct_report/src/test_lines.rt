@@ -1,6 +1,7 @@
-ghost use Rattle.std.specs.Prelude.{◌≡◌, ◌<◌, ◌^◌, length, IfOk};
-ghost use Rattle.ct_history.specs.Plan.{test_at as planned_test};
+ghost use Rattle.std.specs.Prelude.{◌≡◌, ◌<◌, ◌^◌, length, map, IfOk};
+ghost use Rattle.ct_history.specs.Plan.{IsAscendingFrom, test_at as planned_test};
 ghost use Rattle.ct_report.specs.Report.{micros_by, micros_of, test_line, verdict_line};
+ghost use Rattle.ct_report.specs.RunLines.{numbered_line};
 
 use crate::numbers::{append_number, seconds_text};
 use crate::totals::count_enabled;
@@ -11,7 +12,18 @@ use ct_verdict::Verdict;
 use std::alloc::Global;
 
 /// The most microseconds that the line of a test tells.
-const MOST_MICROS: u64 = 1_000_000_000_000_000_000;
+pub(crate) const MOST_MICROS: u64 = 1_000_000_000_000_000_000;
+
+/// The numbers in the line of a test, beside its own.
+#[derive(Drop)]
+pub(crate) struct LineNumbers {
+    /// The how many-th it is to become final, from 1.
+    pub(crate) place: u32,
+    /// How many tests are not disabled.
+    pub(crate) enabled: usize,
+    /// How long its attempts took together, up to `MOST_MICROS`.
+    pub(crate) micros: u64,
+}
 
 /// Writes the line of the test with this number, which is the `place`-th to become final, from 1.
 pub(crate) fn test_line(
@@ -21,6 +33,7 @@ pub(crate) fn test_line(
     place: u32,
     number: u32,
 ) -> Result<Blob, NoMemory>
+    requires { IsAscendingFrom 1 (map (λ t. t.number) plan.now.tests) }
     ensures { IfOk result (λ text. text ≡ test_line plan.now entries.now place (planned_test plan.now.tests number)) }
 {
     match test_at(plan.tests.as_slice(), number) {
@@ -36,6 +49,7 @@ fn line_with(
     place: u32,
     test: &PlanTest,
 ) -> Result<Blob, NoMemory>
+    requires { IsAscendingFrom 1 (map (λ t. t.number) plan.now.tests) }
     ensures { IfOk result (λ text. text ≡ test_line plan.now entries.now place (Some test.now)) }
 {
     match verdict(&plan.repeat, test, entries) {
@@ -52,13 +66,33 @@ fn verdict_line(
     test: &PlanTest,
     verdict: Verdict,
 ) -> Result<Blob, NoMemory>
+    requires { IsAscendingFrom 1 (map (λ t. t.number) plan.now.tests) }
     ensures { IfOk result (λ text. text ≡ verdict_line plan.now entries.now place test.now verdict) }
 {
     let tests = plan.tests.as_slice();
+    let numbers = LineNumbers {
+        place,
+        enabled: count_enabled(tests),
+        micros: micros_of(test.number, entries),
+    };
+    numbered_line(alloc, tests, test, verdict, numbers)
+}
+
+/// Writes the line of a test with this verdict and these numbers.
+pub(crate) fn numbered_line(
+    alloc: Global,
+    tests: &[PlanTest],
+    test: &PlanTest,
+    verdict: Verdict,
+    numbers: LineNumbers,
+) -> Result<Blob, NoMemory>
+    requires { IsAscendingFrom 1 (map (λ t. t.number) tests.now) }
+    ensures { IfOk result (λ text. text ≡ numbered_line tests.now test.now verdict numbers) }
+{
     let mut text = Blob::new(alloc);
-    append_number(alloc, &mut text, u128::from(place))?;
+    append_number(alloc, &mut text, u128::from(numbers.place))?;
     text.append(b"/")?;
-    append_number(alloc, &mut text, count_enabled(tests) as u128)?;
+    append_number(alloc, &mut text, numbers.enabled as u128)?;
     text.append(b" Test #")?;
     append_number(alloc, &mut text, u128::from(test.number))?;
     text.append(b": ")?;
@@ -66,7 +100,7 @@ fn verdict_line(
     text.append(b" ... ")?;
     text.append(verdict_text(alloc, tests, verdict)?.bytes())?;
     text.append(b" ")?;
-    text.append(seconds_text(alloc, micros_of(test.number, entries))?.bytes())?;
+    text.append(seconds_text(alloc, numbers.micros)?.bytes())?;
     text.append(b" sec\n")?;
     Ok(text)
 }

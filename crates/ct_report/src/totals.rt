@@ -1,6 +1,6 @@
-ghost use Rattle.std.specs.Prelude.{◌≡◌, ◌+◌, ◌<◌, ◌-◌, ◌^◌, ◌++◌, ◌∷◌, [], length, IfOk, OnOk, if◌then◌else◌};
+ghost use Rattle.std.specs.Prelude.{◌≡◌, ◌+◌, ◌<◌, ◌-◌, ◌^◌, ◌++◌, ◌∷◌, [], length, true, IfOk, OnOk, if◌then◌else◌};
 ghost use Rattle.ct_history.specs.Plan.{enabled};
-ghost use Rattle.ct_history.specs.Verdicts.{is_failing_in};
+ghost use Rattle.ct_history.specs.Verdicts.{are_all_final, is_failing_in};
 ghost use Rattle.ct_report.specs.Report.{is_good_in, is_unrun_in, listed_with, word_of};
 ghost use Rattle.ct_report.specs.Totals.{AreTotals};
 
@@ -8,7 +8,7 @@ use crate::labels::{LabelCounts, count_test};
 use crate::numbers::append_number;
 use crate::verdict_texts::verdict_word;
 use ct_base::{Blob, List, NoMemory};
-use ct_history::{Entry, PlanParts, PlanTest, verdict};
+use ct_history::{Entry, PlanParts, PlanTest, ending_at, endings_of, verdict_by};
 use ct_verdict::{Cause, Verdict};
 use std::alloc::Global;
 use std::collections::BTreeMap;
@@ -28,21 +28,23 @@ pub(crate) struct Totals {
     pub labelled_good: LabelCounts,
 }
 
-/// Counts and lists the tests, and looks up the verdict of each once.
+/// Counts and lists the tests, with the verdict of each by one pass over the history.
 pub(crate) fn totals_of(
     alloc: Global,
     plan: &PlanParts,
     entries: &[Entry],
 ) -> Result<Totals, NoMemory>
+    requires ended { are_all_final plan.now entries.now ≡ true }
     ensures { IfOk result (λ totals. AreTotals plan.now entries.now plan.now.tests totals) }
 {
+    let endings = endings_of(alloc, entries)?;
     let mut good = 0;
     let mut unrun = List::new(alloc);
     let mut failed = List::new(alloc);
     let mut labelled = BTreeMap::new(alloc);
     let mut labelled_good = BTreeMap::new(alloc);
     for test in plan.tests.as_slice() {
-        let verdict = verdict(&plan.repeat, test, entries);
+        let verdict = verdict_by(test, ending_at(&endings, test.number));
         good = one_more(good, is_good(verdict));
         push_where(alloc, &mut unrun, is_unrun(verdict), test, verdict)?;
         push_where(alloc, &mut failed, is_failing(verdict), test, verdict)?;

@@ -1,10 +1,11 @@
-ghost use Rattle.std.specs.Prelude.{◌≡◌, [], IfOk};
-ghost use Rattle.ct_history.specs.Plan.{test_at as planned_test};
+ghost use Rattle.std.specs.Prelude.{◌≡◌, [], map, IfOk};
+ghost use Rattle.ct_history.specs.Plan.{IsAscendingFrom, test_at as planned_test};
 ghost use Rattle.ct_report.specs.Report.{cause_text, cause_word, name_of, verdict_text, verdict_word};
 
 use crate::numbers::append_number;
+use crate::places::place_of;
 use ct_base::{Blob, NoMemory};
-use ct_history::{PlanTest, test_at};
+use ct_history::PlanTest;
 use ct_verdict::{Cause, Verdict};
 use std::alloc::Global;
 
@@ -14,6 +15,7 @@ pub(crate) fn verdict_text(
     tests: &[PlanTest],
     verdict: Verdict,
 ) -> Result<Blob, NoMemory>
+    requires { IsAscendingFrom 1 (map (λ t. t.number) tests.now) }
     ensures { IfOk result (λ text. text ≡ verdict_text tests.now verdict) }
 {
     match verdict {
@@ -28,6 +30,7 @@ pub(crate) fn verdict_text(
 }
 
 fn not_run_text(alloc: Global, tests: &[PlanTest], cause: Cause) -> Result<Blob, NoMemory>
+    requires { IsAscendingFrom 1 (map (λ t. t.number) tests.now) }
     ensures { IfOk result (λ text. text ≡ verdict_text tests.now (Verdict.NotRun cause)) }
 {
     let mut text = Blob::of(alloc, b"***Not Run (")?;
@@ -37,6 +40,7 @@ fn not_run_text(alloc: Global, tests: &[PlanTest], cause: Cause) -> Result<Blob,
 }
 
 fn cause_text(alloc: Global, tests: &[PlanTest], cause: Cause) -> Result<Blob, NoMemory>
+    requires { IsAscendingFrom 1 (map (λ t. t.number) tests.now) }
     ensures { IfOk result (λ text. text ≡ cause_text tests.now cause) }
 {
     match cause {
@@ -60,6 +64,7 @@ fn required_text(alloc: Global, place: u32) -> Result<Blob, NoMemory>
 }
 
 fn fixture_text(alloc: Global, tests: &[PlanTest], setup: u32) -> Result<Blob, NoMemory>
+    requires { IsAscendingFrom 1 (map (λ t. t.number) tests.now) }
     ensures { IfOk result (λ text. text ≡ cause_text tests.now (Cause.Fixture setup)) }
 {
     let mut text = Blob::of(alloc, b"Fixture ")?;
@@ -68,10 +73,11 @@ fn fixture_text(alloc: Global, tests: &[PlanTest], setup: u32) -> Result<Blob, N
 }
 
 fn name_of(tests: &[PlanTest], number: u32) -> &[u8]
+    requires { IsAscendingFrom 1 (map (λ t. t.number) tests.now) }
     ensures { result.now ≡ name_of (planned_test tests.now number) }
 {
-    match test_at(tests, number) {
-        Some(test) => test.name.bytes(),
+    match place_of(tests, number) {
+        Some(place) => tests[place].name.bytes(),
         None => &[],
     }
 }
