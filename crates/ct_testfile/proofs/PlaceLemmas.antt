@@ -193,6 +193,16 @@ changed_at-next change places i tests next within is =
     ap (changed_at change (drop (i + 1) places)) is
     ∙ sym (at_drop_more (λ ps. changed_at change ps tests) places i 0 within)
 
+changed_at-push : {A : Type 0} (change : A → A) (front : List ℕ) (last : ℕ) (xs : List A) → changed_at change (front ++ last ∷ []) xs ≡ changed change last (changed_at change front xs)
+changed_at-push change [] last xs = refl
+changed_at-push change (place ∷ front) last xs =
+    changed_at-push change front last (changed change place xs)
+
+-- the last place is changed behind the others
+pub changed_at-last : {A : Type 0} (change : A → A) (places front : List ℕ) (last : ℕ) (xs : List A) → places ≡ front ++ last ∷ [] → changed change last (changed_at change front xs) ≡ changed_at change places xs
+changed_at-last change places front last xs whole =
+    sym (changed_at-push change front last xs) ∙ ap (λ ps. changed_at change ps xs) (sym whole)
+
 -- a change at the places that are kept by a key
 pub changed-all : {Y Z : Type 0} (change : TestDef → TestDef) (key_of : TestDef → List ℕ) (key asked : List ℕ) (entries : List (Vec ℕ Y × Vec ℕ Z)) (tests : List TestDef) (places : List ℕ) → asked ≡ key → places ≡ places_in entries asked → AreIndexed entries (map key_of tests) → changed_at change places tests ≡ each_where (λ test. bytes_eq key (key_of test)) change tests
 changed-all change key_of key asked entries tests places is found indexed =

@@ -1,16 +1,17 @@
 -- The variables and properties that are kept by their keys, and what contracts see of them.
-use Rattle.std.proofs.Common.{◌≡◌, ℕ, ◌+◌, ◌<◌, length, take, get_or, Bool, true, false, cond, bytes_eq, List, [], ◌∷◌, map, Option, Some, refl, sym, ap, ◌∙◌}
+use Rattle.std.proofs.Common.{◌≡◌, ℕ, suc, ◌+◌, ◌<◌, ◌≤◌, length, set, Bool, true, false, not, cond, bytes_eq, List, [], ◌∷◌, ◌++◌, map, Option, Some, refl, sym, ap, ◌∙◌, arith}
 use Rattle.std.specs.Option.{option_flatten}
 use Rattle.std.specs.Map.{lookup}
 use Rattle.std.specs.declared.vec.Vec.{Vec}
-use Rattle.std.proofs.lemmas.List.Sums.{fold_more}
+use Rattle.std.specs.List.{prefix_len}
 use Rattle.std.proofs.lemmas.Slice.Eq.{bytes_eq-Decides}
 use Rattle.indexmap.specs.IndexMap.{insert_entry}
 use Rattle.ct_base.specs.declared.defs.Pair.{Pair}
 use Rattle.ct_testfile.specs.Values.{Variable, value_of}
 use Rattle.ct_testfile.specs.Commands.{with_variable}
-use Rattle.ct_testfile.specs.Tests.{with_prop, with_props}
-use Rattle.ct_testfile.specs.Entries.{variable_of, prop_of}
+use Rattle.ct_testfile.specs.Tests.{with_prop}
+use Rattle.ct_testfile.specs.Props.{is_other, prop_of}
+use Rattle.ct_testfile.specs.Entries.{variable_of}
 
 value_by : {Z : Type 0} (name : List ℕ) (entry : Vec ℕ Z × Option (List ℕ)) (entries : List (Vec ℕ Z × Option (List ℕ))) → option_flatten (lookup (λ (key : Vec ℕ Z). bytes_eq name key.items) entries) ≡ value_of (map variable_of entries) name → (is : Bool) → option_flatten (cond is (Some entry.1) (lookup (λ (key : Vec ℕ Z). bytes_eq name key.items) entries)) ≡ cond is entry.1 (value_of (map variable_of entries) name)
 value_by name entry entries rest true = refl
@@ -56,9 +57,24 @@ pub with_prop-insert_entry : {Z : Type 0} (entries : List (Vec ℕ Z × List ℕ
 with_prop-insert_entry {Z} =
     rows-insert_entry {Z = Z} (λ name value. record { name = name; value = value }) (λ (prop : Pair). prop.name) with_prop (λ key value. refl) (λ row. refl) (λ first rows row. refl)
 
--- one more property is set
-pub with_props-more : (own pairs : List Pair) (i : ℕ) (pair : Pair) (now : List Pair) → i < length pairs → pair ≡ get_or pairs i pair → now ≡ with_props own (take i pairs) → with_prop now pair ≡ with_props own (take (i + 1) pairs)
-with_props-more own pairs i pair now within is so_far =
-    ap (λ props. with_prop props pair) so_far
-    ∙ ap (with_prop (with_props own (take i pairs))) is
-    ∙ sym (fold_more with_prop own pairs i pair within)
+place_by : (first prop : Pair) (props more : List Pair) (n : ℕ) → (n < length props → set props n prop ≡ more) → (is : Bool) → cond (not is) (1 + n) 0 < length (first ∷ props) → set (first ∷ props) (cond (not is) (1 + n) 0) prop ≡ cond is (prop ∷ props) (first ∷ more)
+place_by first prop props more n rest true within = refl
+place_by first prop props more n rest false within =
+    let next : 1 + n ≡ suc n = omega arith in
+    ap (λ k. set (first ∷ props) k prop) next ∙ ap (λ ps. first ∷ ps) (rest (omega arith))
+
+-- a property takes the place of the one of its key
+pub with_prop-place : (props : List Pair) (prop : Pair) → prefix_len (is_other prop.name) props < length props → set props (prefix_len (is_other prop.name) props) prop ≡ with_prop props prop
+with_prop-place [] prop within = absurd (omega arith)
+with_prop-place (first ∷ props) prop within =
+    place_by first prop props (with_prop props prop) (prefix_len (is_other prop.name) props) (with_prop-place props prop) (bytes_eq prop.name first.name) within
+
+behind_by : (first prop : Pair) (props more : List Pair) (n : ℕ) → (length props ≤ n → props ++ prop ∷ [] ≡ more) → (is : Bool) → length (first ∷ props) ≤ cond (not is) (1 + n) 0 → (first ∷ props) ++ prop ∷ [] ≡ cond is (prop ∷ props) (first ∷ more)
+behind_by first prop props more n rest true within = absurd (omega arith)
+behind_by first prop props more n rest false within = ap (λ ps. first ∷ ps) (rest (omega arith))
+
+-- a property goes behind the others where none has its key
+pub with_prop-behind : (props : List Pair) (prop : Pair) → length props ≤ prefix_len (is_other prop.name) props → props ++ prop ∷ [] ≡ with_prop props prop
+with_prop-behind [] prop within = refl
+with_prop-behind (first ∷ props) prop within =
+    behind_by first prop props (with_prop props prop) (prefix_len (is_other prop.name) props) (with_prop-behind props prop) (bytes_eq prop.name first.name) within

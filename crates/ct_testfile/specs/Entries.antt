@@ -2,19 +2,14 @@
 use Rattle.std.specs.Prelude.{ℕ, zero, suc, ◌+◌, ◌≡◌, bytes_eq, List, [], ◌∷◌, ◌++◌, map, count_by, Option, Some, None, if◌then◌else◌}
 use Rattle.std.specs.List.{list_any}
 use Rattle.std.specs.declared.vec.Vec.{Vec}
-use Rattle.ct_base.specs.declared.defs.Pair.{Pair}
 use Rattle.ct_base.specs.declared.defs.TestDef.{TestDef}
 use Rattle.ct_testfile.specs.Values.{Variable}
 use Rattle.ct_testfile.specs.Tests.{each_where}
 use Rattle.ct_testfile.specs.declared.open_test.OpenTest.{OpenTest}
 
--- a property that is kept by its key
-abbrev pub prop_of : {Z : Type 0} → Vec ℕ Z × List ℕ → Pair
-prop_of entry = record { name = entry.0.items; value = entry.1 }
-
 -- the test that is defined, with the properties so far
 abbrev pub def_of : OpenTest → TestDef
-def_of test = record { name = test.name; command = test.command; dir = test.dir; props = map prop_of test.props.entries; dir_labels = test.dir_labels }
+def_of test = record { name = test.name; command = test.command; dir = test.dir; props = test.props; dir_labels = test.dir_labels }
 
 -- a variable that is kept by its name
 abbrev pub variable_of : {Z : Type 0} → Vec ℕ Z × Option (List ℕ) → Variable

@@ -2,6 +2,7 @@
 pub mod Outcome
 pub mod Values
 pub mod Tests
+pub mod Props
 pub mod Entries
 pub mod Condition
 pub mod Commands

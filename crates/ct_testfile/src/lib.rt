@@ -17,6 +17,7 @@ mod open_test;
 mod opening;
 mod perform;
 mod places;
+mod props;
 mod reader;
 mod state;
 mod step;

@@ -11,6 +11,7 @@ use crate::command::Command;
 use crate::fault::{ReadKind, Stop};
 use crate::limits::Limits;
 use crate::opening::Opens;
+use crate::props::copied;
 use crate::state::State;
 use crate::suite::Suite;
 use crate::value::texts;
@@ -180,7 +181,7 @@ fn set_tests_properties(
         value_bytes,
     } = state;
     Ok(State {
-        tests: set_named(alloc, tests, different.as_slice(), props.as_slice())?,
+        tests: set_named(alloc, tests, different.as_slice(), props)?,
         variables,
         commands,
         file_bytes,
@@ -199,16 +200,24 @@ fn count_named(tests: &Suite, names: &[Name]) -> u64
     count
 }
 
-/// Sets properties of the tests of one name after the other.
-fn set_named(alloc: Global, tests: Suite, names: &[Name], props: &[Pair]) -> Result<Suite, NoMemory>
-    requires { HaveShort most_bytes props.now }
-    ensures { IfOk result (λ after. after ≡ fold (of_name (taking_props props.now)) tests names.now) }
+/// Sets properties of the tests of one name after the other: those of the last name take them without a copy.
+fn set_named(
+    alloc: Global,
+    tests: Suite,
+    names: &[Name],
+    props: List<Pair>,
+) -> Result<Suite, NoMemory>
+    requires { HaveShort most_bytes props }
+    ensures { IfOk result (λ after. after ≡ fold (of_name (taking_props props)) tests names.now) }
 {
+    let Some((last, front)) = names.split_last() else {
+        return Ok(tests);
+    };
     let mut after = tests;
-    for name in names {
-        after = after.with_props(alloc, name, props)?;
+    for name in front {
+        after = after.with_props(alloc, name, copied(alloc, props.as_slice())?)?;
     }
-    Ok(after)
+    after.with_props(alloc, last, props)
 }
 
 /// Adds labels to all tests so far of this folder.

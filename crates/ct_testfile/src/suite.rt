@@ -3,8 +3,9 @@ ghost use Rattle.ct_base.specs.declared.defs.TestDef.{TestDef};
 ghost use Rattle.ct_testfile.specs.Tests.{AreShort, HasShortValues, HaveShort, each_where, is_in, most_bytes, most_tests, new_test, taking_labels, taking_props};
 ghost use Rattle.ct_testfile.specs.Entries.{changed, changed_at, def_of};
 
-use crate::open_test::{OpenTest, set_props};
+use crate::open_test::OpenTest;
 use crate::places::{Places, note_place, places_at};
+use crate::props::copied;
 use ct_base::{List, Name, NoMemory, Pair, TestDef};
 use indexmap::IndexMap;
 use std::alloc::Global;
@@ -97,10 +98,10 @@ impl Suite {
         self,
         alloc: Global,
         name: &Name,
-        pairs: &[Pair],
+        pairs: List<Pair>,
     ) -> Result<Suite, NoMemory>
-        requires { HaveShort most_bytes pairs.now }
-        ensures { IfOk result (λ suite. suite ≡ each_where (λ (test : TestDef). bytes_eq name.now test.name) (taking_props pairs.now) self) }
+        requires { HaveShort most_bytes pairs }
+        ensures { IfOk result (λ suite. suite ≡ each_where (λ (test : TestDef). bytes_eq name.now test.name) (taking_props pairs) self) }
     {
         let Suite {
             mut tests,
@@ -157,18 +158,37 @@ impl Suite {
     }
 }
 
-/// Sets properties of the tests at these places.
+/// Sets properties of the tests at these places: the last one takes them without a copy.
 fn set_each(
+    alloc: Global,
+    tests: &mut Vec<OpenTest>,
+    places: &[usize],
+    pairs: List<Pair>,
+) -> Result<(), NoMemory>
+    requires { All (λ place. place < vec_len tests.old) places.now }
+    ensures { OnOk result (map def_of tests.new.items ≡ changed_at (taking_props pairs) places.now (map def_of tests.old.items)) }
+{
+    let Some((last, front)) = places.split_last() else {
+        return Ok(());
+    };
+    copy_each(alloc, tests, front, pairs.as_slice())?;
+    set_at(alloc, tests, *last, pairs)?;
+    Ok(())
+}
+
+/// Sets copies of properties of the tests at these places.
+fn copy_each(
     alloc: Global,
     tests: &mut Vec<OpenTest>,
     places: &[usize],
     pairs: &[Pair],
 ) -> Result<(), NoMemory>
     requires { All (λ place. place < vec_len tests.old) places.now }
-    ensures { OnOk result (map def_of tests.new.items ≡ changed_at (taking_props pairs.now) places.now (map def_of tests.old.items)) }
+    ensures is { OnOk result (map def_of tests.new.items ≡ changed_at (taking_props pairs.now) places.now (map def_of tests.old.items)) }
+    ensures len { OnOk result (vec_len tests.new ≡ vec_len tests.old) }
 {
     for place in places {
-        set_at(alloc, tests, *place, pairs)?;
+        set_at(alloc, tests, *place, copied(alloc, pairs)?)?;
     }
     Ok(())
 }
@@ -178,14 +198,14 @@ fn set_at(
     alloc: Global,
     tests: &mut Vec<OpenTest>,
     place: usize,
-    pairs: &[Pair],
+    pairs: List<Pair>,
 ) -> Result<(), NoMemory>
     requires { place < vec_len tests.old }
-    ensures is { OnOk result (map def_of tests.new.items ≡ changed (taking_props pairs.now) place (map def_of tests.old.items)) }
+    ensures is { OnOk result (map def_of tests.new.items ≡ changed (taking_props pairs) place (map def_of tests.old.items)) }
     ensures len { OnOk result (vec_len tests.new ≡ vec_len tests.old) }
 {
     let test = &mut tests[place];
-    set_props(alloc, &mut test.props, pairs)?;
+    test.props.set(alloc, pairs)?;
     Ok(())
 }
 

@@ -5,4 +5,4 @@ use Rattle.ct_testfile.proofs.perform.set_named.Given as goal
 
 abbrev pub invariant-loop-name : goal.invariant-loop-name
 invariant-loop-name l =
-    l.after ≡ fold (of_name (taking_props l.props)) l.initial.after (take l.name-index l.names)
+    l.after ≡ fold (of_name (taking_props l.fn.props)) l.initial.after (take l.name-index l.front)

@@ -1,4 +1,4 @@
-use Rattle.std.proofs.Common.{◌≡◌, ◌*◌, ◌-◌, ◌^◌, ℕ, min, ap, sym, ◌∙◌, refl, fold, sum_by, count_by, subst}
+use Rattle.std.proofs.Common.{◌≡◌, ◌*◌, ◌-◌, ◌^◌, ℕ, min, ap, sym, ◌∙◌, refl, fold, sum_by, count_by}
 use Rattle.std.proofs.lemmas.Result.{err_from_is_err_and}
 use Rattle.ct_testfile.specs.Tests.{HaveShort, each_where, has_name_of, most_bytes, taking_props, prop_bytes}
 use Rattle.ct_testfile.specs.Commands.{names_and_pairs}
@@ -43,12 +43,11 @@ returns c =
     let counted = product-both c.saturating_mul-bytes.result c.count_named-tests.result (count_by (has_name_of names) state.tests) c.prop_bytes.result (prop_bytes props) (2 ^ 64 - 1) count (c.prop_bytes.ensures ∙ ap (λ ps. min (prop_bytes ps) (2 ^ 64 - 1)) c.as_slice-2.ensures) c.saturating_mul-bytes.ensures in
     let made : c.in_ok-set_named.field-0 ≡ each_where (has_name_of names) (taking_props props) next.tests =
     c.in_ok-set_named.ensures
-    ∙ (λ i. fold (of_name (taking_props (c.as_slice-4.ensures i))) next.tests ((c.as_slice-3.ensures ∙ c.in_ok-different.ensures) i))
+    ∙ ap (fold (of_name (taking_props props)) next.tests) (c.as_slice-3.ensures ∙ c.in_ok-different.ensures)
     ∙ each-distinct (taking_props props) (λ test. refl) names next.tests in
     goes-done (names_and_pairs c.args.values) read (sym c.in_ok-names.ensures ∙ c.in-Some.is) c.args.limits.now state bytes done next (record next { tests = c.in_ok-set_named.field-0 }) (c.in_ok-state.ensures (bytes read) counted) (λ i. record next { tests = made i })
 
 pub set_named-requires : goal.set_named-requires
 set_named-requires c =
     let read : Read = (c.in-Some.names, c.in-Some.props) in
-    let short = read-short (λ (r : Read). HaveShort most_bytes r.1) (names_and_pairs c.args.values) read (sym c.in_ok-names.ensures ∙ c.in-Some.is) (names_and_pairs-short most_bytes c.args.values c.requires) in
-    subst (HaveShort most_bytes) (sym c.as_slice-4.ensures) short
+    read-short (λ (r : Read). HaveShort most_bytes r.1) (names_and_pairs c.args.values) read (sym c.in_ok-names.ensures ∙ c.in-Some.is) (names_and_pairs-short most_bytes c.args.values c.requires)

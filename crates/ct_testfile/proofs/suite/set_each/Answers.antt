@@ -1,11 +1,22 @@
-use Rattle.std.proofs.Common.{◌∙◌, map}
+use Rattle.std.proofs.Common.{◌≡◌, ◌<◌, ◌∙◌, All, Some, map, ap, sym, subst, vec_len}
+use Rattle.std.proofs.lemmas.List.Elements.{All-pop}
 use Rattle.ct_testfile.specs.Tests.{taking_props}
-use Rattle.ct_testfile.specs.Entries.{def_of}
-use Rattle.ct_testfile.proofs.PlaceLemmas.{changed_at-next}
+use Rattle.ct_testfile.specs.Entries.{changed, changed_at, def_of}
+use Rattle.ct_testfile.proofs.PlaceLemmas.{changed_at-last}
 use Rattle.ct_testfile.proofs.suite.set_each.Goals as goal
 
-pub loop-place-preserved : goal.loop-place-preserved
-loop-place-preserved c = record {
-  len = c.in_ok-set_at.ensures.len ∙ c.loop-place.invariant.len;
-  rest = changed_at-next (taking_props c.args.pairs.now) c.args.places.now c.loop-place.place-index (map def_of c.loop-place.tests.items) (map def_of c.set_at.new.tests.items) c.loop-place-test.true c.in_ok-set_at.ensures.is ∙ c.loop-place.invariant.rest;
-}
+pub copy_each-requires : goal.copy_each-requires
+copy_each-requires c =
+    (All-pop (λ place. place < vec_len c.args.tests.now) c.args.places.now c.in-Some.front.now (Some c.in-Some.last.now) c.in-Some.ensures.cases.0 c.requires).0
+
+pub set_at-requires : goal.set_at-requires
+set_at-requires c =
+    subst (λ n. c.in-Some.last.now < n) (sym c.in_ok-copy_each.ensures.len) (All-pop (λ place. place < vec_len c.args.tests.now) c.args.places.now c.in-Some.front.now (Some c.in-Some.last.now) c.in-Some.ensures.cases.0 c.requires).1
+
+pub returns : goal.returns
+returns c =
+    let change = taking_props c.args.pairs in
+    let old = map def_of c.args.tests.now.items in
+    c.in_ok-set_at.ensures.is
+    ∙ ap (changed change c.in-Some.last.now) (c.in_ok-copy_each.ensures.is ∙ ap (λ pairs. changed_at (taking_props pairs) c.in-Some.front.now old) c.as_slice.ensures)
+    ∙ changed_at-last change c.args.places.now c.in-Some.front.now c.in-Some.last.now old c.in-Some.ensures.cases.0

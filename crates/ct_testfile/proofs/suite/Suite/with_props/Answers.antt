@@ -12,22 +12,22 @@ set_each-requires c =
     let tests = c.self.inside.tests in
     places-within (λ (test : TestDef). test.name) c.bytes.result.now c.self.inside.by_name.entries (map def_of tests.items) c.places_at.result.now (vec_len tests) c.places_at.ensures c.self.invariant.0 (omega (arith, length-map tests.items def_of, tests.ok.0))
 
-changed : (c : goal.In_ok-set_each) → map def_of c.set_each.new.tests.items ≡ each_where (λ (test : TestDef). bytes_eq c.args.name.now test.name) (taking_props c.args.pairs.now) (map def_of c.self.inside.tests.items)
+changed : (c : goal.In_ok-set_each) → map def_of c.set_each.new.tests.items ≡ each_where (λ (test : TestDef). bytes_eq c.args.name.now test.name) (taking_props c.args.pairs) (map def_of c.self.inside.tests.items)
 changed c =
     c.in_ok-set_each.ensures
-    ∙ changed-all (taking_props c.args.pairs.now) (λ (test : TestDef). test.name) c.args.name.now c.bytes.result.now c.self.inside.by_name.entries (map def_of c.self.inside.tests.items) c.places_at.result.now c.bytes.ensures c.places_at.ensures c.self.invariant.0
+    ∙ changed-all (taking_props c.args.pairs) (λ (test : TestDef). test.name) c.args.name.now c.bytes.result.now c.self.inside.by_name.entries (map def_of c.self.inside.tests.items) c.places_at.result.now c.bytes.ensures c.places_at.ensures c.self.invariant.0
 
 pub invariant_of-result : goal.invariant_of-result
 invariant_of-result c =
     let old = map def_of c.self.inside.tests.items in
     let now = map def_of c.set_each.new.tests.items in (
-      AreIndexed-same c.self.inside.by_name.entries (names_of old) (names_of now) (ap names_of (changed c) ∙ keys-each_where (λ (test : TestDef). test.name) (λ (test : TestDef). bytes_eq c.args.name.now test.name) (taking_props c.args.pairs.now) (λ test. refl) old) c.self.invariant.0,
-      AreIndexed-same c.self.inside.by_dir.entries (dirs_of old) (dirs_of now) (ap dirs_of (changed c) ∙ keys-each_where (λ (test : TestDef). test.dir) (λ (test : TestDef). bytes_eq c.args.name.now test.name) (taking_props c.args.pairs.now) (λ test. refl) old) c.self.invariant.1,
-      omega (arith, ap length (changed c), length-each_where (λ (test : TestDef). bytes_eq c.args.name.now test.name) (taking_props c.args.pairs.now) old, c.self.invariant.2),
-      tests-same most_bytes (each_where (λ (test : TestDef). bytes_eq c.args.name.now test.name) (taking_props c.args.pairs.now) old) now (changed c) (each_where-short most_bytes (λ (test : TestDef). bytes_eq c.args.name.now test.name) (taking_props c.args.pairs.now) (taking_props-short most_bytes c.args.pairs.now c.requires) old c.self.invariant.3),
+      AreIndexed-same c.self.inside.by_name.entries (names_of old) (names_of now) (ap names_of (changed c) ∙ keys-each_where (λ (test : TestDef). test.name) (λ (test : TestDef). bytes_eq c.args.name.now test.name) (taking_props c.args.pairs) (λ test. refl) old) c.self.invariant.0,
+      AreIndexed-same c.self.inside.by_dir.entries (dirs_of old) (dirs_of now) (ap dirs_of (changed c) ∙ keys-each_where (λ (test : TestDef). test.dir) (λ (test : TestDef). bytes_eq c.args.name.now test.name) (taking_props c.args.pairs) (λ test. refl) old) c.self.invariant.1,
+      omega (arith, ap length (changed c), length-each_where (λ (test : TestDef). bytes_eq c.args.name.now test.name) (taking_props c.args.pairs) old, c.self.invariant.2),
+      tests-same most_bytes (each_where (λ (test : TestDef). bytes_eq c.args.name.now test.name) (taking_props c.args.pairs) old) now (changed c) (each_where-short most_bytes (λ (test : TestDef). bytes_eq c.args.name.now test.name) (taking_props c.args.pairs) (taking_props-short most_bytes c.args.pairs c.requires) old c.self.invariant.3),
     )
 
 pub returns : goal.returns
 returns c =
     changed c
-    ∙ ap (each_where (λ (test : TestDef). bytes_eq c.args.name.now test.name) (taking_props c.args.pairs.now)) c.self.view_is
+    ∙ ap (each_where (λ (test : TestDef). bytes_eq c.args.name.now test.name) (taking_props c.args.pairs)) c.self.view_is

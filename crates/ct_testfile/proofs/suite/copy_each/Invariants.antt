@@ -1,7 +1,7 @@
 use Rattle.std.proofs.Common.{◌≡◌, map, drop, vec_len}
 use Rattle.ct_testfile.specs.Tests.{taking_props}
 use Rattle.ct_testfile.specs.Entries.{changed_at, def_of}
-use Rattle.ct_testfile.proofs.suite.set_each.Given as goal
+use Rattle.ct_testfile.proofs.suite.copy_each.Given as goal
 
 abbrev pub invariant-loop-place : goal.invariant-loop-place
 invariant-loop-place l = record {
