@@ -24,9 +24,12 @@ use Rattle.ct_history.proofs.LegalLemmas.{legal-nil}
 use Rattle.ct_core.specs.Core.{with_due_stop}
 use Rattle.ct_core.specs.CoreValue.{CoreValue}
 use Rattle.ct_core.specs.Gate.{GateTell, is_no_memory}
+use Rattle.ct_report.specs.declared.run_lines.TestLines.{TestLines}
 use Rattle.ct_report.specs.Report.{lines_of_test, lines_with, test_lines, text_of}
+use Rattle.ct_report.specs.RunLines.{KnowsLines}
 use Rattle.ct_report.proofs.LineLemmas.{lines_of_both, lines_of_start, test_lines-snoc, text_of-append}
 use Rattle.ct_report.proofs.PutLemmas.{puts_nothing, puts_same, puts_stop, puts_then}
+use Rattle.ct_report.proofs.RunLineLemmas.{knows_as, knows_more}
 use Rattle.ct_app.specs.declared.props.Tests.{Tests}
 use Rattle.ct_app.specs.Attempt.{IsStep, RanOnce, StaysAsked, Tries}
 use Rattle.ct_app.specs.Gates.{IsAsked, are_below, had_memory, lacks_memory}
@@ -35,8 +38,8 @@ use Rattle.ct_app.proofs.GateLemmas.{asked_none}
 use Rattle.ct_app.proofs.LackLemmas.{lacking_ends}
 use Rattle.ct_app.proofs.StopLemmas.{due_keeps, lines_due, test_lines_due}
 
--- so many lines were put, those of the history, and memory was there for each attempt
-pub record IsAlong (env : List Pair) (tests : Tests) (plan : PlanParts) (start gate : GateTell) (before after : SinkTell) (core : CoreValue) (lines : ℕ) : Type 0 where
+-- so many lines were put, those of the history, memory was there for each attempt, and what further lines need is known
+pub record IsAlong (env : List Pair) (tests : Tests) (plan : PlanParts) (start gate : GateTell) (before after : SinkTell) (core : CoreValue) (lines : ℕ) (known : TestLines) : Type 0 where
   pub plan_stays : core.plan ≡ plan
   pub between : IsBetween tests core
   pub asked : IsAsked env tests 0 start gate core.entries
@@ -44,9 +47,10 @@ pub record IsAlong (env : List Pair) (tests : Tests) (plan : PlanParts) (start g
   pub few : lines + left_count core.plan core.entries ≤ length core.plan.tests
   pub memory : had_memory core.entries ≡ true
   pub put : Puts (text_of (test_lines core.plan core.entries)) before after (Ok tt)
+  pub knows : KnowsLines core.plan core.entries known
 
 -- so many lines have room
-pub room : {env : List Pair} {tests : Tests} {plan : PlanParts} {start gate : GateTell} {before mid : SinkTell} {core : CoreValue} {lines : ℕ} → IsAlong env tests plan start gate before mid core lines → length tests.defs < 2 ^ 32 - 1 → lines < 2 ^ 32 - 1
+pub room : {env : List Pair} {tests : Tests} {plan : PlanParts} {start gate : GateTell} {before mid : SinkTell} {core : CoreValue} {lines : ℕ} {known : TestLines} → IsAlong env tests plan start gate before mid core lines known → length tests.defs < 2 ^ 32 - 1 → lines < 2 ^ 32 - 1
 room along few = omega (arith, along.few, along.between.planned.few, few)
 
 -- before the first test
@@ -69,8 +73,11 @@ module _ (tests : Tests) (core : CoreValue) (is : core ≡ fresh core.plan) wher
   pub had_fresh : had_memory core.entries ≡ true
   had_fresh = ap had_memory entries_none
 
-  pub along_fresh : (env : List Pair) (start : GateTell) (sink : SinkTell) → PlansTests tests core.plan → IsAlong env tests core.plan start start sink sink core 0
-  along_fresh env start sink planned =
+  pub knows_fresh : (plan : PlanParts) (lines : TestLines) → plan ≡ core.plan → KnowsLines plan [] lines → KnowsLines core.plan core.entries lines
+  knows_fresh plan lines same knows = knows_as plan core.plan [] core.entries lines same (sym entries_none) knows
+
+  pub along_fresh : (env : List Pair) (start : GateTell) (sink : SinkTell) (known : TestLines) → PlansTests tests core.plan → KnowsLines core.plan core.entries known → IsAlong env tests core.plan start start sink sink core 0 known
+  along_fresh env start sink known planned knows =
       let most = count_by-le-length (λ (t : PlanTest). not (is_final_in core.plan.repeat t core.entries)) core.plan.tests in
       record {
         plan_stays = refl;
@@ -80,6 +87,7 @@ module _ (tests : Tests) (core : CoreValue) (is : core ≡ fresh core.plan) wher
         few = omega (arith, most);
         memory = had_fresh;
         put = puts_same sink sink [] (text_of (test_lines core.plan core.entries)) (Ok tt) (ap (λ (es : List Entry). text_of (test_lines core.plan es)) (sym entries_none)) (puts_nothing sink);
+        knows = knows;
       }
 
 -- an early end for which memory was there for each attempt
@@ -103,6 +111,19 @@ line_count plan es place number = by_test (test_at plan.tests number)
 had_due : (plan : PlanParts) (es : List Entry) → had_memory es ≡ true → had_memory (with_due_stop plan es) ≡ true
 had_due plan es had =
     due_keeps plan es (λ xs. had_memory xs ≡ true) had (list_all-append (λ (e : Entry). not (lacks_memory e)) es (Stop ∷ []) ∙ ap (λ (b : Bool). b && (true && true)) had)
+
+-- what the lines need stays known behind a test that was tried
+knows_due : (plan : PlanParts) (es more : List Entry) (lines : TestLines) → KnowsLines plan es lines → KnowsLines plan (with_due_stop plan (es ++ more)) lines
+knows_due plan es more lines knows =
+    let behind = knows_more plan es more lines knows in
+    due_keeps plan (es ++ more) (λ xs. KnowsLines plan xs lines) behind (knows_more plan (es ++ more) (Stop ∷ []) lines behind)
+
+knows_tried : (test : ℕ) (before now : CoreValue) (lines : TestLines) → Tries test before now → KnowsLines before.plan before.entries lines → KnowsLines now.plan now.entries lines
+knows_tried test before now lines (inl (seen, ran, has)) knows =
+    subst (λ (c : CoreValue). KnowsLines c.plan c.entries lines) (sym ran.appended)
+    (knows_due before.plan before.entries (Start test ran.attempt 0 ran.placement ∷ End test ran.attempt 0 seen ∷ []) lines knows)
+knows_tried test before now lines (inr one) knows =
+    subst (λ (c : CoreValue). KnowsLines c.plan c.entries lines) (sym one.appended) (knows_due before.plan before.entries (Settle test one.cause ∷ []) lines knows)
 
 -- the lines that a test brings that was tried
 abbrev pub Gains : ℕ → CoreValue → CoreValue → Type 0
@@ -165,7 +186,7 @@ grown test before now (inr one) =
     }
 
 -- what a step leaves of what the loop keeps
-module _ {env : List Pair} {tests : Tests} {plan : PlanParts} {start gate : GateTell} {before mid : SinkTell} {core now : CoreValue} {lines : ℕ} (along : IsAlong env tests plan start gate before mid core lines) where
+module _ {env : List Pair} {tests : Tests} {plan : PlanParts} {start gate : GateTell} {before mid : SinkTell} {core now : CoreValue} {lines : ℕ} {known : TestLines} (along : IsAlong env tests plan start gate before mid core lines known) where
   -- behind a step for which memory was wanting
   pub refused_plan : (e : NoMemory) → IsStep core now (Err e) → now.plan ≡ plan
   refused_plan e (inl same) = ap (λ (c : CoreValue). c.plan) same ∙ along.plan_stays
@@ -203,6 +224,9 @@ module _ {env : List Pair} {tests : Tests} {plan : PlanParts} {start gate : Gate
     pub tried_plan : now.plan ≡ plan
     tried_plan = grew.plan ∙ along.plan_stays
 
+    pub tried_knows : KnowsLines now.plan now.entries known
+    tried_knows = knows_tried test core now known step.tried along.knows
+
     pub tried_memory : had_memory now.entries ≡ true
     tried_memory = grew.memory along.memory
 
@@ -233,8 +257,8 @@ module _ {env : List Pair} {tests : Tests} {plan : PlanParts} {start gate : Gate
         let here = ap (λ (k : ℕ). length (lines_of_test now.plan now.entries (k + 1) (Some test))) along.lined in
         omega (arith, is, all, here, along.lined)
 
-    pub tried_along : (new : GateTell) (after : SinkTell) (more : ℕ) → IsBetween tests now → StaysAsked env tests 0 gate new core.entries now.entries → Puts (text_of (lines_of_test now.plan now.entries (lines + 1) (Some test))) mid after (Ok tt) → more ≡ lines + length (lines_of_test now.plan now.entries (lines + 1) (Some test)) → IsAlong env tests plan start new before after now more
-    tried_along new after more between stays put is =
+    pub tried_along : (new : GateTell) (after : SinkTell) (more : ℕ) (next : TestLines) → IsBetween tests now → StaysAsked env tests 0 gate new core.entries now.entries → Puts (text_of (lines_of_test now.plan now.entries (lines + 1) (Some test))) mid after (Ok tt) → more ≡ lines + length (lines_of_test now.plan now.entries (lines + 1) (Some test)) → KnowsLines now.plan now.entries next → IsAlong env tests plan start new before after now more next
+    tried_along new after more next between stays put is knows =
         let tests_kept = ap (λ (p : PlanParts). length p.tests) grew.plan in
         record {
           plan_stays = tried_plan;
@@ -244,4 +268,5 @@ module _ {env : List Pair} {tests : Tests} {plan : PlanParts} {start gate : Gate
           few = omega (arith, along.few, counted, is, tests_kept);
           memory = tried_memory;
           put = tried_puts after (Ok tt) put;
+          knows = knows;
         }

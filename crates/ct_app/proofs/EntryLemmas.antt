@@ -20,11 +20,13 @@ use Rattle.ct_history.specs.declared.plan.PlanTest.{PlanTest}
 use Rattle.ct_history.specs.declared.history.Entry.{Entry}
 use Rattle.ct_history.specs.declared.history.Entry.TheVariants.{Start, End, Settle, Stop}
 use Rattle.ct_history.specs.History.{Running, attempt_by, attempts_of, has_stop, is_open_in, is_stop, open_starts, settled_by}
-use Rattle.ct_history.specs.Verdicts.{first_of_list, is_over, last_of_list, settled_cause, settled_or, verdict_in}
+use Rattle.ct_history.specs.Verdicts.{first_of_list, is_over, is_passed_verdict, last_of_list, settled_cause, settled_or, verdict_in}
 use Rattle.ct_history.specs.Legal.{same_cause}
 use Rattle.ct_history.proofs.BoolLemmas.{eq_same}
 use Rattle.ct_history.proofs.LegalLemmas.{stop-snoc}
 use Rattle.ct_history.proofs.OpenLemmas.{is_of, open_starts-end, open_starts-snoc}
+use Rattle.ct_history.specs.Endings.{last_seen, seen_at_end}
+use Rattle.ct_app.proofs.MeantLemmas.{last_behind-snoc}
 
 true_is_false : true ≡ false → ⊥
 true_is_false is = cc
@@ -51,6 +53,17 @@ attempts-snoc n rules es e none =
 pub attempts-end : (n : ℕ) (rules : Rules) (es : List Entry) (a w : ℕ) (s : Seen) → attempts_of n rules (es ++ End n a w s ∷ []) ≡ attempts_of n rules es ++ verdict_of rules s ∷ []
 attempts-end n rules es a w s =
     filter_map-append (attempt_by n rules) es (End n a w s ∷ []) ∙ ap (λ (b : Bool). filter_map (attempt_by n rules) es ++ cons_option (if b then Some (verdict_of rules s) else None) []) (eq_same n)
+
+-- an entry that ends no attempt of the test leaves what was seen of its last one
+pub last-snoc : (n : ℕ) (es : List Entry) (e : Entry) → seen_at_end n e ≡ None → last_seen n (es ++ e ∷ []) ≡ last_seen n es
+last-snoc n es e none =
+    ap last_of_list (filter_map-append (seen_at_end n) es (e ∷ []) ∙ ap (λ (o : Option Seen). filter_map (seen_at_end n) es ++ cons_option o []) none ∙ append-nil (filter_map (seen_at_end n) es))
+
+-- an End is that of the last attempt
+pub last-end : (n : ℕ) (es : List Entry) (a w : ℕ) (s : Seen) → last_seen n (es ++ End n a w s ∷ []) ≡ Some s
+last-end n es a w s =
+    ap last_of_list (filter_map-append (seen_at_end n) es (End n a w s ∷ []) ∙ ap (λ (b : Bool). filter_map (seen_at_end n) es ++ cons_option (if b then Some s else None) []) (eq_same n))
+    ∙ last_behind-snoc None (filter_map (seen_at_end n) es) s
 
 pub stops : (es : List Entry) (e : Entry) → has_stop es ≡ true → has_stop (es ++ e ∷ []) ≡ true
 stops es e is = stop-snoc es e ∙ ap (λ (b : Bool). b || (is_stop e || false)) is
@@ -124,9 +137,21 @@ pub over_last : (over : Bool) (last : Option Verdict) (v : Verdict) → (if not 
 over_last true last v is = (refl, is)
 over_last false last v is = cc
 
--- what an entry leaves of a test: its attempts, and what is open of it
+-- attempts that passed are over
+pub passed_over : (repeat : Repeat) (disabled : Bool) (settled : Option Cause) (opens : Bool) (vs : List Verdict) → is_passed_verdict (verdict_from repeat disabled settled opens vs) ≡ true → (is_over repeat vs ≡ true) × (is_passed_verdict (last_of_list vs) ≡ true)
+passed_over repeat true settled opens vs is = cc
+passed_over repeat false (Some c) opens vs is = cc
+passed_over repeat false None true vs is = cc
+passed_over repeat false None false vs is = by_over (is_over repeat vs) (last_of_list vs) is
+  where
+    by_over : (over : Bool) (last : Option Verdict) → is_passed_verdict (if not false && over then last else None) ≡ true → (over ≡ true) × (is_passed_verdict last ≡ true)
+    by_over true last has = (refl, has)
+    by_over false last has = cc
+
+-- what an entry leaves of a test: its attempts, what was seen of the last one, and what is open of it
 pub record Keeps (t : PlanTest) (es more : List Entry) : Type 0 where
   pub attempts : attempts_of t.number t.rules more ≡ attempts_of t.number t.rules es
+  pub last : last_seen t.number more ≡ last_seen t.number es
   pub opens : is_open_in t.number more ≡ is_open_in t.number es
   pub numbered : (attempt : ℕ) → list_all (is_numbered t.number attempt) (open_starts es) ≡ true → list_all (is_numbered t.number attempt) (open_starts more) ≡ true
   pub stops : has_stop es ≡ true → has_stop more ≡ true
@@ -143,6 +168,7 @@ keeps-start t es n a w p unlike =
     let more = open_starts-snoc es (Start n a w p) refl in
     record {
       attempts = attempts-snoc t.number t.rules es (Start n a w p) refl;
+      last = last-snoc t.number es (Start n a w p) refl;
       opens =
           ap (λ (rs : List Running). list_any (λ (r : Running). r.test == t.number) rs) more
           ∙ list_any-append (λ (r : Running). r.test == t.number) (open_starts es) (run ∷ [])
@@ -169,6 +195,7 @@ keeps-end t es n a w s unlike =
     let less = open_starts-end es n a w s in
     record {
       attempts = attempts-snoc t.number t.rules es (End n a w s) (ap (λ (b : Bool). if b then Some (verdict_of t.rules s) else None) unlike);
+      last = last-snoc t.number es (End n a w s) (ap (λ (b : Bool). if b then Some s else None) unlike);
       opens =
           ap (λ (rs : List Running). list_any (λ (r : Running). r.test == t.number) rs) less
           ∙ any_filter (λ (r : Running). r.test == t.number) (λ r. not (is_of n a r)) (open_starts es) (λ r dropped. other_test t.number n r.test (r.attempt == a) unlike dropped);
@@ -179,9 +206,10 @@ keeps-end t es n a w s unlike =
     }
 
 -- an entry that opens nothing and ends nothing
-pub keeps-quiet : (t : PlanTest) (es : List Entry) (e : Entry) → attempt_by t.number t.rules e ≡ None → open_starts (es ++ e ∷ []) ≡ open_starts es → Keeps t es (es ++ e ∷ [])
-keeps-quiet t es e none same = record {
+pub keeps-quiet : (t : PlanTest) (es : List Entry) (e : Entry) → attempt_by t.number t.rules e ≡ None → seen_at_end t.number e ≡ None → open_starts (es ++ e ∷ []) ≡ open_starts es → Keeps t es (es ++ e ∷ [])
+keeps-quiet t es e none unended same = record {
   attempts = attempts-snoc t.number t.rules es e none;
+  last = last-snoc t.number es e unended;
   opens = ap (λ (rs : List Running). list_any (λ (r : Running). r.test == t.number) rs) same;
   numbered = λ attempt all. ap (λ (rs : List Running). list_all (is_numbered t.number attempt) rs) same ∙ all;
   stops = stops es e;

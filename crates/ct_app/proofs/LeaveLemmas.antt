@@ -29,7 +29,7 @@ use Rattle.ct_app.specs.Gates.{IsAsked, are_below}
 use Rattle.ct_app.specs.Outcome.{outcome_of_file}
 use Rattle.ct_app.specs.Reading.{AskFor, IsSource, most_edges}
 use Rattle.ct_app.specs.Run.{PlansTests}
-use Rattle.ct_app.specs.RunFiles.{FilesStay, Leaves, LeavesPart, LeavesTorn, WritesFiles, last_costs}
+use Rattle.ct_app.specs.RunFiles.{FilesStay, Leaves, LeavesPart, LeavesTorn, WritesFiles, done_of, last_costs}
 use Rattle.ct_app.specs.SpecFile.{AreLent}
 use Rattle.ct_app.specs.Tests.{tests_of}
 use Rattle.ct_app.proofs.ChangeLemmas.{fails_with_last, serves_with_last}
@@ -40,6 +40,10 @@ use Rattle.ct_app.proofs.RunFilesLemmas.{leaves_behind, leaves_part_behind, leav
 pub final_where_ended : (plan : PlanParts) (entries : List Entry) (before now : SinkTell) (ended : Result (Unit {0}) Outcome) → PlanEnds plan entries before now ended → IfOk ended (λ done. are_all_final plan entries ≡ true)
 final_where_ended plan entries before now (Ok done) ends = ends.complete.final
 final_where_ended plan entries before now (Err outcome) ends = tt
+
+-- what ended early has no status
+pub early_status : (empty_is_error : Bool) (plan : PlanParts) (entries : List Entry) (result : Result ℕ Outcome) (outcome : Outcome) → result ≡ Err outcome → result ≡ with_status empty_is_error plan entries (done_of result)
+early_status empty_is_error plan entries result outcome is = subst (λ (r : Result ℕ Outcome). r ≡ with_status empty_is_error plan entries (done_of r)) (sym is) refl
 
 -- the files of a complete run could not be written
 pub ends_unwritten : (plan : PlanParts) (entries : List Entry) (costs : CostData) (before now : FilesTell) (done : Unit {0}) (fault : RunFileFault) (outcome : Outcome) → outcome ≡ outcome_of_file fault → WritesFiles plan entries costs before now (Err fault) → EndsWithFiles plan entries costs before now (Ok done) (Err outcome)

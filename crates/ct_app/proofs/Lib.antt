@@ -20,4 +20,5 @@ pub mod ListLemmas
 pub mod MeantLemmas
 pub mod EntryLemmas
 pub mod MeantRunLemmas
+pub mod MeantTextLemmas
 pub mod MeantAnswerLemmas

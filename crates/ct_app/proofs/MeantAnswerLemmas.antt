@@ -1,4 +1,4 @@
--- A completed run has the verdicts and the status that its tests are meant to have, where all its gates tell one world.
+-- A completed run has the verdicts, the status and the texts that its tests are meant to have, where all its gates tell one world.
 use Rattle.std.proofs.Common.{◌≡◌, ◌∙◌, sym, ap, subst, Bool, true, false, ℕ, zero, suc, ◌+◌, ◌≤◌, ◌<◌, min, List, [], ◌∷◌, length, map, refl, arith, inl, inr}
 use Rattle.std.specs.Prelude.{Option, Some, None, IfSome, IsSomeAnd, filter, not, ◌||◌, ◌==◌, cond, if◌then◌else◌}
 use Rattle.std.specs.List.{range_with_len}
@@ -38,6 +38,7 @@ use Rattle.ct_app.specs.Runs.{HasRunWith, IsCompleted, IsRun, RanWith}
 use Rattle.ct_app.specs.Tests.{tests_of}
 use Rattle.ct_app.proofs.MeantLemmas.{IsRanked}
 use Rattle.ct_app.proofs.MeantRunLemmas.{are_meant}
+use Rattle.ct_app.proofs.MeantTextLemmas.{has_meant_texts}
 
 row_ascends : (first count : ℕ) → IsAscendingFrom first (range_with_len first count)
 row_ascends first zero = tt
@@ -123,10 +124,11 @@ seen_entries props world workers (e ∷ es) below had saw =
 -- a completed run came as is meant in the world that its gates tell
 comes_as_meant : (s : Sides) (status : ℕ) (invocation : Invocation) (source : Source) (plan : PlanParts) (entries : List Entry) → IsRun s invocation source plan entries → IsCompleted s status invocation plan entries → (world : List Told) → AllTell world s.gates_before → ComesAsMeant invocation.empty_is_error plan (seen_in source.props world) entries status
 comes_as_meant s status invocation source plan entries run completed world all =
-    let verdicts = are_meant plan (ranked s invocation source plan entries run) (seen_in source.props world) entries run.ran.legal completed.reported.complete are_seen in
+    let verdicts = are_meant plan (ranked s invocation source plan entries run) (seen_in source.props world) entries run.ran.legal completed.reported.complete.final are_seen in
     record {
       verdicts = verdicts;
       is = completed.is ∙ ap (λ (b : Bool). if (if length plan.tests == 0 then invocation.empty_is_error else b) then 8 else 0) verdicts.failing;
+      texts = λ off. has_meant_texts plan (ranked s invocation source plan entries run) (seen_in source.props world) off entries run.ran.legal completed.reported.complete.final are_seen;
     }
   where
     are_seen : AreSeen (seen_in source.props world) entries

@@ -1,5 +1,5 @@
 -- The meant verdict of a test follows from those of its setups, and from its first attempts.
-use Rattle.std.proofs.Common.{◌≡◌, ◌∙◌, sym, ap, subst, Bool, true, false, ℕ, zero, suc, ◌+◌, ◌≤◌, ◌<◌, List, [], ◌∷◌, ◌++◌, length, refl, arith, inl, inr}
+use Rattle.std.proofs.Common.{◌≡◌, ◌∙◌, sym, ap, subst, Bool, true, false, ℕ, zero, suc, ◌+◌, ◌-◌, ◌≤◌, ◌<◌, List, [], ◌∷◌, ◌++◌, length, refl, arith, inl, inr}
 use Rattle.std.specs.Prelude.{Option, Some, None, IsNone, find, map, option_map, not, ◌&&◌, ◌||◌, ◌==◌, ◌⊎◌, cond, nat_lt, if◌then◌else◌}
 use Rattle.std.specs.List.{list_any, list_all, range_with_len}
 use Rattle.std.proofs.lemmas.Bool.{and_parts, and_from, cases_Bool, ltb-true}
@@ -17,7 +17,7 @@ use Rattle.ct_history.specs.Plan.{IsAscendingFrom, has_sound_links, is_before_ra
 use Rattle.ct_history.specs.Verdicts.{is_over, is_passed_verdict, last_behind, last_of_list, settled_or}
 use Rattle.ct_history.specs.Rules.{cause_behind}
 use Rattle.ct_history.proofs.AttemptLemmas.{empty_of_no_last}
-use Rattle.ct_app.specs.Meant.{first_verdicts, meant_by_setups, meant_of_attempts, meant_verdict, meant_within}
+use Rattle.ct_app.specs.Meant.{first_verdicts, last_attempt, meant_by_setups, meant_of_attempts, meant_verdict, meant_within}
 
 -- what is found passes where all do
 pub all_found : {A : Type 0} (p q : A → Bool) (xs : List A) (x : A) → list_all p xs ≡ true → find q xs ≡ Some x → p x ≡ true
@@ -195,7 +195,7 @@ module _ (plan : PlanParts) (ranked : IsRanked plan) where
 pub first_verdicts-more : (rules : Rules) (seen : ℕ → Seen) (count : ℕ) → first_verdicts rules seen (count + 1) ≡ first_verdicts rules seen count ++ verdict_of rules (seen (count + 1)) ∷ []
 first_verdicts-more rules seen count = map-range_with_len_more (λ k. verdict_of rules (seen k)) 1 count (count + 1) (omega arith)
 
-last_behind-snoc : {A : Type 0} (found : Option A) (xs : List A) (x : A) → last_behind found (xs ++ x ∷ []) ≡ Some x
+pub last_behind-snoc : {A : Type 0} (found : Option A) (xs : List A) (x : A) → last_behind found (xs ++ x ∷ []) ≡ Some x
 last_behind-snoc found [] x = refl
 last_behind-snoc found (y ∷ ys) x = last_behind-snoc (Some y) ys x
 
@@ -217,17 +217,26 @@ not_over_few repeat vs goes = by_last (last_of_list vs) refl
         let here : (nat_lt (length vs) repeat.times && asks_again repeat.mode v) ≡ true = sym (ap (λ (o : Option Verdict). is_repeated repeat (length vs) o) is) ∙ again (is_repeated repeat (length vs) (last_of_list vs)) goes in
         inr (ltb-true (length vs) repeat.times (and_parts (nat_lt (length vs) repeat.times) (asks_again repeat.mode v) here).0)
 
--- where one attempt more makes them over, and none did before, it has the meant verdict
-pub attempts_meant : (repeat : Repeat) (rules : Rules) (seen : ℕ → Seen) (count : ℕ) → 1 ≤ repeat.times → is_over repeat (first_verdicts rules seen (count + 1)) ≡ true → ((j : ℕ) → j < count + 1 → is_over repeat (first_verdicts rules seen j) ≡ false) → meant_of_attempts repeat rules seen ≡ Some (verdict_of rules (seen (count + 1)))
-attempts_meant repeat rules seen count some over before =
-    ap (λ (o : Option ℕ). option_map (λ k. verdict_of rules (seen k)) o)
-    (find_in_row (λ k. is_over repeat (first_verdicts rules seen k)) 1 repeat.times (count + 1) (omega arith) within over (λ j least most. before j most))
+-- the first attempt that makes them over is the last one
+pub last_attempt-is : (repeat : Repeat) (rules : Rules) (seen : ℕ → Seen) (n : ℕ) → 1 ≤ repeat.times → 1 ≤ n → is_over repeat (first_verdicts rules seen n) ≡ true → ((j : ℕ) → j < n → is_over repeat (first_verdicts rules seen j) ≡ false) → last_attempt repeat rules seen ≡ Some n
+last_attempt-is repeat rules seen n some low over before =
+    find_in_row (λ k. is_over repeat (first_verdicts rules seen k)) 1 repeat.times n low within over (λ j least most. before j most)
   where
-    long : length (first_verdicts rules seen count) ≡ count
-    long = length-map-range_with_len (λ k. verdict_of rules (seen k)) 1 count
+    long : length (first_verdicts rules seen (n - 1)) ≡ n - 1
+    long = length-map-range_with_len (λ k. verdict_of rules (seen k)) 1 (n - 1)
 
-    within : count + 1 < 1 + repeat.times
-    within = elim (not_over_few repeat (first_verdicts rules seen count) (before count (omega arith))) [
+    within : n < 1 + repeat.times
+    within = elim (not_over_few repeat (first_verdicts rules seen (n - 1)) (before (n - 1) (omega (arith, low)))) [
       | inl none ↦ omega (arith, long, none, some)
       | inr few ↦ omega (arith, long, few)
     ]
+
+-- passed attempts are some
+pub some_attempt : (rules : Rules) (seen : ℕ → Seen) (n : ℕ) → is_passed_verdict (last_of_list (first_verdicts rules seen n)) ≡ true → 1 ≤ n
+some_attempt rules seen zero passed = cc
+some_attempt rules seen (suc n) passed = omega arith
+
+-- where one attempt more makes them over, and none did before, it has the meant verdict
+pub attempts_meant : (repeat : Repeat) (rules : Rules) (seen : ℕ → Seen) (count : ℕ) → 1 ≤ repeat.times → is_over repeat (first_verdicts rules seen (count + 1)) ≡ true → ((j : ℕ) → j < count + 1 → is_over repeat (first_verdicts rules seen j) ≡ false) → meant_of_attempts repeat rules seen ≡ Some (verdict_of rules (seen (count + 1)))
+attempts_meant repeat rules seen count some over before =
+    ap (λ (o : Option ℕ). option_map (λ k. verdict_of rules (seen k)) o) (last_attempt-is repeat rules seen (count + 1) some (omega arith) over before)

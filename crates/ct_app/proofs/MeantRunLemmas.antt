@@ -1,6 +1,6 @@
 -- Each verdict of a complete legal history is the meant one, or the test was not run because a Stop stands.
-use Rattle.std.proofs.Common.{◌≡◌, ◌∙◌, sym, ap, subst, Bool, true, false, ℕ, ◌+◌, ◌<◌, List, [], ◌∷◌, ◌++◌, length, refl, arith, append_assoc, inl, inr}
-use Rattle.std.specs.Prelude.{Option, Some, None, find, is_none, is_some, not, ◌&&◌, ◌||◌, ◌==◌, ◌⊎◌, if◌then◌else◌}
+use Rattle.std.proofs.Common.{◌≡◌, ◌∙◌, sym, ap, subst, Bool, true, false, ℕ, ◌+◌, ◌≤◌, ◌<◌, List, [], ◌∷◌, ◌++◌, length, refl, arith, append_assoc, inl, inr}
+use Rattle.std.specs.Prelude.{Option, Some, None, find, is_none, is_some, not, option_map, ◌&&◌, ◌||◌, ◌==◌, ◌⊎◌, if◌then◌else◌}
 use Rattle.std.specs.List.{list_all}
 use Rattle.std.proofs.lemmas.Bool.{and_parts, and_from, cases_Bool}
 use Rattle.std.proofs.lemmas.Bool.Decides.{nat_tests}
@@ -20,18 +20,19 @@ use Rattle.ct_history.specs.declared.history.Entry.{Entry}
 use Rattle.ct_history.specs.declared.history.Entry.TheVariants.{Start, End, Settle, Stop}
 use Rattle.ct_history.specs.Plan.{test_at}
 use Rattle.ct_history.specs.History.{Running, attempts_of, has_stop, holds_start, is_busy_in, is_open_in, is_stop, open_starts}
-use Rattle.ct_history.specs.Verdicts.{is_final_in, is_failing_in, is_over, is_passed_verdict, last_of_list, settled_cause, settled_or, verdict_at, verdict_in, verdict_of_test}
+use Rattle.ct_history.specs.Verdicts.{are_all_final, is_final_in, is_failing_in, is_over, is_passed_verdict, last_of_list, settled_cause, settled_or, verdict_at, verdict_in, verdict_of_test}
 use Rattle.ct_history.specs.Rules.{cause_behind, first_unpassed, follows_finals, is_pending, is_ready, may_start, settle_cause}
-use Rattle.ct_history.specs.Legal.{IsComplete, are_allowed_behind, has_failing, is_allowed, is_allowed_so_far, is_legal, is_next_attempt, is_stop_due, ends_in_first_failure, settles, starts}
+use Rattle.ct_history.specs.Legal.{are_allowed_behind, has_failing, is_allowed, is_allowed_so_far, is_legal, is_next_attempt, is_stop_due, ends_in_first_failure, settles, starts}
 use Rattle.ct_history.proofs.BoolLemmas.{eq_same}
 use Rattle.ct_history.proofs.FinalLemmas.{start_ends_none}
 use Rattle.ct_history.proofs.LegalLemmas.{legal_allowed, stop_failed}
 use Rattle.ct_history.proofs.MayLemmas.{may_start-parts, pending-parts}
 use Rattle.ct_history.proofs.OpenLemmas.{is_of, open_starts-end, open_starts-snoc}
 use Rattle.ct_history.proofs.PlanLemmas.{find_passes, found_at}
-use Rattle.ct_app.specs.Meant.{AreMeant, AreSeen, IsMeant, IsSeen, first_unpassed_setup, first_verdicts, is_meant_to_fail, meant_by_setups, meant_cause, meant_of_attempts, meant_verdict}
-use Rattle.ct_app.proofs.MeantLemmas.{IsRanked, all_found, attempts_meant, find_same, first_verdicts-more, last_of_first, meant_verdict-is, setups_before}
-use Rattle.ct_app.proofs.EntryLemmas.{Keeps, all_filter, any_from, apart, attempts-end, attempts-snoc, both_ways, cause-is, held_attempt, is_numbered, keeps-end, keeps-quiet, keeps-start, none_passes, open_by_hold, or_true, over_last, quiet-settle, quiet-stop, settled-first, settled-snoc, settled_so, stops, unfinished, verdict_from, verdict_kept}
+use Rattle.ct_history.specs.Endings.{last_seen}
+use Rattle.ct_app.specs.Meant.{AreMeant, AreSeen, IsMeant, IsSeen, first_unpassed_setup, first_verdicts, is_meant_to_fail, last_attempt, meant_by_setups, meant_cause, meant_of_attempts, meant_verdict}
+use Rattle.ct_app.proofs.MeantLemmas.{IsRanked, all_found, attempts_meant, find_same, first_verdicts-more, last_attempt-is, last_of_first, meant_verdict-is, setups_before, some_attempt}
+use Rattle.ct_app.proofs.EntryLemmas.{Keeps, all_filter, any_from, apart, attempts-end, attempts-snoc, both_ways, cause-is, held_attempt, is_numbered, keeps-end, keeps-quiet, keeps-start, last-end, last-snoc, none_passes, open_by_hold, or_true, over_last, passed_over, quiet-settle, quiet-stop, settled-first, settled-snoc, settled_so, stops, unfinished, verdict_from, verdict_kept}
 
 true_is_false : true ≡ false → ⊥
 true_is_false is = cc
@@ -45,11 +46,12 @@ record IsFree (plan : PlanParts) (seen : ℕ → ℕ → Seen) (t : PlanTest) : 
 abbrev IsRight : PlanParts → (ℕ → ℕ → Seen) → ℕ → List Entry → Verdict → Type 0
 IsRight plan seen number es v = (meant_verdict plan seen number ≡ Some v) ⊎ ((has_stop es ≡ true) × (v ≡ NotRun Stopped))
 
--- how far a test has come: its attempts are so many first ones, none was the last but maybe this one, the open one is the next,
--- and the verdict is right
+-- how far a test has come: its attempts are so many first ones, and what was seen last is of the last of these; none was the last
+-- but maybe this one, the open one is the next, and the verdict is right
 record Goes (plan : PlanParts) (seen : ℕ → ℕ → Seen) (es : List Entry) (t : PlanTest) : Type 0 where
   pub count : ℕ
   pub attempts : attempts_of t.number t.rules es ≡ first_verdicts t.rules (seen t.number) count
+  pub last : 1 ≤ count → last_seen t.number es ≡ Some (seen t.number count)
   pub before : (j : ℕ) → j < count → is_over plan.repeat (first_verdicts t.rules (seen t.number) j) ≡ false
   pub numbered : list_all (is_numbered t.number (count + 1)) (open_starts es) ≡ true
   pub goes : is_open_in t.number es ≡ true → is_over plan.repeat (first_verdicts t.rules (seen t.number) count) ≡ false
@@ -68,6 +70,7 @@ goes_kept : (plan : PlanParts) (seen : ℕ → ℕ → Seen) (t : PlanTest) (es 
 goes_kept plan seen t es more kept right g = record {
   count = g.count;
   attempts = kept.attempts ∙ g.attempts;
+  last = λ some. kept.last ∙ g.last some;
   before = g.before;
   numbered = kept.numbered (g.count + 1) g.numbered;
   goes = λ is. g.goes (sym kept.opens ∙ is);
@@ -167,6 +170,7 @@ module _ (plan : PlanParts) (ranked : IsRanked plan) (seen : ℕ → ℕ → See
           record {
             count = g.count;
             attempts = attempts-snoc t.number t.rules es (Start t.number a w p) refl ∙ g.attempts;
+            last = λ some. last-snoc t.number es (Start t.number a w p) refl ∙ g.last some;
             before = g.before;
             numbered =
                 ap (λ (rs : List Running). list_all (is_numbered t.number (g.count + 1)) rs) (open_starts-snoc es (Start t.number a w p) refl)
@@ -236,6 +240,7 @@ module _ (plan : PlanParts) (ranked : IsRanked plan) (seen : ℕ → ℕ → See
       end_own a w s holds told = record {
         count = (all t own).count + 1;
         attempts = verdicts;
+        last = λ some. last-end t.number es a w s ∙ ap (λ (x : Seen). Some x) (told ∙ ap (λ (n : ℕ). seen t.number n) attempt);
         before = below_more opens;
         numbered = weaker (open_starts more) ((all t own).count + 1 + 1) others;
         goes = λ is. absurd (true_is_false (sym is ∙ closed));
@@ -281,7 +286,7 @@ module _ (plan : PlanParts) (ranked : IsRanked plan) (seen : ℕ → ℕ → See
           let pending = pending-parts plan t es so.0 in
           let left = unfinished plan.repeat t.disabled (settled_cause t.number es) (is_open_in t.number es) (attempts_of t.number t.rules es) pending.closed pending.unfinished in
           let caused : settled_cause t.number more ≡ Some c = settled-first t.number es (Settle t.number c) c left.unsettled (ap (λ (b : Bool). if b then Some c else None) (eq_same t.number)) in
-          goes_kept plan seen t es more (keeps-quiet t es (Settle t.number c) refl (quiet-settle es t.number c)) (λ v is. settled_right v left.enabled so.1 (sym (comes left.enabled caused) ∙ is)) (all t own)
+          goes_kept plan seen t es more (keeps-quiet t es (Settle t.number c) refl refl (quiet-settle es t.number c)) (λ v is. settled_right v left.enabled so.1 (sym (comes left.enabled caused) ∙ is)) (all t own)
         where
           comes : t.disabled ≡ false → settled_cause t.number (es ++ Settle t.number c ∷ []) ≡ Some c → verdict_in plan.repeat t (es ++ Settle t.number c ∷ []) ≡ Some (NotRun c)
           comes enabled caused =
@@ -321,10 +326,10 @@ module _ (plan : PlanParts) (ranked : IsRanked plan) (seen : ℕ → ℕ → See
           subst (λ (m : ℕ). Goes plan seen (es ++ Settle m c ∷ []) t) (sym here)
           (settle_own t own c (cause-is c (settle_cause plan t es) (sym (ap (λ (m : ℕ). settles plan es c (test_at plan.tests m)) here ∙ ap (λ (o : Option PlanTest). settles plan es c o) own) ∙ both.1)))
       | inr unlike ↦
-          goes_same plan seen t es (es ++ Settle n c ∷ []) (keeps-quiet t es (Settle n c) refl (quiet-settle es n c))
+          goes_same plan seen t es (es ++ Settle n c ∷ []) (keeps-quiet t es (Settle n c) refl refl (quiet-settle es n c))
           (settled-snoc t.number es (Settle n c) (ap (λ (b : Bool). if b then Some c else None) unlike)) (all t own)
     ]
-    goes_on Stop allowed is t own = goes_same plan seen t es (es ++ Stop ∷ []) (keeps-quiet t es Stop refl (quiet-stop es)) (settled-snoc t.number es Stop refl) (all t own)
+    goes_on Stop allowed is t own = goes_same plan seen t es (es ++ Stop ∷ []) (keeps-quiet t es Stop refl refl (quiet-stop es)) (settled-snoc t.number es Stop refl) (all t own)
 
   goes_behind : (front es : List Entry) → are_allowed_behind plan front es ≡ true → AreSeen seen es → AllGo plan seen front → AllGo plan seen (front ++ es)
   goes_behind front [] allowed are all = subst (λ (xs : List Entry). AllGo plan seen xs) (sym (append-nil front)) all
@@ -337,6 +342,7 @@ module _ (plan : PlanParts) (ranked : IsRanked plan) (seen : ℕ → ℕ → See
   goes_first t own = record {
     count = 0;
     attempts = refl;
+    last = λ some. absurd (omega (arith, some));
     before = λ j less. absurd (omega (arith, less));
     numbered = refl;
     goes = λ is. absurd (true_is_false (sym is));
@@ -361,7 +367,7 @@ module _ (plan : PlanParts) (ranked : IsRanked plan) (seen : ℕ → ℕ → See
       by_entry (Settle n c) may = refl
       by_entry Stop due = absurd (true_is_false (sym due ∙ ap (λ (b : Bool). b && ends_in_first_failure plan front) off))
 
-  module _ (es : List Entry) (legal : is_legal plan es ≡ true) (complete : IsComplete plan es) (are : AreSeen seen es) where
+  module _ (es : List Entry) (legal : is_legal plan es ≡ true) (final : are_all_final plan es ≡ true) (are : AreSeen seen es) where
     so_far : is_allowed_so_far plan es ≡ true
     so_far = legal_allowed plan es legal
 
@@ -378,8 +384,8 @@ module _ (plan : PlanParts) (ranked : IsRanked plan) (seen : ℕ → ℕ → See
         by_test : (o : Option PlanTest) → test_at plan.tests number ≡ o → (verdict_at plan es o ≡ meant_verdict plan seen number) ⊎ ((has_stop es ≡ true) × (verdict_at plan es o ≡ Some (NotRun Stopped)))
         by_test None found = inl (sym (meant_verdict-is plan ranked seen number ∙ ap (λ (o : Option PlanTest). meant_by_setups plan.repeat seen (meant_verdict plan seen) o) found))
         by_test (Some t) found =
-            let final = all_found (λ (x : PlanTest). is_final_in plan.repeat x es) (λ (x : PlanTest). x.number == number) plan.tests t complete.final found in
-            let verdict = some_verdict (verdict_in plan.repeat t es) final in
+            let has = all_found (λ (x : PlanTest). is_final_in plan.repeat x es) (λ (x : PlanTest). x.number == number) plan.tests t final found in
+            let verdict = some_verdict (verdict_in plan.repeat t es) has in
             elim (right_at es all_go number (Some t) found verdict.0 verdict.1) [
               | inl meant ↦ inl (verdict.1 ∙ sym meant)
               | inr stopped ↦ inr (stopped.0, verdict.1 ∙ ap (λ (v : Verdict). Some v) stopped.1)
@@ -390,6 +396,15 @@ module _ (plan : PlanParts) (ranked : IsRanked plan) (seen : ℕ → ℕ → See
       | inl meant ↦ meant
       | inr stopped ↦ absurd (true_is_false (sym stopped.0 ∙ no_stop-behind [] es off so_far))
     ]
+
+    -- a test that passed ended in its last attempt
+    pub passed_last : (t : PlanTest) → test_at plan.tests t.number ≡ Some t → is_passed_verdict (verdict_in plan.repeat t es) ≡ true → last_seen t.number es ≡ option_map (seen t.number) (last_attempt plan.repeat t.rules (seen t.number))
+    passed_last t own is =
+        let g = all_go t own in
+        let over = passed_over plan.repeat t.disabled (settled_cause t.number es) (is_open_in t.number es) (attempts_of t.number t.rules es) is in
+        let some = some_attempt t.rules (seen t.number) g.count (sym (ap (λ (vs : List Verdict). is_passed_verdict (last_of_list vs)) g.attempts) ∙ over.1) in
+        let last = last_attempt-is plan.repeat t.rules (seen t.number) g.count ranked.times some (sym (ap (λ (vs : List Verdict). is_over plan.repeat vs) g.attempts) ∙ over.0) g.before in
+        g.last some ∙ sym (ap (λ (o : Option ℕ). option_map (seen t.number) o) last)
 
     own_of : (p : PlanTest → Bool) (t : PlanTest) → find p plan.tests ≡ Some t → test_at plan.tests t.number ≡ Some t
     own_of p t found = found_at p 1 plan.tests t ranked.numbers found

@@ -3,7 +3,6 @@ use Rattle.std.proofs.Common.{◌≡◌, ◌∙◌, sym, ap, subst, Bool, true, 
 use Rattle.std.specs.Prelude.{Option, Some, None, IfSome, option_map, ◌==◌, cond}
 use Rattle.std.proofs.lemmas.Bool.{cases_Bool}
 use Rattle.std.proofs.lemmas.Bool.Decides.{nat_tests}
-use Rattle.ct_props.specs.Numbered.{at_number}
 use Rattle.ct_props.proofs.NumberedLemmas.{number_within}
 use Rattle.ct_props.specs.declared.props.Props.{Props}
 use Rattle.ct_env.specs.Modification.{first_bad}

@@ -1,10 +1,10 @@
 -- What the files of a run come to hold, write by write.
 use Rattle.std.proofs.Common.{◌≡◌, ◌≢◌, ◌∙◌, sym, ap, subst, Bool, true, false, ℕ, ◌+◌, ◌<◌, List, [], ◌∷◌, ◌++◌, length, get_or, take, inl, inr, refl, arith}
-use Rattle.std.specs.Prelude.{Option, Some, None, Result, Ok, Err, IfSome, IsErrOf, option_map, cond, not, nat_le, codes, decimal, filter, flat_map, ◌==◌}
+use Rattle.std.specs.Prelude.{Option, Some, None, Result, Ok, Err, IfSome, IsErrOf, option_map, cond, not, codes, decimal, filter, flat_map, ◌==◌}
 use Rattle.std.specs.List.{list_any}
-use Rattle.std.proofs.lemmas.Bool.{leb-true, leb-false, lt-leb, ne_eqb}
+use Rattle.std.proofs.lemmas.Bool.{ne_eqb}
 use Rattle.std.proofs.lemmas.Bool.Decides.{Decides-eqb}
-use Rattle.std.proofs.lemmas.List.{append_cancel_left, length-append, length-take, take_all}
+use Rattle.std.proofs.lemmas.List.{append_cancel_left, length-append}
 use Rattle.ct_base.specs.declared.files.FilesFault.{FilesFault}
 use Rattle.ct_base.specs.declared.files.FilesFault.TheVariants as Files
 use Rattle.ct_base.specs.Outside.{FailsToWrite, FilesTell, Held, LooksAt, SameHeld, Writes}
@@ -96,6 +96,14 @@ leaves_none plan entries costs files none = by_tests plan.tests none
   where
     by_tests : (tests : List PlanTest) → (length tests == 0) ≡ true → FilesServe (LeavesFor tests plan entries costs) files files
     by_tests [] none = stays files
+    by_tests (t ∷ ts) none = let no = (Decides-eqb (length (t ∷ ts)) 0).0 none in absurd (omega (arith, no))
+
+-- a plan without tests has none that failed
+pub none_failing : (plan : PlanParts) (entries : List Entry) → (length plan.tests == 0) ≡ true → has_failing plan entries ≡ false
+none_failing plan entries none = by_tests plan.tests none
+  where
+    by_tests : (tests : List PlanTest) → (length tests == 0) ≡ true → list_any (λ (t : PlanTest). is_failing_in (verdict_in plan.repeat t entries)) tests ≡ false
+    by_tests [] none = refl
     by_tests (t ∷ ts) none = let no = (Decides-eqb (length (t ∷ ts)) 0).0 none in absurd (omega (arith, no))
 
 -- files that stay are left in part

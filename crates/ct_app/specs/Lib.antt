@@ -3,6 +3,7 @@ pub mod Tests
 pub mod Outcome
 pub mod Gates
 pub mod Meant
+pub mod MeantTexts
 pub mod MeantTold
 pub mod RunFiles
 pub mod SpecFile

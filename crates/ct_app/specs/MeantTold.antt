@@ -1,4 +1,4 @@
--- The verdicts and the status that a run is meant to have in the world that its gates tell. This project's own, after
+-- The verdicts, the status and the texts that a run is meant to have in the world that its gates tell. This project's own, after
 -- CMake manual, ctest(1).
 use Rattle.std.specs.Prelude.{◌≡◌, ℕ, Bool, false, List, [], ◌∷◌, length, Option, Some, None, ◌==◌, ⊤, if◌then◌else◌}
 use Rattle.ct_props.specs.declared.props.Props.{Props}
@@ -10,6 +10,7 @@ use Rattle.ct_core.specs.declared.gate.Told.{Told}
 use Rattle.ct_core.specs.Gate.{GateTell, told}
 use Rattle.ct_app.specs.Gates.{seen_of}
 use Rattle.ct_app.specs.Meant.{AreMeant, is_meant_to_fail}
+use Rattle.ct_app.specs.MeantTexts.{HasMeantTexts}
 
 -- what is seen of an attempt of a test with these properties, of which this is told; without any no pattern hits
 abbrev pub seen_as_told : Option Props → Told → Seen
@@ -33,7 +34,9 @@ is_meant_failed empty_is_error plan seen = if length plan.tests == 0 then empty_
 abbrev pub meant_status : Bool → PlanParts → (ℕ → ℕ → Seen) → ℕ
 meant_status empty_is_error plan seen = if is_meant_failed empty_is_error plan seen then 8 else 0
 
--- the verdicts of a history are the meant ones, and so is the status
+-- the verdicts of a history are the meant ones, and so is the status; without --stop-on-failure the texts are those of each such
+-- history
 pub record ComesAsMeant (empty_is_error : Bool) (plan : PlanParts) (seen : ℕ → ℕ → Seen) (entries : List Entry) (status : ℕ) : Type 0 where
   pub verdicts : AreMeant plan seen entries
   pub is : status ≡ meant_status empty_is_error plan seen
+  pub texts : plan.stop_on_failure ≡ false → HasMeantTexts plan seen entries

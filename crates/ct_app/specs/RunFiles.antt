@@ -119,6 +119,11 @@ WritesText path text before now (Ok done) = FilesServe (Writes path text) before
 WritesText path text before now (Err (Fault.Failed failed)) = (failed ≡ path) × FilesFail failed (FailsToWrite path text) before now
 WritesText path text before now (Err Fault.NoMemory) = FilesStay before now
 
+-- that a call was carried out, whatever it gave, or why it was not
+abbrev pub done_of : {T E : Type 0} → Result T E → Result (Unit {0}) E
+done_of (Ok given) = Ok tt
+done_of (Err fault) = Err fault
+
 -- the files of a run were written, or one of them could not be
 abbrev pub WritesFiles : PlanParts → List Entry → CostData → FilesTell → FilesTell → Result (Unit {0}) RunFileFault → Type 0
 WritesFiles plan entries costs before now (Ok done) = FilesServe (Leaves plan entries costs) before now

@@ -1,9 +1,9 @@
-ghost use Rattle.std.specs.Prelude.{◌≡◌, ◌<◌, ◌-◌, ◌^◌, [], ◌∷◌, None, true, IfOk, IfErr, length, option_map};
+ghost use Rattle.std.specs.Prelude.{◌≡◌, ◌==◌, ◌<◌, ◌-◌, ◌^◌, [], ◌∷◌, None, true, IfOk, IfErr, if◌then◌else◌, length, option_map};
 ghost use Rattle.ct_args.specs.Invocation.{IsBounded};
 ghost use Rattle.ct_app.specs.Calls.{sides};
 ghost use Rattle.ct_app.specs.Ends.{EndsFor, EndsWithFiles, HasRun, IsReadFolder, IsUnplanned, IsUnreadFolder, PlanEnds, ended_as, history_entries, with_status as ended_with};
-ghost use Rattle.ct_app.specs.Outcome.{is_failed as has_failed, status_of};
 ghost use Rattle.ct_app.specs.Run.{PlansTests};
+ghost use Rattle.ct_app.specs.RunFiles.{done_of};
 ghost use Rattle.ct_history.specs.Plan.{IsSound};
 ghost use Rattle.ct_history.specs.Verdicts.{are_all_final};
 
@@ -17,7 +17,7 @@ use ct_args::Invocation;
 use ct_base::{Files, List, Name, NoMemory, Pair, Sink, SinkFault, TestDef};
 use ct_core::{Core, Gate};
 use ct_cost::CostData;
-use ct_history::{Entry, History, Plan, PlanParts, has_failing};
+use ct_history::{History, Plan, PlanParts};
 use ct_plan::{PlanFault, plan};
 use ct_spec::Spec;
 use std::alloc::Global;
@@ -82,9 +82,10 @@ pub(crate) fn run_folder<F: Files, G: Gate, S: Sink>(
         plan,
         history,
     } = run_plan(alloc, planned, env, &tests, gate, sink);
-    let ended = leave_files(alloc, files, &costs, &plan, &history, ended);
+    let empty_is_error = invocation.empty_is_error;
+    let ended = leave_files(alloc, files, empty_is_error, &costs, &plan, &history, ended);
     Ran {
-        ended: with_status(ended, invocation.empty_is_error, &plan, &history),
+        ended,
         names: List::new(alloc),
         plan: Some(plan),
         history: Some(history),
@@ -193,45 +194,34 @@ fn ended(run: Result<(), SinkFault>) -> Result<(), Outcome>
     }
 }
 
-/// Writes the files of a run that is complete; one that ended early leaves none.
+/// Writes the files of a run that is complete, and gives its status; one that ended early leaves
+/// none.
+#[tactic(auto, using(crate::proofs::LeaveLemmas::early_status))]
 fn leave_files<F: Files>(
     alloc: Global,
     files: &mut F,
+    empty_is_error: bool,
     costs: &CostData,
     plan: &Plan,
     history: &History,
     ended: Result<(), Outcome>,
-) -> Result<(), Outcome>
+) -> Result<u8, Outcome>
     requires complete { IfOk ended (λ done. are_all_final plan.now (history_entries history.now) ≡ true) }
-    ensures { EndsWithFiles plan.now (history_entries history.now) costs.now (F.tells files.old) (F.tells files.new) ended result }
+    ensures left { EndsWithFiles plan.now (history_entries history.now) costs.now (F.tells files.old) (F.tells files.new) ended (done_of result) }
+    ensures status { result ≡ ended_with empty_is_error plan.now (history_entries history.now) (done_of result) }
 {
     ended?;
-    write_files(alloc, files, costs, plan, history)?;
-    Ok(())
+    let failed = write_files(alloc, files, costs, plan, history)?;
+    Ok(status(empty_is_error, plan.parts(), failed))
 }
 
-/// The status of a run that is completed, or the outcome of one that is not.
-fn with_status(
-    ended: Result<(), Outcome>,
-    empty_is_error: bool,
-    plan: &Plan,
-    history: &History,
-) -> Result<u8, Outcome>
-    ensures { result ≡ ended_with empty_is_error plan.now (history_entries history.now) ended }
-{
-    match ended {
-        Ok(()) => Ok(status(empty_is_error, plan.parts(), history.entries.as_slice())),
-        Err(outcome) => Err(outcome),
-    }
-}
-
-/// The status of a run that is completed: 8 where it failed.
+/// The status of a run that is completed, by whether some test failed: 8 where the run failed.
 ///
 /// Source: CMake manual, ctest(1), Description.
-fn status(empty_is_error: bool, plan: &PlanParts, entries: &[Entry]) -> u8
-    ensures { result ≡ status_of empty_is_error plan.now entries.now }
+fn status(empty_is_error: bool, plan: &PlanParts, failed: bool) -> u8
+    ensures { result ≡ (if (if length plan.now.tests == 0 then empty_is_error else failed) then 8 else 0) }
 {
-    if is_failed(empty_is_error, plan, entries) {
+    if is_failed(empty_is_error, plan, failed) {
         8
     } else {
         0
@@ -241,12 +231,12 @@ fn status(empty_is_error: bool, plan: &PlanParts, entries: &[Entry]) -> u8
 /// Tells whether some test failed, or there is none and that is an error.
 ///
 /// Source: CMake manual, ctest(1), --no-tests.
-fn is_failed(empty_is_error: bool, plan: &PlanParts, entries: &[Entry]) -> bool
-    ensures { result ≡ has_failed empty_is_error plan.now entries.now }
+fn is_failed(empty_is_error: bool, plan: &PlanParts, failed: bool) -> bool
+    ensures { result ≡ (if length plan.now.tests == 0 then empty_is_error else failed) }
 {
     if plan.tests.is_empty() {
         empty_is_error
     } else {
-        has_failing(plan, entries)
+        failed
     }
 }

@@ -1,15 +1,16 @@
-ghost use Rattle.std.specs.Prelude.{◌≡◌, ◌==◌, ◌+◌, ◌-◌, ◌^◌, ◌<◌, [], Some, OnOk, length};
+ghost use Rattle.std.specs.Prelude.{◌≡◌, ◌==◌, ◌+◌, ◌-◌, ◌^◌, ◌<◌, [], Some, true, OnOk, length};
 ghost use Rattle.ct_app.specs.Gates.{IsAsked};
 ghost use Rattle.ct_app.specs.Run.{IsBetween, PlansTests, RunEnds, fresh};
 ghost use Rattle.ct_base.specs.Outside.{Puts};
+ghost use Rattle.ct_history.specs.Verdicts.{are_all_final};
 ghost use Rattle.ct_report.specs.Report.{header_line, lines_of_test, report_text, summary_lines, test_lines, text_of};
+ghost use Rattle.ct_report.specs.RunLines.{KnowsLines};
 
 use crate::attempt::step;
 use crate::props::Tests;
 use ct_base::{Pair, Sink, SinkFault};
 use ct_core::{Core, Gate};
-use ct_history::verdict_of;
-use ct_report::{header, line, no_tests, summary};
+use ct_report::{TestLines, header, no_tests, summary};
 use std::alloc::Global;
 
 /// Runs the tests one after the other, with the report around them.
@@ -67,9 +68,10 @@ fn run_tests<G: Gate, S: Sink>(
     ensures puts { Puts (text_of (test_lines core.new.plan core.new.entries)) (S.tells sink.old) (S.tells sink.new) result }
     ensures ends { RunEnds [] core.new.plan core.new.entries (S.tells sink.old) (S.tells sink.new) result }
 {
-    let mut lines = 0;
+    let mut lines = TestLines::new(alloc, core.plan())?;
+    let mut count = 0;
     while let Some(test) = step(alloc, core, env, tests, gate)? {
-        put_line(alloc, core, sink, test, &mut lines)?;
+        put_line(alloc, core, sink, test, &mut lines, &mut count)?;
     }
     Ok(())
 }
@@ -80,23 +82,35 @@ fn put_line<S: Sink>(
     core: &Core,
     sink: &mut S,
     test: u32,
-    lines: &mut u32,
+    lines: &mut TestLines,
+    count: &mut u32,
 ) -> Result<(), SinkFault>
-    requires few { lines.old < 2 ^ 32 - 1 }
-    ensures puts { Puts (text_of (lines_of_test core.now.plan core.now.entries (lines.old + 1) (Some test))) (S.tells sink.old) (S.tells sink.new) result }
-    ensures count { OnOk result (lines.new ≡ lines.old + length (lines_of_test core.now.plan core.now.entries (lines.old + 1) (Some test))) }
+    requires few { count.old < 2 ^ 32 - 1 }
+    requires knows { KnowsLines core.now.plan core.now.entries lines.old }
+    ensures puts { Puts (text_of (lines_of_test core.now.plan core.now.entries (count.old + 1) (Some test))) (S.tells sink.old) (S.tells sink.new) result }
+    ensures count { OnOk result (count.new ≡ count.old + length (lines_of_test core.now.plan core.now.entries (count.old + 1) (Some test))) }
+    ensures knows { KnowsLines core.now.plan core.now.entries lines.new }
 {
-    let entries = core.history().entries.as_slice();
-    if verdict_of(core.plan().parts(), entries, test).is_none() {
+    let Some(verdict) = core.verdict(test) else {
         return Ok(());
-    }
-    line(alloc, sink, core.plan(), core.history(), test, *lines + 1)?;
-    *lines += 1;
+    };
+    let place = *count + 1;
+    lines.put(
+        alloc,
+        sink,
+        core.plan(),
+        core.history(),
+        test,
+        place,
+        verdict,
+    )?;
+    *count = place;
     Ok(())
 }
 
-/// Puts the summary of a run.
+/// Puts the summary of a run in which each test is final.
 fn put_summary<S: Sink>(alloc: Global, core: &Core, sink: &mut S) -> Result<(), SinkFault>
+    requires ended { are_all_final core.now.plan core.now.entries ≡ true }
     ensures { Puts (text_of (summary_lines core.now.plan core.now.entries)) (S.tells sink.old) (S.tells sink.new) result }
 {
     summary(alloc, sink, core.plan(), core.history())?;

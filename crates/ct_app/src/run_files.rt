@@ -1,7 +1,8 @@
 ghost use Rattle.std.specs.Prelude.{◌≡◌, ◌∷◌, true, IfOk, codes};
 ghost use Rattle.ct_base.specs.Path.{joined};
+ghost use Rattle.ct_history.specs.Legal.{has_failing};
 ghost use Rattle.ct_history.specs.Verdicts.{are_all_final};
-ghost use Rattle.ct_app.specs.RunFiles.{ReadsCosts, WritesFiles, WritesText, costs_of, fault_at as fault_of_files};
+ghost use Rattle.ct_app.specs.RunFiles.{ReadsCosts, WritesFiles, WritesText, costs_of, done_of, fault_at as fault_of_files};
 ghost use Rattle.ct_app.specs.declared.run_files.RunFileFault.TheVariants as Cause;
 
 use ct_base::{Blob, Files, FilesFault, Name, NoMemory, join_path};
@@ -70,6 +71,8 @@ fn costs_of(alloc: Global, held: Option<Blob>) -> Result<CostData, NoMemory>
 /// Writes what a complete run leaves for the next one: the cost data, and then, where some test
 /// failed, the log of the failed tests. A run without tests leaves nothing.
 ///
+/// It tells whether some test failed, which the log says in one pass.
+///
 /// Source: CMake manual, ctest(1), --rerun-failed; cmake-properties(7), COST.
 pub(crate) fn write_files<F: Files>(
     alloc: Global,
@@ -77,20 +80,22 @@ pub(crate) fn write_files<F: Files>(
     costs: &CostData,
     plan: &Plan,
     history: &History,
-) -> Result<(), RunFileFault>
+) -> Result<bool, RunFileFault>
     requires ended { are_all_final plan.now history.now.entries.items ≡ true }
-    ensures { WritesFiles plan.now history.now.entries.items costs.now (F.tells files.old) (F.tells files.new) result }
+    ensures written { WritesFiles plan.now history.now.entries.items costs.now (F.tells files.old) (F.tells files.new) (done_of result) }
+    ensures failed { IfOk result (λ failed. failed ≡ has_failing plan.now history.now.entries.items) }
 {
     if plan.parts().tests.is_empty() {
-        return Ok(());
+        return Ok(false);
     }
     let text = costs.after(alloc, plan, history)?.text(alloc)?;
     let log = failed_log(alloc, plan, history)?;
     write(alloc, files, &plan.parts().dir, COSTS, text.bytes())?;
     if log.bytes().is_empty() {
-        return Ok(());
+        return Ok(false);
     }
-    write(alloc, files, &plan.parts().dir, LOG, log.bytes())
+    write(alloc, files, &plan.parts().dir, LOG, log.bytes())?;
+    Ok(true)
 }
 
 /// Writes a text to the file of this name in a folder.

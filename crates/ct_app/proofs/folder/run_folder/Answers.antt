@@ -10,6 +10,7 @@ use Rattle.ct_plan.specs.Source.{source}
 use Rattle.ct_app.specs.Calls.{sides}
 use Rattle.ct_app.specs.Ends.{Ends, IsReadFolder, IsUnplanned, history_entries}
 use Rattle.ct_app.specs.Reading.{most_edges}
+use Rattle.ct_app.specs.RunFiles.{done_of}
 use Rattle.ct_app.specs.declared.outcome.Outcome.{Outcome}
 use Rattle.ct_app.proofs.LeaveLemmas.{folder_ends, plans_read, unplanned_ends}
 use Rattle.ct_app.proofs.folder.run_folder.Goals as goal
@@ -46,6 +47,6 @@ returns g c words asked =
     let sink_now = g.S.Sink.tells run.new.sink in
     let entries = history_entries run.result.history in
     let planned = subst (λ (p : PlanParts). IsPlanAnswer most_edges (source folder.tests.defs folder.tests.props c.args.invocation.now.wanted lent folder.costs) (Ok p)) (sym run.ensures.plan) c.in-Ok-plan.ensures.answer in
-    subst (λ (ended : Result ℕ Outcome). Ends (sides words c.args.env.now files files_now (gate ∷ []) (gate_now ∷ []) sink sink_now (Some run.result.plan) (Some entries)) c.new.result ended) (sym c.with_status.ensures)
+    subst (λ (ended : Result ℕ Outcome). Ends (sides words c.args.env.now files files_now (gate ∷ []) (gate_now ∷ []) sink sink_now (Some run.result.plan) (Some entries)) c.new.result ended) (sym c.leave_files-ended.ensures.status)
     (folder_ends words c.args.env.now c.args.invocation.now asked files (g.F.Files.tells c.read_folder.new.files) files_now folder.tests lent folder.costs read
-    gate gate_now sink sink_now run.result.plan entries c.new.result run.result.ended c.leave_files-ended.result c.requires.some_level planned run.ensures.ran run.ensures.ends c.leave_files-ended.ensures)
+    gate gate_now sink sink_now run.result.plan entries c.new.result run.result.ended (done_of c.leave_files-ended.result) c.requires.some_level planned run.ensures.ran run.ensures.ends c.leave_files-ended.ensures.left)
