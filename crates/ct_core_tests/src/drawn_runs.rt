@@ -14,7 +14,7 @@ use std::process::Abort;
 use std::test::Fail;
 
 /// Draws the parts of a plan of up to eight tests, with up to three cards.
-fn drawn_parts(alloc: Global, dice: &mut Dice) -> Result<PlanParts, NoMemory> {
+pub(crate) fn drawn_parts(alloc: Global, dice: &mut Dice) -> Result<PlanParts, NoMemory> {
     let level = 1 + dice.roll(4);
     let count = 1 + dice.roll(8);
     let resources = drawn_cards(alloc, dice)?;
@@ -135,7 +135,7 @@ fn drawn_queue(alloc: Global, dice: &mut Dice, tests: &[PlanTest]) -> Result<Lis
     list_of(alloc, numbers.as_slice())
 }
 
-fn drawn_seen(dice: &mut Dice) -> Seen {
+pub(crate) fn drawn_seen(dice: &mut Dice) -> Seen {
     seen(match dice.roll(8) {
         0 => How::Exited(1),
         1 => How::TimedOut,
@@ -221,7 +221,7 @@ impl Change {
     }
 }
 
-fn copy_of(alloc: Global, entry: &Entry) -> Result<Entry, NoMemory> {
+pub(crate) fn copy_of(alloc: Global, entry: &Entry) -> Result<Entry, NoMemory> {
     Ok(match entry {
         Entry::Start {
             test,

@@ -8,6 +8,8 @@
 #[cfg(test)]
 mod alloc;
 #[cfg(test)]
+mod chosen;
+#[cfg(test)]
 mod core_runs;
 #[cfg(test)]
 mod cost;
