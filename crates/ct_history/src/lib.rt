@@ -21,4 +21,4 @@ pub use history::{Entry, History};
 pub use legal::judge;
 pub use open_starts::{holds_start, is_busy};
 pub use plan::{Plan, PlanParts, PlanTest, test_at};
-pub use verdicts::{are_all_final, final_verdict, has_failing, verdict, verdict_of};
+pub use verdicts::{are_all_final, final_verdict, verdict, verdict_of};

@@ -31,7 +31,7 @@ pub fn verdict_of(plan: &PlanParts, entries: &[Entry], number: u32) -> Option<Ve
 }
 
 /// Tells whether some test of the plan has a verdict that makes the run fail.
-pub fn has_failing(plan: &PlanParts, entries: &[Entry]) -> bool
+pub(crate) fn has_failing(plan: &PlanParts, entries: &[Entry]) -> bool
     ensures { result ≡ has_failing plan.now entries.now }
 {
     plan.tests
