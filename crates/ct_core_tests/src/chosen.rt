@@ -207,7 +207,7 @@ fn checked_steps(
 fn the_core_chooses_the_first_that_is_allowed(rt: HostRuntime) -> Result<(), Fail> {
     let alloc = rt.alloc();
     let mut dice = Dice::new(2027);
-    for _ in 0..100 {
+    for _ in 0..2000 {
         let parts = drawn_parts(alloc, &mut dice)?;
         let mut run = open(&rt, alloc, parts)?;
         let checked = checked_steps(&rt, alloc, &mut dice, &mut run);
