@@ -25,12 +25,51 @@ fn is_plain(kind: ArgKind, byte: u8) -> bool
     !(ends_text(kind, byte) || (byte == b'\\' || byte == b'$'))
 }
 
+/// Tells whether a byte stands for itself in a quoted argument.
+///
+/// Nearly every byte is greater than `$`, so that two comparisons tell.
+fn is_plain_quoted(byte: u8) -> bool
+    ensures { result ≡ is_plain ArgKind.Quoted byte }
+{
+    if byte > b'$' {
+        byte != b'\\'
+    } else {
+        is_plain(ArgKind::Quoted, byte)
+    }
+}
+
+/// Tells whether a byte stands for itself in an unquoted argument.
+///
+/// Nearly every byte is greater than `)`, so that two comparisons tell.
+fn is_plain_unquoted(byte: u8) -> bool
+    ensures { result ≡ is_plain ArgKind.Unquoted byte }
+{
+    if byte > b')' {
+        byte != b'\\'
+    } else {
+        is_plain(ArgKind::Unquoted, byte)
+    }
+}
+
 /// Counts the bytes at the front of the text of an argument that stand for themselves.
+///
+/// The kind is looked at once, and not for each byte.
 pub fn plain_len(kind: ArgKind, text: &[u8]) -> usize
     ensures count { result ≡ prefix_len (is_plain kind) text.now }
     ensures within { result ≤ length text.now }
 {
-    text.iter()
-        .take_while(|byte| is_plain(kind, **byte))
-        .count()
+    match kind {
+        ArgKind::Quoted => text
+            .iter()
+            .take_while(|byte| is_plain_quoted(**byte))
+            .count(),
+        ArgKind::Unquoted => text
+            .iter()
+            .take_while(|byte| is_plain_unquoted(**byte))
+            .count(),
+        ArgKind::Bracket => text
+            .iter()
+            .take_while(|byte| is_plain(ArgKind::Bracket, **byte))
+            .count(),
+    }
 }
