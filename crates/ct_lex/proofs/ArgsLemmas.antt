@@ -1,23 +1,25 @@
 -- The arguments of a command as they are kept: their text alone is read as they are, and the first of them is read
 -- first.
-use Rattle.std.proofs.Common.{◌≡◌, ◌∙◌, ℕ, suc, ◌+◌, ◌*◌, ◌<◌, ◌≤◌, Bool, true, false, ◌==◌, ◌||◌, List, [], ◌∷◌, ◌++◌, length, take, drop, get_or, Result, Ok, Err, refl, sym, ap, subst, arith, append_assoc, length-append, length-drop}
-use Rattle.std.specs.Result.{is_ok}
+use Rattle.std.proofs.Common.{◌≡◌, ◌∙◌, inl, inr, ℕ, suc, ◌+◌, ◌*◌, ◌<◌, ◌≤◌, Bool, true, false, ◌==◌, ◌||◌, List, [], ◌∷◌, ◌++◌, length, take, drop, get_or, Result, Ok, Err, refl, sym, ap, subst, arith, append_assoc, length-append, length-drop}
+use Rattle.std.specs.Result.{is_ok, IsOk}
 use Rattle.std.proofs.lemmas.Bool.{true≢false, or_parts}
 use Rattle.std.proofs.lemmas.Bool.Decides.{nat_tests}
 use Rattle.std.proofs.lemmas.List.{take_at}
 use Rattle.ct_lex.specs.Args.{arguments_in, BeginsArguments}
-use Rattle.ct_lex.specs.Bracket.{gap_at}
+use Rattle.ct_lex.specs.Bracket.{gap_at, opening}
 use Rattle.ct_lex.specs.Extent.{arg_in, bytes_read, list_read, extent_len, IsExtent}
-use Rattle.ct_lex.specs.Text.{moved, argument, argument_before, arguments_from, may_follow, plain_argument, text_from, unquoted_by}
+use Rattle.ct_lex.specs.Text.{moved, argument, argument_by, argument_before, arguments_from, may_follow, plain_argument, text_from, unquoted_by, HasNoGap}
 use Rattle.ct_lex.specs.Argument.{ends_text}
 use Rattle.ct_lex.specs.Bytes.{is_gap, stands}
 use Rattle.ct_lex.specs.declared.call.Arg.{Arg}
-use Rattle.ct_lex.specs.declared.call.ArgKind.TheVariants.{Unquoted}
+use Rattle.ct_lex.specs.declared.call.ArgKind.TheVariants.{Quoted, Unquoted}
 use Rattle.ct_lex.specs.declared.call.Part.{Part}
 use Rattle.ct_lex.specs.declared.extent.Extent.{Extent}
 use Rattle.ct_lex.specs.declared.stop.Stop.{Stop}
+use Rattle.ct_lex.specs.declared.stop.Stop.TheVariants.{Ended, At}
 use Rattle.ct_lex.proofs.FrontLemmas.{stands-front}
 use Rattle.ct_lex.proofs.StepLemmas.{first-byte, gap_passed, argument_passed, argument_turn}
+use Rattle.ct_lex.proofs.ArgumentLemmas.{argument-is, argument-some}
 use Rattle.ct_lex.proofs.ArgumentsLemmas.{arguments-is, arguments-read}
 
 -- what is read of arguments is read of their own text alone
@@ -69,15 +71,76 @@ pub front_turn : (text : List ℕ) (at n : ℕ) → at < length text → gap_at 
 front_turn text at n inside gap some fits kept =
     (omega (arith, length-drop at text), gap_passed text at n (gap-no-close (drop at text) n some gap) gap some fits ∙ kept)
 
+argument-refused : (text : List ℕ) (stop : Stop) → 0 < length text → (get_or text 0 0 == 41) ≡ false → gap_at text ≡ Ok 0 → argument text ≡ Err stop → arguments_from 0 text ≡ Err stop
+argument-refused [] stop some goes gap read = absurd (omega arith)
+argument-refused (byte ∷ rest) stop some goes gap read = rw (goes, gap, read) refl
+
+-- where arguments begin and neither a gap nor a `)` stands at their front, an argument does
+pub argument-found : (text : List ℕ) (at : ℕ) → BeginsArguments text → at < length text → (get_or text at 0 == 41) ≡ false → gap_at (drop at text) ≡ Ok 0 → moved at (arguments_from 0 (drop at text)) ≡ arguments_from 0 text → IsOk (argument (drop at text))
+argument-found text at begins inside goes gap kept = by_read (argument (drop at text)) refl
+  where
+    by_read : (read : Result (Arg × ℕ) Stop) → argument (drop at text) ≡ read → IsOk (argument (drop at text))
+    by_read (Ok x) r = ap (λ q. is_ok q) r
+    by_read (Err stop) r =
+        let none : arguments_from 0 (drop at text) ≡ Err stop = argument-refused (drop at text) stop (omega (arith, length-drop at text)) (first-byte text at goes) gap r in
+        let refused : is_ok (moved at (arguments_from 0 (drop at text))) ≡ false = rw none refl in
+        absurd (true≢false (sym begins ∙ ap (λ q. is_ok q) (sym kept) ∙ refused))
+
+-- an argument that is found is read, apart from what stands behind it
+pub argument-read_by : (text : List ℕ) → IsOk (argument text) → IsOk (argument_by text (opening text))
+argument-read_by text found = by_read (argument_by text (opening text)) refl
+  where
+    by_read : (read : Result (Arg × ℕ) Stop) → argument_by text (opening text) ≡ read → IsOk (argument_by text (opening text))
+    by_read (Ok x) r = ap (λ q. is_ok q) r
+    by_read (Err stop) r =
+        let none : argument text ≡ Err stop = rw r refl in
+        absurd (true≢false (sym found ∙ ap (λ q. is_ok q) none))
+
+-- of a quoted one the text is read
+pub quoted-found : (text : List ℕ) → IsOk (plain_argument text) → stands 34 0 text ≡ true → IsOk (text_from Quoted 0 (drop 1 text))
+quoted-found text found quote = by_paren (stands 40 0 text) refl
+  where
+    not_found : is_ok (plain_argument text) ≡ false → IsOk (text_from Quoted 0 (drop 1 text))
+    not_found none = absurd (true≢false (sym found ∙ none))
+
+    by_read : stands 40 0 text ≡ false → (read : Result (List Part × ℕ) Stop) → text_from Quoted 0 (drop 1 text) ≡ read → IsOk (text_from Quoted 0 (drop 1 text))
+    by_read p (Ok x) r = ap (λ q. is_ok q) r
+    by_read p (Err Ended) r = not_found (rw (p, quote, r) refl)
+    by_read p (Err (At cause left)) r = not_found (rw (p, quote, r) refl)
+
+    by_paren : (test : Bool) → stands 40 0 text ≡ test → IsOk (text_from Quoted 0 (drop 1 text))
+    by_paren true p = not_found (rw p refl)
+    by_paren false p = by_read p (text_from Quoted 0 (drop 1 text)) refl
+
+-- and nothing touches an argument that is found
+argument-apart : (text : List ℕ) (x : Arg × ℕ) → IsOk (argument text) → argument_by text (opening text) ≡ Ok x → argument text ≡ Ok x
+argument-apart text x found read = by_follow (may_follow (drop x.1 text)) refl
+  where
+    by_follow : (test : Bool) → may_follow (drop x.1 text) ≡ test → argument text ≡ Ok x
+    by_follow true t = rw (read, t) refl
+    by_follow false t =
+        let none : is_ok (argument text) ≡ false = rw (read, t) refl in
+        absurd (true≢false (sym found ∙ none))
+
+argument-goes : (text : List ℕ) → HasNoGap text → 0 < length text → (get_or text 0 0 == 41) ≡ false → may_follow text ≡ false
+argument-goes [] front some goes = absurd (omega arith)
+argument-goes (byte ∷ rest) (inl none) some goes = cc
+argument-goes (byte ∷ rest) (inr (inl close)) some goes = absurd (true≢false (sym close ∙ stands-front 41 byte rest ∙ goes))
+argument-goes (byte ∷ rest) (inr (inr follows)) some goes = follows
+
+argument-longer : (text : List ℕ) (arg : Arg) (n : ℕ) → may_follow text ≡ false → argument text ≡ Ok (arg, n) → 0 < n
+argument-longer [] arg n goes read = absurd (true≢false goes)
+argument-longer (byte ∷ rest) arg n goes read =
+    let found = argument-is byte rest arg n goes read in
+    subst (λ (k : ℕ). 0 < k) found.size (argument-some found.written)
+
 -- an argument behind the gaps at the front
-pub extent_found : (text : List ℕ) (extent : Extent) (arg : Arg) (at n : ℕ) → (get_or text at 0 == 41) ≡ false → gap_at (drop at text) ≡ Ok 0 → IsExtent (drop at text) extent (argument (drop at text)) → arg ≡ arg_in extent (drop at text) → n ≡ extent_len extent → at < length text → moved at (arguments_from 0 (drop at text)) ≡ arguments_from 0 text → (at + n ≤ length text) × (arguments_from 0 text ≡ argument_before arg (moved (at + n) (arguments_from 0 (drop (at + n) text))))
-extent_found text extent arg at n goes gap read same size inside kept =
-    let P : Arg → Result (Arg × ℕ) Stop = λ a. Ok (a, extent_len extent) in
-    let Q : ℕ → Result (Arg × ℕ) Stop = λ k. Ok (arg, k) in
-    let found : argument (drop at text) ≡ Ok (arg, n) = read.reads ∙ ap P (sym same) ∙ ap Q (sym size) in
-    let some : 0 < n = subst (λ (k : ℕ). 0 < k) (sym size) read.some in
-    let fits : n ≤ length (drop at text) = subst (λ (k : ℕ). k ≤ length (drop at text)) (sym size) read.within in
-    (omega (arith, length-drop at text), sym kept ∙ argument_passed text arg at n (first-byte text at goes) gap found some fits)
+pub argument-taken : (text : List ℕ) (arg : Arg) (at n : ℕ) → BeginsArguments text → at < length text → (get_or text at 0 == 41) ≡ false → gap_at (drop at text) ≡ Ok 0 → HasNoGap (drop at text) → argument_by (drop at text) (opening (drop at text)) ≡ Ok (arg, n) → n ≤ length (drop at text) → moved at (arguments_from 0 (drop at text)) ≡ arguments_from 0 text → (at + n ≤ length text) × (arguments_from 0 text ≡ argument_before arg (moved (at + n) (arguments_from 0 (drop (at + n) text))))
+argument-taken text arg at n begins inside goes gap front read fits kept =
+    let first = first-byte text at goes in
+    let whole : argument (drop at text) ≡ Ok (arg, n) = argument-apart (drop at text) (arg, n) (argument-found text at begins inside goes gap kept) read in
+    let some : 0 < n = argument-longer (drop at text) arg n (argument-goes (drop at text) front (omega (arith, length-drop at text)) first) whole in
+    (omega (arith, length-drop at text), sym kept ∙ argument_passed text arg at n first gap whole some fits)
 
 -- one turn of the loop that counts the bytes of arguments
 pub extent_turn : (text : List ℕ) (extent : Extent) (at n : ℕ) (whole : Result ℕ Stop) → at < length text → (get_or text at 0 == 41) ≡ false → gap_at (drop at text) ≡ Ok 0 → IsExtent (drop at text) extent (argument (drop at text)) → n ≡ extent_len extent → bytes_read (moved at (arguments_from 0 (drop at text))) ≡ whole → (at + n ≤ length text) × (bytes_read (moved (at + n) (arguments_from 0 (drop (at + n) text))) ≡ whole)

@@ -1,7 +1,7 @@
 -- A run of bytes that stand for themselves at the front of the text of an argument, and what is read behind it.
-use Rattle.std.proofs.Common.{◌≡◌, ℕ, suc, ◌+◌, ◌<◌, ◌≤◌, Bool, true, false, ◌||◌, ◌==◌, List, [], ◌∷◌, ◌++◌, length, take, drop, Result, Ok, Err, refl, sym, ap, subst, ◌∙◌, arith, add-zero, length-drop}
+use Rattle.std.proofs.Common.{◌≡◌, ℕ, suc, ◌+◌, ◌<◌, ◌≤◌, Bool, true, false, ◌||◌, ◌==◌, List, [], ◌∷◌, ◌++◌, length, get_or, take, drop, Result, Ok, Err, refl, sym, ap, subst, ◌∙◌, arith, add-zero, length-drop}
 use Rattle.std.proofs.lemmas.Bool.{or_parts}
-use Rattle.std.proofs.lemmas.List.{drop-drop}
+use Rattle.std.proofs.lemmas.List.{get_or-drop, drop-drop}
 use Rattle.std.proofs.lemmas.List.Sums.{prefix_len-le-length}
 use Rattle.std.specs.List.{prefix_len}
 use Rattle.ct_lex.specs.Argument.{ends_text, is_plain, with_bytes}
@@ -72,6 +72,15 @@ text_from-run kind (byte ∷ rest) n is = by_plain (is_plain kind byte) refl (te
         ∙ ap (λ r. piece_before (Bytes (byte ∷ [])) (moved 1 r)) behind
         ∙ byte_before byte (take more rest) more (text_from kind 0 (drop more rest)))
 
+-- nothing is read in front of the byte that ends a text
+pub text-ended : (kind : ArgKind) (text : List ℕ) (at : ℕ) → at < length text → ends_text kind (get_or text at 0) ≡ true → text_from kind 0 (drop at text) ≡ Ok ([], 0)
+text-ended kind text at inside ends =
+    by_rest (drop at text) (omega (arith, length-drop at text)) (ap (λ byte. ends_text kind byte) (get_or-drop at text 0 0 ∙ ap (λ i. get_or text i 0) (add-zero at)) ∙ ends)
+  where
+    by_rest : (rest : List ℕ) → 0 < length rest → ends_text kind (get_or rest 0 0) ≡ true → text_from kind 0 rest ≡ Ok ([], 0)
+    by_rest [] some e = absurd (omega arith)
+    by_rest (byte ∷ rest) some e = rw e refl
+
 bytes_read-run : (run : List ℕ) (at n : ℕ) (read : Result (List Part × ℕ) Stop) → bytes_read (moved (at + n) read) ≡ bytes_read (moved at (piece_before (Bytes run) (moved n read)))
 bytes_read-run run at n (Err stop) = refl
 bytes_read-run run at n (Ok x) =
@@ -111,3 +120,15 @@ parts_run kind text at n old new whole inside is grows kept = (
       ∙ ap (λ r. parts_behind old at r) (sym (text_from-run kind (drop at text) n is))
       ∙ kept,
 )
+
+-- a text that is one run
+pub run_only : (kind : ArgKind) (text : List ℕ) (n : ℕ) (parts : List Part) → n < length text → n ≡ prefix_len (is_plain kind) text → ends_text kind (get_or text n 0) ≡ true → parts ≡ with_bytes (take n text) [] → text_from kind 0 text ≡ Ok (parts, n)
+run_only kind text n parts inside is ends made =
+    let behind : text_from kind 0 (drop n text) ≡ Ok ([], 0) = text-ended kind text n inside ends in
+    let P : List Part → Result (List Part × ℕ) Stop = λ ps. Ok (ps, n) in
+    let Q : ℕ → Result (List Part × ℕ) Stop = λ k. Ok (with_bytes (take n text) [], k) in
+    let size : 0 + n ≡ n = omega arith in
+    text_from-run kind text n is
+    ∙ ap (λ r. piece_before (Bytes (take n text)) (moved n r)) behind
+    ∙ ap Q size
+    ∙ ap P (sym made)

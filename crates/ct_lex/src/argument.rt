@@ -1,15 +1,15 @@
-ghost use Rattle.std.specs.Prelude.{◌≡◌, ◌≤◌, ◌<◌, ◌+◌, [], drop, length, Ok, IfOk};
+ghost use Rattle.std.specs.Prelude.{◌≡◌, ◌≤◌, ◌<◌, ◌+◌, [], drop, length, Ok, Some, IfOk};
 ghost use Rattle.std.specs.Result.{IsOk};
 ghost use Rattle.ct_lex.specs.Args.{BeginsArguments, IsFirst};
 ghost use Rattle.ct_lex.specs.Argument.{without_feed, with_bytes};
-ghost use Rattle.ct_lex.specs.Bracket.{gap_at};
-ghost use Rattle.ct_lex.specs.Extent.{arg_in, parts_in, extent_len, bytes_read, list_read, HasText};
-ghost use Rattle.ct_lex.specs.Text.{text_from, arguments_from, moved, HasNoGap};
+ghost use Rattle.ct_lex.specs.Bracket.{gap_at, opening};
+ghost use Rattle.ct_lex.specs.Extent.{bytes_read};
+ghost use Rattle.ct_lex.specs.Text.{text_from, plain_argument, argument_by, argument, arguments_from, moved, HasNoGap};
 
-use crate::bracket::gap_at;
+use crate::bracket::{closing, gap_at, opening};
 use crate::bytes::stands;
 use crate::call::{Arg, ArgKind, Part};
-use crate::extent::{Extent, extent_of};
+use crate::extent::extent_of;
 use crate::parts::Parts;
 use crate::plain::{ends_text, plain_len};
 use crate::stop::Stop;
@@ -47,11 +47,8 @@ pub fn first_argument(alloc: Global, text: &[u8]) -> Result<Option<(Arg, usize)>
     if text[at] == b')' {
         return Ok(None);
     }
-    let Ok(extent) = extent_of(&text[at..]) else {
-        unreachable!()
-    };
-    let arg = arg_in(alloc, extent, &text[at..])?;
-    Ok(Some((arg, at + extent.len())))
+    let (arg, taken) = argument_at(alloc, &text[at..])?;
+    Ok(Some((arg, at + taken)))
 }
 
 /// Counts the bytes of the gaps with which arguments begin.
@@ -73,44 +70,78 @@ fn gaps(text: &[u8]) -> usize
     unreachable!()
 }
 
-/// Makes the argument that stands so at the front of a text.
-fn arg_in(alloc: Global, extent: Extent, text: &[u8]) -> Result<Arg, NoMemory>
-    requires whole { HasText extent.kind (drop extent.opening text.now) }
-    requires within { extent_len extent ≤ length text.now }
-    ensures { IfOk result (λ arg. arg ≡ arg_in extent text.now) }
+/// Makes the argument that a text begins with, and counts its bytes.
+fn argument_at(alloc: Global, text: &[u8]) -> Result<(Arg, usize), NoMemory>
+    requires whole { IsOk (argument text.now) }
+    ensures read { IfOk result (λ x. argument_by text.now (opening text.now) ≡ Ok x) }
+    ensures within { IfOk result (λ x. x.1 ≤ length text.now) }
 {
-    let kind = extent.kind;
-    let parts = parts_in(alloc, kind, extent.inside, &text[extent.opening..])?;
-    Ok(Arg { kind, parts })
-}
-
-/// Makes the parts of an argument from what stands behind its opening.
-fn parts_in(
-    alloc: Global,
-    kind: ArgKind,
-    inside: usize,
-    text: &[u8],
-) -> Result<List<Part>, NoMemory>
-    requires whole { HasText kind text.now }
-    requires within { inside ≤ length text.now }
-    ensures { IfOk result (λ parts. parts ≡ parts_in kind inside text.now) }
-{
-    match kind {
-        ArgKind::Bracket => plain_parts(alloc, without_feed(&text[..inside])),
-        ArgKind::Quoted | ArgKind::Unquoted => parts_of(alloc, kind, text),
+    match opening(text) {
+        Some(n) => bracket_at(alloc, n, text),
+        None => plain_at(alloc, text),
     }
 }
 
-/// Makes the parts of the text of a quoted or unquoted argument, up to the byte that ends it.
-fn parts_of(alloc: Global, kind: ArgKind, text: &[u8]) -> Result<List<Part>, NoMemory>
-    requires { IsOk (text_from kind 0 text.now) }
-    ensures { IfOk result (λ parts. parts ≡ list_read (text_from kind 0 text.now)) }
+/// Makes the bracket argument that a text begins with, with that many `=`, and counts its bytes.
+fn bracket_at(alloc: Global, n: usize, text: &[u8]) -> Result<(Arg, usize), NoMemory>
+    requires whole { IsOk (argument_by text.now (Some n)) }
+    requires opened { n + 2 ≤ length text.now }
+    ensures read { IfOk result (λ x. argument_by text.now (Some n) ≡ Ok x) }
+    ensures within { IfOk result (λ x. x.1 ≤ length text.now) }
+{
+    let behind = &text[n + 2..];
+    let Some(inside) = closing(n, behind) else {
+        unreachable!()
+    };
+    let parts = plain_parts(alloc, without_feed(&behind[..inside]))?;
+    let kind = ArgKind::Bracket;
+    Ok((Arg { kind, parts }, inside + 2 * (n + 2)))
+}
+
+/// Makes the quoted or unquoted argument that a text begins with, and counts its bytes.
+fn plain_at(alloc: Global, text: &[u8]) -> Result<(Arg, usize), NoMemory>
+    requires whole { IsOk (plain_argument text.now) }
+    ensures read { IfOk result (λ x. plain_argument text.now ≡ Ok x) }
+    ensures within { IfOk result (λ x. x.1 ≤ length text.now) }
+{
+    if stands(text, 0, b'"') {
+        let kind = ArgKind::Quoted;
+        let (parts, inside) = parts_at(alloc, kind, &text[1..])?;
+        Ok((Arg { kind, parts }, inside + 2))
+    } else {
+        let kind = ArgKind::Unquoted;
+        let (parts, inside) = parts_at(alloc, kind, text)?;
+        Ok((Arg { kind, parts }, inside))
+    }
+}
+
+/// Makes the parts of the text of a quoted or unquoted argument, and counts its bytes up to the one that ends it.
+///
+/// Most texts are one run of bytes that stand for themselves.
+fn parts_at(alloc: Global, kind: ArgKind, text: &[u8]) -> Result<(List<Part>, usize), NoMemory>
+    requires whole { IsOk (text_from kind 0 text.now) }
+    ensures read { IfOk result (λ x. text_from kind 0 text.now ≡ Ok x) }
+    ensures within { IfOk result (λ x. x.1 < length text.now) }
+{
+    let plain = plain_len(kind, text);
+    if plain < text.len() && ends_text(kind, text[plain]) {
+        let parts = plain_parts(alloc, &text[..plain])?;
+        return Ok((parts, plain));
+    }
+    parts_of(alloc, kind, text)
+}
+
+/// Makes those parts unit by unit.
+fn parts_of(alloc: Global, kind: ArgKind, text: &[u8]) -> Result<(List<Part>, usize), NoMemory>
+    requires whole { IsOk (text_from kind 0 text.now) }
+    ensures read { IfOk result (λ x. text_from kind 0 text.now ≡ Ok x) }
+    ensures within { IfOk result (λ x. x.1 < length text.now) }
 {
     let mut parts = Parts::new(alloc)?;
     let mut at = 0;
     while at < text.len() {
         if ends_text(kind, text[at]) {
-            return parts.finish(alloc);
+            return Ok((parts.finish(alloc)?, at));
         }
         let rest = &text[at..];
         let plain = plain_len(kind, rest);
@@ -145,9 +176,11 @@ fn without_feed(text: &[u8]) -> &[u8]
 fn plain_parts(alloc: Global, text: &[u8]) -> Result<List<Part>, NoMemory>
     ensures { IfOk result (λ parts. parts ≡ with_bytes text.now []) }
 {
-    let mut parts = List::new(alloc);
-    if !text.is_empty() {
-        parts.push(Part::Bytes(Name::of(alloc, text)?))?;
+    if text.is_empty() {
+        return Ok(List::new(alloc));
     }
-    Ok(parts)
+    let bytes = Name::of(alloc, text)?;
+    let mut parts = Vec::with_capacity(alloc, 1)?;
+    parts.push(Part::Bytes(bytes))?;
+    Ok(List::from_vec(parts))
 }
