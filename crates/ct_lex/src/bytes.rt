@@ -54,5 +54,11 @@ pub fn stands(text: &[u8], at: usize, byte: u8) -> bool
 pub fn feeds(text: &[u8]) -> usize
     ensures { result ≡ feeds text.now }
 {
-    text.iter().filter(|byte| **byte == b'\n').count()
+    let mut count = 0;
+    for byte in text {
+        if *byte == b'\n' {
+            count += 1;
+        }
+    }
+    count
 }

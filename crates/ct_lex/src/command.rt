@@ -27,12 +27,14 @@ fn space_len(text: &[u8]) -> usize
     text.iter().take_while(|byte| is_space(**byte)).count()
 }
 
-/// Finds the first byte behind the identifier that a text begins with, and the spaces and tabs behind that.
-fn paren_at(text: &[u8]) -> usize
+/// Finds the first byte behind the spaces and tabs behind the identifier that a text begins with, which has so many
+/// bytes.
+fn paren_at(word: usize, text: &[u8]) -> usize
+    requires identifier { word ≡ word_len text.now }
+    requires inside { word ≤ length text.now }
     ensures place { result ≡ paren_at text.now }
     ensures within { result ≤ length text.now }
 {
-    let word = word_len(text);
     word + space_len(&text[word..])
 }
 
@@ -48,7 +50,8 @@ pub fn command(alloc: Global, text: &[u8]) -> Result<(Name, Args, usize), Halt>
     ensures value { GivesRead result (command text.now) }
     ensures within { IfOk result (λ x. (0 < x.2) × (x.2 ≤ length text.now)) }
 {
-    let paren = paren_at(text);
+    let word = word_len(text);
+    let paren = paren_at(word, text);
     if paren == text.len() {
         return Err(Halt::Text(Stop::Ended));
     }
@@ -56,7 +59,7 @@ pub fn command(alloc: Global, text: &[u8]) -> Result<(Name, Args, usize), Halt>
         return Err(Halt::Text(Stop::at(Cause::BadChar, &text[paren..])));
     }
     let (args, taken) = Args::read(alloc, &text[paren + 1..])?;
-    let name = lower(alloc, &text[..word_len(text)])?;
+    let name = lower(alloc, &text[..word])?;
     Ok((name, args, taken + paren + 1))
 }
 
