@@ -1,22 +1,22 @@
 -- The arguments of a command as they are kept: their text alone is read as they are, and the first of them is read
 -- first.
-use Rattle.std.proofs.Common.{◌≡◌, ◌∙◌, inl, inr, ℕ, suc, ◌+◌, ◌*◌, ◌<◌, ◌≤◌, Bool, true, false, ◌==◌, ◌||◌, List, [], ◌∷◌, ◌++◌, length, take, drop, get_or, Result, Ok, Err, refl, sym, ap, subst, arith, append_assoc, length-append, length-drop}
+use Rattle.std.proofs.Common.{◌≡◌, ◌∙◌, inl, inr, ℕ, suc, ◌+◌, ◌<◌, ◌≤◌, Bool, true, false, ◌==◌, List, [], ◌∷◌, ◌++◌, length, take, drop, get_or, Result, Ok, Err, refl, sym, ap, subst, arith, append_assoc, length-append, length-drop}
 use Rattle.std.specs.Result.{is_ok, IsOk}
-use Rattle.std.proofs.lemmas.Bool.{true≢false, or_parts}
+use Rattle.std.proofs.lemmas.Bool.{true≢false}
 use Rattle.std.proofs.lemmas.Bool.Decides.{nat_tests}
 use Rattle.std.proofs.lemmas.List.{take_at}
 use Rattle.ct_lex.specs.Args.{arguments_in, BeginsArguments}
 use Rattle.ct_lex.specs.Bracket.{gap_at, opening}
-use Rattle.ct_lex.specs.Extent.{arg_in, bytes_read, list_read, extent_len, IsExtent}
-use Rattle.ct_lex.specs.Text.{moved, argument, argument_by, argument_before, arguments_from, may_follow, plain_argument, text_from, unquoted_by, HasNoGap}
-use Rattle.ct_lex.specs.Argument.{ends_text}
-use Rattle.ct_lex.specs.Bytes.{is_gap, stands}
+use Rattle.ct_lex.specs.Stop.{refused}
+use Rattle.ct_lex.specs.Extent.{bytes_read, list_read}
+use Rattle.ct_lex.specs.Text.{moved, argument, argument_by, argument_before, arguments_from, may_follow, plain_argument, text_from, HasNoGap}
+use Rattle.ct_lex.specs.Bytes.{stands}
 use Rattle.ct_lex.specs.declared.call.Arg.{Arg}
-use Rattle.ct_lex.specs.declared.call.ArgKind.TheVariants.{Quoted, Unquoted}
+use Rattle.ct_lex.specs.declared.call.ArgKind.TheVariants.{Quoted}
 use Rattle.ct_lex.specs.declared.call.Part.{Part}
-use Rattle.ct_lex.specs.declared.extent.Extent.{Extent}
 use Rattle.ct_lex.specs.declared.stop.Stop.{Stop}
 use Rattle.ct_lex.specs.declared.stop.Stop.TheVariants.{Ended, At}
+use Rattle.ct_lex.specs.declared.stop.Cause.TheVariants.{BadChar}
 use Rattle.ct_lex.proofs.FrontLemmas.{stands-front}
 use Rattle.ct_lex.proofs.StepLemmas.{first-byte, gap_passed, argument_passed, argument_turn}
 use Rattle.ct_lex.proofs.ArgumentLemmas.{argument-is, argument-some}
@@ -142,38 +142,45 @@ argument-taken text arg at n begins inside goes gap front read fits kept =
     let some : 0 < n = argument-longer (drop at text) arg n (argument-goes (drop at text) front (omega (arith, length-drop at text)) first) whole in
     (omega (arith, length-drop at text), sym kept ∙ argument_passed text arg at n first gap whole some fits)
 
+-- what was read with so many bytes
+something-read : {A : Type 0} (n : ℕ) (read : Result (A × ℕ) Stop) → bytes_read read ≡ Ok n → (x : A) × (read ≡ Ok (x, n))
+something-read n (Err stop) e = cc
+something-read {A} n (Ok x) e =
+    let same : x.1 ≡ n = cc in
+    let P : ℕ → Result (A × ℕ) Stop = λ k. Ok (x.0, k) in
+    (x.0, ap P same)
+
+nothing-read : {A : Type 0} (stop : Stop) (read : Result (A × ℕ) Stop) → bytes_read read ≡ Err stop → read ≡ Err stop
+nothing-read {A} stop (Err other) e =
+    let same : other ≡ stop = cc in
+    let P : Stop → Result (A × ℕ) Stop = λ why. Err why in
+    ap P same
+nothing-read stop (Ok x) e = cc
+
 -- one turn of the loop that counts the bytes of arguments
-pub extent_turn : (text : List ℕ) (extent : Extent) (at n : ℕ) (whole : Result ℕ Stop) → at < length text → (get_or text at 0 == 41) ≡ false → gap_at (drop at text) ≡ Ok 0 → IsExtent (drop at text) extent (argument (drop at text)) → n ≡ extent_len extent → bytes_read (moved at (arguments_from 0 (drop at text))) ≡ whole → (at + n ≤ length text) × (bytes_read (moved (at + n) (arguments_from 0 (drop (at + n) text))) ≡ whole)
-extent_turn text extent at n whole inside goes gap read size kept =
-    let Q : ℕ → Result (Arg × ℕ) Stop = λ k. Ok (arg_in extent (drop at text), k) in
-    let found : argument (drop at text) ≡ Ok (arg_in extent (drop at text), n) = read.reads ∙ ap Q (sym size) in
-    let some : 0 < n = subst (λ (k : ℕ). 0 < k) (sym size) read.some in
-    let fits : n ≤ length (drop at text) = subst (λ (k : ℕ). k ≤ length (drop at text)) (sym size) read.within in
-    argument_turn text at n (arg_in extent (drop at text)) whole inside goes gap found some fits kept
+pub counted_turn : (text : List ℕ) (at n : ℕ) (whole : Result ℕ Stop) → at < length text → (get_or text at 0 == 41) ≡ false → gap_at (drop at text) ≡ Ok 0 → bytes_read (argument (drop at text)) ≡ Ok n → 0 < n → n ≤ length (drop at text) → bytes_read (moved at (arguments_from 0 (drop at text))) ≡ whole → (at + n ≤ length text) × (bytes_read (moved (at + n) (arguments_from 0 (drop (at + n) text))) ≡ whole)
+counted_turn text at n whole inside goes gap read some fits kept =
+    let found = something-read n (argument (drop at text)) read in
+    argument_turn text at n found.0 whole inside goes gap found.1 some fits kept
 
-or_none : (gap left close hash quote : Bool) → (gap || close || hash) ≡ false → left ≡ false → quote ≡ false → (gap || left || close || hash || quote) ≡ false
-or_none gap left close hash quote a b c =
-    let hash_so = or_parts (gap || close) hash a in
-    let close_so = or_parts gap close hash_so.0 in
-    rw (close_so.0, close_so.1, hash_so.1, b, c) refl
+-- the fault of an argument is that of the arguments
+pub counted-refused : (text : List ℕ) (at : ℕ) (stop : Stop) (whole : Result ℕ Stop) → at < length text → (get_or text at 0 == 41) ≡ false → gap_at (drop at text) ≡ Ok 0 → bytes_read (argument (drop at text)) ≡ Err stop → bytes_read (moved at (arguments_from 0 (drop at text))) ≡ whole → Err stop ≡ whole
+counted-refused text at stop whole inside goes gap read kept =
+    let refused = argument-refused (drop at text) stop (omega (arith, length-drop at text)) (first-byte text at goes) gap (nothing-read stop (argument (drop at text)) read) in
+    sym (ap (λ r. bytes_read (moved at r)) refused) ∙ kept
 
--- an unquoted argument has some text
-pub unquoted-goes : (text : List ℕ) → may_follow text ≡ false → stands 40 0 text ≡ false → stands 34 0 text ≡ false → ends_text Unquoted (get_or text 0 0) ≡ false
-unquoted-goes [] goes paren quote = absurd (true≢false goes)
-unquoted-goes (byte ∷ rest) goes paren quote =
-    or_none (is_gap byte) (byte == 40) (byte == 41) (byte == 35) (byte == 34) goes (sym (stands-front 40 byte rest) ∙ paren) (sym (stands-front 34 byte rest) ∙ quote)
+-- the bytes of an argument, by what stands behind it
+pub bytes_read-apart : (text : List ℕ) (n : ℕ) → bytes_read (argument_by text (opening text)) ≡ Ok n → may_follow (drop n text) ≡ true → bytes_read (argument text) ≡ Ok n
+bytes_read-apart text n read follows =
+    let found = something-read n (argument_by text (opening text)) read in
+    rw (found.1, follows) refl
 
--- an unquoted argument
-pub unquoted-extent : (text : List ℕ) (n : ℕ) → stands 40 0 text ≡ false → stands 34 0 text ≡ false → bytes_read (text_from Unquoted 0 text) ≡ Ok n → 0 < n → n < length text → IsExtent text (record { kind = Unquoted; opening = 0; inside = n }) (plain_argument text)
-unquoted-extent text n paren quote e some fits =
-    let read : text_from Unquoted 0 text ≡ Ok (list_read (text_from Unquoted 0 text), n) = bytes_read-ok n (text_from Unquoted 0 text) e in
-    let parts : List Part = list_read (text_from Unquoted 0 text) in
-    let plain : plain_argument text ≡ unquoted_by (text_from Unquoted 0 text) = rw (paren, quote) refl in
-    let size : n ≡ n + 2 * 0 = omega arith in
-    let Q : ℕ → Result (Arg × ℕ) Stop = λ k. Ok (record { kind = Unquoted; parts = parts }, k) in
-    record {
-      reads = plain ∙ ap (λ r. unquoted_by r) read ∙ ap Q size;
-      whole = ap (λ r. is_ok r) read;
-      some = omega arith;
-      within = omega arith;
-    }
+pub bytes_read-touched : (text : List ℕ) (n : ℕ) → bytes_read (argument_by text (opening text)) ≡ Ok n → may_follow (drop n text) ≡ false → bytes_read (argument text) ≡ refused BadChar (drop n text)
+bytes_read-touched text n read touches =
+    let found = something-read n (argument_by text (opening text)) read in
+    rw (found.1, touches) refl
+
+pub bytes_read-refused : (text : List ℕ) (stop : Stop) → bytes_read (argument_by text (opening text)) ≡ Err stop → bytes_read (argument text) ≡ Err stop
+bytes_read-refused text stop read =
+    let none = nothing-read stop (argument_by text (opening text)) read in
+    rw none refl

@@ -9,7 +9,7 @@ ghost use Rattle.ct_lex.specs.Text.{text_from, plain_argument, argument_by, argu
 use crate::bracket::{closing, gap_at, opening};
 use crate::bytes::stands;
 use crate::call::{Arg, ArgKind, Part};
-use crate::extent::extent_of;
+use crate::extent::argument_len;
 use crate::parts::Parts;
 use crate::plain::{ends_text, plain_len};
 use crate::stop::Stop;
@@ -29,8 +29,7 @@ pub fn arguments_len(text: &[u8]) -> Result<usize, Stop>
         }
         let gap = gap_at(&text[at..])?;
         if gap == 0 {
-            let extent = extent_of(&text[at..])?;
-            at += extent.len();
+            at += argument_len(&text[at..])?;
         } else {
             at += gap;
         }

@@ -1,6 +1,7 @@
-ghost use Rattle.std.specs.Prelude.{◌≡◌, ◌≤◌, ◌<◌, ◌+◌, ◌^◌, drop, length, slice_index, false, IfOk};
+ghost use Rattle.std.specs.Prelude.{◌≡◌, ◌≤◌, ◌<◌, ◌+◌, drop, length, slice_index, false, Some, IfOk};
 ghost use Rattle.ct_lex.specs.Argument.{ends_text};
-ghost use Rattle.ct_lex.specs.Extent.{bytes_read, extent_len, GivesExtent};
+ghost use Rattle.ct_lex.specs.Bracket.{opening};
+ghost use Rattle.ct_lex.specs.Extent.{bytes_read};
 ghost use Rattle.ct_lex.specs.Text.{text_from, quoted_by, plain_argument, argument_by, may_follow, argument};
 
 use crate::bracket::{closing, opening};
@@ -10,88 +11,73 @@ use crate::plain::{ends_text, plain_len};
 use crate::stop::{Cause, Stop};
 use crate::unit::unit_at;
 
-/// How an argument stands at the front of a text.
-#[derive(Clone, Copy)]
-pub struct Extent {
-    pub kind: ArgKind,
-    /// How many bytes open it. As many close it.
-    pub opening: usize,
-    /// How many bytes its text has.
-    pub inside: usize,
-}
-
-impl Extent {
-    /// Counts the bytes of the whole argument.
-    pub fn len(self) -> usize
-        requires { extent_len self < 2 ^ 64 }
-        ensures { result ≡ extent_len self }
-    {
-        self.inside + 2 * self.opening
-    }
-}
-
-/// Finds the argument that a text begins with. Another one must not touch it.
-pub fn extent_of(text: &[u8]) -> Result<Extent, Stop>
+/// Counts the bytes of the argument that a text begins with. Another one must not touch it.
+pub fn argument_len(text: &[u8]) -> Result<usize, Stop>
     requires { may_follow text.now ≡ false }
-    ensures { GivesExtent text.now result (argument text.now) }
+    ensures value { result ≡ bytes_read (argument text.now) }
+    ensures some { IfOk result (λ taken. 0 < taken) }
+    ensures within { IfOk result (λ taken. taken ≤ length text.now) }
 {
-    let extent = match opening(text) {
-        Some(n) => bracket_extent(n, text)?,
-        None => plain_extent(text)?,
-    };
-    let behind = &text[extent.len()..];
+    let taken = lone_len(text)?;
+    let behind = &text[taken..];
     if may_follow(behind) {
-        Ok(extent)
+        Ok(taken)
     } else {
         Err(Stop::at(Cause::BadChar, behind))
     }
 }
 
-/// Finds the bracket argument that a text begins with, with that many `=`.
-fn bracket_extent(n: usize, text: &[u8]) -> Result<Extent, Stop>
-    requires { n + 2 ≤ length text.now }
-    ensures { GivesExtent text.now result (argument_by text.now (Some n)) }
+/// Counts the bytes of the argument that a text begins with, whatever stands behind it.
+fn lone_len(text: &[u8]) -> Result<usize, Stop>
+    requires { may_follow text.now ≡ false }
+    ensures value { result ≡ bytes_read (argument_by text.now (opening text.now)) }
+    ensures some { IfOk result (λ taken. 0 < taken) }
+    ensures within { IfOk result (λ taken. taken ≤ length text.now) }
 {
-    match closing(n, &text[n + 2..]) {
-        None => Err(Stop::at(Cause::OpenBracket, text)),
-        Some(inside) => Ok(Extent {
-            kind: ArgKind::Bracket,
-            opening: n + 2,
-            inside,
-        }),
+    match opening(text) {
+        Some(n) => bracketed_len(n, text),
+        None => unbracketed_len(text),
     }
 }
 
-/// Finds the argument that a text begins with, where that is no bracket argument.
-fn plain_extent(text: &[u8]) -> Result<Extent, Stop>
+/// Counts the bytes of the bracket argument that a text begins with, with that many `=`.
+fn bracketed_len(n: usize, text: &[u8]) -> Result<usize, Stop>
+    requires { n + 2 ≤ length text.now }
+    ensures value { result ≡ bytes_read (argument_by text.now (Some n)) }
+    ensures some { IfOk result (λ taken. 0 < taken) }
+    ensures within { IfOk result (λ taken. taken ≤ length text.now) }
+{
+    match closing(n, &text[n + 2..]) {
+        None => Err(Stop::at(Cause::OpenBracket, text)),
+        Some(inside) => Ok(inside + 2 * (n + 2)),
+    }
+}
+
+/// Counts the bytes of the argument that a text begins with, where that is no bracket argument.
+fn unbracketed_len(text: &[u8]) -> Result<usize, Stop>
     requires { may_follow text.now ≡ false }
-    ensures { GivesExtent text.now result (plain_argument text.now) }
+    ensures value { result ≡ bytes_read (plain_argument text.now) }
+    ensures some { IfOk result (λ taken. 0 < taken) }
+    ensures within { IfOk result (λ taken. taken ≤ length text.now) }
 {
     if stands(text, 0, b'(') {
         return Err(Stop::at(Cause::BadChar, text));
     }
     if stands(text, 0, b'"') {
-        return quoted_extent(text);
+        return quoted_len(text);
     }
-    let inside = text_len(ArgKind::Unquoted, text)?;
-    Ok(Extent {
-        kind: ArgKind::Unquoted,
-        opening: 0,
-        inside,
-    })
+    text_len(ArgKind::Unquoted, text)
 }
 
-/// Finds the quoted argument whose `"` a text begins with.
-fn quoted_extent(text: &[u8]) -> Result<Extent, Stop>
+/// Counts the bytes of the quoted argument whose `"` a text begins with.
+fn quoted_len(text: &[u8]) -> Result<usize, Stop>
     requires { 0 < length text.now }
-    ensures { GivesExtent text.now result (quoted_by text.now (text_from ArgKind.Quoted 0 (drop 1 text.now))) }
+    ensures value { result ≡ bytes_read (quoted_by text.now (text_from ArgKind.Quoted 0 (drop 1 text.now))) }
+    ensures some { IfOk result (λ taken. 0 < taken) }
+    ensures within { IfOk result (λ taken. taken ≤ length text.now) }
 {
     match text_len(ArgKind::Quoted, &text[1..]) {
-        Ok(inside) => Ok(Extent {
-            kind: ArgKind::Quoted,
-            opening: 1,
-            inside,
-        }),
+        Ok(inside) => Ok(inside + 2),
         Err(Stop::Ended) => Err(Stop::at(Cause::OpenString, text)),
         Err(stop) => Err(stop),
     }

@@ -1,10 +1,10 @@
-use Rattle.std.proofs.Common.{◌≡◌, ◌∙◌, sym, ap, drop, Ok, Result, ℕ, arith}
+use Rattle.std.proofs.Common.{◌≡◌, ◌∙◌, sym, ap, drop, rules, Ok, Err, Result, ℕ, arith}
 use Rattle.std.proofs.lemmas.Bool.Decides.{nat_tests}
 use Rattle.std.proofs.lemmas.List.{take_rest}
 use Rattle.ct_lex.specs.Bracket.{gap_at}
 use Rattle.ct_lex.specs.declared.stop.Stop.{Stop}
 use Rattle.ct_lex.proofs.StepLemmas.{gap_turn}
-use Rattle.ct_lex.proofs.ArgsLemmas.{extent_turn}
+use Rattle.ct_lex.proofs.ArgsLemmas.{counted_turn, counted-refused}
 use Rattle.ct_lex.proofs.argument.arguments_len.Goals as goal
 
 pub loop-at-preserved : goal.loop-at-preserved
@@ -15,6 +15,14 @@ loop-at-preserved c =
 pub loop-at-preserved-then-gap-eq0 : goal.loop-at-preserved-then-gap-eq0
 loop-at-preserved-then-gap-eq0 c =
     let known = rw take_rest at c.in_ok-gap.ensures in
-    let read = rw take_rest at c.in_ok-extent.ensures in
+    let read = rw take_rest at c.in_ok-at.ensures in
     let gap : gap_at (drop c.loop-at.at c.args.text.now) ≡ Ok 0 = sym known.value ∙ (let P : ℕ → Result ℕ Stop = λ n. Ok n in ap P c.if-gap-eq0.true) in
-    extent_turn c.args.text.now c.in_ok-extent.extent c.loop-at.at c.len-at.result _ c.loop-at-test.true (grind (arith, nat_tests)) gap read c.len-at.ensures c.loop-at.invariant.1
+    counted_turn c.args.text.now c.loop-at.at c.in_ok-at.field-0 _ c.loop-at-test.true (grind (arith, nat_tests)) gap (sym read.value) read.some read.within c.loop-at.invariant.1
+
+pub returns-in_err-at-clause-value : goal.returns-in_err-at-clause-value
+returns-in_err-at-clause-value c =
+    let given : ◌≡◌ {A = Result ℕ Stop} c.from_residual-in_err-at.result (Err c.in_err-at.field-0.0) = search rules in
+    let known = rw take_rest at c.in_ok-gap.ensures in
+    let read = rw take_rest at c.in_err-at.ensures in
+    let gap : gap_at (drop c.loop-at.at c.args.text.now) ≡ Ok 0 = sym known.value ∙ (let P : ℕ → Result ℕ Stop = λ n. Ok n in ap P c.if-gap-eq0.true) in
+    given ∙ counted-refused c.args.text.now c.loop-at.at c.in_err-at.field-0.0 _ c.loop-at-test.true (grind (arith, nat_tests)) gap (sym read.value) c.loop-at.invariant.1
