@@ -13,6 +13,7 @@ pub mod Unit
 pub mod Text
 pub mod Extent
 pub mod Args
+pub mod Next
 pub mod Command
 pub mod Seen
 pub mod Joined

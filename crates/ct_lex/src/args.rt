@@ -1,10 +1,11 @@
 ghost use Rattle.std.specs.Prelude.{◌≡◌, ◌≤◌, length, IfOk};
 ghost use Rattle.ct_lex.specs.Args.{TakesFirst};
+ghost use Rattle.ct_lex.specs.Next.{next_of};
 ghost use Rattle.ct_lex.specs.Stop.{GivesRead};
 ghost use Rattle.ct_lex.specs.Text.{arguments_from};
 
 use crate::argument::{arguments_len, first_argument};
-use crate::call::Arg;
+use crate::call::{Arg, NextArg};
 use crate::stop::Halt;
 use ct_base::NoMemory;
 use std::alloc::Global;
@@ -82,9 +83,26 @@ impl<'a> ArgReader<'a> {
     {
         match first_argument(alloc, self.rest)? {
             None => Ok(None),
-            Some((arg, taken)) => {
+            Some((first, taken)) => {
+                let arg = first.made(alloc)?;
                 self.rest = &self.rest[taken..];
                 Ok(Some(arg))
+            }
+        }
+    }
+
+    /// Lends the next argument, or makes it where it is more than one run: `None` exactly behind the last one.
+    ///
+    /// An `Err` changes nothing.
+    pub fn lend_next(&mut self, alloc: Global) -> Result<Option<NextArg<'a>>, NoMemory>
+        ensures { TakesFirst self.old (next_of result) self.new }
+    {
+        let text = self.rest;
+        match first_argument(alloc, text)? {
+            None => Ok(None),
+            Some((first, taken)) => {
+                self.rest = &text[taken..];
+                Ok(Some(first))
             }
         }
     }

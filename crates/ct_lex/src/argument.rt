@@ -1,20 +1,21 @@
-ghost use Rattle.std.specs.Prelude.{◌≡◌, ◌≤◌, ◌<◌, ◌+◌, [], drop, length, Ok, Some, IfOk};
+ghost use Rattle.std.specs.Prelude.{◌≡◌, ◌≤◌, ◌<◌, ◌+◌, drop, length, option_map, Ok, Some, IfOk};
 ghost use Rattle.std.specs.Result.{IsOk};
 ghost use Rattle.ct_lex.specs.Args.{BeginsArguments, IsFirst};
-ghost use Rattle.ct_lex.specs.Argument.{without_feed, with_bytes};
+ghost use Rattle.ct_lex.specs.Argument.{without_feed};
 ghost use Rattle.ct_lex.specs.Bracket.{gap_at, opening};
 ghost use Rattle.ct_lex.specs.Extent.{bytes_read};
+ghost use Rattle.ct_lex.specs.Next.{read_as};
 ghost use Rattle.ct_lex.specs.Text.{text_from, plain_argument, argument_by, argument, arguments_from, moved, HasNoGap};
 
 use crate::bracket::{closing, gap_at, opening};
 use crate::bytes::stands;
-use crate::call::{Arg, ArgKind, Part};
+use crate::call::{Arg, ArgKind, NextArg, Part};
 use crate::extent::argument_len;
 use crate::parts::Parts;
 use crate::plain::{ends_text, plain_len};
 use crate::stop::Stop;
 use crate::unit::unit_at;
-use ct_base::{List, Name, NoMemory};
+use ct_base::{List, NoMemory};
 use std::alloc::Global;
 
 /// Counts the bytes of the arguments of a command behind its `(`, with the `)`.
@@ -37,10 +38,10 @@ pub fn arguments_len(text: &[u8]) -> Result<usize, Stop>
     Err(Stop::Ended)
 }
 
-/// Makes the first one of the arguments that a text begins with, and counts its bytes with those in front of it.
-pub fn first_argument(alloc: Global, text: &[u8]) -> Result<Option<(Arg, usize)>, NoMemory>
+/// Finds the first one of the arguments that a text begins with, and counts its bytes with those in front of it.
+pub fn first_argument(alloc: Global, text: &[u8]) -> Result<Option<(NextArg<'_>, usize)>, NoMemory>
     requires { BeginsArguments text.now }
-    ensures { IfOk result (IsFirst text.now) }
+    ensures { IfOk result (λ found. IsFirst text.now (option_map (λ x. read_as x) found)) }
 {
     let at = gaps(text);
     if text[at] == b')' {
@@ -69,68 +70,64 @@ fn gaps(text: &[u8]) -> usize
     unreachable!()
 }
 
-/// Makes the argument that a text begins with, and counts its bytes.
-fn argument_at(alloc: Global, text: &[u8]) -> Result<(Arg, usize), NoMemory>
+/// Finds the argument that a text begins with, and counts its bytes.
+fn argument_at(alloc: Global, text: &[u8]) -> Result<(NextArg<'_>, usize), NoMemory>
     requires whole { IsOk (argument text.now) }
-    ensures read { IfOk result (λ x. argument_by text.now (opening text.now) ≡ Ok x) }
+    ensures read { IfOk result (λ x. argument_by text.now (opening text.now) ≡ Ok (read_as x)) }
     ensures within { IfOk result (λ x. x.1 ≤ length text.now) }
 {
     match opening(text) {
-        Some(n) => bracket_at(alloc, n, text),
+        Some(n) => Ok(bracket_at(n, text)),
         None => plain_at(alloc, text),
     }
 }
 
-/// Makes the bracket argument that a text begins with, with that many `=`, and counts its bytes.
-fn bracket_at(alloc: Global, n: usize, text: &[u8]) -> Result<(Arg, usize), NoMemory>
+/// Finds the bracket argument that a text begins with, with that many `=`, and counts its bytes.
+fn bracket_at(n: usize, text: &[u8]) -> (NextArg<'_>, usize)
     requires whole { IsOk (argument_by text.now (Some n)) }
     requires opened { n + 2 ≤ length text.now }
-    ensures read { IfOk result (λ x. argument_by text.now (Some n) ≡ Ok x) }
-    ensures within { IfOk result (λ x. x.1 ≤ length text.now) }
+    ensures read { argument_by text.now (Some n) ≡ Ok (read_as result) }
+    ensures within { result.1 ≤ length text.now }
 {
     let behind = &text[n + 2..];
     let Some(inside) = closing(n, behind) else {
         unreachable!()
     };
-    let parts = plain_parts(alloc, without_feed(&behind[..inside]))?;
-    let kind = ArgKind::Bracket;
-    Ok((Arg { kind, parts }, inside + 2 * (n + 2)))
+    let run = without_feed(&behind[..inside]);
+    (NextArg::Run(ArgKind::Bracket, run), inside + 2 * (n + 2))
 }
 
-/// Makes the quoted or unquoted argument that a text begins with, and counts its bytes.
-fn plain_at(alloc: Global, text: &[u8]) -> Result<(Arg, usize), NoMemory>
+/// Finds the quoted or unquoted argument that a text begins with, and counts its bytes.
+fn plain_at(alloc: Global, text: &[u8]) -> Result<(NextArg<'_>, usize), NoMemory>
     requires whole { IsOk (plain_argument text.now) }
-    ensures read { IfOk result (λ x. plain_argument text.now ≡ Ok x) }
+    ensures read { IfOk result (λ x. plain_argument text.now ≡ Ok (read_as x)) }
     ensures within { IfOk result (λ x. x.1 ≤ length text.now) }
 {
     if stands(text, 0, b'"') {
-        let kind = ArgKind::Quoted;
-        let (parts, inside) = parts_at(alloc, kind, &text[1..])?;
-        Ok((Arg { kind, parts }, inside + 2))
+        let (arg, inside) = text_at(alloc, ArgKind::Quoted, &text[1..])?;
+        Ok((arg, inside + 2))
     } else {
-        let kind = ArgKind::Unquoted;
-        let (parts, inside) = parts_at(alloc, kind, text)?;
-        Ok((Arg { kind, parts }, inside))
+        let (arg, inside) = text_at(alloc, ArgKind::Unquoted, text)?;
+        Ok((arg, inside))
     }
 }
 
-/// Makes the parts of the text of a quoted or unquoted argument, and counts its bytes up to the one that ends it.
-///
-/// Most texts are one run of bytes that stand for themselves.
-fn parts_at(alloc: Global, kind: ArgKind, text: &[u8]) -> Result<(List<Part>, usize), NoMemory>
+/// Finds the quoted or unquoted argument that has a text, and counts the bytes of the text up to the one that ends it.
+fn text_at(alloc: Global, kind: ArgKind, text: &[u8]) -> Result<(NextArg<'_>, usize), NoMemory>
     requires whole { IsOk (text_from kind 0 text.now) }
-    ensures read { IfOk result (λ x. text_from kind 0 text.now ≡ Ok x) }
+    ensures kind { IfOk result (λ x. (read_as x).0.kind ≡ kind) }
+    ensures read { IfOk result (λ x. text_from kind 0 text.now ≡ Ok ((read_as x).0.parts, x.1)) }
     ensures within { IfOk result (λ x. x.1 < length text.now) }
 {
     let plain = plain_len(kind, text);
     if plain < text.len() && ends_text(kind, text[plain]) {
-        let parts = plain_parts(alloc, &text[..plain])?;
-        return Ok((parts, plain));
+        return Ok((NextArg::Run(kind, &text[..plain]), plain));
     }
-    parts_of(alloc, kind, text)
+    let (parts, inside) = parts_of(alloc, kind, text)?;
+    Ok((NextArg::Made(Arg { kind, parts }), inside))
 }
 
-/// Makes those parts unit by unit.
+/// Makes the parts of the text of a quoted or unquoted argument, and counts its bytes up to the one that ends it.
 fn parts_of(alloc: Global, kind: ArgKind, text: &[u8]) -> Result<(List<Part>, usize), NoMemory>
     requires whole { IsOk (text_from kind 0 text.now) }
     ensures read { IfOk result (λ x. text_from kind 0 text.now ≡ Ok x) }
@@ -169,17 +166,4 @@ fn without_feed(text: &[u8]) -> &[u8]
     } else {
         text
     }
-}
-
-/// Makes the parts of a text in which nothing is evaluated.
-fn plain_parts(alloc: Global, text: &[u8]) -> Result<List<Part>, NoMemory>
-    ensures { IfOk result (λ parts. parts ≡ with_bytes text.now []) }
-{
-    if text.is_empty() {
-        return Ok(List::new(alloc));
-    }
-    let bytes = Name::of(alloc, text)?;
-    let mut parts = Vec::with_capacity(alloc, 1)?;
-    parts.push(Part::Bytes(bytes))?;
-    Ok(List::from_vec(parts))
 }

@@ -1,5 +1,10 @@
+ghost use Rattle.std.specs.Prelude.{◌≡◌, [], IfOk};
+ghost use Rattle.ct_lex.specs.Argument.{with_bytes};
+ghost use Rattle.ct_lex.specs.Next.{arg_of};
+
 use crate::args::Args;
-use ct_base::{List, Name};
+use ct_base::{List, Name, NoMemory};
+use std::alloc::Global;
 
 /// A piece of an argument's text.
 ///
@@ -31,6 +36,44 @@ pub struct Arg {
     pub kind: ArgKind,
     /// In order, no two `Bytes` beside each other. An empty argument has none.
     pub parts: List<Part>,
+}
+
+/// The next argument of a command: lent where its text is one run of bytes that stand for themselves, and made
+/// otherwise.
+#[derive(Debug, Drop)]
+pub enum NextArg<'a> {
+    /// Those bytes, of which there may be none. It is the argument that has them as its one part.
+    Run(ArgKind, &'a [u8]),
+    /// The argument, whose parts have bytes of their own.
+    Made(Arg),
+}
+
+impl<'a> NextArg<'a> {
+    /// Makes the argument, where it is lent.
+    pub(crate) fn made(self, alloc: Global) -> Result<Arg, NoMemory>
+        ensures { IfOk result (λ arg. arg ≡ arg_of self.entry) }
+    {
+        match self {
+            NextArg::Made(arg) => Ok(arg),
+            NextArg::Run(kind, bytes) => {
+                let parts = plain_parts(alloc, bytes)?;
+                Ok(Arg { kind, parts })
+            }
+        }
+    }
+}
+
+/// Makes the parts of a text in which nothing is evaluated.
+fn plain_parts(alloc: Global, text: &[u8]) -> Result<List<Part>, NoMemory>
+    ensures { IfOk result (λ parts. parts ≡ with_bytes text.now []) }
+{
+    if text.is_empty() {
+        return Ok(List::new(alloc));
+    }
+    let bytes = Name::of(alloc, text)?;
+    let mut parts = Vec::with_capacity(alloc, 1)?;
+    parts.push(Part::Bytes(bytes))?;
+    Ok(List::from_vec(parts))
 }
 
 /// One command of a test file.

@@ -1,7 +1,7 @@
 //! Reads the commands of a test file, one by one.
 //!
 //! Hands up: `Lexer`, which gives each `Call` or the first `LexFault`, and `ArgReader`, which makes
-//! the arguments of a call one by one.
+//! or lends the arguments of a call one by one.
 //! Stands on: ct_base for names and lists.
 //! Read first: `specs/Grammar.antt`, then `lexer.rt`.
 #![tactic(auto)]
@@ -21,6 +21,6 @@ mod stop;
 mod unit;
 
 pub use args::{ArgReader, Args};
-pub use call::{Arg, ArgKind, Call, Part};
+pub use call::{Arg, ArgKind, Call, NextArg, Part};
 pub use fault::LexFault;
 pub use lexer::Lexer;
