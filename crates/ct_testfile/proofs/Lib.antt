@@ -1,5 +1,6 @@
 pub mod TableLemmas
 pub mod PlaceLemmas
+pub mod SuiteLemmas
 pub mod WordLemmas
 pub mod ShortLemmas
 pub mod ReaderLemmas

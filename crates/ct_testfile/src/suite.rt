@@ -14,6 +14,13 @@ use std::marker::Model;
 /// The tests of a tree so far. Contracts see their definitions in order.
 #[derive(Drop)]
 pub(crate) struct Suite {
+    /// In a box, since each command hands the suite on.
+    kept: Box<Kept>,
+}
+
+/// The tests of a suite, and their places by their names and by their folders.
+#[derive(Drop)]
+struct Kept {
     tests: Vec<OpenTest>,
     by_name: Places,
     by_dir: Places,
@@ -27,27 +34,30 @@ impl Model for Suite {
 
     ghost Value = { List TestDef };
 
-    ghost view = { λ s. map def_of s.tests.items };
+    ghost view = { λ s. map def_of s.kept.value.tests.items };
 
-    ghost invariant = { λ s. AreIndexed s.by_name.entries (names_of (map def_of s.tests.items)) × AreIndexed s.by_dir.entries (dirs_of (map def_of s.tests.items)) × length (map def_of s.tests.items) ≤ most_tests × All (HasShortValues most_bytes) (map def_of s.tests.items) };
+    ghost invariant = { λ s. AreIndexed s.kept.value.by_name.entries (names_of (map def_of s.kept.value.tests.items)) × AreIndexed s.kept.value.by_dir.entries (dirs_of (map def_of s.kept.value.tests.items)) × length (map def_of s.kept.value.tests.items) ≤ most_tests × All (HasShortValues most_bytes) (map def_of s.kept.value.tests.items) };
 }
 
 impl Suite {
     /// Makes the suite without tests.
-    pub(crate) fn new(alloc: Global) -> Suite
-        ensures { result ≡ [] }
+    pub(crate) fn new(alloc: Global) -> Result<Suite, NoMemory>
+        ensures { IfOk result (λ suite. suite ≡ []) }
     {
-        Suite {
+        let kept = Kept {
             tests: Vec::new(alloc),
             by_name: IndexMap::new(alloc),
             by_dir: IndexMap::new(alloc),
-        }
+        };
+        Ok(Suite {
+            kept: Box::new(alloc, kept)?,
+        })
     }
 
     pub(crate) fn len(&self) -> usize
         ensures { result ≡ length self.now }
     {
-        self.tests.len()
+        self.kept.tests.len()
     }
 
     /// Puts a test without properties and labels behind the others.
@@ -63,34 +73,27 @@ impl Suite {
         requires command { AreShort most_bytes command }
         ensures { IfOk result (λ suite. suite ≡ self ++ new_test dir name command ∷ []) }
     {
-        let Suite {
-            mut tests,
-            mut by_name,
-            mut by_dir,
-        } = self;
-        let place = tests.len();
-        note_place(alloc, &mut by_name, name.bytes(), place)?;
-        note_place(alloc, &mut by_dir, dir.bytes(), place)?;
-        tests.push(OpenTest::new(alloc, name, command, dir))?;
-        Ok(Suite {
-            tests,
-            by_name,
-            by_dir,
-        })
+        let Suite { mut kept } = self;
+        let inside: &mut Kept = &mut kept;
+        let place = inside.tests.len();
+        note_place(alloc, &mut inside.by_name, name.bytes(), place)?;
+        note_place(alloc, &mut inside.by_dir, dir.bytes(), place)?;
+        inside.tests.push(OpenTest::new(alloc, name, command, dir))?;
+        Ok(Suite { kept })
     }
 
     /// Counts the tests of a name.
     pub(crate) fn named(&self, name: &Name) -> usize
         ensures { result ≡ count_by (λ (test : TestDef). bytes_eq name.now test.name) self.now }
     {
-        places_at(&self.by_name, name.bytes()).len()
+        places_at(&self.kept.by_name, name.bytes()).len()
     }
 
     /// Counts the tests of a folder.
     pub(crate) fn placed(&self, dir: &Name) -> usize
         ensures { result ≡ count_by (is_in dir.now) self.now }
     {
-        places_at(&self.by_dir, dir.bytes()).len()
+        places_at(&self.kept.by_dir, dir.bytes()).len()
     }
 
     /// Sets properties of each test of a name.
@@ -103,17 +106,11 @@ impl Suite {
         requires { HaveShort most_bytes pairs }
         ensures { IfOk result (λ suite. suite ≡ each_where (λ (test : TestDef). bytes_eq name.now test.name) (taking_props pairs) self) }
     {
-        let Suite {
-            mut tests,
-            by_name,
-            by_dir,
-        } = self;
-        set_each(alloc, &mut tests, places_at(&by_name, name.bytes()), pairs)?;
-        Ok(Suite {
-            tests,
-            by_name,
-            by_dir,
-        })
+        let Suite { mut kept } = self;
+        let inside: &mut Kept = &mut kept;
+        let places = places_at(&inside.by_name, name.bytes());
+        set_each(alloc, &mut inside.tests, places, pairs)?;
+        Ok(Suite { kept })
     }
 
     /// Adds labels to each test of a folder.
@@ -126,17 +123,11 @@ impl Suite {
         requires { AreShort most_bytes labels.now }
         ensures { IfOk result (λ suite. suite ≡ each_where (is_in dir.now) (taking_labels labels.now) self) }
     {
-        let Suite {
-            mut tests,
-            by_name,
-            by_dir,
-        } = self;
-        label_each(alloc, &mut tests, places_at(&by_dir, dir.bytes()), labels)?;
-        Ok(Suite {
-            tests,
-            by_name,
-            by_dir,
-        })
+        let Suite { mut kept } = self;
+        let inside: &mut Kept = &mut kept;
+        let places = places_at(&inside.by_dir, dir.bytes());
+        label_each(alloc, &mut inside.tests, places, labels)?;
+        Ok(Suite { kept })
     }
 
     /// Ends the setting of properties.
@@ -145,11 +136,12 @@ impl Suite {
         ensures few { IfOk result (λ defs. length defs ≤ most_tests) }
         ensures within { IfOk result (λ defs. All (HasShortValues most_bytes) defs) }
     {
-        let Suite {
+        let Suite { kept } = self;
+        let Kept {
             tests,
             by_name: _,
             by_dir: _,
-        } = self;
+        } = Box::into_inner(kept);
         let mut defs = List::from_vec(Vec::with_capacity(alloc, tests.len())?);
         for test in tests {
             defs.push(test.define(alloc)?)?;

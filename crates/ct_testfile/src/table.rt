@@ -12,7 +12,7 @@ use std::marker::Model;
 #[derive(Drop)]
 pub(crate) struct Table {
     // A variable that is no longer set has no value, and keeps its place.
-    values: IndexMap<Vec<u8>, Option<Name>>,
+    values: Box<IndexMap<Vec<u8>, Option<Name>>>,
 }
 
 impl Model for Table {
@@ -22,17 +22,17 @@ impl Model for Table {
 
     ghost Value = { List Variable };
 
-    ghost view = { λ t. map variable_of t.values.entries };
+    ghost view = { λ t. map variable_of t.values.value.entries };
 }
 
 impl Table {
     /// Makes a table in which no variable was set.
-    pub(crate) fn new(alloc: Global) -> Table
-        ensures { result ≡ [] }
+    pub(crate) fn new(alloc: Global) -> Result<Table, NoMemory>
+        ensures { IfOk result (λ table. table ≡ []) }
     {
-        Table {
-            values: IndexMap::new(alloc),
-        }
+        Ok(Table {
+            values: Box::new(alloc, IndexMap::new(alloc))?,
+        })
     }
 
     /// Looks up the value of a variable that is set.

@@ -117,8 +117,8 @@ fn begin(alloc: Global, config: &Name) -> Result<State, NoMemory>
     let name = Name::of(alloc, b"CTEST_CONFIGURATION_TYPE")?;
     let value = config.copy(alloc)?;
     Ok(State {
-        tests: Suite::new(alloc),
-        variables: Table::new(alloc).with(name, Some(value))?,
+        tests: Suite::new(alloc)?,
+        variables: Table::new(alloc)?.with(name, Some(value))?,
         commands: 0,
         file_bytes: 0,
         value_bytes: 0,

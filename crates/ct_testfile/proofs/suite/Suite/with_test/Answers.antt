@@ -5,11 +5,14 @@ use Rattle.ct_testfile.specs.Tests.{most_bytes, new_test}
 use Rattle.ct_testfile.specs.Entries.{def_of, names_of, dirs_of}
 use Rattle.ct_testfile.proofs.PlaceLemmas.{AreIndexed-same, AreIndexed-noted}
 use Rattle.ct_testfile.proofs.ShortLemmas.{new_test-short, tests-pushed}
+use Rattle.ct_testfile.proofs.SuiteLemmas.{tests_in, holds-same}
 use Rattle.ct_testfile.proofs.suite.Suite.with_test.Goals as goal
 
 pub invariant_of-result : goal.invariant_of-result
 invariant_of-result c =
-    let tests = c.self.inside.tests in
+    let inside = c.deref_mut-inside.result.now in
+    let holds = holds-same c.self.inside.kept.value inside c.deref_mut-inside.ensures.value c.self.invariant in
+    let tests = inside.tests in
     let old = map def_of tests.items in
     let now = map def_of c.push.new.self.items in
     let made = new_test c.args.dir c.args.name c.args.command in
@@ -25,8 +28,8 @@ invariant_of-result c =
     omega (arith, length-map old (λ (test : TestDef). test.name), length-map tests.items def_of, tests.ok.0, c.len-place.ensures) in
     let at_dir : c.len-place.result ≡ length (dirs_of old) =
     omega (arith, length-map old (λ (test : TestDef). test.dir), length-map tests.items def_of, tests.ok.0, c.len-place.ensures) in (
-      AreIndexed-same c.note_place.new.places.entries (names_of old ++ c.bytes.result.now ∷ []) (names_of now) name (AreIndexed-noted c.self.inside.by_name.entries c.note_place.new.places.entries (names_of old) c.bytes.result.now c.len-place.result at_name c.in_ok-note_place.ensures c.self.invariant.0),
-      AreIndexed-same c.note_place-2.new.places.entries (dirs_of old ++ c.bytes-2.result.now ∷ []) (dirs_of now) dir (AreIndexed-noted c.self.inside.by_dir.entries c.note_place-2.new.places.entries (dirs_of old) c.bytes-2.result.now c.len-place.result at_dir c.in_ok-note_place-2.ensures c.self.invariant.1),
-      omega (arith, ap length pushed, length-append old (made ∷ []), ap length c.self.view_is, c.requires.room),
-      tests-pushed most_bytes old now made pushed c.self.invariant.3 (new_test-short most_bytes c.args.dir c.args.name c.args.command c.requires.name c.requires.command),
+      AreIndexed-same c.note_place.new.places.entries (names_of old ++ c.bytes.result.now ∷ []) (names_of now) name (AreIndexed-noted inside.by_name.entries c.note_place.new.places.entries (names_of old) c.bytes.result.now c.len-place.result at_name c.in_ok-note_place.ensures holds.0),
+      AreIndexed-same c.note_place-2.new.places.entries (dirs_of old ++ c.bytes-2.result.now ∷ []) (dirs_of now) dir (AreIndexed-noted inside.by_dir.entries c.note_place-2.new.places.entries (dirs_of old) c.bytes-2.result.now c.len-place.result at_dir c.in_ok-note_place-2.ensures holds.1),
+      omega (arith, ap length pushed, length-append old (made ∷ []), ap (λ kept. length (tests_in kept)) c.deref_mut-inside.ensures.value, ap length c.self.view_is, c.requires.room),
+      tests-pushed most_bytes old now made pushed holds.3 (new_test-short most_bytes c.args.dir c.args.name c.args.command c.requires.name c.requires.command),
     )
