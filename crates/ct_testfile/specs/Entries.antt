@@ -6,6 +6,8 @@ use Rattle.ct_base.specs.declared.defs.TestDef.{TestDef}
 use Rattle.ct_testfile.specs.Values.{Variable}
 use Rattle.ct_testfile.specs.Tests.{each_where}
 use Rattle.ct_testfile.specs.declared.open_test.OpenTest.{OpenTest}
+use Rattle.ct_testfile.specs.declared.places.KeyPlaces.{KeyPlaces}
+use Rattle.ct_testfile.specs.declared.places.KeyPlaces.TheVariants.{One, Many}
 
 -- the test that is defined, with the properties so far
 abbrev pub def_of : OpenTest → TestDef
@@ -15,10 +17,15 @@ def_of test = record { name = test.name; command = test.command; dir = test.dir;
 abbrev pub variable_of : {Z : Type 0} → Vec ℕ Z × Option (List ℕ) → Variable
 variable_of entry = record { name = entry.0.items; value = entry.1 }
 
+-- the places of one key
+abbrev pub places_of : KeyPlaces → List ℕ
+places_of (One place) = place ∷ []
+places_of (Many places) = places.items
+
 -- the places that are kept by a key, none where there is no such key
-abbrev pub places_in : {Y Z : Type 0} → List (Vec ℕ Y × Vec ℕ Z) → List ℕ → List ℕ
+abbrev pub places_in : {Y : Type 0} → List (Vec ℕ Y × KeyPlaces) → List ℕ → List ℕ
 places_in [] key = []
-places_in (entry ∷ entries) key = if bytes_eq key entry.0.items then entry.1.items else places_in entries key
+places_in (entry ∷ entries) key = if bytes_eq key entry.0.items then places_of entry.1 else places_in entries key
 
 -- the places, from the first on, of the keys that are this one
 abbrev pub positions : ℕ → List ℕ → List (List ℕ) → List ℕ
@@ -34,7 +41,7 @@ abbrev pub dirs_of : List TestDef → List (List ℕ)
 dirs_of tests = map (λ (test : TestDef). test.dir) tests
 
 -- each key is kept with the places of those that are it
-abbrev pub AreIndexed : {Y Z : Type 0} → List (Vec ℕ Y × Vec ℕ Z) → List (List ℕ) → Type 0
+abbrev pub AreIndexed : {Y : Type 0} → List (Vec ℕ Y × KeyPlaces) → List (List ℕ) → Type 0
 AreIndexed entries keys = (key : List ℕ) → places_in entries key ≡ positions 0 key keys
 
 -- a list with the item at a place changed

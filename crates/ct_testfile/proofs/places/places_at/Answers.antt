@@ -4,7 +4,7 @@ use Rattle.ct_testfile.proofs.places.places_at.Goals as goal
 
 pub returns-in-Some : goal.returns-in-Some
 returns-in-Some c =
-    c.as_slice.ensures.value
+    c.as_slice.ensures
     ∙ ap items_or_none c.in-Some.ensures.value
     ∙ places_in-lookup c.args.key.now c.args.places.now.entries
 
