@@ -1,15 +1,17 @@
 -- The variables and properties that are kept by their keys, and what contracts see of them.
-use Rattle.std.proofs.Common.{◌≡◌, ℕ, suc, ◌+◌, ◌<◌, ◌≤◌, length, set, Bool, true, false, not, cond, bytes_eq, List, [], ◌∷◌, ◌++◌, map, Option, Some, refl, sym, ap, ◌∙◌, arith}
+use Rattle.std.proofs.Common.{◌≡◌, ℕ, suc, ◌+◌, ◌<◌, ◌≤◌, length, set, Bool, true, false, not, cond, bytes_eq, List, [], ◌∷◌, ◌++◌, map, take, get_or, Option, Some, refl, sym, ap, ◌∙◌, arith}
 use Rattle.std.specs.Option.{option_flatten}
 use Rattle.std.specs.Map.{lookup}
 use Rattle.std.specs.declared.vec.Vec.{Vec}
 use Rattle.std.specs.List.{prefix_len}
+use Rattle.std.proofs.lemmas.List.{length-take-le, take_more}
+use Rattle.std.proofs.lemmas.List.Sums.{fold_more}
 use Rattle.std.proofs.lemmas.Slice.Eq.{bytes_eq-Decides}
 use Rattle.indexmap.specs.IndexMap.{insert_entry}
 use Rattle.ct_base.specs.declared.defs.Pair.{Pair}
 use Rattle.ct_testfile.specs.Values.{Variable, value_of}
 use Rattle.ct_testfile.specs.Commands.{with_variable}
-use Rattle.ct_testfile.specs.Tests.{with_prop}
+use Rattle.ct_testfile.specs.Tests.{with_prop, with_props}
 use Rattle.ct_testfile.specs.Props.{is_other, prop_of}
 use Rattle.ct_testfile.specs.Entries.{variable_of}
 
@@ -78,3 +80,14 @@ pub with_prop-behind : (props : List Pair) (prop : Pair) → length props ≤ pr
 with_prop-behind [] prop within = refl
 with_prop-behind (first ∷ props) prop within =
     behind_by first prop props (with_prop props prop) (prefix_len (is_other prop.name) props) (with_prop-behind props prop) (bytes_eq prop.name first.name) within
+
+-- one more property that goes behind the others
+pub with_props-own : (props : List Pair) (at : ℕ) (prop : Pair) → at < length props → prop ≡ get_or props at prop → at ≤ prefix_len (is_other prop.name) (take at props) → with_props [] (take at props) ≡ take at props → with_props [] (take (at + 1) props) ≡ take (at + 1) props
+with_props-own props at prop within is own so_far =
+    let front = take at props in
+    let len : length front ≡ at = length-take-le at props (omega arith) in
+    fold_more with_prop [] props at prop within
+    ∙ (λ i. with_prop (so_far i) (sym is i))
+    ∙ sym (with_prop-behind front prop (omega (arith, len)))
+    ∙ ap (λ p. front ++ p ∷ []) is
+    ∙ sym (take_more props at prop within)

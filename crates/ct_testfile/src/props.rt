@@ -1,4 +1,4 @@
-ghost use Rattle.std.specs.Prelude.{◌≡◌, ◌++◌, [], IfOk, OnOk, map};
+ghost use Rattle.std.specs.Prelude.{◌≡◌, ◌++◌, [], IfOk, IsTrue, OnOk, map};
 ghost use Rattle.std.specs.List.{prefix_len};
 ghost use Rattle.ct_testfile.specs.Tests.{with_prop, with_props};
 ghost use Rattle.ct_testfile.specs.Props.{is_other, prop_of};
@@ -12,24 +12,28 @@ use std::mem;
 /// How many properties of a test are looked up one by one.
 const MOST_RECENT: usize = 16;
 
+/// The values of properties by their keys, in the order of first use.
+type Keyed = IndexMap<Vec<u8>, Name>;
+
 /// The properties of a test so far. Contracts see one pair for each key, in the order of first use.
 #[derive(Drop)]
 pub(crate) struct Props {
-    /// Those that were set first, by their keys.
-    keyed: IndexMap<Vec<u8>, Name>,
-    /// Those that were set behind them, in turn. Most tests have only a few, and then need no map.
+    /// Those that were set first, by their keys: nothing where there are only a few, as most tests have.
+    keyed: Option<Box<Keyed>>,
+    /// Those that were set behind them, in turn.
     recent: Vec<Pair>,
 }
 
 impl Model for Props {
-    ghost use Rattle.std.specs.Prelude.{List, map};
+    ghost use Rattle.std.specs.Prelude.{List, [], map};
+    ghost use Rattle.std.specs.Option.{option_map_or};
     ghost use Rattle.ct_base.specs.declared.defs.Pair.{Pair};
     ghost use Rattle.ct_testfile.specs.Tests.{with_props};
     ghost use Rattle.ct_testfile.specs.Props.{prop_of};
 
     ghost Value = { List Pair };
 
-    ghost view = { λ p. with_props (map prop_of p.keyed.entries) p.recent.items };
+    ghost view = { λ p. with_props (option_map_or (λ keyed. map prop_of keyed.value.entries) p.keyed []) p.recent.items };
 }
 
 impl Props {
@@ -37,7 +41,7 @@ impl Props {
         ensures { result ≡ [] }
     {
         Props {
-            keyed: IndexMap::new(alloc),
+            keyed: None,
             recent: Vec::new(alloc),
         }
     }
@@ -50,8 +54,12 @@ impl Props {
         if self.recent.len() <= MOST_RECENT {
             return Ok(());
         }
-        let recent = mem::replace(&mut self.recent, Vec::new(alloc));
-        put_each(&mut self.keyed, recent)?;
+        let mut keyed = match self.keyed.take() {
+            Some(keyed) => keyed,
+            None => Box::new(alloc, IndexMap::new(alloc))?,
+        };
+        put_each(&mut keyed, mem::replace(&mut self.recent, Vec::new(alloc)))?;
+        self.keyed = Some(keyed);
         Ok(())
     }
 
@@ -59,12 +67,14 @@ impl Props {
     pub(crate) fn into_pairs(self, alloc: Global) -> Result<List<Pair>, NoMemory>
         ensures { IfOk result (λ pairs. pairs ≡ self) }
     {
-        let Props { mut keyed, recent } = self;
-        if keyed.is_empty() {
-            return in_turn(alloc, recent);
+        let Props { keyed, recent } = self;
+        match keyed {
+            None => in_turn(alloc, recent),
+            Some(mut keyed) => {
+                put_each(&mut keyed, recent)?;
+                pairs_of(alloc, Box::into_inner(keyed))
+            }
         }
-        put_each(&mut keyed, recent)?;
-        pairs_of(alloc, keyed)
     }
 }
 
@@ -81,7 +91,7 @@ fn put_behind(pairs: &mut Vec<Pair>, mut more: Vec<Pair>) -> Result<(), NoMemory
 }
 
 /// Sets properties in turn, by their keys.
-fn put_each(keyed: &mut IndexMap<Vec<u8>, Name>, pairs: Vec<Pair>) -> Result<(), NoMemory>
+fn put_each(keyed: &mut Keyed, pairs: Vec<Pair>) -> Result<(), NoMemory>
     ensures { OnOk result (map prop_of keyed.new.entries ≡ with_props (map prop_of keyed.old.entries) pairs.items) }
 {
     for pair in pairs {
@@ -90,7 +100,7 @@ fn put_each(keyed: &mut IndexMap<Vec<u8>, Name>, pairs: Vec<Pair>) -> Result<(),
     Ok(())
 }
 
-fn put(keyed: &mut IndexMap<Vec<u8>, Name>, pair: Pair) -> Result<(), NoMemory>
+fn put(keyed: &mut Keyed, pair: Pair) -> Result<(), NoMemory>
     ensures { OnOk result (map prop_of keyed.new.entries ≡ with_prop (map prop_of keyed.old.entries) pair) }
 {
     let Pair { name, value } = pair;
@@ -98,7 +108,7 @@ fn put(keyed: &mut IndexMap<Vec<u8>, Name>, pair: Pair) -> Result<(), NoMemory>
     Ok(())
 }
 
-fn pairs_of(alloc: Global, props: IndexMap<Vec<u8>, Name>) -> Result<List<Pair>, NoMemory>
+fn pairs_of(alloc: Global, props: Keyed) -> Result<List<Pair>, NoMemory>
     ensures { IfOk result (λ pairs. pairs ≡ map prop_of props.entries) }
 {
     let mut pairs = List::from_vec(Vec::with_capacity(alloc, props.len())?);
@@ -115,11 +125,26 @@ fn pairs_of(alloc: Global, props: IndexMap<Vec<u8>, Name>) -> Result<List<Pair>,
 fn in_turn(alloc: Global, pairs: Vec<Pair>) -> Result<List<Pair>, NoMemory>
     ensures { IfOk result (λ props. props ≡ with_props [] pairs.items) }
 {
+    if have_own_keys(pairs.as_slice()) {
+        return Ok(List::from_vec(pairs));
+    }
     let mut props = Vec::with_capacity(alloc, pairs.len())?;
     for pair in pairs {
         set_prop(&mut props, pair)?;
     }
     Ok(List::from_vec(props))
+}
+
+/// Tells whether no two properties have one key: setting them in turn then leaves them as they are.
+fn have_own_keys(pairs: &[Pair]) -> bool
+    ensures { IsTrue result → with_props [] pairs.now ≡ pairs.now }
+{
+    for at in 0..pairs.len() {
+        if others(&pairs[..at], &pairs[at].name) < at {
+            return false;
+        }
+    }
+    true
 }
 
 fn set_prop(props: &mut Vec<Pair>, pair: Pair) -> Result<(), NoMemory>
