@@ -6,6 +6,7 @@ ghost use Rattle.ct_testfile.specs.Says.{AreBounded, Follows};
 ghost use Rattle.ct_testfile.specs.Tests.{AreShort, HaveShort, most_bytes, taking_props};
 ghost use Rattle.ct_testfile.specs.Commands.{add_test, carried_out, included, is_bad_name, is_full, opening_nothing, performed, set, set_directory_properties, set_tests_properties};
 ghost use Rattle.ct_testfile.specs.Entries.{count_of, of_name};
+ghost use Rattle.ct_testfile.specs.Values.{texts};
 
 use crate::command::Command;
 use crate::fault::{ReadKind, Stop};
@@ -14,7 +15,7 @@ use crate::opening::Opens;
 use crate::props::copied;
 use crate::state::State;
 use crate::suite::Suite;
-use crate::value::texts;
+use crate::value::{Value, texts};
 use crate::words::{
     distinct, label_bytes, labels_of, list_value, names_and_pairs, pairs_behind, prop_bytes,
     take_apart,
@@ -36,7 +37,6 @@ pub(crate) fn carry_out(
     ensures { Follows result (carried_out limits.now dir.now command args.now state) }
 {
     let (values, state) = state.begin(alloc, limits, args)?;
-    let values = texts(alloc, values)?;
     perform(alloc, limits, dir, command, values, state)
 }
 
@@ -46,15 +46,18 @@ fn perform(
     limits: &Limits,
     dir: &Name,
     command: Command,
-    values: List<Name>,
+    values: List<Value>,
     state: State,
 ) -> Result<(State, Opens), Stop>
     requires limits { AreBounded limits.now }
-    requires values { AreShort most_bytes values }
-    ensures { Follows result (performed limits.now dir.now command values state) }
+    requires values { AreShort most_bytes (texts values) }
+    ensures { Follows result (performed limits.now dir.now command (texts values) state) }
 {
     match command {
-        Command::AddTest => opening_nothing(alloc, add_test(alloc, limits, dir, values, state)),
+        Command::AddTest => {
+            let values = texts(alloc, values)?;
+            opening_nothing(alloc, add_test(alloc, limits, dir, values, state))
+        }
         Command::SetTestsProperties => {
             opening_nothing(alloc, set_tests_properties(alloc, limits, values, state))
         }
@@ -64,9 +67,9 @@ fn perform(
                 set_directory_properties(alloc, limits, dir, values, state),
             )
         }
-        Command::Subdirs => Ok((state, Opens::folders(values))),
-        Command::Include => include(alloc, values, state),
-        Command::Set => opening_nothing(alloc, set(alloc, values, state)),
+        Command::Subdirs => Ok((state, Opens::folders(texts(alloc, values)?))),
+        Command::Include => include(alloc, texts(alloc, values)?, state),
+        Command::Set => opening_nothing(alloc, set(alloc, texts(alloc, values)?, state)),
         Command::Unknown => Err(Stop::Refused(ReadKind::UnknownCommand)),
     }
 }
@@ -160,11 +163,11 @@ fn has_feed(name: &[u8]) -> bool
 fn set_tests_properties(
     alloc: Global,
     limits: &Limits,
-    values: List<Name>,
+    values: List<Value>,
     state: State,
 ) -> Result<State, Stop>
-    requires { AreShort most_bytes values }
-    ensures { Follows result (set_tests_properties limits.now values state) }
+    requires { AreShort most_bytes (texts values) }
+    ensures { Follows result (set_tests_properties limits.now (texts values) state) }
 {
     let Some((names, props)) = names_and_pairs(alloc, values)? else {
         return Err(Stop::Refused(ReadKind::BadCall));
@@ -227,11 +230,11 @@ fn set_directory_properties(
     alloc: Global,
     limits: &Limits,
     dir: &Name,
-    values: List<Name>,
+    values: List<Value>,
     state: State,
 ) -> Result<State, Stop>
-    requires { AreShort most_bytes values }
-    ensures { Follows result (set_directory_properties limits.now dir.now values state) }
+    requires { AreShort most_bytes (texts values) }
+    ensures { Follows result (set_directory_properties limits.now dir.now (texts values) state) }
 {
     let Some(props) = pairs_behind(alloc, values)? else {
         return Err(Stop::Refused(ReadKind::BadCall));

@@ -58,12 +58,11 @@ pub(crate) fn value_text<'a>(table: &'a Table, name: &Name) -> &'a [u8]
 pub(crate) fn texts(alloc: Global, values: List<Value>) -> Result<List<Name>, NoMemory>
     ensures { IfOk result (λ names. names ≡ texts values) }
 {
-    let names: Vec<Name> = values
-        .into_vec()
-        .into_iter()
-        .map(|value| value.text)
-        .collect(alloc)?;
-    Ok(List::from_vec(names))
+    let mut names = List::from_vec(Vec::with_capacity(alloc, values.len())?);
+    for value in values.into_vec() {
+        names.push(value.text)?;
+    }
+    Ok(names)
 }
 
 /// Counts the bytes of values, up to the greatest number that there is.

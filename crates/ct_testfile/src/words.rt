@@ -3,7 +3,9 @@ ghost use Rattle.std.specs.Vec.Iter.{into_iter_items};
 ghost use Rattle.ct_testfile.specs.Tests.{is_labels, label_bytes, labels_of, prop_bytes};
 ghost use Rattle.ct_testfile.specs.Commands.{is_properties, list_value, names_and_pairs, pairs_behind, pairs_of};
 ghost use Rattle.ct_testfile.specs.Entries.{taken_apart, with_new};
+ghost use Rattle.ct_testfile.specs.Values.{texts};
 
+use crate::value::Value;
 use ct_base::{List, Name, NoMemory, Pair, split_list};
 use indexmap::IndexSet;
 use std::alloc::Global;
@@ -24,18 +26,18 @@ pub(crate) fn take_apart(values: List<Name>) -> Option<(Name, List<Name>)>
 /// Reads `name .. PROPERTIES key value ..`: the names, and the properties behind them.
 pub(crate) fn names_and_pairs(
     alloc: Global,
-    values: List<Name>,
+    values: List<Value>,
 ) -> Result<Option<(List<Name>, List<Pair>)>, NoMemory>
-    ensures { IfOk result (λ read. read ≡ names_and_pairs values) }
+    ensures { IfOk result (λ read. read ≡ names_and_pairs (texts values)) }
 {
     let mut names = List::new(alloc);
     let mut rest = values.into_vec().into_iter();
     while let Some(value) = rest.next() {
-        if is_properties(&value) {
+        if is_properties(&value.text) {
             let pairs = pairs_of(alloc, rest)?;
             return Ok(with_names(names, pairs));
         }
-        names.push(value)?;
+        names.push(value.text)?;
     }
     Ok(None)
 }
@@ -52,30 +54,33 @@ fn with_names(names: List<Name>, pairs: Option<List<Pair>>) -> Option<(List<Name
 /// Reads `PROPERTIES key value ..`.
 pub(crate) fn pairs_behind(
     alloc: Global,
-    values: List<Name>,
+    values: List<Value>,
 ) -> Result<Option<List<Pair>>, NoMemory>
-    ensures { IfOk result (λ pairs. pairs ≡ pairs_behind values) }
+    ensures { IfOk result (λ pairs. pairs ≡ pairs_behind (texts values)) }
 {
     let mut rest = values.into_vec().into_iter();
     let Some(first) = rest.next() else {
         return Ok(None);
     };
-    if is_properties(&first) {
+    if is_properties(&first.text) {
         return pairs_of(alloc, rest);
     }
     Ok(None)
 }
 
 /// Reads `key value ..`: nothing where the last key has no value.
-fn pairs_of(alloc: Global, mut rest: IntoIter<Name>) -> Result<Option<List<Pair>>, NoMemory>
-    ensures { IfOk result (λ pairs. pairs ≡ pairs_of (into_iter_items rest)) }
+fn pairs_of(alloc: Global, mut rest: IntoIter<Value>) -> Result<Option<List<Pair>>, NoMemory>
+    ensures { IfOk result (λ pairs. pairs ≡ pairs_of (texts (into_iter_items rest))) }
 {
-    let mut pairs = List::new(alloc);
-    while let Some(name) = rest.next() {
+    let mut pairs = List::from_vec(Vec::with_capacity(alloc, rest.len() / 2)?);
+    while let Some(key) = rest.next() {
         let Some(value) = rest.next() else {
             return Ok(None);
         };
-        pairs.push(Pair { name, value })?;
+        pairs.push(Pair {
+            name: key.text,
+            value: value.text,
+        })?;
     }
     Ok(Some(pairs))
 }

@@ -1,6 +1,6 @@
-use Rattle.std.proofs.Common.{List, subst, sym}
+use Rattle.std.proofs.Common.{List}
 use Rattle.std.proofs.lemmas.Result.{err_from_is_err_and}
-use Rattle.ct_testfile.specs.Tests.{AreShort, most_bytes}
+use Rattle.ct_testfile.specs.Tests.{most_bytes}
 use Rattle.ct_testfile.specs.Values.{texts}
 use Rattle.ct_testfile.specs.Commands.{begun, performed}
 use Rattle.ct_testfile.specs.declared.state.State.{State}
@@ -16,8 +16,8 @@ returns-in_err-values c =
 
 pub returns : goal.returns
 returns c =
-    Follows-then (begun c.args.limits.now c.args.args.now c.args.state) (λ (read : List Value × State). performed c.args.limits.now c.args.dir.now c.args.command (texts read.0) read.1) (c.in_ok-values.values, c.in_ok-values.state) c.perform.result c.in_ok-values.ensures (rw (← c.in_ok-values-2.ensures) c.perform.ensures)
+    Follows-then (begun c.args.limits.now c.args.args.now c.args.state) (λ (read : List Value × State). performed c.args.limits.now c.args.dir.now c.args.command (texts read.0) read.1) (c.in_ok-values.values, c.in_ok-values.state) c.perform.result c.in_ok-values.ensures c.perform.ensures
 
 pub perform-requires-clause-values : goal.perform-requires-clause-values
 perform-requires-clause-values c =
-    subst (AreShort most_bytes) (sym c.in_ok-values-2.ensures) (begun-short c.args.limits.now most_bytes c.requires.values c.args.args.now c.args.state c.in_ok-values.state c.in_ok-values.values c.in_ok-values.ensures)
+    begun-short c.args.limits.now most_bytes c.requires.values c.args.args.now c.args.state c.in_ok-values.state c.in_ok-values.values c.in_ok-values.ensures

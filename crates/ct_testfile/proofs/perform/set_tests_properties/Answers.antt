@@ -1,6 +1,7 @@
 use Rattle.std.proofs.Common.{◌≡◌, ◌*◌, ◌-◌, ◌^◌, ℕ, min, ap, sym, ◌∙◌, refl, fold, sum_by, count_by}
 use Rattle.std.proofs.lemmas.Result.{err_from_is_err_and}
 use Rattle.ct_testfile.specs.Tests.{HaveShort, each_where, has_name_of, most_bytes, taking_props, prop_bytes}
+use Rattle.ct_testfile.specs.Values.{texts}
 use Rattle.ct_testfile.specs.Commands.{names_and_pairs}
 use Rattle.ct_testfile.specs.Entries.{of_name, count_of}
 use Rattle.ct_testfile.specs.declared.state.State.{State}
@@ -13,7 +14,7 @@ use Rattle.ct_testfile.proofs.perform.set_tests_properties.Goals as goal
 
 pub returns-in_default : goal.returns-in_default
 returns-in_default c =
-    refused-none (names_and_pairs c.args.values) BadCall _ (sym c.in_ok-names.ensures ∙ c.in_default.is)
+    refused-none (names_and_pairs (texts c.args.values)) BadCall _ (sym c.in_ok-names.ensures ∙ c.in_default.is)
 
 pub returns-in_err-state : goal.returns-in_err-state
 returns-in_err-state c =
@@ -27,7 +28,7 @@ returns-in_err-state c =
     c.count_named-tests.ensures ∙ ap (λ ns. min (sum_by (count_of state.tests) ns) (2 ^ 64 - 1)) (c.as_slice.ensures ∙ c.in_ok-different.ensures) ∙ ap (λ n. min n (2 ^ 64 - 1)) (count-distinct names state.tests) in
     let counted = product-both c.saturating_mul-bytes.result c.count_named-tests.result (count_by (has_name_of names) state.tests) c.prop_bytes.result (prop_bytes props) (2 ^ 64 - 1) count (c.prop_bytes.ensures ∙ ap (λ ps. min (prop_bytes ps) (2 ^ 64 - 1)) c.as_slice-2.ensures) c.saturating_mul-bytes.ensures in
     let p = err_from_is_err_and c.from_residual-in_err-state.result c.from_residual-in_err-state.ensures.1 in
-    rw (p.1, p.2) (goes-stopped (names_and_pairs c.args.values) read (sym c.in_ok-names.ensures ∙ c.in-Some.is) c.args.limits.now state bytes done c.in_err-state.field-0.0 (c.in_err-state.ensures (bytes read) counted))
+    rw (p.1, p.2) (goes-stopped (names_and_pairs (texts c.args.values)) read (sym c.in_ok-names.ensures ∙ c.in-Some.is) c.args.limits.now state bytes done c.in_err-state.field-0.0 (c.in_err-state.ensures (bytes read) counted))
 
 pub returns : goal.returns
 returns c =
@@ -45,9 +46,9 @@ returns c =
     c.in_ok-set_named.ensures
     ∙ ap (fold (of_name (taking_props props)) next.tests) (c.as_slice-3.ensures ∙ c.in_ok-different.ensures)
     ∙ each-distinct (taking_props props) (λ test. refl) names next.tests in
-    goes-done (names_and_pairs c.args.values) read (sym c.in_ok-names.ensures ∙ c.in-Some.is) c.args.limits.now state bytes done next (record next { tests = c.in_ok-set_named.field-0 }) (c.in_ok-state.ensures (bytes read) counted) (λ i. record next { tests = made i })
+    goes-done (names_and_pairs (texts c.args.values)) read (sym c.in_ok-names.ensures ∙ c.in-Some.is) c.args.limits.now state bytes done next (record next { tests = c.in_ok-set_named.field-0 }) (c.in_ok-state.ensures (bytes read) counted) (λ i. record next { tests = made i })
 
 pub set_named-requires : goal.set_named-requires
 set_named-requires c =
     let read : Read = (c.in-Some.names, c.in-Some.props) in
-    read-short (λ (r : Read). HaveShort most_bytes r.1) (names_and_pairs c.args.values) read (sym c.in_ok-names.ensures ∙ c.in-Some.is) (names_and_pairs-short most_bytes c.args.values c.requires)
+    read-short (λ (r : Read). HaveShort most_bytes r.1) (names_and_pairs (texts c.args.values)) read (sym c.in_ok-names.ensures ∙ c.in-Some.is) (names_and_pairs-short most_bytes (texts c.args.values) c.requires)
