@@ -1,4 +1,4 @@
-use Rattle.std.proofs.Common.{◌≡◌, ◌<◌, ◌∙◌, All, Some, map, ap, sym, subst, vec_len}
+use Rattle.std.proofs.Common.{◌<◌, ◌∙◌, Some, map, ap, sym, subst, vec_len}
 use Rattle.std.proofs.lemmas.List.Elements.{All-pop}
 use Rattle.ct_testfile.specs.Tests.{taking_props}
 use Rattle.ct_testfile.specs.Entries.{changed, changed_at, def_of}
