@@ -31,7 +31,7 @@ run_map None history P Q each some = some
 run_map (Some p) None P Q each some = some
 run_map (Some p) (Some es) P Q each some = each p es some
 
-run_none : (plan : Option PlanParts) (history : Option (List Entry)) (P : PlanParts → List Entry → Type 0) → ((p : PlanParts) (es : List Entry) → P p es → ⊥) → IsSomeAnd plan (λ p. IsSomeAnd history (λ es. P p es)) → ⊥
+pub run_none : (plan : Option PlanParts) (history : Option (List Entry)) (P : PlanParts → List Entry → Type 0) → ((p : PlanParts) (es : List Entry) → P p es → ⊥) → IsSomeAnd plan (λ p. IsSomeAnd history (λ es. P p es)) → ⊥
 run_none None history P never some = some
 run_none (Some p) None P never some = some
 run_none (Some p) (Some es) P never some = never p es some

@@ -22,3 +22,5 @@ pub mod EntryLemmas
 pub mod MeantRunLemmas
 pub mod MeantTextLemmas
 pub mod MeantAnswerLemmas
+pub mod SourceLemmas
+pub mod CompleteLemmas

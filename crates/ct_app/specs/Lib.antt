@@ -14,5 +14,6 @@ pub mod Runs
 pub mod MeantRuns
 pub mod Lists
 pub mod Answers
+pub mod Complete
 pub mod Attempt
 pub mod Ends

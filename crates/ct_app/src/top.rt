@@ -1,6 +1,7 @@
 ghost use Rattle.std.specs.Prelude.{◌≡◌, ◌<◌, ◌-◌, ◌^◌, drop, true, length, map, option_map, vec_len};
 ghost use Rattle.ct_app.specs.Answers.{Answers};
 ghost use Rattle.ct_app.specs.Calls.{list_sides, sides};
+ghost use Rattle.ct_app.specs.Complete.{Completes, CompletesList};
 ghost use Rattle.ct_app.specs.Ends.{history_entries};
 ghost use Rattle.ct_app.specs.Lists.{AnswersList};
 ghost use Rattle.ct_app.specs.MeantRuns.{AnswersAsMeant};
@@ -41,6 +42,9 @@ pub fn ctest_main<F: Files, G: Gate + Send, S: Sink + Send>(
     ensures meant { AnswersAsMeant (sides words.now env.now (F.tells files) (F.tells result.files)
         (map G.tells gates.items) (map G.tells result.gates.items) (S.tells sink) (S.tells result.sink)
         result.plan (option_map history_entries result.history)) result.outcome result.status }
+    ensures complete { Completes (sides words.now env.now (F.tells files) (F.tells result.files)
+        (map G.tells gates.items) (map G.tells result.gates.items) (S.tells sink) (S.tells result.sink)
+        result.plan (option_map history_entries result.history)) result.outcome }
     ensures all { length result.gates.items ≡ length gates.items }
     ensures others { drop 1 result.gates.items ≡ drop 1 gates.items }
     ensures unasked { ask_for_list words.now ≡ true → result.gates.items ≡ gates.items }
@@ -78,7 +82,8 @@ pub fn list_main<F: Files, S: Sink>(
     mut sink: S,
 ) -> Listed<F, S>
     requires { length words.now < 2 ^ 32 - 1 }
-    ensures { AnswersList (list_sides words.now (F.tells files) (F.tells result.files) (S.tells sink) (S.tells result.sink)) result.outcome result.status }
+    ensures answer { AnswersList (list_sides words.now (F.tells files) (F.tells result.files) (S.tells sink) (S.tells result.sink)) result.outcome result.status }
+    ensures complete { CompletesList (list_sides words.now (F.tells files) (F.tells result.files) (S.tells sink) (S.tells result.sink)) result.outcome }
 {
     let outcome = list_words(alloc, words, &mut files, &mut sink);
     let (outcome, status) = tell_outcome(alloc, &mut sink, &[], outcome);

@@ -3,6 +3,7 @@ use Rattle.std.specs.Prelude.{Option, option_map}
 use Rattle.ct_history.specs.declared.history.History.{History}
 use Rattle.ct_app.specs.Ends.{TellsEnd, history_entries}
 use Rattle.ct_app.proofs.AnswerLemmas.{some_told, told_answer, unchanged, widened}
+use Rattle.ct_app.proofs.CompleteLemmas.{call_completes}
 use Rattle.ct_app.proofs.ListLemmas.{list_told}
 use Rattle.ct_app.proofs.MeantAnswerLemmas.{answers_as_meant}
 use Rattle.ct_app.proofs.top.ctest_main.Goals as goal
@@ -32,3 +33,6 @@ returns-clause-answer g c =
 
 pub returns-clause-meant : goal.returns-clause-meant
 returns-clause-meant g c = answers_as_meant (returns-clause-answer g c)
+
+pub returns-clause-complete : goal.returns-clause-complete
+returns-clause-complete g c = call_completes (returns-clause-answer g c)

@@ -1,0 +1,52 @@
+-- What a call comes to that asks for something that is accepted: it is carried out, unless the files or the sink fail or memory
+-- is wanting. Nothing is asked of the gates: whatever faults they count, the outcome is one of these. This project's own.
+use Rattle.std.specs.Prelude.{◌≡◌, ◌⊎◌, ℕ, ◌≤◌, true, false, List, Some}
+use Rattle.ct_base.specs.declared.defs.TestDef.{TestDef}
+use Rattle.ct_base.specs.Outside.{Held, Rose}
+use Rattle.ct_props.specs.declared.props.Props.{Props}
+use Rattle.ct_graph.specs.Cycle.{is_cycle}
+use Rattle.ct_args.specs.declared.invocation.Invocation.{Invocation}
+use Rattle.ct_plan.specs.Source.{Source, edge_count, members_before}
+use Rattle.ct_app.specs.declared.outcome.Outcome.{Outcome}
+use Rattle.ct_app.specs.declared.outcome.Outcome.TheVariants.{Completed, Listed, Memory}
+use Rattle.ct_app.specs.Calls.{Sides}
+use Rattle.ct_app.specs.Reading.{AreRead, AskFor, IsSource, ask_for_list, most_edges}
+
+-- a list can be made: no word is refused, the files tell what they hold, and no test file and no property of a test is refused
+pub record IsListable (s : Sides) : Type 0 where
+  pub invocation : Invocation
+  pub words : AskFor s.words invocation
+  pub held : Held
+  pub told : s.files_before.held ≡ Some held
+  pub defs : List TestDef
+  pub props : List Props
+  pub read : AreRead (Some held) invocation defs props
+
+-- a run can be made: besides, no specification is refused, there are not too many edges, and no tests are a cycle
+pub record IsRunnable (s : Sides) : Type 0 where
+  pub invocation : Invocation
+  pub words : AskFor s.words invocation
+  pub held : Held
+  pub told : s.files_before.held ≡ Some held
+  pub source : Source
+  pub read : IsSource (Some held) invocation source
+  pub few : edge_count source ≤ most_edges
+  pub no_cycle : (tests : List ℕ) → is_cycle (members_before source) tests ≡ false
+
+-- neither the count of faults of the files nor that of the sink rose; one that stands at its last value counts as risen
+pub record IsUnfailed (s : Sides) : Type 0 where
+  pub files : Rose s.files_before.faults s.files_now.faults → ⊥
+  pub sink : Rose s.sink_before.faults s.sink_now.faults → ⊥
+
+-- a run that can be made is completed where no fault was counted, unless memory was wanting
+abbrev pub CompletesRun : Sides → Outcome → Type 0
+CompletesRun s outcome = IsRunnable s → IsUnfailed s → (outcome ≡ Completed) ⊎ (outcome ≡ Memory)
+
+-- a list that can be made is put where no fault was counted, unless memory was wanting
+abbrev pub CompletesList : Sides → Outcome → Type 0
+CompletesList s outcome = IsListable s → IsUnfailed s → (outcome ≡ Listed) ⊎ (outcome ≡ Memory)
+
+-- so it is with what the words ask for, a run or a list
+pub record Completes (s : Sides) (outcome : Outcome) : Type 0 where
+  pub run : ask_for_list s.words ≡ false → CompletesRun s outcome
+  pub list : ask_for_list s.words ≡ true → CompletesList s outcome
