@@ -26,16 +26,16 @@ consumed (Some xs) None heard is = absurd is
 consumed (Some xs) (Some ys) heard is = is
 
 -- nothing was heard so far
-pub hears-none : (left : Option (List ℕ)) (ear : List ℕ → Type 0) → Hears left left ear ear
-hears-none left ear = record {
+pub hears_none : (left : Option (List ℕ)) (ear : List ℕ → Type 0) → Hears left left ear ear
+hears_none left ear = record {
   heard = [];
   moved = none-moved left;
   said = λ text so. subst ear (sym (append-nil text)) so;
 }
 
 -- one more piece was heard
-pub hears-more : (left mid now : Option (List ℕ)) (before between after : List ℕ → Type 0) → Hears left mid before between → Hears mid now between after → Hears left now before after
-hears-more left mid now before between after was is = record {
+pub hears_more : (left mid now : Option (List ℕ)) (before between after : List ℕ → Type 0) → Hears left mid before between → Hears mid now between after → Hears left now before after
+hears_more left mid now before between after was is = record {
   heard = was.heard ++ is.heard;
   moved = more-moved was.heard is.heard left mid now was.moved is.moved;
   said = λ text so. subst after (append_assoc text was.heard is.heard) (is.said (text ++ was.heard) (was.said text so));

@@ -17,5 +17,5 @@ abbrev pub gate_tell : ℕ → GateTell
 gate_tell faults = record { world = None; asked = None; sent = None; faults = faults }
 
 -- what each of these gates tells
-abbrev pub gates_tell : {R : Type 0} → List (ProcessGate R) → List GateTell
+abbrev pub gates_tell : List ProcessGate → List GateTell
 gates_tell gates = map (λ gate. gate_tell gate.faults) gates

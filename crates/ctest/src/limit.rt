@@ -1,4 +1,4 @@
-ghost use Rattle.std.specs.Prelude.{◌≡◌, ◌/◌, ◌^◌, ◌-◌, ◌≤◌, min, IfOk, IfSome, None, Ok};
+ghost use Rattle.std.specs.Prelude.{◌≡◌, ◌/◌, ◌^◌, ◌-◌, ◌≤◌, min, IfOk, IfSome, None, Ok, is_some};
 ghost use Rattle.std.specs.Duration.{as_nanos};
 
 use std::io;
@@ -22,6 +22,13 @@ impl Limit {
             began: Instant::now(rt)?,
             micros,
         })
+    }
+
+    /// Tells whether there is a limit.
+    pub fn is_set(&self) -> bool
+        ensures { result ≡ is_some self.now.micros }
+    {
+        self.micros.is_some()
     }
 
     /// The microseconds up to the limit, or as many as these where there are more; 0 once the time

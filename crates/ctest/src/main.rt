@@ -1,7 +1,7 @@
 //! The program `ctest`: it runs the tests of the folder that it is started in.
 //!
 //! Hands up: nothing; it is the program.
-//! Stands on: ct_base, ct_verdict, ct_core, ct_app; for the wait on a pipe, libc and os of the kit.
+//! Stands on: ct_base, ct_verdict, ct_core, ct_app; for the wait on pipes, libc and os of the kit.
 //! Read first: `start.rt`; then `real_files.rt`, `real_sink.rt` and `process_gate.rt`, the edge to
 //! the machine; then the parts of the gate: `required.rt`, `command.rt`, `watch.rt`, `pipe.rt`.
 #![tactic(auto)]
@@ -22,7 +22,7 @@ mod watch;
 use std::process::ExitCode;
 
 fn main(rt: HostRuntime) -> ExitCode {
-    start::exit_code(match start::gates_of(rt.alloc(), rt, rt) {
+    start::exit_code(match start::gates_of(rt.alloc(), rt) {
         Ok(gates) => start::begin(rt, gates),
         Err(fault) => Err(fault.into()),
     })

@@ -15,30 +15,37 @@ use ct_base::Ear;
 use ct_core::{Ended, Gate, Request, Ticket};
 use ct_verdict::How;
 use std::alloc::Global;
-use std::thread::Threads;
 use std::time::Instant;
 
 /// Runs the programs of tests on the machine, and waits for each.
 ///
 /// It tells nothing of them. A program has no input.
 #[derive(Drop)]
-pub struct ProcessGate<T> {
-    /// Where the threads come from that watch programs.
-    threads: T,
+pub struct ProcessGate {
     rt: HostRuntime,
     /// The starts and waits that failed. It stands still at its last value.
     faults: u64,
 }
 
-impl<T> ProcessGate<T> {
+impl ProcessGate {
     /// Makes the gate of which no start has failed.
-    pub fn new(threads: T, rt: HostRuntime) -> ProcessGate<T>
+    pub fn new(rt: HostRuntime) -> ProcessGate
         ensures { result.faults ≡ 0 }
     {
-        ProcessGate {
-            threads,
-            rt,
-            faults: 0,
+        ProcessGate { rt, faults: 0 }
+    }
+
+    /// Runs the program, and takes the time that this took; 0 where the clock failed.
+    fn attempt<E: Ear>(&mut self, alloc: Global, request: &Request, ear: &mut E) -> Ended
+        ensures cause { HasStartCause self.old.faults self.new.faults result.how }
+        ensures unlimited { result.how ≡ Ends.TimedOut → IsSome request.now.limit }
+    {
+        let began = Instant::now(&self.rt);
+        let outcome = run_program(self.rt, alloc, request, ear);
+        let passed = began.and_then(|began| began.elapsed(&self.rt));
+        Ended {
+            how: self.count(outcome),
+            micros: passed.map_or(0, micros_of),
         }
     }
 
@@ -59,23 +66,7 @@ impl<T> ProcessGate<T> {
     }
 }
 
-impl<T: Threads> ProcessGate<T> {
-    /// Runs the program, and takes the time that this took; 0 where the clock failed.
-    fn attempt<E: Ear>(&mut self, alloc: Global, request: &Request, ear: &mut E) -> Ended
-        ensures cause { HasStartCause self.old.faults self.new.faults result.how }
-        ensures unlimited { result.how ≡ Ends.TimedOut → IsSome request.now.limit }
-    {
-        let began = Instant::now(&self.rt);
-        let outcome = run_program(&self.threads, self.rt, alloc, request, ear);
-        let passed = began.and_then(|began| began.elapsed(&self.rt));
-        Ended {
-            how: self.count(outcome),
-            micros: passed.map_or(0, micros_of),
-        }
-    }
-}
-
-impl<T: Threads> Gate for ProcessGate<T> {
+impl Gate for ProcessGate {
     ghost tells = { λ gate. gate_tell gate.faults };
 
     fn run<E: Ear>(
@@ -91,8 +82,7 @@ impl<T: Threads> Gate for ProcessGate<T> {
 
 /// Runs the program of a request to its end, and hands what it writes to the ear. Without one of the
 /// required files it is not started.
-fn run_program<T: Threads, E: Ear>(
-    threads: &T,
+fn run_program<E: Ear>(
     rt: HostRuntime,
     alloc: Global,
     request: &Request,
@@ -109,7 +99,7 @@ fn run_program<T: Threads, E: Ear>(
     let limit = Limit::from_now(&rt, request.limit)?;
     let beside = is_beside(&rt, alloc, request)?;
     let child = command_of(alloc, request, beside)?.spawn(&rt)?;
-    attend(threads, rt, alloc, &limit, &mut Running::of(child)?, ear)
+    attend(&rt, alloc, &limit, &mut Running::of(child)?, ear)
 }
 
 #[cfg(test)]
@@ -146,12 +136,8 @@ mod tests {
     }
 
     /// Runs a request, and tells how it ended, the faults of its gate, and what was heard.
-    fn told<T: Threads + Copy + Drop>(
-        threads: T,
-        rt: HostRuntime,
-        request: &Request,
-    ) -> Result<String, Fail> {
-        let mut gate = ProcessGate::new(threads, rt);
+    fn told(rt: HostRuntime, request: &Request) -> Result<String, Fail> {
+        let mut gate = ProcessGate::new(rt);
         let mut ear = Collect::new(rt.alloc());
         let how = gate.attempt(rt.alloc(), request, &mut ear).how;
         let heard = std::str::from_utf8(ear.heard().bytes()).unwrap_or("no text");
@@ -185,7 +171,7 @@ mod tests {
         for row in RUNS.lines() {
             let (asked, want) = row.split_once(" is ").unwrap_or((row, ""));
             let (dir, line) = asked.split_once(' ').unwrap_or(("", asked));
-            let told = told(rt, rt, &request(rt.alloc(), dir, line)?)?;
+            let told = told(rt, &request(rt.alloc(), dir, line)?)?;
             assert_eq!(rt; told.as_str(), want, "{row}");
         }
         Ok(())
@@ -195,7 +181,7 @@ mod tests {
     fn starts_no_program_whose_name_is_no_text(rt: HostRuntime) -> Result<(), Fail> {
         let mut request = request(rt.alloc(), "/", "/bin/true")?;
         request.command.push(Name::of(rt.alloc(), b"\xff")?)?;
-        assert_eq!(rt; told(rt, rt, &request)?.as_str(), "NotStarted 1 []");
+        assert_eq!(rt; told(rt, &request)?.as_str(), "NotStarted 1 []");
         Ok(())
     }
 
@@ -208,7 +194,7 @@ mod tests {
         ] {
             let mut request = request(rt.alloc(), "/", "true")?;
             request.required = names(rt.alloc(), files, ',')?;
-            assert_eq!(rt; told(rt, rt, &request)?.as_str(), want, "{files}");
+            assert_eq!(rt; told(rt, &request)?.as_str(), want, "{files}");
         }
         Ok(())
     }
@@ -233,28 +219,37 @@ true is Exited(0) 0 []
             let (line, want) = row.split_once(" is ").unwrap_or((row, ""));
             let mut request = request(rt.alloc(), "/", line)?;
             request.limit = Some(200_000);
-            assert_eq!(rt; told(rt, rt, &request)?.as_str(), want, "{row}");
+            assert_eq!(rt; told(rt, &request)?.as_str(), want, "{row}");
         }
         let passed = micros_of(began.elapsed(&rt)?);
         assert!(rt; passed >= 1_200_000 && passed < 19_000_000, "{passed}");
         Ok(())
     }
 
+    /// Writes 64 KiB of NUL to the one output and 64 KiB of spaces to the other, in turns.
+    const TURNS: &str = "\
+sh -c e=$(printf\t%65536s);i=0;while\t[\t$i\t-lt\t160\t];do\thead\t-c\t65536\t/dev/zero;\
+printf\t%s\t\"$e\"\t>&2;i=$((i+1));done";
+
+    const OF_EACH: usize = 160 * 65_536;
+
     #[test]
-    fn reads_both_outputs_in_turns(rt: HostRuntime) -> Result<(), Fail> {
-        let line =
-            "sh -c i=0;\twhile\t[\t$i\t-lt\t160\t];\tdo\thead\t-c\t65536\t/dev/zero;\thead\t-c\t65536\t/dev/zero\t>&2;\ti=$((i+1));\tdone";
+    fn hears_all_of_both_outputs_that_come_in_turns(rt: HostRuntime) -> Result<(), Fail> {
         let mut ear = Collect::new(rt.alloc());
-        let mut gate = ProcessGate::new(rt, rt);
-        let ended = gate.attempt(rt.alloc(), &request(rt.alloc(), "/", line)?, &mut ear);
+        let mut gate = ProcessGate::new(rt);
+        let ended = gate.attempt(rt.alloc(), &request(rt.alloc(), "/", TURNS)?, &mut ear);
         assert_eq!(rt; ended.how, How::Exited(0));
-        assert_eq!(rt; ear.heard().bytes().len(), 2 * 160 * 65_536);
+        let heard = ear.heard().bytes();
+        assert_eq!(rt; heard.len(), 2 * OF_EACH);
+        let (output, errors) = heard.split_at(OF_EACH);
+        assert!(rt; output.iter().all(|byte| *byte == 0));
+        assert!(rt; errors.iter().all(|byte| *byte == b' '));
         Ok(())
     }
 
     #[test]
     fn takes_the_time_of_an_attempt(rt: HostRuntime) -> Result<(), Fail> {
-        let mut gate = ProcessGate::new(rt, rt);
+        let mut gate = ProcessGate::new(rt);
         let request = request(rt.alloc(), "/", "sleep 0.1")?;
         let ended = gate.attempt(rt.alloc(), &request, &mut Collect::new(rt.alloc()));
         assert!(rt; ended.micros >= 100_000 && ended.micros < 50_000_000);

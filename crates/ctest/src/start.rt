@@ -116,8 +116,6 @@ pub fn begin<G: Gate + Send + Drop>(rt: HostRuntime, gates: Vec<G>) -> Result<Ru
 }
 
 /// Hands the words, the variables and the machine to the top call.
-//
-// The gates come from `main`, which alone has the threads of the host's runtime.
 fn run<G: Gate + Send + Drop>(
     rt: HostRuntime,
     args: &[String],
@@ -185,16 +183,12 @@ fn pairs_of(alloc: Global, vars: &[(String, String)]) -> Result<Vec<Pair>, NoMem
 }
 
 /// The gates through which tests may run, none of which has failed.
-pub fn gates_of<T: Copy + Drop>(
-    alloc: Global,
-    threads: T,
-    rt: HostRuntime,
-) -> Result<Vec<ProcessGate<T>>, NoMemory>
+pub fn gates_of(alloc: Global, rt: HostRuntime) -> Result<Vec<ProcessGate>, NoMemory>
     ensures { IfOk result (λ gates. gates_tell gates.items ≡ unused_gates) }
 {
     let mut gates = Vec::new(alloc);
     for _ in 0..GATES {
-        gates.push(ProcessGate::new(threads, rt))?;
+        gates.push(ProcessGate::new(rt))?;
     }
     Ok(gates)
 }

@@ -2,23 +2,27 @@ ghost use Rattle.std.specs.Prelude.{◌≡◌, ◌≢◌, false, IfOk, IfSome, I
 ghost use Rattle.std.specs.Io.KnownBytes.{IsAtEnd};
 ghost use Rattle.ct_core.specs.Gate.{is_not_started};
 ghost use Rattle.ct_verdict.specs.declared.attempt.How.TheVariants as Ends;
-ghost use Rattle.ctest.specs.Heard.{HearsBoth};
+ghost use Rattle.ctest.specs.Heard.{Hears, HearsBoth};
 ghost use Rattle.ctest.specs.Process.{has_run, how_of_end};
 ghost use Rattle.ctest.specs.Transfer.{Moves};
 
 use crate::fault::StartFault;
 use crate::limit::Limit;
-use crate::pipe::{Pipe, hear_all};
-use crate::transfer::read_piece;
+use crate::pipe::read_both;
 use ct_base::{Blob, Ear};
 use ct_verdict::How;
 use std::alloc::Global;
+use std::io::Read;
+use std::os::fd::AsRawFd;
 use std::process::{Child, ChildStderr, ChildStdout, ExitStatus};
+use std::rt::Clock;
 use std::thread;
-use std::thread::{Threads, join_mut};
 use std::time::Duration;
 
-/// The first pause and the longest one, in microseconds, between two looks at a program.
+/// How many looks at a program that has closed its outputs come without a pause: it mostly ends at once.
+const QUICK_LOOKS: u64 = 64;
+
+/// The first pause and the longest one, in microseconds, between two looks behind these.
 const SHORTEST_PAUSE: u64 = 100;
 
 const LONGEST_PAUSE: u64 = 20_000;
@@ -55,9 +59,8 @@ impl Running<ChildStdout, ChildStderr> {
 ///
 /// It returns when the program has ended and nothing holds its outputs any more, or else at the
 /// limit, when the program is stopped and its outputs are read no further.
-pub fn attend<T: Threads, O: Pipe + Send, P: Pipe + Send, E: Ear>(
-    threads: &T,
-    rt: HostRuntime,
+pub fn attend<C: Clock, O: Read + AsRawFd, P: Read + AsRawFd, E: Ear>(
+    clock: &C,
     alloc: Global,
     limit: &Limit,
     program: &mut Running<O, P>,
@@ -71,71 +74,67 @@ pub fn attend<T: Threads, O: Pipe + Send, P: Pipe + Send, E: Ear>(
     ensures started { IfOk result (λ how. is_not_started how ≡ false) }
     ensures unlimited { IfOk result (λ how. how ≡ Ends.TimedOut → IsSome limit.now.micros) }
 {
+    let mut kept = Blob::new(alloc);
+    let ended = watch(clock, limit, program, ear, &mut kept);
+    if !matches!(ended, Ok(Some(_))) {
+        stop(&mut program.child)?;
+    }
+    let how = how_of(ended?);
+    ear.hear(kept.bytes());
+    Ok(how)
+}
+
+/// Reads both outputs of a program to their ends and waits for its own. `None` is the limit.
+fn watch<C: Clock, O: Read + AsRawFd, P: Read + AsRawFd, E: Ear>(
+    clock: &C,
+    limit: &Limit,
+    program: &mut Running<O, P>,
+    ear: &mut E,
+    kept: &mut Blob,
+) -> Result<Option<ExitStatus>, StartFault>
+    ensures heard { OnOk result (Hears (O.remaining program.old.output) (O.remaining program.new.output) (E.stands_for ear.old) (E.stands_for ear.new)) }
+    ensures moved { OnOk result (Moves (P.remaining program.old.errors) kept.old (P.remaining program.new.errors) kept.new) }
+    ensures output { IfOk result (λ ended. IfSome ended (λ _. IsAtEnd (O.remaining program.new.output))) }
+    ensures errors { IfOk result (λ ended. IfSome ended (λ _. IsAtEnd (P.remaining program.new.errors))) }
+    ensures unlimited { IfOk result (λ ended. ended ≡ None → IsSome limit.now.micros) }
+{
     let Running {
         child,
         output,
         errors,
     } = program;
-    let mut kept = Blob::new(alloc);
-    let (watched, heard) = join_mut(
-        threads,
-        &mut || watch(&rt, limit, child, errors, &mut kept),
-        &mut || hear_all(&rt, limit, output, ear),
-    );
-    let ended = watched?;
-    let whole = heard?;
-    ear.hear(kept.bytes());
-    Ok(how_of(if whole { ended } else { None }))
-}
-
-/// Waits for a program and for the end of its standard error, which it keeps, and stops the program
-/// at the limit, or where something fails. `None` is the limit.
-fn watch<P: Pipe>(
-    rt: &HostRuntime,
-    limit: &Limit,
-    child: &mut Child,
-    errors: &mut P,
-    kept: &mut Blob,
-) -> Result<Option<ExitStatus>, StartFault>
-    ensures unlimited { IfOk result (λ ended. ended ≡ None → IsSome limit.now.micros) }
-    ensures moved { OnOk result (Moves (P.remaining errors.old) kept.old (P.remaining errors.new) kept.new) }
-    ensures end { IfOk result (λ ended. IfSome ended (λ _. IsAtEnd (P.remaining errors.new))) }
-{
-    let ended = both_end(rt, limit, child, errors, kept);
-    if !matches!(ended, Ok(Some(_))) {
-        stop(child)?;
+    if !read_both(clock, limit, output, errors, ear, kept)? {
+        return Ok(None);
     }
-    ended
+    end_of(clock, limit, child)
 }
 
-/// Waits for the end of a program and of its standard error, which it keeps. `None` is the limit.
-fn both_end<P: Pipe>(
-    rt: &HostRuntime,
+/// Waits for the end of a program. `None` is the limit.
+fn end_of<C: Clock>(
+    clock: &C,
     limit: &Limit,
     child: &mut Child,
-    errors: &mut P,
-    kept: &mut Blob,
 ) -> Result<Option<ExitStatus>, StartFault>
     ensures unlimited { IfOk result (λ ended. ended ≡ None → IsSome limit.now.micros) }
-    ensures moved { OnOk result (Moves (P.remaining errors.old) kept.old (P.remaining errors.new) kept.new) }
-    ensures end { IfOk result (λ ended. IfSome ended (λ _. IsAtEnd (P.remaining errors.new))) }
 {
-    let mut open = true;
+    if !limit.is_set() {
+        return Ok(Some(child.wait()?));
+    }
     let mut pause = SHORTEST_PAUSE;
-    for _ in 0..u64::MAX {
+    for look in 0..u64::MAX {
         let ended = child.try_wait()?;
-        if ended.is_some() && !open {
+        if ended.is_some() {
             return Ok(ended);
         }
-        let left = limit.left(rt, if open { LONGEST_PAUSE } else { pause })?;
+        let left = limit.left(clock, pause)?;
         if left == 0 {
             return Ok(None);
         }
-        if !open {
-            thread::sleep(rt, Duration::from_micros(left));
+        if look < QUICK_LOOKS {
+            thread::yield_now();
+        } else {
+            thread::sleep(clock, Duration::from_micros(left));
             pause = (2 * pause).min(LONGEST_PAUSE);
-        } else if errors.is_ready(left)? {
-            open = read_piece(errors, kept, u64::MAX)?;
         }
     }
     Err(StartFault::Failed)

@@ -7,6 +7,6 @@ returns-clause-moved g c =
     let heard = take c.in_ok-got.got c.read.new.buf in
     record {
       heard = heard;
-      moved = consumed (g.P.Read.remaining c.args.pipe.now) (g.P.Read.remaining c.read.new.self) heard c.in_ok-got.ensures.bytes.0;
+      moved = consumed (g.R.Read.remaining c.args.output.now) (g.R.Read.remaining c.read.new.self) heard c.in_ok-got.ensures.bytes.0;
       said = c.hear.ensures;
     }

@@ -3,7 +3,7 @@ use Rattle.ctest.specs.Machine.{gate_tell, gates_tell}
 use Rattle.ctest.proofs.start.gates_of.Given as goal
 
 abbrev pub invariant-loop : goal.invariant-loop
-invariant-loop g l = record {
+invariant-loop l = record {
   count : vec_len l.gates ≡ l.counter;
   unfailed : gates_tell l.gates.items ≡ replicate l.counter (gate_tell 0);
 }
