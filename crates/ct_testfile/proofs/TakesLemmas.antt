@@ -146,18 +146,21 @@ rest-all old text rest =
     (λ i. with_parts old.values (rest.text i) (parts_of (held_bytes (rest.held i) ++ append-nil text i)))
     ∙ with_parts-all old.values text
 
+-- the entry that was begun, behind a backslash that was released first
+pub entry-last : (old released : Reader) → released.held ≡ false → entries_with released [] ≡ entries_with old [] → with_entry released ≡ entries_with old []
+entry-last old released free same =
+    sym (with_parts-nothing released.values released.text.items)
+    ∙ ap (λ h. with_parts released.values released.text.items (parts_of (held_bytes h ++ []))) (sym free)
+    ∙ same
+
 -- behind them
-module _ (limits : Limits) (old mid : Reader) (text : List ℕ) (rest : IsAtRest old) where
-  pub parts-stopped : (why : Stop) → StopsFor limits (entries_with old (text ++ [])) why → StopsFor limits (old.values ++ map bare (entries_of text)) why
-  parts-stopped why stops = subst (λ vs. StopsFor limits vs why) (rest-all old text rest) stops
+module _ (limits : Limits) (old : Reader) (text : List ℕ) (rest : IsAtRest old) where
+  pub entries-stopped : (why : Stop) → StopsFor limits (entries_with old (text ++ [])) why → StopsFor limits (old.values ++ map bare (entries_of text)) why
+  entries-stopped why stops = subst (λ vs. StopsFor limits vs why) (rest-all old text rest) stops
 
-  pub release-stopped : (why : Stop) → entries_with mid [] ≡ entries_with old (text ++ []) → StopsFor limits (entries_with mid []) why → StopsFor limits (old.values ++ map bare (entries_of text)) why
-  release-stopped why taken stops = subst (λ vs. StopsFor limits vs why) (taken ∙ rest-all old text rest) stops
+  pub entries-ended : (mid new : Reader) (result : Result (Unit {0}) Stop) → entries_with mid [] ≡ entries_with old (text ++ []) → OnOk result (new.values ≡ entries_with mid []) → OnOk result (new.values ≡ old.values ++ map bare (entries_of text))
+  entries-ended mid new result taken values = on_ok_weaker result (λ is. is ∙ taken ∙ rest-all old text rest) values
 
-  pub entry-all : (released : Reader) → entries_with mid [] ≡ entries_with old (text ++ []) → released.held ≡ false → entries_with released [] ≡ entries_with mid [] → with_entry released ≡ old.values ++ map bare (entries_of text)
-  entry-all released taken free same =
-      sym (with_parts-nothing released.values released.text.items)
-      ∙ ap (λ h. with_parts released.values released.text.items (parts_of (held_bytes h ++ []))) (sym free)
-      ∙ same
-      ∙ taken
-      ∙ rest-all old text rest
+  pub entries-long : (mid : Reader) (result : Result (Unit {0}) Stop) → entries_with mid [] ≡ entries_with old (text ++ []) → IfErr result (StopsFor limits (entries_with mid [])) → IfErr result (StopsFor limits (old.values ++ map bare (entries_of text)))
+  entries-long mid result taken stopped =
+      IfErr-weaker result (StopsFor limits (entries_with mid [])) (StopsFor limits (old.values ++ map bare (entries_of text))) (λ why stops. subst (λ vs. StopsFor limits vs why) (taken ∙ rest-all old text rest) stops) stopped

@@ -1,8 +1,9 @@
 ghost use Rattle.std.specs.Prelude.{◌≡◌, ◌<◌, ◌≤◌, ◌++◌, ◌∷◌, [], ◌==◌, IfErr, OnOk, false, true, filter, length, map};
 ghost use Rattle.std.specs.List.{list_all, prefix_len};
 ghost use Rattle.ct_base.specs.Entries.{entries_of, is_entry, semicolon};
+ghost use Rattle.ct_lex.specs.Next.{arg_of};
 ghost use Rattle.ct_testfile.specs.Values.{bare, argument_text, part_text, values_by};
-ghost use Rattle.ct_testfile.specs.Readers.{IsAtRest, IsCounted, Releases, StopsFor, StopsIf, TakesEntries, is_inner};
+ghost use Rattle.ct_testfile.specs.Readers.{IsAtRest, IsCounted, Releases, StopsFor, StopsIf, TakesEntries, entries_with, is_inner};
 
 use crate::count::raised;
 use crate::fault::{ReadKind, Stop};
@@ -10,7 +11,7 @@ use crate::limits::Limits;
 use crate::table::Table;
 use crate::value::{Value, value_text};
 use ct_base::{List, Name, NoMemory};
-use ct_lex::{Arg, ArgKind, Part};
+use ct_lex::{Arg, ArgKind, NextArg, Part};
 use std::alloc::Global;
 use std::mem;
 
@@ -43,14 +44,69 @@ impl Reader {
         }
     }
 
-    /// Reads the values of one more argument.
-    pub(crate) fn take(
+    /// Reads the values of one more argument, and copies the bytes of one that is lent once, to where they stay.
+    pub(crate) fn take_next(
         &mut self,
         alloc: Global,
         limits: &Limits,
         table: &Table,
-        arg: Arg,
+        next: NextArg<'_>,
     ) -> Result<(), Stop>
+        requires { IsAtRest self.old }
+        ensures rest { OnOk result (IsAtRest self.new) }
+        ensures values { OnOk result (self.new.values ≡ self.old.values ++ values_by (arg_of next.entry).kind (argument_text table.now (arg_of next.entry).parts)) }
+        ensures stopped { IfErr result (StopsFor limits.now (self.old.values ++ values_by (arg_of next.entry).kind (argument_text table.now (arg_of next.entry).parts))) }
+    {
+        match next {
+            NextArg::Run(kind, run) => self.take_lent(alloc, limits, kind, run),
+            NextArg::Made(arg) => self.take(alloc, limits, table, arg),
+        }
+    }
+
+    /// Reads the values of an argument whose text is these bytes.
+    fn take_lent(
+        &mut self,
+        alloc: Global,
+        limits: &Limits,
+        kind: ArgKind,
+        run: &[u8],
+    ) -> Result<(), Stop>
+        requires { IsAtRest self.old }
+        ensures rest { OnOk result (IsAtRest self.new) }
+        ensures values { OnOk result (self.new.values ≡ self.old.values ++ values_by kind run.now) }
+        ensures stopped { IfErr result (StopsFor limits.now (self.old.values ++ values_by kind run.now)) }
+    {
+        match kind {
+            ArgKind::Unquoted => self.take_lent_entries(alloc, limits, run),
+            ArgKind::Bracket => self.take_lent_whole(alloc, limits, run),
+            ArgKind::Quoted => self.take_lent_whole(alloc, limits, run),
+        }
+    }
+
+    /// Reads the value of a quoted argument or of a bracket argument whose text is these bytes.
+    fn take_lent_whole(&mut self, alloc: Global, limits: &Limits, run: &[u8]) -> Result<(), Stop>
+        requires { IsAtRest self.old }
+        ensures rest { OnOk result (IsAtRest self.new) }
+        ensures values { OnOk result (self.new.values ≡ self.old.values ++ record { text = run.now; unquoted = false } ∷ []) }
+        ensures stopped { IfErr result (StopsFor limits.now (self.old.values ++ record { text = run.now; unquoted = false } ∷ [])) }
+    {
+        join_text(limits, &mut self.text, run)?;
+        self.end_value(alloc, limits, false)
+    }
+
+    /// Reads the values of an unquoted argument whose text is these bytes.
+    fn take_lent_entries(&mut self, alloc: Global, limits: &Limits, run: &[u8]) -> Result<(), Stop>
+        requires { IsAtRest self.old }
+        ensures rest { OnOk result (IsAtRest self.new) }
+        ensures values { OnOk result (self.new.values ≡ self.old.values ++ map bare (entries_of run.now)) }
+        ensures stopped { IfErr result (StopsFor limits.now (self.old.values ++ map bare (entries_of run.now))) }
+    {
+        self.take_piece(alloc, limits, run)?;
+        self.end_entries(alloc, limits)
+    }
+
+    /// Reads the values of an argument that was made.
+    fn take(&mut self, alloc: Global, limits: &Limits, table: &Table, arg: Arg) -> Result<(), Stop>
         requires { IsAtRest self.old }
         ensures rest { OnOk result (IsAtRest self.new) }
         ensures values { OnOk result (self.new.values ≡ self.old.values ++ values_by arg.kind (argument_text table.now arg.parts)) }
@@ -109,6 +165,16 @@ impl Reader {
         ensures stopped { IfErr result (StopsFor limits.now (self.old.values ++ map bare (entries_of (argument_text table.now parts)))) }
     {
         self.take_parts(alloc, limits, table, parts)?;
+        self.end_entries(alloc, limits)
+    }
+
+    /// Ends the last entry of an unquoted argument.
+    fn end_entries(&mut self, alloc: Global, limits: &Limits) -> Result<(), Stop>
+        requires { IsCounted self.old }
+        ensures rest { OnOk result (IsAtRest self.new) }
+        ensures values { OnOk result (self.new.values ≡ entries_with self.old []) }
+        ensures stopped { IfErr result (StopsFor limits.now (entries_with self.old [])) }
+    {
         self.release(limits)?;
         self.end_entry(alloc, limits)
     }

@@ -32,8 +32,8 @@ pub(crate) fn values_of(
 {
     let mut reader = Reader::new(alloc);
     let mut left = args.reader();
-    'reads: while let Some(arg) = left.next(alloc)? {
-        reader.take(alloc, limits, table, arg)?;
+    'reads: while let Some(next) = left.lend_next(alloc)? {
+        reader.take_next(alloc, limits, table, next)?;
     }
     let Reader {
         values,
