@@ -123,7 +123,8 @@ fn run<G: Gate + Send + Drop>(
     gates: Vec<G>,
 ) -> Result<Run<G>, BeginFault>
     requires { map G.tells gates.items ≡ unused_gates }
-    ensures { IfOk result (λ run. RunsOnMachine G.tells (words_in args.now) (pairs_in vars.now) run) }
+    ensures run { IfOk result (λ run. RunsOnMachine G.tells (words_in args.now) (pairs_in vars.now) run) }
+    ensures many { IsErrOf result BeginCause.Failed → 2 ^ 32 ≤ length args.now }
 {
     let words = words_of(rt.alloc(), args)?;
     let env = pairs_of(rt.alloc(), vars)?;
