@@ -4,8 +4,8 @@ use Rattle.std.proofs.lemmas.Bool.{false≢true}
 use Rattle.ct_base.specs.Outside.{Held}
 use Rattle.ct_base.specs.Path.{joined}
 use Rattle.ct_regex.specs.Reading as pattern
-use Rattle.ct_testfile.specs.Values.{Variable}
-use Rattle.ct_testfile.specs.declared.value.Value.{Value}
+use Rattle.ct_suite.specs.Values.{Variable}
+use Rattle.ct_suite.specs.declared.value.Value.{Value}
 use Rattle.ct_testfile.specs.declared.fault.ReadKind.TheVariants.{BadCondition}
 use Rattle.ct_regex.specs.Tree.{Tree}
 use Rattle.ct_regex.specs.Gives.{SaysFault}

@@ -1,13 +1,5 @@
-pub mod TableLemmas
-pub mod PlaceLemmas
-pub mod SuiteLemmas
-pub mod WordLemmas
-pub mod ShortLemmas
-pub mod ReaderLemmas
-pub mod TakesLemmas
-pub mod RunLemmas
-pub mod NameLemmas
 pub mod SaysLemmas
+pub mod BegunLemmas
 pub mod PerformLemmas
 pub mod OverLemmas
 pub mod ConditionLemmas

@@ -1,16 +1,18 @@
 -- What commands come to, step by step.
-use Rattle.std.proofs.Common.{◌≡◌, ℕ, zero, suc, ◌⊎◌, inl, inr, ◌+◌, ◌*◌, ◌≤◌, ◌<◌, nat_le, min, Bool, true, false, cond, ◌||◌, ◌==◌, subst, List, [], ◌∷◌, ◌++◌, length, take, get_or, sum_by, fold, Option, Some, None, Result, Ok, Err, refl, sym, ap, ◌∙◌, arith}
+use Rattle.std.proofs.Common.{◌≡◌, ℕ, zero, suc, ◌⊎◌, inl, inr, ◌*◌, ◌≤◌, ◌<◌, nat_le, min, Bool, true, false, cond, ◌||◌, ◌==◌, subst, List, [], ◌∷◌, ◌++◌, length, Option, Some, None, Result, Ok, Err, refl, sym, ap, ◌∙◌, arith}
 use Rattle.std.proofs.lemmas.Bool.{cases_lt}
 use Rattle.std.proofs.lemmas.Bool.Decides.{nat_tests}
-use Rattle.std.proofs.lemmas.List.Sums.{sum_by_more, fold_more}
-use Rattle.ct_testfile.specs.Outcome.{◌>>=◌, or_refused, raised}
+use Rattle.ct_suite.specs.Count.{raised}
+use Rattle.ct_testfile.specs.Outcome.{◌>>=◌, or_refused}
 use Rattle.ct_testfile.specs.Says.{Follows}
-use Rattle.ct_testfile.specs.Commands.{taken, add_test, is_bad_name, is_full, included, files, set, list_value, with_variable}
-use Rattle.ct_testfile.specs.Values.{Variable}
+use Rattle.ct_suite.specs.Words.{list_value}
+use Rattle.ct_suite.specs.Values.{with_variable}
+use Rattle.ct_testfile.specs.Commands.{taken, add_test, is_bad_name, is_full, included, files, set}
+use Rattle.ct_suite.specs.Values.{Variable}
 use Rattle.std.specs.Option.{option_map_or}
 use Rattle.ct_base.specs.declared.defs.TestDef.{TestDef}
-use Rattle.ct_testfile.specs.Tests.{most_tests, new_test}
-use Rattle.ct_testfile.specs.Entries.{taken_apart}
+use Rattle.ct_suite.specs.Tests.{most_tests, new_test}
+use Rattle.ct_suite.specs.Entries.{taken_apart}
 use Rattle.ct_testfile.specs.declared.opening.Opens.{Opens}
 use Rattle.ct_testfile.specs.declared.fault.ReadKind.{ReadKind}
 use Rattle.ct_testfile.specs.declared.fault.ReadKind.TheVariants.{BadCall, TooLong, TooManyTests}
@@ -54,13 +56,6 @@ product-by (suc k) b most (inl great) =
 
 pub capped-product : (a b most : ℕ) → min (a * min b most) most ≡ min (a * b) most
 capped-product a b most = product-by a b most (cases_lt most b)
-
--- one more number is counted up to the greatest one
-pub capped-more : {X : Type 0} (f : X → ℕ) (xs : List X) (i : ℕ) (x : X) (count now more most : ℕ) → i < length xs → x ≡ get_or xs i x → more ≡ f x → count ≡ min (sum_by f (take i xs)) most → now ≡ min (count + more) most → now ≡ min (sum_by f (take (i + 1) xs)) most
-capped-more f xs i x count now more most within is more_is counted added =
-    let whole : sum_by f (take (i + 1) xs) ≡ sum_by f (take i xs) + f x =
-    sum_by_more f xs i x within ∙ ap (λ y. sum_by f (take i xs) + f y) (sym is) in
-    omega arith
 
 -- and a product of what was counted so
 pub product-is : (result tests count counted bytes most : ℕ) → tests ≡ count → counted ≡ min bytes most → result ≡ min (tests * counted) most → result ≡ min (count * bytes) most
@@ -141,11 +136,6 @@ product-both result tests count counted bytes most one other is =
     ∙ product-flip (min count most) bytes most
     ∙ capped-product bytes count most
     ∙ product-flip bytes count most
-
--- one item more is folded in
-pub fold-next : {A B : Type 0} (f : B → A → B) (start : B) (xs : List A) (i : ℕ) (x : A) (now next : B) → i < length xs → x ≡ get_or xs i x → now ≡ fold f start (take i xs) → next ≡ f now x → next ≡ fold f start (take (i + 1) xs)
-fold-next f start xs i x now next within is so_far made =
-    made ∙ (λ j. f (so_far j) (is j)) ∙ sym (fold_more f start xs i x within)
 
 -- what takes bytes leaves the tests
 abbrev tests_or : Result State ReadKind → List TestDef → List TestDef

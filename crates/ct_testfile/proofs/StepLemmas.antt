@@ -12,7 +12,7 @@ use Rattle.ct_testfile.specs.declared.fault.ReadKind.{ReadKind}
 use Rattle.ct_testfile.specs.declared.fault.ReadFault.{ReadFault}
 use Rattle.ct_testfile.specs.declared.limits.Limits.{Limits}
 use Rattle.ct_testfile.specs.declared.state.State.{State}
-use Rattle.ct_testfile.specs.declared.value.Value.{Value}
+use Rattle.ct_suite.specs.declared.value.Value.{Value}
 
 -- the branch of a condition that came out so, with what is known
 abbrev pub branch_with : State → Bool → Branch × State

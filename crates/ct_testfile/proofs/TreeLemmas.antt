@@ -9,10 +9,11 @@ use Rattle.ct_lex.specs.Reads.{Ending, ReadsOn, reading}
 use Rattle.ct_lex.specs.declared.fault.LexFault.{LexFault}
 use Rattle.ct_lex.specs.declared.fault.LexFault.TheVariants as lex
 use Rattle.ct_lex.specs.declared.call.Call.{Call}
-use Rattle.ct_testfile.specs.Outcome.{◌>>=◌, on_line, or_refused, raised}
-use Rattle.ct_testfile.specs.Commands.{opening_of, openings}
+use Rattle.ct_suite.specs.Count.{raised}
+use Rattle.ct_testfile.specs.Outcome.{◌>>=◌, on_line, or_refused}
+use Rattle.ct_testfile.specs.Commands.{opening_of, openings, test_file}
 use Rattle.ct_testfile.specs.Ifs.{stepped}
-use Rattle.ct_testfile.specs.Tree.{FileReading, admitted, carried, ended, fault_in, nested, all_opened, opened_by}
+use Rattle.ct_testfile.specs.Tree.{FileReading, admitted, beginning_with, carried, ended, fault_in, nested, all_opened, opened_by, read_through, top}
 use Rattle.ct_testfile.specs.Says.{EndsWith, IsAt, IsAnswerOf, IsFaultIn, IsNextOf, IsRefusalOf, Over, TellsHeld, Unfailed}
 use Rattle.ct_testfile.proofs.OverLemmas.{Over-same, Over-still, Over-stopped, SoFar, SoFar-end, SoFar-then}
 use Rattle.ct_testfile.specs.declared.branch.OpenIf.{OpenIf}
@@ -225,6 +226,11 @@ module _ (limits : Limits) (left : ℕ) (file : TestFile) (line : ℕ) (opens : 
   pub opened-all : (before now : FilesTell) (names : List (List ℕ)) (i : ℕ) (state : State) (begin : Held → Result State ReadFault) → length names ≤ i → SoFar before now begin (opened_from (drop i names) state) → Over before now begin (Ok state)
   opened-all before now names i state begin past so_far =
       SoFar-end before now now begin (opened_from (drop i names) state) (Ok state) so_far (Over-still now (opened_from (drop i names) state) (Ok state) tt (λ held. at_drop_all (λ ns. opened_from ns state held) names i past))
+
+-- the files of a tree, from what is known before the first command
+pub begun-through : (limits : Limits) (dir config : List ℕ) (state : State) (before now : FilesTell) (result : Result State ReadFault) → state ≡ beginning_with config → Over before now (λ held. opened_by (nested limits held limits.open_files) (test_file dir).path 0 (top dir) state (held (test_file dir).path)) result → Over before now (λ held. read_through limits held dir config) result
+begun-through limits dir config state before now result is over =
+    Over-same before now (λ held. opened_by (nested limits held limits.open_files) (test_file dir).path 0 (top dir) state (held (test_file dir).path)) (λ held. read_through limits held dir config) result (λ held. ap (λ s. opened_by (nested limits held limits.open_files) (test_file dir).path 0 (top dir) s (held (test_file dir).path)) is) over
 
 -- what is said of files, where they tell what they hold
 pub told-ok : {A : Type 0} (told : Option Held) (says : Held → Result A ReadFault) (result : Result A ReadFault) → ((held : Held) → TellsHeld held told → IsAnswerOf (says held) result) → IfOk result (λ x. IfSome told (λ held. says held ≡ Ok x))

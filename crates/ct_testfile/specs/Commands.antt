@@ -1,14 +1,17 @@
 -- What each command does to what is known, in its folder. The limits and the order of the refusals are this project's own.
 -- Source: CMake manual, add_test, set_tests_properties, set_directory_properties, subdirs, include and set.
-use Rattle.std.specs.Prelude.{ℕ, ◌*◌, Bool, true, false, ◌||◌, ◌==◌, nat_lt, nat_le, bytes_eq, codes, List, [], ◌∷◌, ◌++◌, length, map, count_by, Option, Some, None, option_map, Result, Ok, Err, if◌then◌else◌}
-use Rattle.std.specs.List.{list_any, join_with_byte}
+use Rattle.std.specs.Prelude.{ℕ, ◌*◌, Bool, true, false, ◌||◌, ◌==◌, nat_le, bytes_eq, codes, List, [], ◌∷◌, ◌++◌, length, map, count_by, Result, Ok, Err, if◌then◌else◌}
+use Rattle.std.specs.List.{list_any}
 use Rattle.ct_base.specs.Path.{joined}
-use Rattle.ct_base.specs.declared.defs.Pair.{Pair}
 use Rattle.ct_base.specs.declared.defs.TestDef.{TestDef}
 use Rattle.ct_lex.specs.declared.call.Arg.{Arg}
-use Rattle.ct_testfile.specs.Outcome.{◌>>=◌, or_refused, raised}
-use Rattle.ct_testfile.specs.Values.{Variable, values_of, texts, size}
-use Rattle.ct_testfile.specs.Tests.{new_test, each_where, has_name_of, is_in, taking_props, taking_labels, prop_bytes, label_bytes, labels_of}
+use Rattle.ct_suite.specs.Count.{raised}
+use Rattle.ct_suite.specs.Values.{values_of, texts, size, is_too_long, with_variable}
+use Rattle.ct_suite.specs.Words.{names_and_pairs, pairs_behind, list_value}
+use Rattle.ct_suite.specs.Tests.{new_test, each_where, has_name_of, is_in, taking_props, taking_labels, prop_bytes, label_bytes, labels_of}
+use Rattle.ct_suite.specs.declared.limits.ValueLimits.{ValueLimits}
+use Rattle.ct_suite.specs.declared.value.Value.{Value}
+use Rattle.ct_testfile.specs.Outcome.{◌>>=◌, or_refused}
 use Rattle.ct_testfile.specs.declared.command.Command.{Command}
 use Rattle.ct_testfile.specs.declared.command.Command.TheVariants.{AddTest, SetTestsProperties, SetDirectoryProperties, Subdirs, Include, Set, Unknown}
 use Rattle.ct_testfile.specs.declared.fault.ReadKind.{ReadKind}
@@ -18,7 +21,6 @@ use Rattle.ct_testfile.specs.declared.opening.TestFile.{TestFile}
 use Rattle.ct_testfile.specs.declared.opening.Opening.{Opening}
 use Rattle.ct_testfile.specs.declared.opening.Opens.{Opens}
 use Rattle.ct_testfile.specs.declared.state.State.{State}
-use Rattle.ct_testfile.specs.declared.value.Value.{Value}
 
 -- the command of that name, which is in lower case
 abbrev pub command_of : List ℕ → Command
@@ -31,6 +33,10 @@ command_of name =
     else (if bytes_eq name (codes "set") then Set
     else Unknown)))))
 
+-- how long the values of one command may be
+abbrev pub value_limits : Limits → ValueLimits
+value_limits limits = record { value_bytes = limits.value_bytes; all_value_bytes = limits.all_value_bytes }
+
 -- one more command is carried out
 abbrev pub with_command : Limits → State → Result State ReadKind
 with_command limits state = or_refused (raised limits.commands state.commands 1) TooManyCommands >>= λ n. Ok (record state { commands = n })
@@ -39,14 +45,10 @@ with_command limits state = or_refused (raised limits.commands state.commands 1)
 abbrev pub taken : Limits → ℕ → State → Result State ReadKind
 taken limits bytes state = or_refused (raised limits.all_value_bytes state.value_bytes bytes) TooLong >>= λ n. Ok (record state { value_bytes = n })
 
--- a value is longer than one may be
-abbrev pub is_too_long : Limits → Value → Bool
-is_too_long limits value = nat_lt limits.value_bytes (length value.text)
-
 -- the values are taken, of which each one and all together may be so long
 abbrev pub evaluated : Limits → List Value → State → Result (List Value × State) ReadKind
 evaluated limits values state =
-    if list_any (is_too_long limits) values then Err TooLong
+    if list_any (is_too_long limits.value_bytes) values then Err TooLong
     else (taken limits (size values) state >>= λ next. Ok (values, next))
 
 -- a command begins: it is counted, and then its arguments give their values
@@ -69,23 +71,6 @@ add_test limits dir (name ∷ command) state =
     else (if is_full limits state.tests then Err TooManyTests
     else (taken limits (length dir) state >>= λ next. Ok (record next { tests = next.tests ++ new_test dir name command ∷ [] })))
 
--- keys and values in turn, where each key has one
-abbrev pub pairs_of : List (List ℕ) → Option (List Pair)
-pairs_of [] = Some []
-pairs_of (key ∷ []) = None
-pairs_of (key ∷ value ∷ more) = option_map (λ pairs. record { name = key; value = value } ∷ pairs) (pairs_of more)
-
--- the word in front of keys and values
-abbrev pub is_properties : List ℕ → Bool
-is_properties value = bytes_eq value (codes "PROPERTIES")
-
--- the values in front of the first PROPERTIES, and the keys and values behind it
-abbrev pub names_and_pairs : List (List ℕ) → Option (List (List ℕ) × List Pair)
-names_and_pairs [] = None
-names_and_pairs (first ∷ values) =
-    if is_properties first then option_map (λ pairs. ([], pairs)) (pairs_of values)
-    else option_map (λ read. (first ∷ read.0, read.1)) (names_and_pairs values)
-
 -- set_tests_properties(name .. PROPERTIES key value ..): each test takes the bytes of each value
 abbrev pub set_tests_properties : Limits → List (List ℕ) → State → Result State ReadKind
 set_tests_properties limits values state =
@@ -93,28 +78,12 @@ set_tests_properties limits values state =
     taken limits (count_by (has_name_of read.0) state.tests * prop_bytes read.1) state >>= λ next.
     Ok (record next { tests = each_where (has_name_of read.0) (taking_props read.1) next.tests })
 
--- the keys and values behind PROPERTIES, where that comes first
-abbrev pub pairs_behind : List (List ℕ) → Option (List Pair)
-pairs_behind [] = None
-pairs_behind (first ∷ values) = if is_properties first then pairs_of values else None
-
 -- set_directory_properties(PROPERTIES key value ..): each test of the folder takes the bytes of each value of LABELS
 abbrev pub set_directory_properties : Limits → List ℕ → List (List ℕ) → State → Result State ReadKind
 set_directory_properties limits dir values state =
     or_refused (pairs_behind values) BadCall >>= λ pairs.
     taken limits (count_by (is_in dir) state.tests * label_bytes pairs) state >>= λ next.
     Ok (record next { tests = each_where (is_in dir) (taking_labels (labels_of pairs)) next.tests })
-
--- the variables with this one in the place of the one of its name, or behind the others
-abbrev pub with_variable : List Variable → Variable → List Variable
-with_variable [] variable = variable ∷ []
-with_variable (first ∷ variables) variable =
-    if bytes_eq variable.name first.name then variable ∷ variables else first ∷ with_variable variables variable
-
--- the values behind the name, with `;` between two
-abbrev pub list_value : List (List ℕ) → Option (List ℕ)
-list_value [] = None
-list_value (value ∷ values) = Some (join_with_byte 59 (value ∷ values))
 
 -- set(name value ..): without a value the variable is no longer set
 abbrev pub set : List (List ℕ) → State → Result State ReadKind

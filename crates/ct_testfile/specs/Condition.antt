@@ -10,10 +10,10 @@ use Rattle.ct_regex.specs.declared.fault.RegexFault.{RegexFault}
 use Rattle.ct_regex.specs.declared.fault.RegexFault.TheVariants as regex
 use Rattle.ct_testfile.specs.declared.fault.Stop.{Stop}
 use Rattle.ct_testfile.specs.declared.fault.Stop.TheVariants as stop
-use Rattle.ct_testfile.specs.Values.{Variable, value_of}
+use Rattle.ct_suite.specs.Values.{Variable, value_of}
 use Rattle.ct_testfile.specs.declared.fault.ReadKind.{ReadKind}
 use Rattle.ct_testfile.specs.declared.fault.ReadKind.TheVariants.{BadCondition, BadPattern}
-use Rattle.ct_testfile.specs.declared.value.Value.{Value}
+use Rattle.ct_suite.specs.declared.value.Value.{Value}
 
 -- the value is that word, which only an unquoted argument can give
 abbrev pub is_bare_word : List ℕ → Value → Bool

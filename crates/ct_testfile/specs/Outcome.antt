@@ -1,5 +1,5 @@
 -- What a step of reading comes to: something, or the first refusal. This project's own.
-use Rattle.std.specs.Prelude.{ℕ, ◌+◌, nat_lt, List, Option, Some, None, Result, Ok, Err, if◌then◌else◌}
+use Rattle.std.specs.Prelude.{ℕ, List, Option, Some, None, Result, Ok, Err}
 use Rattle.ct_testfile.specs.declared.fault.ReadKind.{ReadKind}
 use Rattle.ct_testfile.specs.declared.fault.ReadFault.{ReadFault}
 use Rattle.ct_testfile.specs.declared.fault.ReadFault.TheVariants.{At}
@@ -19,7 +19,3 @@ or_refused (Some x) kind = Ok x
 abbrev pub on_line : {A : Type 0} → List ℕ → ℕ → Result A ReadKind → Result A ReadFault
 on_line file line (Ok x) = Ok x
 on_line file line (Err kind) = Err (At file line kind)
-
--- a count with more added to it, where that does not pass the most
-abbrev pub raised : ℕ → ℕ → ℕ → Option ℕ
-raised most count more = if nat_lt most (count + more) then None else Some (count + more)

@@ -7,10 +7,13 @@ use Rattle.ct_lex.specs.Place.{Place}
 use Rattle.ct_lex.specs.Reads.{reading}
 use Rattle.ct_lex.specs.declared.call.Call.{Call}
 use Rattle.ct_lex.specs.declared.fault.LexFault.{LexFault}
+use Rattle.ct_suite.specs.declared.fault.ValueFault.{ValueFault}
+use Rattle.ct_suite.specs.declared.fault.ValueFault.TheVariants as Values
 use Rattle.ct_testfile.specs.Tree.{fault_in}
-use Rattle.ct_testfile.specs.Tests.{most_bytes, most_tests}
+use Rattle.ct_suite.specs.Tests.{most_bytes, most_tests}
 use Rattle.ct_testfile.specs.declared.limits.Limits.{Limits}
 use Rattle.ct_testfile.specs.declared.fault.ReadKind.{ReadKind}
+use Rattle.ct_testfile.specs.declared.fault.ReadKind.TheVariants.{TooLong}
 use Rattle.ct_testfile.specs.declared.fault.ReadFault.{ReadFault}
 use Rattle.ct_testfile.specs.declared.fault.ReadFault.TheVariants.{At, FilesFailed, NoMemory}
 use Rattle.ct_testfile.specs.declared.fault.Stop.{Stop}
@@ -21,6 +24,11 @@ abbrev pub Follows : {A : Type 0} → Result A Stop → Result A ReadKind → Ty
 Follows (Ok x) says = says ≡ Ok x
 Follows (Err (stop.Refused kind)) says = says ≡ Err kind
 Follows (Err stop.NoMemory) says = ⊤
+
+-- why a command is not carried out whose arguments gave no values
+abbrev pub stop_for : ValueFault → Stop
+stop_for Values.TooLong = stop.Refused TooLong
+stop_for Values.NoMemory = stop.NoMemory
 
 -- a fault is the refusal that the definition says; it says nothing of files that fail and of memory
 abbrev pub IsRefusalOf : {A : Type 0} → Result A ReadFault → ReadFault → Type 0

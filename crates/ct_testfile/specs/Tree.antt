@@ -8,7 +8,8 @@ use Rattle.ct_lex.specs.Reads.{Ending, reading}
 use Rattle.ct_lex.specs.declared.call.Call.{Call}
 use Rattle.ct_lex.specs.declared.fault.LexFault.{LexFault}
 use Rattle.ct_lex.specs.declared.fault.LexFault.TheVariants as lex
-use Rattle.ct_testfile.specs.Outcome.{◌>>=◌, or_refused, on_line, raised}
+use Rattle.ct_suite.specs.Count.{raised}
+use Rattle.ct_testfile.specs.Outcome.{◌>>=◌, or_refused, on_line}
 use Rattle.ct_testfile.specs.Commands.{test_file, openings}
 use Rattle.ct_testfile.specs.Ifs.{stepped}
 use Rattle.ct_testfile.specs.declared.branch.OpenIf.{OpenIf}

@@ -7,10 +7,9 @@ ghost use Rattle.ct_testfile.specs.Condition.{bad_pattern, holds, is_exists, is_
 
 use crate::fault::{ReadFault, ReadKind, Stop, at_line, files_fault};
 use crate::opening::TestFile;
-use crate::table::Table;
-use crate::value::Value;
 use ct_base::{Files, Name, join_path};
 use ct_regex::{Regex, RegexFault};
+use ct_suite::{Table, Value};
 use std::alloc::Global;
 
 /// Tells whether a condition holds, on this line of the file.

@@ -1,11 +1,12 @@
 ghost use Rattle.std.specs.Prelude.{◌≡◌, Result};
 ghost use Rattle.ct_testfile.specs.Outcome.{on_line};
-ghost use Rattle.ct_testfile.specs.Says.{Follows, IsAnswerOf, Unfailed, files_fault};
+ghost use Rattle.ct_testfile.specs.Says.{Follows, IsAnswerOf, Unfailed, files_fault, stop_for};
 ghost use Rattle.ct_testfile.specs.declared.fault.ReadKind.{ReadKind as Kind};
 ghost use Rattle.ct_testfile.specs.declared.fault.ReadFault.TheVariants as Cause;
 ghost use Rattle.ct_testfile.specs.declared.fault.Stop.TheVariants as Stopped;
 
 use ct_base::{FilesFault, Name, NoMemory};
+use ct_suite::ValueFault;
 use std::alloc::Global;
 
 /// What is wrong with a test file.
@@ -82,6 +83,17 @@ impl From<NoMemory> for Stop {
 
     fn from(_e: NoMemory) -> Stop {
         Stop::NoMemory
+    }
+}
+
+impl From<ValueFault> for Stop {
+    ghost from_gives = { λ fault e. e ≡ stop_for fault };
+
+    fn from(fault: ValueFault) -> Stop {
+        match fault {
+            ValueFault::TooLong => Stop::Refused(ReadKind::TooLong),
+            ValueFault::NoMemory => Stop::NoMemory,
+        }
     }
 }
 

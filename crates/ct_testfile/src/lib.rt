@@ -2,30 +2,21 @@
 //!
 //! Hands up: `read_tree` gives the tests that the test files of a folder and of the folders below it
 //! define, or the first refusal in reading order; `read_tree_within` does so within other limits.
-//! Stands on: ct_base, ct_lex, ct_regex and `indexmap`.
-//! Read first: `specs/Values.antt`, `specs/Commands.antt`, `specs/Ifs.antt` and `specs/Tree.antt`, then `tree.rt`.
+//! Stands on: ct_base, ct_lex, ct_regex and ct_suite.
+//! Read first: `specs/Commands.antt`, `specs/Ifs.antt` and `specs/Tree.antt`, then `tree.rt`.
 #![tactic(auto)]
 
 mod branch;
 mod command;
 mod condition;
-mod count;
 mod fault;
 mod ifs;
 mod limits;
-mod open_test;
 mod opening;
 mod perform;
-mod places;
-mod props;
-mod reader;
 mod state;
 mod step;
-mod suite;
-mod table;
 mod tree;
-mod value;
-mod words;
 
 pub use fault::{ReadFault, ReadKind};
 pub use limits::{LIMITS, Limits};

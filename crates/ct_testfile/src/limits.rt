@@ -1,3 +1,8 @@
+ghost use Rattle.std.specs.Prelude.{◌≡◌};
+ghost use Rattle.ct_testfile.specs.Commands.{value_limits};
+
+use ct_suite::ValueLimits;
+
 /// How much of a tree of test files may be read. What would pass a limit is refused.
 ///
 /// Source: this project's choice.
@@ -29,3 +34,13 @@ pub const LIMITS: Limits = Limits {
     commands: 4_000_000,
     tests: 100_000,
 };
+
+/// Gives those of the values of a command.
+pub(crate) fn value_limits(limits: &Limits) -> ValueLimits
+    ensures { result ≡ value_limits limits.now }
+{
+    ValueLimits {
+        value_bytes: limits.value_bytes,
+        all_value_bytes: limits.all_value_bytes,
+    }
+}

@@ -1,27 +1,23 @@
-ghost use Rattle.std.specs.Prelude.{◌≡◌, ◌-◌, ◌^◌, ◌==◌, ◌||◌, min, length, fold, sum_by, Result, IfOk};
+ghost use Rattle.std.specs.Prelude.{◌≡◌, ◌-◌, ◌^◌, ◌==◌, ◌||◌, min, length, Result};
 ghost use Rattle.ct_testfile.specs.declared.fault.ReadKind.{ReadKind as Kind};
 ghost use Rattle.ct_testfile.specs.declared.state.State.{State as Known};
 ghost use Rattle.std.specs.List.{list_any};
+ghost use Rattle.ct_suite.specs.Tests.{AreShort, most_bytes};
+ghost use Rattle.ct_suite.specs.Values.{texts};
 ghost use Rattle.ct_testfile.specs.Says.{AreBounded, Follows};
-ghost use Rattle.ct_testfile.specs.Tests.{AreShort, HaveShort, most_bytes, taking_props};
 ghost use Rattle.ct_testfile.specs.Commands.{add_test, carried_out, included, is_bad_name, is_full, opening_nothing, performed, set, set_directory_properties, set_tests_properties};
-ghost use Rattle.ct_testfile.specs.Entries.{count_of, of_name};
-ghost use Rattle.ct_testfile.specs.Values.{texts};
 
 use crate::command::Command;
 use crate::fault::{ReadKind, Stop};
 use crate::limits::Limits;
 use crate::opening::Opens;
-use crate::props::copied;
 use crate::state::State;
-use crate::suite::Suite;
-use crate::value::{Value, texts};
-use crate::words::{
-    distinct, label_bytes, labels_of, list_value, names_and_pairs, pairs_behind, prop_bytes,
-    take_apart,
-};
-use ct_base::{List, Name, NoMemory, Pair};
+use ct_base::{List, Name};
 use ct_lex::Args;
+use ct_suite::{
+    Suite, Value, count_named, distinct, label_bytes, labels_of, list_value, names_and_pairs,
+    pairs_behind, prop_bytes, set_named, take_apart, texts,
+};
 use std::alloc::Global;
 
 /// Carries out a command of a file whose folder this is.
@@ -108,19 +104,9 @@ fn add_test(
     }
     let dir = dir.copy(alloc)?;
     let state = state.taken(limits, length(dir.bytes()))?;
-    let State {
-        tests,
-        variables,
-        commands,
-        file_bytes,
-        value_bytes,
-    } = state;
     Ok(State {
-        tests: tests.with_test(alloc, name, command, dir)?,
-        variables,
-        commands,
-        file_bytes,
-        value_bytes,
+        tests: state.tests.with_test(alloc, name, command, dir)?,
+        ..state
     })
 }
 
@@ -176,51 +162,10 @@ fn set_tests_properties(
     let tests = count_named(&state.tests, different.as_slice());
     let bytes = tests.saturating_mul(prop_bytes(props.as_slice()));
     let state = state.taken(limits, bytes)?;
-    let State {
-        tests,
-        variables,
-        commands,
-        file_bytes,
-        value_bytes,
-    } = state;
     Ok(State {
-        tests: set_named(alloc, tests, different.as_slice(), props)?,
-        variables,
-        commands,
-        file_bytes,
-        value_bytes,
+        tests: set_named(alloc, state.tests, different.as_slice(), props)?,
+        ..state
     })
-}
-
-/// Counts the tests of each of these names, up to the greatest number that there is.
-fn count_named(tests: &Suite, names: &[Name]) -> u64
-    ensures { result ≡ min (sum_by (count_of tests.now) names.now) (2 ^ 64 - 1) }
-{
-    let mut count: u64 = 0;
-    for name in names {
-        count = count.saturating_add(tests.named(name) as u64);
-    }
-    count
-}
-
-/// Sets properties of the tests of one name after the other: those of the last name take them without a copy.
-fn set_named(
-    alloc: Global,
-    tests: Suite,
-    names: &[Name],
-    props: List<Pair>,
-) -> Result<Suite, NoMemory>
-    requires { HaveShort most_bytes props }
-    ensures { IfOk result (λ after. after ≡ fold (of_name (taking_props props)) tests names.now) }
-{
-    let Some((last, front)) = names.split_last() else {
-        return Ok(tests);
-    };
-    let mut after = tests;
-    for name in front {
-        after = after.with_props(alloc, name, copied(alloc, props.as_slice())?)?;
-    }
-    after.with_props(alloc, last, props)
 }
 
 /// Adds labels to all tests so far of this folder.
@@ -243,19 +188,9 @@ fn set_directory_properties(
     let bytes = tests.saturating_mul(label_bytes(props.as_slice()));
     let state = state.taken(limits, bytes)?;
     let labels = labels_of(alloc, props.as_slice())?;
-    let State {
-        tests,
-        variables,
-        commands,
-        file_bytes,
-        value_bytes,
-    } = state;
     Ok(State {
-        tests: tests.with_labels(alloc, dir, labels.as_slice())?,
-        variables,
-        commands,
-        file_bytes,
-        value_bytes,
+        tests: state.tests.with_labels(alloc, dir, labels.as_slice())?,
+        ..state
     })
 }
 
@@ -269,19 +204,9 @@ fn set(alloc: Global, values: List<Name>, state: State) -> Result<State, Stop>
         return Err(Stop::Refused(ReadKind::BadCall));
     };
     let value = list_value(alloc, values.as_slice())?;
-    let State {
-        tests,
-        variables,
-        commands,
-        file_bytes,
-        value_bytes,
-    } = state;
     Ok(State {
-        tests,
-        variables: variables.with(name, value)?,
-        commands,
-        file_bytes,
-        value_bytes,
+        variables: state.variables.with(name, value)?,
+        ..state
     })
 }
 

@@ -1,16 +1,14 @@
 ghost use Rattle.std.specs.Prelude.{◌≡◌, ◌-◌, ◌^◌, ℕ, min};
 ghost use Rattle.std.specs.List.{list_any};
 ghost use Rattle.ct_testfile.specs.Says.{Follows};
-ghost use Rattle.ct_testfile.specs.Commands.{begun, with_command, evaluated, is_too_long, taken};
+ghost use Rattle.ct_testfile.specs.Commands.{begun, with_command, evaluated, taken};
+ghost use Rattle.ct_suite.specs.Values.{is_too_long};
 
-use crate::count::raised;
 use crate::fault::{ReadKind, Stop};
-use crate::limits::Limits;
-use crate::suite::Suite;
-use crate::table::Table;
-use crate::value::{Value, size, values_of};
+use crate::limits::{Limits, value_limits};
 use ct_base::List;
 use ct_lex::Args;
+use ct_suite::{Suite, Table, Value, raised, size, values_of};
 use std::alloc::Global;
 
 /// What is known of a tree behind a command: its tests and variables so far, and what is counted.
@@ -60,7 +58,7 @@ impl State {
         ensures { Follows result (begun limits.now args.now self) }
     {
         let state = self.counted(limits)?;
-        let values = values_of(alloc, limits, &state.variables, args)?;
+        let values = values_of(alloc, &value_limits(limits), &state.variables, args)?;
         state.evaluated(limits, values)
     }
 
@@ -79,7 +77,7 @@ impl State {
 
 /// Tells whether some value is longer than one may be.
 fn some_too_long(limits: &Limits, values: &[Value]) -> bool
-    ensures { result ≡ list_any (is_too_long limits.now) values.now }
+    ensures { result ≡ list_any (is_too_long limits.now.value_bytes) values.now }
 {
     values.iter().any(|value| value.text.bytes().len() > limits.value_bytes as usize)
 }

@@ -3,21 +3,19 @@ ghost use Rattle.ct_base.specs.Outside.{Becomes, SameHeld};
 ghost use Rattle.ct_lex.specs.Place.{beginning};
 ghost use Rattle.ct_lex.specs.Reads.{reading};
 ghost use Rattle.ct_testfile.specs.Says.{AreBounded, Follows, HasFilesCause, IsAnswerOf, IsAt, IsFaultIn, IsNextOf, IsRefusalOf, Over, Unfailed};
-ghost use Rattle.ct_testfile.specs.Commands.{openings};
-ghost use Rattle.ct_testfile.specs.Tree.{absent, admitted, beginning_with, carried, ended, nested, all_opened, opened_by, tree_of, tree_within};
-ghost use Rattle.ct_testfile.specs.Tests.{HasShortValues, most_bytes, most_tests};
+ghost use Rattle.ct_testfile.specs.Commands.{openings, test_file};
+ghost use Rattle.ct_testfile.specs.Tree.{absent, admitted, beginning_with, carried, ended, nested, all_opened, opened_by, top, tree_of, tree_within};
+ghost use Rattle.ct_suite.specs.Tests.{HasShortValues, most_bytes, most_tests};
 
-use crate::count::raised;
 use crate::fault::{ReadFault, ReadKind, Stop, at_line, files_fault};
 use crate::ifs::Ifs;
 use crate::limits::{LIMITS, Limits};
 use crate::opening::{Opening, Opens, TestFile, opening_of, test_file};
 use crate::state::State;
 use crate::step::{Step, advance};
-use crate::suite::Suite;
-use crate::table::Table;
 use ct_base::{Blob, Files, List, Name, NoMemory, TestDef};
 use ct_lex::{Call, LexFault, Lexer};
+use ct_suite::{Suite, Table, raised};
 use std::alloc::Global;
 
 /// Reads the tests that the tree of test files under a folder defines.
@@ -73,24 +71,43 @@ fn read_through<F: Files>(
     ensures within { IfOk result (λ defs. All (HasShortValues most_bytes) defs) }
 {
     let state = begin(alloc, config)?;
-    let file = test_file(alloc, dir.copy(alloc)?)?;
-    let site = file.path.copy(alloc)?;
-    let opening = Opening {
-        file,
-        required: false,
-    };
-    let state = open(
+    let state = open_top(alloc, files, limits, dir, state)?;
+    Ok(define(alloc, state)?)
+}
+
+/// Opens the test file of the folder at the top.
+fn open_top<F: Files>(
+    alloc: Global,
+    files: &mut F,
+    limits: &Limits,
+    dir: &Name,
+    state: State,
+) -> Result<State, ReadFault>
+    requires { AreBounded limits.now }
+    ensures { Over (F.tells files.old) (F.tells files.new) (λ held. opened_by (nested limits.now held limits.now.open_files) (test_file dir.now).path 0 (top dir.now) state (held (test_file dir.now).path)) result }
+{
+    let opening = top(alloc, dir)?;
+    open(
         alloc,
         files,
         limits,
         limits.open_files,
-        &site,
+        &opening.file.path,
         0,
         &opening,
         state,
-    )?;
-    let defs = define(alloc, state)?;
-    Ok(defs)
+    )
+}
+
+/// The test file of the folder at the top, which is passed over where it is absent.
+fn top(alloc: Global, dir: &Name) -> Result<Opening, NoMemory>
+    ensures { IfOk result (λ opening. opening ≡ top dir.now) }
+{
+    let file = test_file(alloc, dir.copy(alloc)?)?;
+    Ok(Opening {
+        file,
+        required: false,
+    })
 }
 
 fn define(alloc: Global, state: State) -> Result<List<TestDef>, NoMemory>

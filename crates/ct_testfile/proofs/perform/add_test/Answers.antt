@@ -1,9 +1,9 @@
 use Rattle.std.proofs.Common.{◌-◌, ◌^◌, ◌++◌, ◌∷◌, [], min, length, ap, sym, ◌∙◌, ◌||◌, ◌==◌}
 use Rattle.std.proofs.lemmas.Result.{err_from_is_err_and}
-use Rattle.ct_testfile.specs.Tests.{most_bytes, new_test}
+use Rattle.ct_suite.specs.Tests.{most_bytes, new_test}
 use Rattle.ct_testfile.specs.Commands.{add_test, is_bad_name}
 use Rattle.ct_testfile.proofs.PerformLemmas.{apart-is, apart-none, add_test-bad, add_test-full, add_test-stopped, add_test-done, has-room}
-use Rattle.ct_testfile.proofs.ShortLemmas.{first-short, rest-short}
+use Rattle.ct_suite.proofs.ShortLemmas.{first-short, rest-short}
 use Rattle.ct_testfile.proofs.perform.add_test.Goals as goal
 
 pub returns-in_default : goal.returns-in_default

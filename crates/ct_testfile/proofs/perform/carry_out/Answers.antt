@@ -1,12 +1,12 @@
 use Rattle.std.proofs.Common.{List}
 use Rattle.std.proofs.lemmas.Result.{err_from_is_err_and}
-use Rattle.ct_testfile.specs.Tests.{most_bytes}
-use Rattle.ct_testfile.specs.Values.{texts}
+use Rattle.ct_suite.specs.Tests.{most_bytes}
+use Rattle.ct_suite.specs.Values.{texts}
 use Rattle.ct_testfile.specs.Commands.{begun, performed}
 use Rattle.ct_testfile.specs.declared.state.State.{State}
-use Rattle.ct_testfile.specs.declared.value.Value.{Value}
+use Rattle.ct_suite.specs.declared.value.Value.{Value}
 use Rattle.ct_testfile.proofs.SaysLemmas.{Follows-then, Follows-stopped}
-use Rattle.ct_testfile.proofs.ShortLemmas.{begun-short}
+use Rattle.ct_testfile.proofs.BegunLemmas.{begun-short}
 use Rattle.ct_testfile.proofs.perform.carry_out.Goals as goal
 
 pub returns-in_err-values : goal.returns-in_err-values

@@ -2,8 +2,8 @@ use Rattle.std.proofs.Common.{refl, ap, sym, ◌∙◌, subst, Result, Ok}
 use Rattle.ct_testfile.specs.declared.fault.ReadKind.{ReadKind}
 use Rattle.ct_testfile.specs.declared.opening.Opens.{Opens}
 use Rattle.ct_testfile.specs.declared.state.State.{State}
-use Rattle.ct_testfile.specs.Tests.{AreShort, most_bytes}
-use Rattle.ct_testfile.specs.Values.{texts}
+use Rattle.ct_suite.specs.Tests.{AreShort, most_bytes}
+use Rattle.ct_suite.specs.Values.{texts}
 use Rattle.ct_testfile.specs.Commands.{add_test, set_tests_properties, set_directory_properties, set, folders}
 use Rattle.ct_testfile.proofs.perform.perform.Goals as goal
 

@@ -1,5 +1,6 @@
 use Rattle.std.proofs.Common.{ap, sym, ◌∙◌}
-use Rattle.ct_testfile.specs.Commands.{set, list_value}
+use Rattle.ct_suite.specs.Words.{list_value}
+use Rattle.ct_testfile.specs.Commands.{set}
 use Rattle.ct_testfile.proofs.PerformLemmas.{apart-is, apart-none, set-done}
 use Rattle.ct_testfile.proofs.perform.set.Goals as goal
 

@@ -1,11 +1,11 @@
 use Rattle.std.proofs.Common.{◌≡◌, ◌*◌, ◌-◌, ◌^◌, min, ap, sym, ◌∙◌, count_by, subst}
 use Rattle.std.proofs.lemmas.Result.{err_from_is_err_and}
-use Rattle.ct_testfile.specs.Tests.{AreShort, HaveShort, each_where, is_in, most_bytes, taking_labels, labels_of, label_bytes}
-use Rattle.ct_testfile.specs.Values.{texts}
-use Rattle.ct_testfile.specs.Commands.{pairs_behind}
+use Rattle.ct_suite.specs.Tests.{AreShort, HaveShort, each_where, is_in, most_bytes, taking_labels, labels_of, label_bytes}
+use Rattle.ct_suite.specs.Values.{texts}
+use Rattle.ct_suite.specs.Words.{pairs_behind}
 use Rattle.ct_testfile.specs.declared.fault.ReadKind.TheVariants.{BadCall}
 use Rattle.ct_testfile.proofs.PerformLemmas.{refused-none, goes-stopped, goes-done, product-is}
-use Rattle.ct_testfile.proofs.ShortLemmas.{labels_of-short, pairs_behind-short, read-short}
+use Rattle.ct_suite.proofs.ShortLemmas.{labels_of-short, pairs_behind-short, read-short}
 use Rattle.ct_testfile.proofs.perform.set_directory_properties.Goals as goal
 
 pub returns-in_default : goal.returns-in_default

@@ -1,15 +1,15 @@
 use Rattle.std.proofs.Common.{◌≡◌, ◌*◌, ◌-◌, ◌^◌, ℕ, min, ap, sym, ◌∙◌, refl, fold, sum_by, count_by}
 use Rattle.std.proofs.lemmas.Result.{err_from_is_err_and}
-use Rattle.ct_testfile.specs.Tests.{HaveShort, each_where, has_name_of, most_bytes, taking_props, prop_bytes}
-use Rattle.ct_testfile.specs.Values.{texts}
-use Rattle.ct_testfile.specs.Commands.{names_and_pairs}
-use Rattle.ct_testfile.specs.Entries.{of_name, count_of}
+use Rattle.ct_suite.specs.Tests.{HaveShort, each_where, has_name_of, most_bytes, taking_props, prop_bytes}
+use Rattle.ct_suite.specs.Values.{texts}
+use Rattle.ct_suite.specs.Words.{names_and_pairs}
+use Rattle.ct_suite.specs.Entries.{of_name, count_of}
 use Rattle.ct_testfile.specs.declared.state.State.{State}
 use Rattle.ct_testfile.specs.declared.fault.ReadKind.TheVariants.{BadCall}
-use Rattle.ct_testfile.proofs.NameLemmas.{each-distinct, count-distinct}
+use Rattle.ct_suite.proofs.NameLemmas.{each-distinct, count-distinct}
 use Rattle.ct_testfile.proofs.PerformLemmas.{refused-none, goes-stopped, goes-done, product-both}
-use Rattle.ct_testfile.proofs.WordLemmas.{Read}
-use Rattle.ct_testfile.proofs.ShortLemmas.{names_and_pairs-short, read-short}
+use Rattle.ct_suite.proofs.WordLemmas.{Read}
+use Rattle.ct_suite.proofs.ShortLemmas.{names_and_pairs-short, read-short}
 use Rattle.ct_testfile.proofs.perform.set_tests_properties.Goals as goal
 
 pub returns-in_default : goal.returns-in_default

@@ -9,7 +9,7 @@ use Rattle.ct_testfile.specs.Ifs.{asked}
 use Rattle.ct_testfile.specs.declared.branch.Branch.{Branch}
 use Rattle.ct_testfile.specs.declared.fault.ReadFault.{ReadFault}
 use Rattle.ct_testfile.specs.declared.state.State.{State}
-use Rattle.ct_testfile.specs.declared.value.Value.{Value}
+use Rattle.ct_suite.specs.declared.value.Value.{Value}
 use Rattle.ct_testfile.proofs.OverLemmas.{Over-same, Over-still, Over-stopped, Over-then, Over-made}
 use Rattle.ct_testfile.proofs.StepLemmas.{then_asked, branch_with, asked-on_line}
 use Rattle.ct_testfile.proofs.step.asked.Goals as goal

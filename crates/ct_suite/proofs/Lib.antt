@@ -1,0 +1,9 @@
+pub mod TableLemmas
+pub mod PlaceLemmas
+pub mod SuiteLemmas
+pub mod WordLemmas
+pub mod ShortLemmas
+pub mod ReaderLemmas
+pub mod TakesLemmas
+pub mod RunLemmas
+pub mod NameLemmas

@@ -1,0 +1,10 @@
+use Rattle.std.proofs.Common.{◌∙◌, [], ap, sym}
+use Rattle.std.proofs.lemmas.List.Sums.{fold_push}
+use Rattle.ct_suite.specs.Tests.{with_prop}
+use Rattle.ct_suite.proofs.props.in_turn.Goals as goal
+
+pub loop-pair-preserved : goal.loop-pair-preserved
+loop-pair-preserved c =
+    c.in_ok-set_prop.ensures
+    ∙ ap (λ props. with_prop props c.in-Some.pair) c.loop-pair.invariant
+    ∙ sym (fold_push with_prop [] c.loop-pair.yielded c.in-Some.pair)

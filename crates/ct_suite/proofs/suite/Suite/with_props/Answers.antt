@@ -1,0 +1,41 @@
+use Rattle.std.proofs.Common.{◌≡◌, ◌∙◌, ap, map, length, bytes_eq, vec_len, arith, refl}
+use Rattle.std.proofs.lemmas.List.{length-map}
+use Rattle.ct_base.specs.declared.defs.TestDef.{TestDef}
+use Rattle.ct_suite.specs.Tests.{each_where, most_bytes, taking_props}
+use Rattle.ct_suite.specs.Entries.{def_of, names_of, dirs_of}
+use Rattle.ct_suite.proofs.PlaceLemmas.{changed-all, places-within, AreIndexed-same, keys-each_where, length-each_where}
+use Rattle.ct_suite.proofs.ShortLemmas.{each_where-short, taking_props-short, tests-same}
+use Rattle.ct_suite.proofs.SuiteLemmas.{tests_in, holds-same}
+use Rattle.ct_suite.proofs.suite.Suite.with_props.Goals as goal
+
+pub set_each-requires : goal.set_each-requires
+set_each-requires c =
+    let inside = c.deref_mut-inside.result.now in
+    let holds = holds-same c.self.inside.kept.value inside c.deref_mut-inside.ensures.value c.self.invariant in
+    let tests = inside.tests in
+    places-within (λ (test : TestDef). test.name) c.bytes.result.now inside.by_name.entries (tests_in inside) c.places_at-places.result.now (vec_len tests) c.places_at-places.ensures holds.0 (omega (arith, length-map tests.items def_of, tests.ok.0))
+
+changed : (c : goal.In_ok-set_each) → map def_of c.set_each.new.tests.items ≡ each_where (λ (test : TestDef). bytes_eq c.args.name.now test.name) (taking_props c.args.pairs) (tests_in c.deref_mut-inside.result.now)
+changed c =
+    let inside = c.deref_mut-inside.result.now in
+    let holds = holds-same c.self.inside.kept.value inside c.deref_mut-inside.ensures.value c.self.invariant in
+    c.in_ok-set_each.ensures
+    ∙ changed-all (taking_props c.args.pairs) (λ (test : TestDef). test.name) c.args.name.now c.bytes.result.now inside.by_name.entries (tests_in inside) c.places_at-places.result.now c.bytes.ensures c.places_at-places.ensures holds.0
+
+pub invariant_of-result : goal.invariant_of-result
+invariant_of-result c =
+    let inside = c.deref_mut-inside.result.now in
+    let holds = holds-same c.self.inside.kept.value inside c.deref_mut-inside.ensures.value c.self.invariant in
+    let old = tests_in inside in
+    let now = map def_of c.set_each.new.tests.items in (
+      AreIndexed-same inside.by_name.entries (names_of old) (names_of now) (ap names_of (changed c) ∙ keys-each_where (λ (test : TestDef). test.name) (λ (test : TestDef). bytes_eq c.args.name.now test.name) (taking_props c.args.pairs) (λ test. refl) old) holds.0,
+      AreIndexed-same inside.by_dir.entries (dirs_of old) (dirs_of now) (ap dirs_of (changed c) ∙ keys-each_where (λ (test : TestDef). test.dir) (λ (test : TestDef). bytes_eq c.args.name.now test.name) (taking_props c.args.pairs) (λ test. refl) old) holds.1,
+      omega (arith, ap length (changed c), length-each_where (λ (test : TestDef). bytes_eq c.args.name.now test.name) (taking_props c.args.pairs) old, holds.2),
+      tests-same most_bytes (each_where (λ (test : TestDef). bytes_eq c.args.name.now test.name) (taking_props c.args.pairs) old) now (changed c) (each_where-short most_bytes (λ (test : TestDef). bytes_eq c.args.name.now test.name) (taking_props c.args.pairs) (taking_props-short most_bytes c.args.pairs c.requires) old holds.3),
+    )
+
+pub returns : goal.returns
+returns c =
+    changed c
+    ∙ ap (λ kept. each_where (λ (test : TestDef). bytes_eq c.args.name.now test.name) (taking_props c.args.pairs) (tests_in kept)) c.deref_mut-inside.ensures.value
+    ∙ ap (each_where (λ (test : TestDef). bytes_eq c.args.name.now test.name) (taking_props c.args.pairs)) c.self.view_is

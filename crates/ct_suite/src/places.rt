@@ -1,0 +1,79 @@
+ghost use Rattle.std.specs.Prelude.{◌≡◌, ◌++◌, ◌∷◌, [], ℕ, List, OnOk, bytes_eq, if◌then◌else◌};
+ghost use Rattle.ct_suite.specs.Entries.{places_in, places_of};
+
+use ct_base::NoMemory;
+use indexmap::IndexMap;
+use std::alloc::Global;
+use std::slice;
+
+/// The places of the tests that have a key, in order: a name, or a folder.
+pub(crate) type Places = IndexMap<Vec<u8>, KeyPlaces>;
+
+/// The places of the tests that have one key, in order. One alone takes no memory, and most names have one.
+#[derive(Drop)]
+pub(crate) enum KeyPlaces {
+    One(usize),
+    Many(Vec<usize>),
+}
+
+impl KeyPlaces {
+    fn as_slice(&self) -> &[usize]
+        ensures { result.now ≡ places_of self.now }
+    {
+        match self {
+            KeyPlaces::One(place) => slice::from_ref(place),
+            KeyPlaces::Many(places) => places.as_slice(),
+        }
+    }
+
+    /// Puts one more place behind the others.
+    fn add(&mut self, alloc: Global, place: usize) -> Result<(), NoMemory>
+        ensures { OnOk result (places_of self.new ≡ places_of self.old ++ place ∷ []) }
+    {
+        match self {
+            KeyPlaces::One(first) => {
+                let mut both = Vec::with_capacity(alloc, 2)?;
+                both.push(*first)?;
+                both.push(place)?;
+                *self = KeyPlaces::Many(both);
+                Ok(())
+            }
+            KeyPlaces::Many(places) => {
+                places.push(place)?;
+                Ok(())
+            }
+        }
+    }
+}
+
+/// Lends the places of a key.
+pub(crate) fn places_at<'a>(places: &'a Places, key: &[u8]) -> &'a [usize]
+    ensures { result.now ≡ places_in places.entry.now.entries key.now }
+{
+    match places.get(key) {
+        Some(found) => found.as_slice(),
+        None => &[],
+    }
+}
+
+/// Puts one more place behind those of a key.
+pub(crate) fn note_place(
+    alloc: Global,
+    places: &mut Places,
+    key: &[u8],
+    place: usize,
+) -> Result<(), NoMemory>
+    ensures { OnOk result ((asked : List ℕ) → places_in places.new.entries asked
+        ≡ (if bytes_eq asked key.now then places_in places.old.entries asked ++ place ∷ [] else places_in places.old.entries asked)) }
+{
+    match places.get_mut(key) {
+        Some(here) => {
+            here.add(alloc, place)?;
+            Ok(())
+        }
+        None => {
+            places.insert(Vec::from_slice(alloc, key)?, KeyPlaces::One(place))?;
+            Ok(())
+        }
+    }
+}

@@ -1,0 +1,77 @@
+ghost use Rattle.std.specs.Prelude.{◌≡◌, ◌-◌, ◌^◌, [], min, unwrap_or, IfErr, IfOk};
+ghost use Rattle.ct_suite.specs.Values.{value_of, values_of, texts, size};
+ghost use Rattle.ct_suite.specs.Readers.{StopsFor};
+
+use crate::fault::ValueFault;
+use crate::limits::ValueLimits;
+use crate::reader::Reader;
+use crate::table::Table;
+use ct_base::{List, Name, NoMemory};
+use ct_lex::Args;
+use std::alloc::Global;
+
+/// A value that a command gets, after evaluation.
+#[derive(Debug, Drop)]
+pub struct Value {
+    pub text: Name,
+    /// Whether the argument is unquoted that gives it.
+    pub unquoted: bool,
+}
+
+/// Gives the values of a command's arguments, unless they are longer than they may be.
+///
+/// Source: CMake manual, cmake-language(7), Command Arguments and Variable References.
+pub fn values_of(
+    alloc: Global,
+    limits: &ValueLimits,
+    table: &Table,
+    args: &Args,
+) -> Result<List<Value>, ValueFault>
+    ensures values { IfOk result (λ values. values ≡ values_of table.now args.now) }
+    ensures stopped { IfErr result (StopsFor limits.now (values_of table.now args.now)) }
+{
+    let mut reader = Reader::new(alloc);
+    let mut left = args.reader();
+    'reads: while let Some(next) = left.lend_next(alloc)? {
+        reader.take_next(alloc, limits, table, next)?;
+    }
+    let Reader {
+        values,
+        bytes: _,
+        text: _,
+        held: _,
+    } = reader;
+    Ok(values)
+}
+
+/// Lends the value of a variable: nothing where it is not set.
+pub(crate) fn value_text<'a>(table: &'a Table, name: &Name) -> &'a [u8]
+    ensures { result.now ≡ unwrap_or (value_of table.entry.now name.now) [] }
+{
+    match table.value(name.bytes()) {
+        Some(value) => value.bytes(),
+        None => &[],
+    }
+}
+
+/// Takes the texts out of values.
+pub fn texts(alloc: Global, values: List<Value>) -> Result<List<Name>, NoMemory>
+    ensures { IfOk result (λ names. names ≡ texts values) }
+{
+    let mut names = List::from_vec(Vec::with_capacity(alloc, values.len())?);
+    for value in values.into_vec() {
+        names.push(value.text)?;
+    }
+    Ok(names)
+}
+
+/// Counts the bytes of values, up to the greatest number that there is.
+pub fn size(values: &[Value]) -> u64
+    ensures { result ≡ min (size values.now) (2 ^ 64 - 1) }
+{
+    let mut bytes: u64 = 0;
+    for value in values {
+        bytes = bytes.saturating_add(value.text.bytes().len() as u64);
+    }
+    bytes
+}

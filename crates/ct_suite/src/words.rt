@@ -1,0 +1,181 @@
+ghost use Rattle.std.specs.Prelude.{◌≡◌, ◌++◌, [], ◌-◌, ◌^◌, min, ◌∷◌, fold, flat_map, option_map, IfOk, OnOk};
+ghost use Rattle.std.specs.Vec.Iter.{into_iter_items};
+ghost use Rattle.ct_suite.specs.Tests.{is_labels, label_bytes, labels_of, prop_bytes};
+ghost use Rattle.ct_suite.specs.Words.{is_properties, list_value, names_and_pairs, pairs_behind, pairs_of};
+ghost use Rattle.ct_suite.specs.Entries.{taken_apart, with_new};
+ghost use Rattle.ct_suite.specs.Values.{texts};
+
+use crate::value::Value;
+use ct_base::{List, Name, NoMemory, Pair, split_list};
+use indexmap::IndexSet;
+use std::alloc::Global;
+use std::vec::IntoIter;
+
+/// Takes the first value off.
+pub fn take_apart(values: List<Name>) -> Option<(Name, List<Name>)>
+    ensures { result ≡ taken_apart values }
+{
+    let mut rest = values.into_vec();
+    if rest.is_empty() {
+        return None;
+    }
+    let first = rest.remove(0);
+    Some((first, List::from_vec(rest)))
+}
+
+/// Reads `name .. PROPERTIES key value ..`: the names, and the properties behind them.
+pub fn names_and_pairs(
+    alloc: Global,
+    values: List<Value>,
+) -> Result<Option<(List<Name>, List<Pair>)>, NoMemory>
+    ensures { IfOk result (λ read. read ≡ names_and_pairs (texts values)) }
+{
+    let mut names = List::new(alloc);
+    let mut rest = values.into_vec().into_iter();
+    while let Some(value) = rest.next() {
+        if is_properties(&value.text) {
+            let pairs = pairs_of(alloc, rest)?;
+            return Ok(with_names(names, pairs));
+        }
+        names.push(value.text)?;
+    }
+    Ok(None)
+}
+
+fn with_names(names: List<Name>, pairs: Option<List<Pair>>) -> Option<(List<Name>, List<Pair>)>
+    ensures { result ≡ option_map (λ pairs. (names, pairs)) pairs }
+{
+    match pairs {
+        None => None,
+        Some(pairs) => Some((names, pairs)),
+    }
+}
+
+/// Reads `PROPERTIES key value ..`.
+pub fn pairs_behind(alloc: Global, values: List<Value>) -> Result<Option<List<Pair>>, NoMemory>
+    ensures { IfOk result (λ pairs. pairs ≡ pairs_behind (texts values)) }
+{
+    let mut rest = values.into_vec().into_iter();
+    let Some(first) = rest.next() else {
+        return Ok(None);
+    };
+    if is_properties(&first.text) {
+        return pairs_of(alloc, rest);
+    }
+    Ok(None)
+}
+
+/// Reads `key value ..`: nothing where the last key has no value.
+fn pairs_of(alloc: Global, mut rest: IntoIter<Value>) -> Result<Option<List<Pair>>, NoMemory>
+    ensures { IfOk result (λ pairs. pairs ≡ pairs_of (texts (into_iter_items rest))) }
+{
+    let mut pairs = List::from_vec(Vec::with_capacity(alloc, rest.len() / 2)?);
+    while let Some(key) = rest.next() {
+        let Some(value) = rest.next() else {
+            return Ok(None);
+        };
+        pairs.push(Pair {
+            name: key.text,
+            value: value.text,
+        })?;
+    }
+    Ok(Some(pairs))
+}
+
+fn is_properties(value: &Name) -> bool
+    ensures { result ≡ is_properties value.now }
+{
+    value.bytes() == b"PROPERTIES".as_slice()
+}
+
+/// Leaves of names that are equal the first one.
+#[tactic(auto, using(crate::proofs::WordLemmas::few_distinct))]
+pub fn distinct(alloc: Global, names: List<Name>) -> Result<List<Name>, NoMemory>
+    ensures { IfOk result (λ distinct. distinct ≡ fold with_new [] names) }
+{
+    if names.len() < 2 {
+        return Ok(names);
+    }
+    let mut seen = IndexSet::new(alloc);
+    for name in names.into_vec() {
+        seen.insert(name.into_vec())?;
+    }
+    let distinct: Vec<Name> = seen.into_iter().map(Name::from_vec).collect(alloc)?;
+    Ok(List::from_vec(distinct))
+}
+
+/// Counts the bytes of the values of properties, up to the greatest number that there is.
+pub fn prop_bytes(props: &[Pair]) -> u64
+    ensures { result ≡ min (prop_bytes props.now) (2 ^ 64 - 1) }
+{
+    let mut bytes: u64 = 0;
+    for prop in props {
+        bytes = bytes.saturating_add(prop.value.bytes().len() as u64);
+    }
+    bytes
+}
+
+fn is_labels(prop: &Pair) -> bool
+    ensures { result ≡ is_labels prop.now }
+{
+    prop.name.bytes() == b"LABELS".as_slice()
+}
+
+/// Counts the bytes of the values of LABELS, up to the greatest number that there is.
+pub fn label_bytes(props: &[Pair]) -> u64
+    ensures { result ≡ min (label_bytes props.now) (2 ^ 64 - 1) }
+{
+    let mut bytes: u64 = 0;
+    for prop in props {
+        if is_labels(prop) {
+            bytes = bytes.saturating_add(prop.value.bytes().len() as u64);
+        }
+    }
+    bytes
+}
+
+/// Gives the entries of the values of LABELS.
+pub fn labels_of(alloc: Global, props: &[Pair]) -> Result<List<Name>, NoMemory>
+    ensures { IfOk result (λ labels. labels ≡ labels_of props.now) }
+{
+    let mut labels = List::new(alloc);
+    for prop in props {
+        if is_labels(prop) {
+            push_all(&mut labels, split_list(alloc, prop.value.bytes())?)?;
+        }
+    }
+    Ok(labels)
+}
+
+fn push_all(labels: &mut List<Name>, more: List<Name>) -> Result<(), NoMemory>
+    ensures { OnOk result (labels.new ≡ labels.old ++ more) }
+{
+    for label in more.into_vec() {
+        labels.push(label)?;
+    }
+    Ok(())
+}
+
+/// Joins values with `;` between two: nothing where there is none.
+///
+/// Source: CMake manual, set.
+pub fn list_value(alloc: Global, values: &[Name]) -> Result<Option<Name>, NoMemory>
+    ensures { IfOk result (λ value. value ≡ list_value values.now) }
+{
+    let Some(first) = values.first() else {
+        return Ok(None);
+    };
+    let text = joined(alloc, first, &values[1..])?;
+    Ok(Some(Name::from_vec(text)))
+}
+
+fn joined(alloc: Global, first: &Name, rest: &[Name]) -> Result<Vec<u8>, NoMemory>
+    ensures { IfOk result (λ text. text.items ≡ first.now ++ flat_map (λ value. 59 ∷ value) rest.now) }
+{
+    let mut text = Vec::from_slice(alloc, first.bytes())?;
+    for value in rest {
+        text.push(b';')?;
+        text.extend_from_slice(value.bytes())?;
+    }
+    Ok(text)
+}

@@ -1,6 +1,0 @@
-use Rattle.std.proofs.Common.{◌≡◌, map}
-use Rattle.ct_testfile.specs.Entries.{def_of}
-use Rattle.ct_testfile.proofs.suite.Suite.define.Given as goal
-
-abbrev pub invariant-loop-test : goal.invariant-loop-test
-invariant-loop-test l = l.defs ≡ map def_of l.yielded

@@ -1,6 +1,0 @@
-use Rattle.std.proofs.Common.{◌≡◌, take}
-use Rattle.ct_testfile.specs.Tests.{labels_of}
-use Rattle.ct_testfile.proofs.words.labels_of.Given as goal
-
-abbrev pub invariant-loop-prop : goal.invariant-loop-prop
-invariant-loop-prop l = l.labels ≡ labels_of (take l.prop-index l.props)
