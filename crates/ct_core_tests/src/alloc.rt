@@ -3,20 +3,17 @@
 ghost use Rattle.std.specs.Prelude.{◌<◌};
 
 use crate::dice::Dice;
-use crate::plans::{cards, needs, unused};
 use ct_alloc::Placement;
 use ct_base::NoMemory;
+use ct_samples::{cards, needs, unused};
 use std::alloc::Global;
+use std::process::Abort;
 use std::test::Fail;
 
 /// Places needs on cards of which nothing is used.
-fn placed(
-    rt: &impl AllocGlobal,
-    slots: &[u32],
-    wanted: &[u32],
-) -> Result<Option<Placement>, NoMemory> {
-    let free = unused(rt.alloc(), &cards(rt.alloc(), slots)?)?;
-    free.place(rt.alloc(), &needs(rt.alloc(), wanted)?)
+fn placed(alloc: Global, slots: &[u32], wanted: &[u32]) -> Result<Option<Placement>, NoMemory> {
+    let free = unused(alloc, &cards(alloc, slots)?)?;
+    free.place(alloc, &needs(alloc, wanted)?)
 }
 
 /// Counts the picks of so many slots on a card.
@@ -28,67 +25,82 @@ fn count(placement: &Placement, card: u32, slots: u32) -> usize {
         .count()
 }
 
-#[test]
-fn places_a_small_and_a_great_need_on_each_card(rt: HostRuntime) -> Result<(), Fail> {
-    match placed(&rt, &[5, 5], &[2, 2, 3, 3])? {
-        Some(placement) => {
-            for card in 0..2 {
-                assert_eq!(rt; count(&placement, card, 2), 1, "on {card}");
-                assert_eq!(rt; count(&placement, card, 3), 1, "on {card}");
-            }
-        }
-        None => panic!(rt; "no placement"),
+/// What a row shows, the slots of its cards, those of its needs, and where the needs are placed.
+///
+/// Behind an `x` stands how often an amount comes. A place is told by how many needs of how many
+/// slots are on a card, which are numbered from 0.
+const ROWS: &str = "\
+a small and a great need on each card: 5 5 | 2 2 3 3 | 1 of 2 on 0, 1 of 3 on 0, 1 of 2 on 1, 1 of 3 on 1
+no slot is left beside them: 5 5 | 2 2 3 3 1 | nowhere
+two needs on each of thirteen cards: 5x13 | 2x26 | 2 of 2 on 0, 2 of 2 on 1, 2 of 2 on 2, 2 of 2 on 3, 2 of 2 on 4, 2 of 2 on 5, 2 of 2 on 6, 2 of 2 on 7, 2 of 2 on 8, 2 of 2 on 9, 2 of 2 on 10, 2 of 2 on 11, 2 of 2 on 12
+one need more than thirteen cards take: 5x13 | 2x27 | nowhere
+as many needs as twelve cards take: 11x12 | 2x60 | somewhere
+one need too many is told at once: 11x12 | 2x61 | nowhere
+two needs too many are told at once: 11x12 | 2x62 | nowhere
+a card is left for the need that fills it: 9 5 7 | 5 5 4 7 | 1 of 5 on 0, 1 of 4 on 0, 1 of 5 on 1, 1 of 7 on 2
+three great needs beside a small one: 9 5 7 | 5 5 5 4 | somewhere
+a fourth great need: 9 5 7 | 5 5 5 5 | nowhere
+one need on the first card with room: 1 0 3 2 | 2 | 1 of 2 on 2
+one need that no card has room for: 1 0 3 2 | 4 | nowhere
+no card at all:  | 0 | nowhere
+";
+
+fn number(word: &str) -> u32 {
+    word.parse().unwrap_or(0)
+}
+
+fn amounts_of(alloc: Global, text: &str) -> Result<Vec<u32>, NoMemory> {
+    let mut amounts = Vec::new(alloc);
+    for word in text.split_terminator(' ') {
+        let (slots, times) = word.split_once('x').unwrap_or((word, "1"));
+        add(&mut amounts, number(slots), number(times))?;
     }
-    assert!(rt; placed(&rt, &[5, 5], &[2, 2, 3, 3, 1])?.is_none());
+    Ok(amounts)
+}
+
+/// Adds an amount so many times.
+fn add(amounts: &mut Vec<u32>, slots: u32, times: u32) -> Result<(), NoMemory> {
+    for _ in 0..times {
+        amounts.push(slots)?;
+    }
     Ok(())
 }
 
-#[test]
-fn places_two_needs_on_each_of_thirteen_cards(rt: HostRuntime) -> Result<(), Fail> {
-    match placed(&rt, &[5; 13], &[2; 26])? {
-        Some(placement) => {
-            for card in 0..13 {
-                assert_eq!(rt; count(&placement, card, 2), 2, "on {card}");
-            }
-        }
-        None => panic!(rt; "no placement"),
+fn check_row(rt: &impl Abort, alloc: Global, row: &str) -> Result<(), NoMemory> {
+    let (_title, rest) = row.split_once(": ").unwrap_or((row, ""));
+    let (slots, rest) = rest.split_once(" | ").unwrap_or((rest, ""));
+    let (wanted, places) = rest.split_once(" | ").unwrap_or((rest, ""));
+    let slots = amounts_of(alloc, slots)?;
+    let wanted = amounts_of(alloc, wanted)?;
+    match placed(alloc, &slots, &wanted)? {
+        Some(placement) => check_places(rt, &placement, places, row),
+        None => assert!(rt; places == "nowhere", "{row}"),
     }
-    assert!(rt; placed(&rt, &[5; 13], &[2; 27])?.is_none());
     Ok(())
 }
 
-#[test]
-fn answers_where_one_need_is_too_many_at_once(rt: HostRuntime) -> Result<(), Fail> {
-    assert!(rt; placed(&rt, &[11; 12], &[2; 60])?.is_some());
-    assert!(rt; placed(&rt, &[11; 12], &[2; 61])?.is_none());
-    assert!(rt; placed(&rt, &[11; 12], &[2; 62])?.is_none());
-    Ok(())
+fn check_places(rt: &impl Abort, placement: &Placement, places: &str, row: &str) {
+    if places == "somewhere" {
+        return;
+    }
+    for place in places.split(", ") {
+        assert!(rt; is_place(placement, place), "{place}: {row}");
+    }
+}
+
+/// Tells whether so many needs of so many slots are on a card as the text says.
+fn is_place(placement: &Placement, text: &str) -> bool {
+    let (times, rest) = text.split_once(" of ").unwrap_or((text, ""));
+    let (slots, card) = rest.split_once(" on ").unwrap_or((rest, ""));
+    let found = count(placement, number(card), number(slots));
+    0 < found && found == number(times) as usize
 }
 
 #[test]
-fn leaves_a_card_for_the_need_that_fills_it(rt: HostRuntime) -> Result<(), Fail> {
-    match placed(&rt, &[9, 5, 7], &[5, 5, 4, 7])? {
-        Some(placement) => {
-            assert_eq!(rt; count(&placement, 0, 5), 1);
-            assert_eq!(rt; count(&placement, 0, 4), 1);
-            assert_eq!(rt; count(&placement, 1, 5), 1);
-            assert_eq!(rt; count(&placement, 2, 7), 1);
-        }
-        None => panic!(rt; "no placement"),
+fn places_needs_where_the_rows_say(rt: HostRuntime) -> Result<(), Fail> {
+    for row in ROWS.lines() {
+        check_row(&rt, rt.alloc(), row)?;
     }
-    assert!(rt; placed(&rt, &[9, 5, 7], &[5, 5, 5, 4])?.is_some());
-    assert!(rt; placed(&rt, &[9, 5, 7], &[5, 5, 5, 5])?.is_none());
-    Ok(())
-}
-
-#[test]
-fn places_one_need_on_the_first_card_with_room(rt: HostRuntime) -> Result<(), Fail> {
-    match placed(&rt, &[1, 0, 3, 2], &[2])? {
-        Some(placement) => assert_eq!(rt; count(&placement, 2, 2), 1),
-        None => panic!(rt; "no placement"),
-    }
-    assert!(rt; placed(&rt, &[1, 0, 3, 2], &[4])?.is_none());
-    assert!(rt; placed(&rt, &[], &[0])?.is_none());
     Ok(())
 }
 
@@ -138,7 +150,7 @@ fn finds_a_placement_exactly_where_one_of_all_ways_fits(rt: HostRuntime) -> Resu
     for round in 0..10_000 {
         let free = amounts(rt.alloc(), &mut dice, 4)?;
         let wanted = amounts(rt.alloc(), &mut dice, 5)?;
-        let found = placed(&rt, &free, &wanted)?.is_some();
+        let found = placed(rt.alloc(), &free, &wanted)?.is_some();
         let fits_some_way = (0..ways(wanted.len())).any(|way| fits(&free, &wanted, way));
         assert_eq!(rt;
             found,

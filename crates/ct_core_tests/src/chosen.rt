@@ -1,7 +1,7 @@
 //! What the core chooses in drawn runs, beside every other entry that `judge` is asked for there.
 
 use crate::dice::Dice;
-use crate::drawn_runs::{copy_of, drawn_parts, drawn_seen};
+use crate::drawn_runs::{copies_of, drawn_parts, drawn_seen};
 use crate::workers::{Run, Step, close, end, next, open};
 use ct_alloc::{Pick, Placement};
 use ct_base::{List, Name, Need, NoMemory};
@@ -42,6 +42,11 @@ impl Trial<'_> {
                 return Ok(true);
             }
         }
+        self.allows_settle_for_setup(test)
+    }
+
+    /// Tells whether a test may be settled for some setup that did not pass.
+    fn allows_settle_for_setup(&mut self, test: u32) -> Result<bool, NoMemory> {
         for setup in 1..LAST + 1 {
             let cause = Cause::Fixture(setup);
             if self.allows(Entry::Settle { test, cause })? {
@@ -57,9 +62,16 @@ impl Trial<'_> {
         if self.allows(start(test.number, attempt, None))? {
             return Ok(true);
         }
-        if test.needs.is_empty() {
-            return Ok(false);
-        }
+        Ok(!test.needs.is_empty() && self.allows_placed(alloc, test, attempt)?)
+    }
+
+    /// Tells whether an attempt may start with one of all placements.
+    fn allows_placed(
+        &mut self,
+        alloc: Global,
+        test: &PlanTest,
+        attempt: u32,
+    ) -> Result<bool, NoMemory> {
         for number in 0..PLACEMENTS {
             let placement = placement(alloc, test.needs.as_slice(), number)?;
             if self.allows(start(test.number, attempt, Some(placement)))? {
@@ -160,14 +172,6 @@ fn check_choice(
     Ok(())
 }
 
-fn copy_history(alloc: Global, history: &History) -> Result<History, NoMemory> {
-    let mut entries = Vec::new(alloc);
-    for entry in history.entries.as_slice() {
-        entries.push(copy_of(alloc, entry)?)?;
-    }
-    Ok(History { entries })
-}
-
 /// Takes one drawn step, and tells whether the run goes on.
 fn checked_step(
     rt: &impl Abort,
@@ -182,9 +186,9 @@ fn checked_step(
         }
         return Ok(true);
     }
-    let before = copy_history(alloc, run.core.history())?;
+    let entries = copies_of(alloc, run.core.history().entries.as_slice())?;
     let step = next(rt, run, worker);
-    check_choice(rt, alloc, run.core.plan(), before, step)?;
+    check_choice(rt, alloc, run.core.plan(), History { entries }, step)?;
     Ok(step != Step::IsDone)
 }
 

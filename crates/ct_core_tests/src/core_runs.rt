@@ -1,11 +1,10 @@
 //! The core over fixed plans, step by step.
 
-use crate::plans::{cards, free, need, parts_of};
-use crate::rows::how;
 use crate::workers::{Run, Step, close, end, next, open, seen};
 use ct_base::{List, NoMemory, Resource};
-use ct_history::{Entry, History, PlanParts, PlanTest};
-use ct_verdict::{Cause, Mode, Repeat, Verdict};
+use ct_history::{Entry, History, Plan, PlanParts, PlanTest};
+use ct_samples::{Manner, cards, free, need, parts_of};
+use ct_verdict::{Cause, How, Mode, Repeat, Verdict};
 use std::alloc::Global;
 use std::process::Abort;
 use std::test::Fail;
@@ -50,15 +49,14 @@ until-pass 2 on 1 | needs 1;needs 1 | 0 starts 1, 0 ends 1 again, 0 starts 1, 0 
 const STOPS: &str =
     "stop | plain;plain;plain | 0 starts 1, 0 ends 1 failed, 0 settles 2, 0 settles 3, 0 is done";
 
-fn number(word: Option<&str>) -> u32 {
-    word.unwrap_or("").parse().unwrap_or(0)
+fn number(word: &str) -> u32 {
+    word.parse().unwrap_or(0)
 }
 
 fn step(text: &str) -> Step {
-    let mut words = text.split(' ');
-    let worker = number(words.next());
-    let verb = words.next().unwrap_or("");
-    let object = words.next();
+    let (worker, rest) = text.split_once(' ').unwrap_or((text, ""));
+    let (verb, object) = rest.split_once(' ').unwrap_or((rest, ""));
+    let worker = number(worker);
     match verb {
         "starts" => Step::Starts {
             worker,
@@ -69,12 +67,25 @@ fn step(text: &str) -> Step {
             test: number(object),
         },
         "waits" => Step::Waits { worker },
-        "ends" => Step::Ends {
-            worker,
-            how: how(object.unwrap_or("")),
-            verdict: verdict(words.next().unwrap_or("")),
-        },
+        "ends" => ended(worker, object),
         _ => Step::IsDone,
+    }
+}
+
+/// The end of a test by an exit code or a timeout, and what the test then comes to.
+fn ended(worker: u32, text: &str) -> Step {
+    let (word, wanted) = text.split_once(' ').unwrap_or((text, ""));
+    Step::Ends {
+        worker,
+        how: how(word),
+        verdict: verdict(wanted),
+    }
+}
+
+fn how(word: &str) -> How {
+    match word {
+        "timeout" => How::TimedOut,
+        code => How::Exited(code.parse().unwrap_or(0)),
     }
 }
 
@@ -89,53 +100,71 @@ fn verdict(word: &str) -> Option<Verdict> {
 
 fn test_of(alloc: Global, number: u32, text: &str) -> Result<PlanTest, NoMemory> {
     let mut test = free(alloc, number)?;
-    for mark in text.split(", ") {
-        let (word, count) = mark.split_once(' ').unwrap_or((mark, ""));
-        let count = count.parse().unwrap_or(0);
-        match word {
-            "processors" => test.processors = count,
-            "serial" => test.serial = true,
-            "needs" => test.needs.push(need(alloc, count)?)?,
-            "insufficient" => test.fixed = Some(Cause::Insufficient),
-            "behind" => test.before.push(count)?,
-            "setup" => {
-                test.before.push(count)?;
-                test.setups.push(count)?;
-            }
-            _ => {}
-        }
+    for word in text.split(", ") {
+        mark(alloc, &mut test, word)?;
     }
     Ok(test)
 }
 
+/// Makes a test what a text says of it.
+fn mark(alloc: Global, test: &mut PlanTest, text: &str) -> Result<(), NoMemory> {
+    let (word, count) = text.split_once(' ').unwrap_or((text, ""));
+    let count = number(count);
+    match word {
+        "processors" => test.processors = count,
+        "serial" => test.serial = true,
+        "insufficient" => test.fixed = Some(Cause::Insufficient),
+        "needs" => test.needs.push(need(alloc, count)?)?,
+        "behind" => test.before.push(count)?,
+        "setup" => {
+            test.before.push(count)?;
+            test.setups.push(count)?;
+        }
+        _ => {}
+    }
+    Ok(())
+}
+
 fn parts(alloc: Global, asked: &str, texts: &str) -> Result<PlanParts, NoMemory> {
+    let (asked, slots) = asked.split_once(" on ").unwrap_or((asked, ""));
+    let tests = tests_of(alloc, texts)?;
+    parts_of(alloc, manner(asked), tests, given(alloc, slots)?)
+}
+
+fn tests_of(alloc: Global, texts: &str) -> Result<List<PlanTest>, NoMemory> {
     let mut tests = List::new(alloc);
-    for (text, number) in texts.split(';').zip(1..=9) {
+    let mut number: u32 = 0;
+    for text in texts.split(';') {
+        number = number.saturating_add(1);
         tests.push(test_of(alloc, number, text)?)?;
     }
-    let mut parts = parts_of(alloc, 1, tests)?;
-    let (asked, slots) = asked.split_once(" on ").unwrap_or((asked, ""));
-    parts.resources = given(alloc, slots)?;
+    Ok(tests)
+}
+
+fn manner(asked: &str) -> Manner {
     let (word, count) = asked.split_once(' ').unwrap_or((asked, ""));
-    let count = count.parse().unwrap_or(0);
+    let times = number(count);
     match word {
-        "level" => parts.level = count,
-        "stop" => parts.stop_on_failure = true,
-        mode => {
-            parts.repeat = Repeat {
+        "level" => Manner::once(times),
+        "stop" => Manner {
+            stop_on_failure: true,
+            ..Manner::once(1)
+        },
+        mode => Manner {
+            repeat: Repeat {
                 mode: mode_of(mode),
-                times: count,
-            };
-        }
+                times,
+            },
+            ..Manner::once(1)
+        },
     }
-    Ok(parts)
 }
 
 /// The cards with these slots, where there are any.
 fn given(alloc: Global, text: &str) -> Result<Option<List<Resource>>, NoMemory> {
     let mut slots = Vec::new(alloc);
     for count in text.split_terminator(',') {
-        slots.push(number(Some(count)))?;
+        slots.push(number(count))?;
     }
     if slots.is_empty() {
         return Ok(None);
@@ -153,18 +182,20 @@ fn mode_of(word: &str) -> Mode {
 }
 
 /// Takes the steps of a run, which come to what is wanted.
-fn play(rt: &impl Abort, alloc: Global, row: &str) -> Result<History, NoMemory> {
-    let mut cells = row.split(" | ");
-    let asked = cells.next().unwrap_or("");
-    let parts = parts(alloc, asked, cells.next().unwrap_or(""))?;
-    let mut run = open(rt, alloc, parts)?;
-    for text in cells.next().unwrap_or("").split(", ") {
-        let step = step(text);
-        let taken = take(rt, &mut run, step);
-        assert_eq!(rt; taken, step, "{text}");
+pub(crate) fn play(rt: &impl Abort, alloc: Global, row: &str) -> Result<(Plan, History), NoMemory> {
+    let (asked, rest) = row.split_once(" | ").unwrap_or((row, ""));
+    let (tests, steps) = rest.split_once(" | ").unwrap_or((rest, ""));
+    let mut run = open(rt, alloc, parts(alloc, asked, tests)?)?;
+    take_all(rt, &mut run, steps);
+    close(rt, run)
+}
+
+fn take_all(rt: &impl Abort, run: &mut Run, steps: &str) {
+    for text in steps.split(", ") {
+        let wanted = step(text);
+        let taken = take(rt, run, wanted);
+        assert_eq!(rt; taken, wanted, "{text}");
     }
-    let (_plan, history) = close(rt, run)?;
-    Ok(history)
 }
 
 #[test]
@@ -186,12 +217,12 @@ fn kind_of(entry: &Entry) -> &'static str {
 
 #[test]
 fn a_failure_stops_a_run_that_is_to_stop(rt: HostRuntime) -> Result<(), Fail> {
-    let history = play(&rt, rt.alloc(), STOPS)?;
-    let kinds = ["start", "end", "stop", "settle", "settle"];
-    let entries = history.entries.as_slice();
-    assert_eq!(rt; entries.len(), kinds.len());
-    for (entry, kind) in entries.iter().zip(&kinds) {
-        assert_eq!(rt; kind_of(entry), *kind);
+    let (_plan, history) = play(&rt, rt.alloc(), STOPS)?;
+    let mut kinds = List::new(rt.alloc());
+    for entry in history.entries.as_slice() {
+        kinds.push(kind_of(entry))?;
     }
+    let wanted = ["start", "end", "stop", "settle", "settle"];
+    assert_eq!(rt; kinds.as_slice(), wanted.as_slice());
     Ok(())
 }

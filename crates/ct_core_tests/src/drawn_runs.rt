@@ -1,13 +1,13 @@
 //! The core over plans and lists of calls that are drawn, and the histories with a change in them.
 
-ghost use Rattle.std.specs.Prelude.{◌<◌};
+ghost use Rattle.std.specs.Prelude.{◌<◌, length};
 
 use crate::dice::Dice;
-use crate::plans::{cards, enabled_numbers, free, list_of, needs, unused};
 use crate::workers::{Run, Step, close, end, next, open, seen};
 use ct_alloc::{Pick, Placement};
-use ct_base::{List, Name, NoMemory, Resource};
+use ct_base::{List, Name, Need, NoMemory, Resource};
 use ct_history::{Entry, History, Plan, PlanParts, PlanTest, judge};
+use ct_samples::{Manner, cards, enabled_numbers, free, need, queued, unused};
 use ct_verdict::{Cause, How, Mode, Repeat, Seen};
 use std::alloc::Global;
 use std::process::Abort;
@@ -18,25 +18,9 @@ pub(crate) fn drawn_parts(alloc: Global, dice: &mut Dice) -> Result<PlanParts, N
     let level = 1 + dice.roll(4);
     let count = 1 + dice.roll(8);
     let resources = drawn_cards(alloc, dice)?;
-    let mut tests = List::new(alloc);
-    for number in 1..count + 1 {
-        let mut test = drawn_test(alloc, dice, number, level, tests.as_slice())?;
-        draw_needs(alloc, dice, &mut test, resources.as_ref())?;
-        tests.push(test)?;
-    }
+    let tests = drawn_tests(alloc, dice, count, level, resources.as_ref())?;
     let queue = drawn_queue(alloc, dice, tests.as_slice())?;
-    Ok(PlanParts {
-        dir: Name::of(alloc, b".")?,
-        tests,
-        queue,
-        resources,
-        level,
-        repeat: Repeat {
-            mode: drawn_mode(dice),
-            times: 1 + dice.roll(3),
-        },
-        stop_on_failure: dice.is_one_in(2),
-    })
+    queued(alloc, drawn_manner(dice, level), tests, queue, resources)
 }
 
 fn drawn_cards(alloc: Global, dice: &mut Dice) -> Result<Option<List<Resource>>, NoMemory> {
@@ -56,22 +40,14 @@ fn drawn_slots(alloc: Global, dice: &mut Dice) -> Result<Vec<u32>, NoMemory> {
     Ok(slots)
 }
 
-/// Draws what a test needs, which it may never get.
-fn draw_needs(
-    alloc: Global,
-    dice: &mut Dice,
-    test: &mut PlanTest,
-    resources: Option<&List<Resource>>,
-) -> Result<(), NoMemory> {
-    let slots = drawn_slots(alloc, dice)?;
-    test.needs = needs(alloc, &slots)?;
-    if let Some(resources) = resources {
-        let free = unused(alloc, resources)?;
-        if test.fixed.is_none() && free.place(alloc, &test.needs)?.is_none() {
-            test.fixed = Some(Cause::Insufficient);
-        }
+fn drawn_manner(dice: &mut Dice, level: u32) -> Manner {
+    let mode = drawn_mode(dice);
+    let times = 1 + dice.roll(3);
+    Manner {
+        level,
+        repeat: Repeat { mode, times },
+        stop_on_failure: dice.is_one_in(2),
     }
-    Ok(())
 }
 
 fn drawn_mode(dice: &mut Dice) -> Mode {
@@ -83,25 +59,52 @@ fn drawn_mode(dice: &mut Dice) -> Mode {
     }
 }
 
-/// Draws a test that may wait for earlier ones.
-fn drawn_test(
+/// Draws so many tests, each of which may wait for earlier ones.
+fn drawn_tests(
     alloc: Global,
     dice: &mut Dice,
-    number: u32,
+    count: u32,
     level: u32,
-    earlier: &[PlanTest],
-) -> Result<PlanTest, NoMemory>
+    resources: Option<&List<Resource>>,
+) -> Result<List<PlanTest>, NoMemory>
     requires { 0 < level }
 {
-    let mut test = free(alloc, number)?;
+    let mut tests = List::new(alloc);
+    for number in 1..count.saturating_add(1) {
+        let mut test = free(alloc, number)?;
+        draw_marks(dice, &mut test, level);
+        draw_locks(alloc, dice, &mut test.locks)?;
+        draw_links(dice, &mut test, tests.as_slice())?;
+        draw_needs(alloc, dice, &mut test, resources)?;
+        tests.push(test)?;
+    }
+    Ok(tests)
+}
+
+/// Draws what needs no other test.
+fn draw_marks(dice: &mut Dice, test: &mut PlanTest, level: u32)
+    requires { 0 < level }
+{
     test.disabled = dice.is_one_in(8);
     test.serial = dice.is_one_in(10);
-    let drawn = dice.roll(level);
-    test.processors = drawn.saturating_add(1);
+    test.processors = dice.roll(level).saturating_add(1);
     if dice.is_one_in(10) {
         test.fixed = Some(Cause::NotAvailable);
     }
-    test.locks = drawn_locks(alloc, dice)?;
+}
+
+fn draw_locks(alloc: Global, dice: &mut Dice, locks: &mut List<Name>) -> Result<(), NoMemory> {
+    if dice.is_one_in(4) {
+        locks.push(Name::of(alloc, b"disk")?)?;
+    }
+    if dice.is_one_in(4) {
+        locks.push(Name::of(alloc, b"port")?)?;
+    }
+    Ok(())
+}
+
+/// Draws which of the earlier tests a test waits for, and which of them are its setups.
+fn draw_links(dice: &mut Dice, test: &mut PlanTest, earlier: &[PlanTest]) -> Result<(), NoMemory> {
     for other in earlier {
         if !other.disabled && dice.is_one_in(4) {
             test.before.push(other.number)?;
@@ -110,18 +113,35 @@ fn drawn_test(
             }
         }
     }
-    Ok(test)
+    Ok(())
 }
 
-fn drawn_locks(alloc: Global, dice: &mut Dice) -> Result<List<Name>, NoMemory> {
-    let mut locks = List::new(alloc);
-    if dice.is_one_in(4) {
-        locks.push(Name::of(alloc, b"disk")?)?;
+/// Draws what a test needs, which it may never get.
+fn draw_needs(
+    alloc: Global,
+    dice: &mut Dice,
+    test: &mut PlanTest,
+    resources: Option<&List<Resource>>,
+) -> Result<(), NoMemory> {
+    for _ in 0..dice.roll(4) {
+        test.needs.push(need(alloc, dice.roll(4))?)?;
     }
-    if dice.is_one_in(4) {
-        locks.push(Name::of(alloc, b"port")?)?;
+    if test.fixed.is_none() && !are_met(alloc, &test.needs, resources)? {
+        test.fixed = Some(Cause::Insufficient);
     }
-    Ok(locks)
+    Ok(())
+}
+
+/// Tells whether needs can be placed, or are not looked at since no cards are lent.
+fn are_met(
+    alloc: Global,
+    needs: &List<Need>,
+    resources: Option<&List<Resource>>,
+) -> Result<bool, NoMemory> {
+    match resources {
+        Some(resources) => Ok(unused(alloc, resources)?.place(alloc, needs)?.is_some()),
+        None => Ok(true),
+    }
 }
 
 fn drawn_queue(alloc: Global, dice: &mut Dice, tests: &[PlanTest]) -> Result<List<u32>, NoMemory> {
@@ -132,7 +152,7 @@ fn drawn_queue(alloc: Global, dice: &mut Dice, tests: &[PlanTest]) -> Result<Lis
             numbers.swap(at, other);
         }
     }
-    list_of(alloc, numbers.as_slice())
+    Ok(List::from_vec(numbers))
 }
 
 pub(crate) fn drawn_seen(dice: &mut Dice) -> Seen {
@@ -221,7 +241,15 @@ impl Change {
     }
 }
 
-pub(crate) fn copy_of(alloc: Global, entry: &Entry) -> Result<Entry, NoMemory> {
+pub(crate) fn copies_of(alloc: Global, entries: &[Entry]) -> Result<Vec<Entry>, NoMemory> {
+    let mut copies = Vec::new(alloc);
+    for entry in entries {
+        copies.push(copy_of(alloc, entry)?)?;
+    }
+    Ok(copies)
+}
+
+fn copy_of(alloc: Global, entry: &Entry) -> Result<Entry, NoMemory> {
     Ok(match entry {
         Entry::Start {
             test,
@@ -277,33 +305,72 @@ fn moved(
 
 /// Changes an entry in place, and tells whether there was something to change.
 fn alter(alloc: Global, entry: &mut Entry, change: Change) -> Result<bool, NoMemory> {
-    Ok(match (entry, change) {
-        (
-            Entry::Start { test, .. } | Entry::End { test, .. } | Entry::Settle { test, .. },
-            Change::OtherTest,
-        ) => {
+    match change {
+        Change::OtherTest => Ok(alter_test(entry)),
+        Change::OtherAttempt => Ok(alter_attempt(entry)),
+        Change::OtherWorker => Ok(alter_worker(entry)),
+        Change::OtherCause => Ok(alter_cause(entry)),
+        Change::OtherCard => alter_card(alloc, entry),
+        Change::NoPlacement => Ok(drops_placement(entry)),
+        Change::LeavesOut | Change::Doubles | Change::Exchanges => Ok(false),
+    }
+}
+
+fn alter_test(entry: &mut Entry) -> bool {
+    match entry {
+        Entry::Start { test, .. } | Entry::End { test, .. } | Entry::Settle { test, .. } => {
             *test = *test % 8 + 1;
             true
         }
-        (Entry::Start { attempt, .. } | Entry::End { attempt, .. }, Change::OtherAttempt) => {
+        Entry::Stop => false,
+    }
+}
+
+fn alter_attempt(entry: &mut Entry) -> bool {
+    match entry {
+        Entry::Start { attempt, .. } | Entry::End { attempt, .. } => {
             *attempt = attempt.wrapping_add(1);
             true
         }
-        (Entry::Start { worker, .. } | Entry::End { worker, .. }, Change::OtherWorker) => {
+        Entry::Settle { .. } | Entry::Stop => false,
+    }
+}
+
+fn alter_worker(entry: &mut Entry) -> bool {
+    match entry {
+        Entry::Start { worker, .. } | Entry::End { worker, .. } => {
             *worker = worker.wrapping_add(1);
             true
         }
-        (Entry::Settle { cause, .. }, Change::OtherCause) => {
+        Entry::Settle { .. } | Entry::Stop => false,
+    }
+}
+
+fn alter_cause(entry: &mut Entry) -> bool {
+    match entry {
+        Entry::Settle { cause, .. } => {
             *cause = other_cause(*cause);
             true
         }
-        (Entry::Start { placement, .. }, Change::OtherCard) => {
+        Entry::Start { .. } | Entry::End { .. } | Entry::Stop => false,
+    }
+}
+
+fn alter_card(alloc: Global, entry: &mut Entry) -> Result<bool, NoMemory> {
+    match entry {
+        Entry::Start { placement, .. } => {
             *placement = moved(alloc, placement.as_ref(), 1)?;
-            placement.is_some()
+            Ok(placement.is_some())
         }
-        (Entry::Start { placement, .. }, Change::NoPlacement) => placement.take().is_some(),
-        _ => false,
-    })
+        Entry::End { .. } | Entry::Settle { .. } | Entry::Stop => Ok(false),
+    }
+}
+
+fn drops_placement(entry: &mut Entry) -> bool {
+    match entry {
+        Entry::Start { placement, .. } => placement.take().is_some(),
+        Entry::End { .. } | Entry::Settle { .. } | Entry::Stop => false,
+    }
 }
 
 fn other_cause(cause: Cause) -> Cause {
@@ -321,31 +388,46 @@ fn changed(
     at: usize,
     change: Change,
 ) -> Result<Option<History>, NoMemory> {
-    let mut copies = Vec::new(alloc);
-    let mut changes = false;
-    for place in 0..entries.len() {
-        let mut copy = copy_of(alloc, &entries[place])?;
-        if place == at {
-            match change {
-                Change::LeavesOut => {
-                    changes = true;
-                    continue;
-                }
-                Change::Doubles => {
-                    changes = true;
-                    copies.push(copy_of(alloc, &copy)?)?;
-                }
-                Change::Exchanges => {}
-                _ => changes = alter(alloc, &mut copy, change)?,
-            }
+    let mut copies = copies_of(alloc, entries)?;
+    if at < copies.len() && change_at(alloc, &mut copies, at, change)? {
+        return Ok(Some(History { entries: copies }));
+    }
+    Ok(None)
+}
+
+/// Changes a history at a place, and tells whether there was something to change.
+fn change_at(
+    alloc: Global,
+    entries: &mut Vec<Entry>,
+    at: usize,
+    change: Change,
+) -> Result<bool, NoMemory>
+    requires { at < length entries.old.items }
+{
+    match change {
+        Change::LeavesOut => {
+            let _left_out = entries.remove(at);
+            Ok(true)
         }
-        copies.push(copy)?;
+        Change::Doubles => {
+            let copy = copy_of(alloc, &entries[at])?;
+            entries.insert(at, copy)?;
+            Ok(true)
+        }
+        Change::Exchanges => Ok(exchange(entries, at)),
+        _ => alter(alloc, &mut entries[at], change),
     }
-    if change == Change::Exchanges && at < copies.len() && 0 < at {
-        copies.swap(at - 1, at);
-        changes = true;
+}
+
+/// Exchanges an entry for the one in front, where there is one.
+fn exchange(entries: &mut Vec<Entry>, at: usize) -> bool
+    requires { at < length entries.old.items }
+{
+    if at == 0 {
+        return false;
     }
-    Ok(changes.then_some(History { entries: copies }))
+    entries.swap(at - 1, at);
+    true
 }
 
 /// How often a change left a history legal, and how often it did not.

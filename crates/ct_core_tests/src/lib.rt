@@ -1,8 +1,8 @@
-//! The tests of how a plan is run: placements, the core, the turn, and what is reported and kept of it.
+//! The tests of the core: where needs are placed, and how a plan is run.
 //!
 //! Hands up: nothing. A crate with tests of its own is proved twice, so they stand here.
-//! Stands on: ct_alloc, ct_history, ct_core, ct_turn, ct_report, ct_cost and what is below them.
-//! Read first: `plans.rt`, `rows.rt` and `workers.rt` make what the others test.
+//! Stands on: ct_alloc, ct_history, ct_core, ct_samples and what is below them.
+//! Read first: `workers.rt` drives the core for the others.
 #![tactic(auto)]
 
 #[cfg(test)]
@@ -12,22 +12,10 @@ mod chosen;
 #[cfg(test)]
 mod core_runs;
 #[cfg(test)]
-mod cost;
-#[cfg(test)]
 mod dice;
 #[cfg(test)]
 mod drawn_runs;
 #[cfg(test)]
-mod lists;
-#[cfg(test)]
-mod plans;
-#[cfg(test)]
-mod report;
-#[cfg(test)]
-mod rows;
-#[cfg(test)]
 mod slots;
-#[cfg(test)]
-mod turn;
 #[cfg(test)]
 mod workers;

@@ -1,26 +1,19 @@
 //! The core over tests that take slots of cards.
 
-use crate::plans::{cards, free, need, parts_of};
-use crate::workers::{Step, close, end, next, open, seen};
+use crate::core_runs::play;
 use ct_alloc::{Pick, Placement};
 use ct_base::{List, Name, NoMemory};
-use ct_history::{Entry, History, PlanParts, judge};
-use ct_verdict::How;
+use ct_history::{Entry, History, judge};
 use std::alloc::Global;
+use std::process::Abort;
 use std::test::Fail;
 
-/// Three tests of two slots each, for a card of three slots and one of two.
-fn parts(alloc: Global) -> Result<PlanParts, NoMemory> {
-    let mut tests = List::new(alloc);
-    for number in 1..4 {
-        let mut test = free(alloc, number)?;
-        test.needs.push(need(alloc, 2)?)?;
-        tests.push(test)?;
-    }
-    let mut parts = parts_of(alloc, 3, tests)?;
-    parts.resources = Some(cards(alloc, &[3, 2])?);
-    Ok(parts)
-}
+/// The test that ends first, whose card the third test takes, and a run of three tests of two slots
+/// each, on a card of three slots and one of two.
+const RUNS: &str = "\
+1: level 3 on 3,2 | needs 2;needs 2;needs 2 | 0 starts 1, 1 starts 2, 2 waits, 0 ends 0 passed, 2 starts 3
+2: level 3 on 3,2 | needs 2;needs 2;needs 2 | 0 starts 1, 1 starts 2, 2 waits, 1 ends 0 passed, 2 starts 3
+";
 
 /// The card of the first need of a test's start.
 fn card(history: &History, wanted: u32) -> Option<u32> {
@@ -54,39 +47,48 @@ fn on_the_first_card(alloc: Global) -> Result<Placement, NoMemory> {
 fn crowded(alloc: Global, history: History) -> Result<History, NoMemory> {
     let mut entries = Vec::new(alloc);
     for entry in history.entries {
-        entries.push(match entry {
-            Entry::Start {
-                test,
-                attempt,
-                worker,
-                ..
-            } if test < 3 => Entry::Start {
-                test,
-                attempt,
-                worker,
-                placement: Some(on_the_first_card(alloc)?),
-            },
-            other => other,
-        })?;
+        entries.push(crowd(alloc, entry)?)?;
     }
     Ok(History { entries })
 }
 
+fn crowd(alloc: Global, entry: Entry) -> Result<Entry, NoMemory> {
+    match entry {
+        Entry::Start {
+            test,
+            attempt,
+            worker,
+            ..
+        } if test < 3 => Ok(Entry::Start {
+            test,
+            attempt,
+            worker,
+            placement: Some(on_the_first_card(alloc)?),
+        }),
+        other => Ok(other),
+    }
+}
+
+/// Tells whether the third test has the card of the one that ended first, which the other had not.
+fn takes_the_card(history: &History, first: u32) -> bool {
+    let third = card(history, 3);
+    third.is_some() && third == card(history, first) && card(history, 1) != card(history, 2)
+}
+
 #[test]
 fn a_test_takes_the_card_that_another_gave_back(rt: HostRuntime) -> Result<(), Fail> {
-    let alloc = rt.alloc();
-    for first in 0..2 {
-        let mut run = open(&rt, alloc, parts(alloc)?)?;
-        assert_eq!(rt; next(&rt, &mut run, 0), Step::Starts { worker: 0, test: 1 });
-        assert_eq!(rt; next(&rt, &mut run, 1), Step::Starts { worker: 1, test: 2 });
-        assert_eq!(rt; next(&rt, &mut run, 2), Step::Waits { worker: 2 });
-        end(&rt, &mut run, first, seen(How::Exited(0)));
-        assert_eq!(rt; next(&rt, &mut run, 2), Step::Starts { worker: 2, test: 3 });
-        let (plan, history) = close(&rt, run)?;
-        assert_ne!(rt; card(&history, 1), card(&history, 2));
-        assert!(rt; card(&history, 3).is_some());
-        assert_eq!(rt; card(&history, 3), card(&history, first + 1));
-        assert!(rt; !judge(&plan, &crowded(alloc, history)?)?);
+    for row in RUNS.lines() {
+        let (first, run) = row.split_once(": ").unwrap_or((row, ""));
+        check_cards(&rt, rt.alloc(), run, first.parse().unwrap_or(0))?;
     }
+    Ok(())
+}
+
+/// Checks the cards of a run, and that they can't be one.
+fn check_cards(rt: &impl Abort, alloc: Global, run: &str, first: u32) -> Result<(), NoMemory> {
+    let (plan, history) = play(rt, alloc, run)?;
+    assert!(rt; takes_the_card(&history, first), "{run}");
+    let is_legal = judge(&plan, &crowded(alloc, history)?)?;
+    assert!(rt; !is_legal, "{run}");
     Ok(())
 }

@@ -2,10 +2,10 @@
 
 ghost use Rattle.std.specs.Prelude.{◌<◌};
 
-use crate::plans::plan_of;
 use ct_base::NoMemory;
 use ct_core::{Core, Next, Ticket};
 use ct_history::{History, Plan, PlanParts, holds_start, is_busy, judge};
+use ct_samples::plan_of;
 use ct_verdict::{How, Seen, Verdict};
 use std::alloc::Global;
 use std::mem;
@@ -78,8 +78,15 @@ pub(crate) enum Step {
     IsAborted,
 }
 
+/// Begins the run of a plan of sound parts.
 pub(crate) fn open(rt: &impl Abort, alloc: Global, parts: PlanParts) -> Result<Run, NoMemory> {
-    let plan = plan_of(rt, alloc, parts)?;
+    match plan_of(alloc, parts)? {
+        Some(plan) => begin(alloc, plan),
+        None => panic!(rt; "the parts are no plan"),
+    }
+}
+
+fn begin(alloc: Global, plan: Plan) -> Result<Run, NoMemory> {
     match Core::open(alloc, plan) {
         Ok(core) => Ok(Run {
             core,

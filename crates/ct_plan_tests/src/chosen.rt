@@ -1,6 +1,7 @@
 //! Which tests the words choose.
 
-use crate::rows::{chosen, invocation_of, tests_of, told};
+use crate::rows::{chosen, invocation_of, is_told, tests_of, told};
+use std::alloc::Global;
 use std::process::Abort;
 use std::test::Fail;
 
@@ -109,27 +110,31 @@ a off, b | -R a is 1
 a, a, b | -R ^a$ is 1,2
 ";
 
+/// What the words choose among the tests.
+fn chosen_told(rt: &impl Abort, alloc: Global, tests: &str, words: &str) -> Result<String, Fail> {
+    let tests = tests_of(alloc, tests)?;
+    let invocation = invocation_of(rt, alloc, words)?;
+    let chosen = chosen(rt, alloc, &tests, &invocation)?;
+    Ok(told(alloc, chosen.as_slice())?)
+}
+
 /// Compares what each row's words choose among its tests, or else among these.
-fn choose_as_told(rt: &(impl Abort + AllocGlobal), table: &str, usual: &str) -> Result<(), Fail> {
-    let alloc = rt.alloc();
+fn choose_as_told(rt: &impl Abort, alloc: Global, table: &str, usual: &str) -> Result<(), Fail> {
     for row in table.lines() {
         let (given, want) = row.split_once(" is ").unwrap_or((row, ""));
         let (tests, words) = given.split_once(" |").unwrap_or((usual, given));
-        let tests = tests_of(alloc, tests)?;
-        let invocation = invocation_of(rt, alloc, words)?;
-        let chosen = chosen(rt, alloc, &tests, &invocation)?;
-        let told = told(alloc, chosen.as_slice())?;
-        assert_eq!(rt; told.as_str(), want, "{row}");
+        let told = chosen_told(rt, alloc, tests, words)?;
+        is_told(rt, row, told.as_str(), want);
     }
     Ok(())
 }
 
 #[test]
 fn chooses_by_names_and_numbers(rt: HostRuntime) -> Result<(), Fail> {
-    choose_as_told(&rt, BY_NAME_AND_NUMBER, EIGHT)
+    choose_as_told(&rt, rt.alloc(), BY_NAME_AND_NUMBER, EIGHT)
 }
 
 #[test]
 fn chooses_by_labels(rt: HostRuntime) -> Result<(), Fail> {
-    choose_as_told(&rt, BY_LABEL, "")
+    choose_as_told(&rt, rt.alloc(), BY_LABEL, "")
 }

@@ -1,6 +1,6 @@
 //! Which tests the fixtures draw in.
 
-use crate::rows::{Tests, are_within, chosen, invocation_of, tests_of, told};
+use crate::rows::{Tests, are_within, chosen, invocation_of, is_told, tests_of, told};
 use ct_args::Invocation;
 use ct_base::{List, NoMemory};
 use ct_fixture::draw_in;
@@ -117,27 +117,31 @@ fn members(
     draw_in(alloc, &tests.props, &chosen, &invocation.wanted.choice)
 }
 
+/// What the words choose and draw in among the tests.
+fn members_told(rt: &impl Abort, alloc: Global, tests: &str, words: &str) -> Result<String, Fail> {
+    let tests = tests_of(alloc, tests)?;
+    let invocation = invocation_of(rt, alloc, words)?;
+    let members = members(rt, alloc, &tests, &invocation)?;
+    Ok(told(alloc, members.as_slice())?)
+}
+
 /// Compares what each row's words choose and draw in among its tests, or else among these.
-fn draw_as_told(rt: &(impl Abort + AllocGlobal), table: &str, usual: &str) -> Result<(), Fail> {
-    let alloc = rt.alloc();
+fn draw_as_told(rt: &impl Abort, alloc: Global, table: &str, usual: &str) -> Result<(), Fail> {
     for row in table.lines() {
         let (given, want) = row.split_once(" is ").unwrap_or((row, ""));
         let (tests, words) = given.split_once(" |").unwrap_or((usual, given));
-        let tests = tests_of(alloc, tests)?;
-        let invocation = invocation_of(rt, alloc, words)?;
-        let members = members(rt, alloc, &tests, &invocation)?;
-        let told = told(alloc, members.as_slice())?;
-        assert_eq!(rt; told.as_str(), want, "{row}");
+        let told = members_told(rt, alloc, tests, words)?;
+        is_told(rt, row, told.as_str(), want);
     }
     Ok(())
 }
 
 #[test]
 fn draws_in_the_setups_and_cleanups_of_a_fixture(rt: HostRuntime) -> Result<(), Fail> {
-    draw_as_told(&rt, BY_ONE_FIXTURE, ONE_FIXTURE)
+    draw_as_told(&rt, rt.alloc(), BY_ONE_FIXTURE, ONE_FIXTURE)
 }
 
 #[test]
 fn draws_in_through_fixtures_that_are_not_kept_out(rt: HostRuntime) -> Result<(), Fail> {
-    draw_as_told(&rt, BY_FIXTURES, "")
+    draw_as_told(&rt, rt.alloc(), BY_FIXTURES, "")
 }

@@ -3,15 +3,13 @@
 //! In a row stand the words of a command line, the tests, and what earlier runs left, where `/`
 //! stands for the end of a line.
 
-ghost use Rattle.std.specs.Prelude.{IfOk};
 ghost use Rattle.ct_plan.specs.Source.{HaveProps};
 
-use crate::rows::{Tests, def_of, invocation_of, told};
-use ct_base::{List, NoMemory};
+use crate::rows::{Tests, invocation_of, is_told, tests_of, told};
+use ct_base::NoMemory;
 use ct_cost::CostData;
-use ct_history::Plan;
-use ct_plan::{PlanFault, plan};
-use ct_props::{PropFault, Props};
+use ct_plan::plan;
+use ct_props::Wanted;
 use std::alloc::Global;
 use std::process::Abort;
 use std::test::Fail;
@@ -29,22 +27,6 @@ const QUEUES: &str = "\
 -j2 -R b | s setup=f, b required=f COST=3, d COST=9 | is 2,1
 ";
 
-/// The tests of a row with their properties, which belong together.
-fn tests_of(alloc: Global, text: &str) -> Result<Tests, PropFault>
-    ensures { IfOk result (λ tests. HaveProps tests.defs tests.props) }
-{
-    let mut tests = Tests {
-        defs: List::new(alloc),
-        props: List::new(alloc),
-    };
-    for row in text.split(", ") {
-        let def = def_of(alloc, row)?;
-        tests.props.push(Props::of(alloc, &def)?)?;
-        tests.defs.push(def)?;
-    }
-    Ok(tests)
-}
-
 /// What earlier runs left, with `/` for the end of a line.
 fn costs_of(alloc: Global, text: &str) -> Result<CostData, NoMemory> {
     let mut bytes = Vec::new(alloc);
@@ -55,27 +37,38 @@ fn costs_of(alloc: Global, text: &str) -> Result<CostData, NoMemory> {
     CostData::read(alloc, bytes.as_slice())
 }
 
-/// The plan of a row, or why there is none.
-fn plan_of(rt: &impl Abort, alloc: Global, given: &str) -> Result<Result<Plan, PlanFault>, Fail> {
+/// The queue of the plan of these tests.
+fn queue_told(
+    rt: &impl Abort,
+    alloc: Global,
+    tests: &Tests,
+    wanted: &Wanted,
+    costs: &CostData,
+) -> Result<String, Fail>
+    requires { HaveProps tests.now.defs tests.now.props }
+{
+    assert!(rt; tests.defs.len() < 100);
+    assert!(rt; wanted.level >= 1 && wanted.repeat.times >= 1);
+    let plan = plan(alloc, &tests.defs, &tests.props, wanted, None, costs)?;
+    Ok(told(alloc, plan.parts().queue.as_slice())?)
+}
+
+/// The queue of a row.
+fn queue_of(rt: &impl Abort, alloc: Global, given: &str) -> Result<String, Fail> {
     let (words, rest) = given.split_once(" | ").unwrap_or((given, ""));
     let (tests, left) = rest.split_once(" |").unwrap_or((rest, ""));
     let invocation = invocation_of(rt, alloc, words)?;
-    let wanted = &invocation.wanted;
     let tests = tests_of(alloc, tests)?;
     let costs = costs_of(alloc, left.trim())?;
-    assert!(rt; tests.defs.len() < 100, "{given}");
-    assert!(rt; wanted.level >= 1 && wanted.repeat.times >= 1, "{given}");
-    Ok(plan(alloc, &tests.defs, &tests.props, wanted, None, &costs))
+    queue_told(rt, alloc, &tests, &invocation.wanted, &costs)
 }
 
 #[test]
 fn queues_failed_tests_and_then_the_costliest(rt: HostRuntime) -> Result<(), Fail> {
-    let alloc = rt.alloc();
     for row in QUEUES.lines() {
         let (given, want) = row.split_once(" is ").unwrap_or((row, ""));
-        let plan = plan_of(&rt, alloc, given)??;
-        let queue = told(alloc, plan.parts().queue.as_slice())?;
-        assert_eq!(rt; queue.as_str(), want, "{row}");
+        let queue = queue_of(&rt, rt.alloc(), given)?;
+        is_told(&rt, row, queue.as_str(), want);
     }
     Ok(())
 }

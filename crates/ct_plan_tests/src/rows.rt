@@ -3,8 +3,9 @@
 //! In a row `, ` stands between the tests. A test is its name, and behind spaces its properties: a
 //! key and its value, or `off` for a disabled test.
 
-ghost use Rattle.std.specs.Prelude.{◌<◌, ◌≤◌, All};
+ghost use Rattle.std.specs.Prelude.{◌<◌, ◌≤◌, All, IfOk};
 ghost use Rattle.std.specs.Bool.{OnTrue};
+ghost use Rattle.ct_plan.specs.Source.{HaveProps};
 
 use ct_args::{Invocation, UsageFault, read_words};
 use ct_base::{List, Name, NoMemory, Pair, TestDef};
@@ -20,7 +21,9 @@ pub(crate) struct Tests {
     pub(crate) props: List<Props>,
 }
 
-pub(crate) fn tests_of(alloc: Global, text: &str) -> Result<Tests, PropFault> {
+pub(crate) fn tests_of(alloc: Global, text: &str) -> Result<Tests, PropFault>
+    ensures { IfOk result (λ tests. HaveProps tests.defs tests.props) }
+{
     let mut tests = Tests {
         defs: List::new(alloc),
         props: List::new(alloc),
@@ -33,23 +36,32 @@ pub(crate) fn tests_of(alloc: Global, text: &str) -> Result<Tests, PropFault> {
     Ok(tests)
 }
 
-pub(crate) fn def_of(alloc: Global, row: &str) -> Result<TestDef, NoMemory> {
-    let mut cells = row.split(' ');
-    let name = Name::of(alloc, cells.next().unwrap_or("").as_bytes())?;
-    let mut props = List::new(alloc);
-    for cell in cells {
-        let (key, value) = cell.split_once('=').unwrap_or((cell, "ON"));
-        props.push(Pair {
-            name: Name::of(alloc, key_of(key).as_bytes())?,
-            value: Name::of(alloc, value.as_bytes())?,
-        })?;
-    }
+fn def_of(alloc: Global, row: &str) -> Result<TestDef, NoMemory> {
+    let (name, props) = row.split_once(' ').unwrap_or((row, ""));
     Ok(TestDef {
-        name,
+        name: Name::of(alloc, name.as_bytes())?,
         command: List::new(alloc),
         dir: Name::of(alloc, b".")?,
-        props,
+        props: props_of(alloc, props)?,
         dir_labels: List::new(alloc),
+    })
+}
+
+fn props_of(alloc: Global, text: &str) -> Result<List<Pair>, NoMemory> {
+    let mut props = List::new(alloc);
+    for word in text.split(' ') {
+        if !word.is_empty() {
+            props.push(prop_of(alloc, word)?)?;
+        }
+    }
+    Ok(props)
+}
+
+fn prop_of(alloc: Global, word: &str) -> Result<Pair, NoMemory> {
+    let (key, value) = word.split_once('=').unwrap_or((word, "ON"));
+    Ok(Pair {
+        name: Name::of(alloc, key_of(key).as_bytes())?,
+        value: Name::of(alloc, value.as_bytes())?,
     })
 }
 
@@ -112,15 +124,31 @@ pub(crate) fn chosen(
     select(alloc, &tests.defs, &tests.props, &invocation.wanted.choice)
 }
 
+/// Puts numbers behind what is told, with a text in front of the first and a `,` between.
+pub(crate) fn put_numbers(
+    told: &mut String,
+    front: &str,
+    numbers: &[u32],
+) -> Result<(), AllocError> {
+    let mut between = front;
+    for number in numbers {
+        write!(told, "{between}{number}")?;
+        between = ",";
+    }
+    Ok(())
+}
+
 /// The numbers with a `,` between, and `none` where there is none.
 pub(crate) fn told(alloc: Global, numbers: &[u32]) -> Result<String, AllocError> {
-    if numbers.is_empty() {
-        return format!(in alloc; "none");
-    }
     let mut told = String::new(alloc);
-    for number in numbers {
-        let between = if told.is_empty() { "" } else { "," };
-        told = format!(in alloc; "{told}{between}{number}")?;
+    put_numbers(&mut told, "", numbers)?;
+    if numbers.is_empty() {
+        told.push_str("none")?;
     }
     Ok(told)
+}
+
+/// Compares what a row comes to with what it says.
+pub(crate) fn is_told(rt: &impl Abort, row: &str, told: &str, want: &str) {
+    assert!(rt; told == want, "{row}: {told}");
 }

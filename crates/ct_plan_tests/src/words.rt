@@ -4,9 +4,9 @@
 //! which the invocation is not that of no words, or the refused word and why. A pattern is told by
 //! those of some texts that it hits.
 
-use crate::rows::invocation_of;
+use crate::rows::{invocation_of, is_told};
 use ct_args::{Invocation, Task, UsageFault};
-use ct_base::{List, Name};
+use ct_base::{List, Name, NoMemory};
 use ct_props::{Choice, Numbers};
 use ct_regex::Regex;
 use ct_verdict::{Mode, Repeat};
@@ -376,204 +376,187 @@ fn text_of(name: &Name) -> &str {
 }
 
 /// The texts that the pattern hits, with a `,` between.
-fn hits(alloc: Global, pattern: &Regex) -> Result<String, Fail> {
+fn hits(alloc: Global, pattern: &Regex) -> Result<String, NoMemory> {
     let mut told = String::new(alloc);
     for text in &TEXTS {
         if pattern.hit(alloc, text.as_bytes())? {
             let between = if told.is_empty() { "" } else { "," };
-            told = format!(in alloc; "{told}{between}{text}")?;
+            write!(told, "{between}{text}")?;
         }
     }
     Ok(told)
 }
 
-fn with_pattern(
+fn put_pattern(
     alloc: Global,
-    told: String,
+    told: &mut String,
     label: &str,
     pattern: &Option<Regex>,
-) -> Result<String, Fail> {
-    match pattern {
-        None => Ok(told),
-        Some(pattern) => Ok(format!(in alloc; "{told} {label}={}", hits(alloc, pattern)?)?),
+) -> Result<(), NoMemory> {
+    if let Some(pattern) = pattern {
+        write!(told, " {label}={}", hits(alloc, pattern)?)?;
     }
+    Ok(())
 }
 
-fn with_patterns(
+fn put_patterns(
     alloc: Global,
-    told: String,
+    told: &mut String,
     label: &str,
     patterns: &List<Regex>,
-) -> Result<String, Fail> {
-    let mut told = told;
-    for (place, pattern) in patterns.as_slice().iter().enumerate() {
-        told = if place == 0 {
-            format!(in alloc; "{told} {label}=")?
-        } else {
-            format!(in alloc; "{told};")?
-        };
-        told = format!(in alloc; "{told}{}", hits(alloc, pattern)?)?;
+) -> Result<(), NoMemory> {
+    if patterns.is_empty() {
+        return Ok(());
     }
-    Ok(told)
+    write!(told, " {label}")?;
+    let mut between = "=";
+    for pattern in patterns.as_slice() {
+        write!(told, "{between}{}", hits(alloc, pattern)?)?;
+        between = ";";
+    }
+    Ok(())
 }
 
-fn with_numbers(
-    alloc: Global,
-    told: String,
-    numbers: &Option<Numbers>,
-) -> Result<String, AllocError> {
-    let Some(numbers) = numbers else {
-        return Ok(told);
-    };
-    let mut told = format!(in alloc; "{told} numbers={}-", numbers.start)?;
+fn put_range(told: &mut String, numbers: &Numbers) -> Result<(), AllocError> {
+    write!(told, " numbers={}-", numbers.start)?;
     if let Some(end) = numbers.end {
-        told = format!(in alloc; "{told}{end}")?;
+        write!(told, "{end}")?;
     }
-    told = format!(in alloc; "{told}/{}", numbers.stride)?;
+    write!(told, "/{}", numbers.stride)?;
     for number in numbers.more.as_slice() {
-        told = format!(in alloc; "{told}+{number}")?;
+        write!(told, "+{number}")?;
     }
-    Ok(told)
+    Ok(())
 }
 
-fn with_choice(alloc: Global, told: String, choice: &Choice) -> Result<String, Fail> {
-    let mut told = told;
-    told = with_pattern(alloc, told, "name", &choice.name)?;
-    told = with_pattern(alloc, told, "not_name", &choice.not_name)?;
-    told = with_patterns(alloc, told, "labels", &choice.labels)?;
-    told = with_patterns(alloc, told, "not_labels", &choice.not_labels)?;
-    told = with_numbers(alloc, told, &choice.numbers)?;
-    told = with_flag(alloc, told, "union", choice.union)?;
-    told = with_pattern(alloc, told, "keep_any", &choice.keep_any)?;
-    told = with_pattern(alloc, told, "keep_setup", &choice.keep_setup)?;
-    with_pattern(alloc, told, "keep_cleanup", &choice.keep_cleanup)
+fn put_choice(alloc: Global, told: &mut String, choice: &Choice) -> Result<(), NoMemory> {
+    put_pattern(alloc, told, "name", &choice.name)?;
+    put_pattern(alloc, told, "not_name", &choice.not_name)?;
+    put_patterns(alloc, told, "labels", &choice.labels)?;
+    put_patterns(alloc, told, "not_labels", &choice.not_labels)?;
+    if let Some(numbers) = &choice.numbers {
+        put_range(told, numbers)?;
+    }
+    put_flag(told, "union", choice.union)?;
+    put_pattern(alloc, told, "keep_any", &choice.keep_any)?;
+    put_pattern(alloc, told, "keep_setup", &choice.keep_setup)?;
+    put_pattern(alloc, told, "keep_cleanup", &choice.keep_cleanup)
 }
 
-fn with_flag(alloc: Global, told: String, label: &str, is: bool) -> Result<String, AllocError> {
-    if is {
-        format!(in alloc; "{told} {label}")
-    } else {
-        Ok(told)
-    }
+fn put_flag(told: &mut String, label: &str, is: bool) -> Result<(), AllocError> {
+    if is { write!(told, " {label}") } else { Ok(()) }
 }
 
 /// Puts a text behind what is told, if it is another than the usual one.
-fn with_text(
-    alloc: Global,
-    told: String,
-    label: &str,
-    text: &Name,
-    usual: &str,
-) -> Result<String, AllocError> {
-    let text = text_of(text);
+fn put_text(told: &mut String, label: &str, text: &str, usual: &str) -> Result<(), AllocError> {
     if text == usual {
-        return Ok(told);
+        return Ok(());
     }
-    format!(in alloc; "{told} {label}={text}")
+    write!(told, " {label}={text}")
 }
 
-fn with_file(alloc: Global, told: String, file: &Option<Name>) -> Result<String, AllocError> {
+fn put_file(told: &mut String, file: &Option<Name>) -> Result<(), AllocError> {
     match file {
-        None => Ok(told),
-        Some(file) => format!(in alloc; "{told} spec_file={}", text_of(file)),
+        None => Ok(()),
+        Some(file) => write!(told, " spec_file={}", text_of(file)),
     }
 }
 
 /// Puts a number behind what is told, if it is another than the usual one.
-fn with_number(
-    alloc: Global,
-    told: String,
-    label: &str,
-    number: u64,
-    usual: u64,
-) -> Result<String, AllocError> {
+fn put_number(told: &mut String, label: &str, number: u64, usual: u64) -> Result<(), AllocError> {
     if number == usual {
-        return Ok(told);
+        return Ok(());
     }
-    format!(in alloc; "{told} {label}={number}")
+    write!(told, " {label}={number}")
 }
 
-fn with_repeat(alloc: Global, told: String, repeat: Repeat) -> Result<String, AllocError> {
+fn put_repeat(told: &mut String, repeat: Repeat) -> Result<(), AllocError> {
     if repeat.mode == Mode::Once && repeat.times == 1 {
-        return Ok(told);
+        return Ok(());
     }
-    format!(in alloc; "{told} repeat={:?}:{}", repeat.mode, repeat.times)
+    write!(told, " repeat={:?}:{}", repeat.mode, repeat.times)
 }
 
-fn with_task(alloc: Global, told: String, task: Task) -> Result<String, AllocError> {
+fn put_task(told: &mut String, task: Task) -> Result<(), AllocError> {
     if task == Task::Run {
-        return Ok(told);
+        return Ok(());
     }
-    format!(in alloc; "{told} task={task:?}")
+    write!(told, " task={task:?}")
 }
 
-/// The facts in which the invocation is not that of no words.
-fn facts(alloc: Global, invocation: &Invocation) -> Result<String, Fail> {
+/// Puts the facts in which the invocation is not that of no words behind what is told.
+fn put_facts(alloc: Global, told: &mut String, invocation: &Invocation) -> Result<(), NoMemory> {
     let wanted = &invocation.wanted;
-    let mut told = String::new(alloc);
-    told = with_task(alloc, told, invocation.task)?;
-    told = with_text(alloc, told, "dir", &wanted.dir, ".")?;
-    told = with_choice(alloc, told, &wanted.choice)?;
-    told = with_number(alloc, told, "level", u64::from(wanted.level), 1)?;
-    told = with_repeat(alloc, told, wanted.repeat)?;
-    told = with_flag(alloc, told, "stop", wanted.stop_on_failure)?;
-    told = with_text(alloc, told, "config", &invocation.config, "")?;
-    told = with_number(alloc, told, "timeout", invocation.timeout, 1_500_000_000)?;
-    told = with_file(alloc, told, &invocation.spec_file)?;
-    told = with_flag(alloc, told, "empty_is_error", invocation.empty_is_error)?;
-    Ok(told)
+    put_task(told, invocation.task)?;
+    put_text(told, "dir", text_of(&wanted.dir), ".")?;
+    put_choice(alloc, told, &wanted.choice)?;
+    put_number(told, "level", u64::from(wanted.level), 1)?;
+    put_repeat(told, wanted.repeat)?;
+    put_flag(told, "stop", wanted.stop_on_failure)?;
+    put_text(told, "config", text_of(&invocation.config), "")?;
+    put_number(told, "timeout", invocation.timeout, 1_500_000_000)?;
+    put_file(told, &invocation.spec_file)?;
+    Ok(put_flag(told, "empty_is_error", invocation.empty_is_error)?)
+}
+
+fn put_fault(told: &mut String, fault: &UsageFault) -> Result<(), AllocError> {
+    match fault {
+        UsageFault::At { word, kind } => write!(told, " word {word} {kind:?}"),
+        UsageFault::NoMemory => told.push_str(" no memory"),
+    }
 }
 
 /// What the words of a row come to.
-fn told(rt: &impl Abort, alloc: Global, words: &str) -> Result<String, Fail> {
+fn told(rt: &impl Abort, alloc: Global, words: &str) -> Result<String, NoMemory> {
+    let mut told = String::new(alloc);
     match invocation_of(rt, alloc, words) {
-        Ok(invocation) => facts(alloc, &invocation),
-        Err(UsageFault::At { word, kind }) => Ok(format!(in alloc; " word {word} {kind:?}")?),
-        Err(UsageFault::NoMemory) => Ok(format!(in alloc; " no memory")?),
+        Ok(invocation) => put_facts(alloc, &mut told, &invocation)?,
+        Err(fault) => put_fault(&mut told, &fault)?,
     }
+    Ok(told)
 }
 
 /// Compares each row with what its words come to.
-fn read_as_told(rt: &(impl Abort + AllocGlobal), table: &str) -> Result<(), Fail> {
+fn read_as_told(rt: &impl Abort, alloc: Global, table: &str) -> Result<(), Fail> {
     for row in table.lines() {
         let (words, want) = row.split_once(" is").unwrap_or((row, "?"));
-        let told = told(rt, rt.alloc(), words)?;
-        assert_eq!(rt; told.as_str(), want, "{row}");
+        let told = told(rt, alloc, words)?;
+        is_told(rt, row, told.as_str(), want);
     }
     Ok(())
 }
 
 #[test]
 fn reads_each_option_in_each_spelling(rt: HostRuntime) -> Result<(), Fail> {
-    read_as_told(&rt, SPELLINGS)
+    read_as_told(&rt, rt.alloc(), SPELLINGS)
 }
 
 #[test]
 fn reads_what_the_values_say(rt: HostRuntime) -> Result<(), Fail> {
-    read_as_told(&rt, VALUES)
+    read_as_told(&rt, rt.alloc(), VALUES)
 }
 
 #[test]
 fn reads_numbers_of_which_some_are_left_out(rt: HostRuntime) -> Result<(), Fail> {
-    read_as_told(&rt, NUMBERS)
+    read_as_told(&rt, rt.alloc(), NUMBERS)
 }
 
 #[test]
 fn refuses_words_that_name_no_option(rt: HostRuntime) -> Result<(), Fail> {
-    read_as_told(&rt, UNKNOWN)
+    read_as_told(&rt, rt.alloc(), UNKNOWN)
 }
 
 #[test]
 fn refuses_values_that_are_missing_or_bad(rt: HostRuntime) -> Result<(), Fail> {
-    read_as_told(&rt, BAD_VALUES)
+    read_as_told(&rt, rt.alloc(), BAD_VALUES)
 }
 
 #[test]
 fn refuses_the_second_word_of_an_option(rt: HostRuntime) -> Result<(), Fail> {
-    read_as_told(&rt, TWICE)
+    read_as_told(&rt, rt.alloc(), TWICE)
 }
 
 #[test]
 fn names_the_first_of_two_faults(rt: HostRuntime) -> Result<(), Fail> {
-    read_as_told(&rt, FIRST_FAULTS)
+    read_as_told(&rt, rt.alloc(), FIRST_FAULTS)
 }

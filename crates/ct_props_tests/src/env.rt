@@ -1,12 +1,12 @@
 //! The environment of a test's program, and what an entry has to be.
 
+use crate::rows::{is_told, pair, props_of, text_of};
 use ct_alloc::{Pick, Placement};
-use ct_base::{List, Name, NoMemory, Pair, TestDef};
+use ct_base::{List, Name, NoMemory, Pair};
 use ct_env::{bad_operation, environment};
-use ct_props::{PropFault, Props};
+use ct_props::Props;
 use std::alloc::{AllocError, Global};
 use std::process::Abort;
-use std::str;
 use std::test::Fail;
 
 /// The run's own variables, ENVIRONMENT and ENVIRONMENT_MODIFICATION, and the environment. `-` is
@@ -92,13 +92,6 @@ X=sett:1 is Some(0)
 X:set=1 is Some(0)
 ";
 
-fn pair(alloc: Global, name: &str, value: &str) -> Result<Pair, NoMemory> {
-    Ok(Pair {
-        name: Name::of(alloc, name.as_bytes())?,
-        value: Name::of(alloc, value.as_bytes())?,
-    })
-}
-
 /// The text, and an empty one for `-`.
 fn cell(text: Option<&str>) -> &str {
     match text {
@@ -117,102 +110,108 @@ fn own_pairs(alloc: Global, text: &str) -> Result<List<Pair>, NoMemory> {
     Ok(pairs)
 }
 
-/// The properties of a test with these values.
-fn props(
-    alloc: Global,
-    environment: &str,
-    modification: &str,
-    groups: &str,
-) -> Result<Props, PropFault> {
-    let mut props = List::new(alloc);
-    props.push(pair(alloc, "ENVIRONMENT", environment)?)?;
-    props.push(pair(alloc, "ENVIRONMENT_MODIFICATION", modification)?)?;
-    props.push(pair(alloc, "RESOURCE_GROUPS", groups)?)?;
-    Props::of(
-        alloc,
-        &TestDef {
-            name: Name::of(alloc, b"t")?,
-            command: List::new(alloc),
-            dir: Name::of(alloc, b".")?,
-            props,
-            dir_labels: List::new(alloc),
-        },
-    )
-}
-
 fn number(text: Option<&str>) -> u32 {
     text.unwrap_or("").parse().unwrap_or(0)
+}
+
+/// A pick, from `group:type:id:slots`.
+fn pick(alloc: Global, text: &str) -> Result<Pick, NoMemory> {
+    let mut parts = text.split(':');
+    Ok(Pick {
+        group: number(parts.next()),
+        kind: Name::of(alloc, parts.next().unwrap_or("").as_bytes())?,
+        id: Name::of(alloc, parts.next().unwrap_or("").as_bytes())?,
+        slots: number(parts.next()),
+        resource: 0,
+    })
 }
 
 fn placement(alloc: Global, text: &str) -> Result<Placement, NoMemory> {
     let mut picks = List::new(alloc);
     for word in text.split(' ') {
-        let mut parts = word.split(':');
-        let group = number(parts.next());
-        if let Some(kind) = parts.next() {
-            let id = parts.next().unwrap_or("");
-            picks.push(Pick {
-                group,
-                kind: Name::of(alloc, kind.as_bytes())?,
-                id: Name::of(alloc, id.as_bytes())?,
-                slots: number(parts.next()),
-                resource: 0,
-            })?;
+        if !word.is_empty() {
+            picks.push(pick(alloc, word)?)?;
         }
     }
     Ok(Placement { picks })
 }
 
-/// The pairs in a row with a space between, without a text that stands in front of a name.
+/// The pairs in a row, a space in front of each, without a text that stands in front of a name.
 fn told(alloc: Global, front: &str, pairs: &[Pair]) -> Result<String, AllocError> {
-    let mut told = format!(in alloc; "")?;
+    let mut told = String::new(alloc);
     for pair in pairs {
-        let name = str::from_utf8(pair.name.bytes()).unwrap_or("?");
+        let name = text_of(&pair.name);
         let name = name.strip_prefix(front).unwrap_or(name);
-        let value = str::from_utf8(pair.value.bytes()).unwrap_or("?");
-        let between = if told.is_empty() { "" } else { " " };
-        told = format!(in alloc; "{told}{between}{name}={value}")?;
+        write!(told, " {name}={}", text_of(&pair.value))?;
     }
     Ok(told)
 }
 
+/// The environment that a row of changes makes.
+fn changed(alloc: Global, given: &str) -> Result<String, Fail> {
+    let mut cells = given.split(" | ");
+    let own = own_pairs(alloc, cell(cells.next()))?;
+    let sets = cell(cells.next());
+    let changes = cell(cells.next());
+    let text = format!(in alloc; "ENVIRONMENT={sets}&ENVIRONMENT_MODIFICATION={changes}")?;
+    let props = props_of(alloc, text.as_str())?;
+    let pairs = environment(alloc, own.as_slice(), &props, None)?;
+    Ok(told(alloc, "", pairs.as_slice())?)
+}
+
+/// The environment that the placement of a test with these properties makes of these variables.
+fn given_told(
+    alloc: Global,
+    own: &[Pair],
+    props: &Props,
+    placement: &Placement,
+) -> Result<String, NoMemory> {
+    let pairs = environment(alloc, own, props, Some(placement))?;
+    Ok(told(alloc, "CTEST_RESOURCE_GROUP_", pairs.as_slice())?)
+}
+
+/// The environment that a row of groups and picks makes of these variables.
+fn with_given(alloc: Global, own: &[Pair], given: &str) -> Result<String, Fail> {
+    let mut cells = given.split(" | ");
+    let groups = cell(cells.next());
+    let change = "ENVIRONMENT_MODIFICATION=CTEST_RESOURCE_GROUP_0=set:x";
+    let text = format!(in alloc; "RESOURCE_GROUPS={groups}&{change}")?;
+    let props = props_of(alloc, text.as_str())?;
+    let placement = placement(alloc, cell(cells.next()))?;
+    Ok(given_told(alloc, own, &props, &placement)?)
+}
+
+/// The place of the first entry that names no operation.
+fn bad_told(rt: &impl Abort, alloc: Global, props: &Props) -> Result<String, AllocError> {
+    assert!(rt; props.modification.len() < 4_294_967_296);
+    let found = bad_operation(props);
+    format!(in alloc; "{found:?}")
+}
+
+/// The place of the first entry of a modification that names no operation.
+fn first_bad(rt: &impl Abort, alloc: Global, modification: &str) -> Result<String, Fail> {
+    let text = format!(in alloc; "ENVIRONMENT_MODIFICATION={modification}")?;
+    let props = props_of(alloc, text.as_str())?;
+    Ok(bad_told(rt, alloc, &props)?)
+}
+
 #[test]
 fn changes_variables_in_turn(rt: HostRuntime) -> Result<(), Fail> {
-    let alloc = rt.alloc();
     for row in CHANGES.lines() {
         let (given, want) = row.split_once(" is ").unwrap_or((row, ""));
-        let mut cells = given.split(" | ");
-        let own = own_pairs(alloc, cell(cells.next()))?;
-        let environment_of = cell(cells.next());
-        let Ok(props) = props(alloc, environment_of, cell(cells.next()), "") else {
-            panic!(rt; "{row}");
-        };
-        let pairs = environment(alloc, own.as_slice(), &props, None)?;
-        let told = told(alloc, "", pairs.as_slice())?;
-        assert_eq!(rt; told.as_str(), cell(Some(want)), "{row}");
+        let told = changed(rt.alloc(), given)?;
+        is_told(&rt, row, told.strip_prefix(' ').unwrap_or("-"), want);
     }
     Ok(())
 }
 
 #[test]
 fn tells_what_was_given(rt: HostRuntime) -> Result<(), Fail> {
-    let alloc = rt.alloc();
-    let own = own_pairs(alloc, "CTEST_RESOURCE_GROUP_COUNT=9")?;
+    let own = own_pairs(rt.alloc(), "CTEST_RESOURCE_GROUP_COUNT=9")?;
     for row in GIVEN.lines() {
-        let (given, want) = row.split_once(" is ").unwrap_or((row, ""));
-        let mut cells = given.split(" | ");
-        let Ok(props) = props(
-            alloc,
-            "",
-            "CTEST_RESOURCE_GROUP_0=set:x",
-            cell(cells.next()),
-        ) else {
-            panic!(rt; "{row}");
-        };
-        let placement = placement(alloc, cell(cells.next()))?;
-        let pairs = environment(alloc, own.as_slice(), &props, Some(&placement))?;
-        let told = told(alloc, "CTEST_RESOURCE_GROUP_", pairs.as_slice())?;
-        assert_eq!(rt; told.as_str(), want, "{row}");
+        let (given, want) = row.split_once(" is").unwrap_or((row, ""));
+        let told = with_given(rt.alloc(), own.as_slice(), given)?;
+        is_told(&rt, row, told.as_str(), want);
     }
     Ok(())
 }
@@ -221,14 +220,8 @@ fn tells_what_was_given(rt: HostRuntime) -> Result<(), Fail> {
 fn finds_the_first_bad_operation(rt: HostRuntime) -> Result<(), Fail> {
     for row in OPERATIONS.lines() {
         let (text, want) = row.split_once(" is ").unwrap_or((row, ""));
-        let Ok(props) = props(rt.alloc(), "", cell(Some(text)), "") else {
-            panic!(rt; "{row}");
-        };
-        if props.modification.len() < 10 {
-            let found = bad_operation(&props);
-            let told = format!(in rt.alloc(); "{found:?}")?;
-            assert_eq!(rt; told.as_str(), want, "{row}");
-        }
+        let told = first_bad(&rt, rt.alloc(), cell(Some(text)))?;
+        is_told(&rt, row, told.as_str(), want);
     }
     Ok(())
 }

@@ -1,8 +1,8 @@
 //! Resource groups: what they need, and what is refused.
 
+use crate::rows::{is_told, text_of};
 use ct_groups::Groups;
 use std::alloc::{AllocError, Global};
-use std::str;
 use std::test::Fail;
 
 /// A text, and the number of its groups with their needs, as `group:type:slots`; or its first fault.
@@ -62,18 +62,22 @@ B:1;a:x;c is BadType
 a:1;b:0;65 is ZeroSlots
 ";
 
-/// How many groups the text has and what they need, or its fault.
-fn told(alloc: Global, text: &str) -> Result<String, AllocError> {
-    let groups = match Groups::parse(alloc, text.as_bytes()) {
-        Ok(groups) => groups,
-        Err(fault) => return format!(in alloc; "{fault:?}"),
-    };
+/// How many groups there are and what they need.
+fn groups_told(alloc: Global, groups: &Groups) -> Result<String, AllocError> {
     let mut told = format!(in alloc; "{}", groups.count())?;
     for need in groups.needs().as_slice() {
-        let kind = str::from_utf8(need.kind.bytes()).unwrap_or("?");
-        told = format!(in alloc; "{told} {}:{kind}:{}", need.group, need.slots)?;
+        let kind = text_of(&need.kind);
+        write!(told, " {}:{kind}:{}", need.group, need.slots)?;
     }
     Ok(told)
+}
+
+/// The groups of a text, or its fault.
+fn told(alloc: Global, text: &str) -> Result<String, AllocError> {
+    match Groups::parse(alloc, text.as_bytes()) {
+        Ok(groups) => groups_told(alloc, &groups),
+        Err(fault) => format!(in alloc; "{fault:?}"),
+    }
 }
 
 #[test]
@@ -81,7 +85,7 @@ fn writes_groups_out_in_order(rt: HostRuntime) -> Result<(), Fail> {
     for row in GROUPS.lines() {
         let (text, want) = row.split_once(" is ").unwrap_or((row, ""));
         let told = told(rt.alloc(), text)?;
-        assert_eq!(rt; told.as_str(), want, "{row}");
+        is_told(&rt, row, told.as_str(), want);
     }
     Ok(())
 }

@@ -2,7 +2,7 @@
 //!
 //! Hands up: nothing. A crate with tests of its own is proved twice, so they stand here.
 //! Stands on: ct_groups, ct_props, ct_env, ct_spec and what is below them.
-//! Read first: a module is named after the crate that it tests.
+//! Read first: `rows.rt` makes properties of rows; each other module is named after the crate that it tests.
 #![tactic(auto)]
 
 #[cfg(test)]
@@ -11,5 +11,7 @@ mod env;
 mod groups;
 #[cfg(test)]
 mod props;
+#[cfg(test)]
+mod rows;
 #[cfg(test)]
 mod spec;

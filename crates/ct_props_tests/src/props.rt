@@ -1,9 +1,9 @@
 //! The properties of a test: each key, and what is refused.
 
-use ct_base::{List, Name, NoMemory, Pair, TestDef, split_list};
+use crate::rows::{is_told, props_of, text_of};
+use ct_base::{List, Name};
 use ct_props::{PropFault, Props};
 use std::alloc::{AllocError, Global};
-use std::str;
 use std::test::Fail;
 
 /// The properties of a test in the folder `b`, with `&` between them, and the fields that are not as without any, or
@@ -97,135 +97,102 @@ DEPENDS=a&FIXTURES_SETUP=f&FIXTURES_REQUIRED=f&FIXTURES_CLEANUP=f&TIMEOUT=x is b
 TIMEOUT=5&COST=1&WILL_FAIL=1&PROCESSORS=2 is processors=2 will_fail timeout=5000000 cost=1000000
 ";
 
-/// A test in the folder `b` with these properties.
-fn def_of(alloc: Global, text: &str) -> Result<TestDef, NoMemory> {
-    let mut props = List::new(alloc);
-    let mut dir_labels = List::new(alloc);
-    for prop in text.split('&') {
-        let Some((key, value)) = prop.split_once('=') else {
-            continue;
-        };
-        if key == "DIR" {
-            dir_labels = split_list(alloc, value.as_bytes())?;
-            continue;
-        }
-        props.push(Pair {
-            name: Name::of(alloc, key.as_bytes())?,
-            value: Name::of(alloc, value.as_bytes())?,
-        })?;
-    }
-    Ok(TestDef {
-        name: Name::of(alloc, b"t")?,
-        command: List::new(alloc),
-        dir: Name::of(alloc, b"b")?,
-        props,
-        dir_labels,
-    })
-}
-
-fn text_of(name: &Name) -> &str {
-    str::from_utf8(name.bytes()).unwrap_or("?")
-}
-
 /// Puts a list of names behind what is told, if it has any.
-fn with_names(
-    alloc: Global,
-    told: String,
-    label: &str,
-    names: &List<Name>,
-) -> Result<String, AllocError> {
-    let mut told = told;
-    let mut front = label;
-    for name in names.as_slice() {
-        let between = if front == "," { "" } else { " " };
-        let equals = if front == "," { "" } else { "=" };
-        told = format!(in alloc; "{told}{between}{front}{equals}{}", text_of(name))?;
-        front = ",";
+fn put_names(told: &mut String, label: &str, names: &List<Name>) -> Result<(), AllocError> {
+    if names.is_empty() {
+        return Ok(());
     }
-    Ok(told)
+    write!(told, " {label}")?;
+    let mut between = "=";
+    for name in names.as_slice() {
+        write!(told, "{between}{}", text_of(name))?;
+        between = ",";
+    }
+    Ok(())
 }
 
 /// Puts a count behind what is told, if it is another than a usual one.
-fn with_count(
-    alloc: Global,
-    told: String,
-    label: &str,
-    count: u64,
-    usual: u64,
-) -> Result<String, AllocError> {
+fn put_count(told: &mut String, label: &str, count: u64, usual: u64) -> Result<(), AllocError> {
     if count == usual {
-        return Ok(told);
+        return Ok(());
     }
-    format!(in alloc; "{told} {label}={count}")
+    write!(told, " {label}={count}")
 }
 
-fn with_flag(alloc: Global, told: String, label: &str, is: bool) -> Result<String, AllocError> {
-    if is {
-        format!(in alloc; "{told} {label}")
-    } else {
-        Ok(told)
-    }
+fn put_flag(told: &mut String, label: &str, is: bool) -> Result<(), AllocError> {
+    if is { write!(told, " {label}") } else { Ok(()) }
 }
 
-fn with_micros(
-    alloc: Global,
-    told: String,
-    label: &str,
-    micros: Option<u64>,
-) -> Result<String, AllocError> {
+fn put_micros(told: &mut String, label: &str, micros: Option<u64>) -> Result<(), AllocError> {
     match micros {
-        None => Ok(told),
-        Some(micros) => format!(in alloc; "{told} {label}={micros}"),
+        None => Ok(()),
+        Some(micros) => write!(told, " {label}={micros}"),
     }
 }
 
-/// The fields that are not as those of a test without properties.
-fn fields(alloc: Global, props: &Props) -> Result<String, AllocError> {
+fn put_code(told: &mut String, code: Option<i32>) -> Result<(), AllocError> {
+    match code {
+        None => Ok(()),
+        Some(code) => write!(told, " skip_code={code}"),
+    }
+}
+
+fn put_folder(told: &mut String, folder: &str) -> Result<(), AllocError> {
+    if folder == "b" {
+        Ok(())
+    } else {
+        write!(told, " dir={folder}")
+    }
+}
+
+/// Puts the fields that are not as those of a test without properties.
+fn put_fields(told: &mut String, props: &Props) -> Result<(), AllocError> {
+    put_names(told, "depends", &props.depends)?;
+    put_names(told, "setup", &props.setup)?;
+    put_names(told, "required", &props.required)?;
+    put_names(told, "cleanup", &props.cleanup)?;
+    put_flag(told, "disabled", props.disabled)?;
+    put_count(told, "processors", u64::from(props.processors), 1)?;
+    put_names(told, "locks", &props.locks)?;
+    put_flag(told, "serial", props.serial)?;
+    put_count(told, "fail", props.fail.len() as u64, 0)?;
+    put_count(told, "pass", props.pass.len() as u64, 0)?;
+    put_count(told, "skip", props.skip.len() as u64, 0)?;
+    put_code(told, props.skip_code)?;
+    put_flag(told, "will_fail", props.will_fail)?;
+    put_micros(told, "timeout", props.timeout)?;
+    put_micros(told, "cost", props.cost)?;
+    put_names(told, "environment", &props.environment)?;
+    put_names(told, "modification", &props.modification)?;
+    put_folder(told, text_of(&props.working_dir))?;
+    put_names(told, "files", &props.required_files)?;
+    put_names(told, "labels", &props.labels)?;
+    put_count(told, "groups", u64::from(props.groups.count()), 0)
+}
+
+fn put_fault(told: &mut String, fault: &PropFault) -> Result<(), AllocError> {
+    match fault {
+        PropFault::Bad { key, kind } => write!(told, " bad {} {kind:?}", text_of(key)),
+        PropFault::NoMemory => told.push_str(" no memory"),
+    }
+}
+
+/// What the properties of a row come to.
+fn told(alloc: Global, text: &str) -> Result<String, AllocError> {
     let mut told = String::new(alloc);
-    told = with_names(alloc, told, "depends", &props.depends)?;
-    told = with_names(alloc, told, "setup", &props.setup)?;
-    told = with_names(alloc, told, "required", &props.required)?;
-    told = with_names(alloc, told, "cleanup", &props.cleanup)?;
-    told = with_flag(alloc, told, "disabled", props.disabled)?;
-    told = with_count(alloc, told, "processors", u64::from(props.processors), 1)?;
-    told = with_names(alloc, told, "locks", &props.locks)?;
-    told = with_flag(alloc, told, "serial", props.serial)?;
-    told = with_count(alloc, told, "fail", props.fail.len() as u64, 0)?;
-    told = with_count(alloc, told, "pass", props.pass.len() as u64, 0)?;
-    told = with_count(alloc, told, "skip", props.skip.len() as u64, 0)?;
-    if let Some(code) = props.skip_code {
-        told = format!(in alloc; "{told} skip_code={code}")?;
+    match props_of(alloc, text) {
+        Ok(props) => put_fields(&mut told, &props)?,
+        Err(fault) => put_fault(&mut told, &fault)?,
     }
-    told = with_flag(alloc, told, "will_fail", props.will_fail)?;
-    told = with_micros(alloc, told, "timeout", props.timeout)?;
-    told = with_micros(alloc, told, "cost", props.cost)?;
-    told = with_names(alloc, told, "environment", &props.environment)?;
-    told = with_names(alloc, told, "modification", &props.modification)?;
-    if props.working_dir.bytes() != b"b".as_slice() {
-        told = format!(in alloc; "{told} dir={}", text_of(&props.working_dir))?;
-    }
-    told = with_names(alloc, told, "files", &props.required_files)?;
-    told = with_names(alloc, told, "labels", &props.labels)?;
-    with_count(alloc, told, "groups", u64::from(props.groups.count()), 0)
-}
-
-fn told(alloc: Global, def: &TestDef) -> Result<String, AllocError> {
-    match Props::of(alloc, def) {
-        Ok(props) => fields(alloc, &props),
-        Err(PropFault::Bad { key, kind }) => {
-            format!(in alloc; " bad {} {kind:?}", text_of(&key))
-        }
-        Err(PropFault::NoMemory) => format!(in alloc; " no memory"),
-    }
+    Ok(told)
 }
 
 #[test]
 fn reads_each_key_by_its_rule(rt: HostRuntime) -> Result<(), Fail> {
     for row in PROPS.lines() {
         let (text, want) = row.split_once(" is").unwrap_or((row, "?"));
-        let def = def_of(rt.alloc(), text)?;
-        let told = told(rt.alloc(), &def)?;
-        assert_eq!(rt; told.as_str(), want, "{row}");
+        let told = told(rt.alloc(), text)?;
+        is_told(&rt, row, told.as_str(), want);
     }
     Ok(())
 }

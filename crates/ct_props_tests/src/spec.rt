@@ -1,9 +1,9 @@
 //! Resource specifications: what they declare, and the least wrong ones.
 
-use ct_base::Name;
+use crate::rows::{is_told, text_of};
+use ct_base::{List, Resource};
 use ct_spec::{Spec, SpecFault};
 use std::alloc::{AllocError, Global};
-use std::str;
 use std::test::Fail;
 
 /// The value of `local` beside a version that is read, and the resources or the fault.
@@ -87,52 +87,57 @@ const WHOLE: &str = r#"
 // no comment
 "#;
 
-/// The resources of a text as `kind:id:slots`, or its fault.
-fn told(alloc: Global, text: &str) -> Result<String, AllocError> {
-    let spec = match Spec::parse(alloc, text.as_bytes()) {
-        Ok(spec) => spec,
-        Err(fault) => return fault_told(alloc, fault),
-    };
+/// The resources as `kind:id:slots`.
+fn resources_told(alloc: Global, resources: &List<Resource>) -> Result<String, AllocError> {
     let mut told = String::new(alloc);
-    for resource in spec.resources().as_slice() {
-        let kind = name_told(&resource.kind);
-        let id = name_told(&resource.id);
-        told = format!(in alloc; "{told} {kind}:{id}:{}", resource.slots)?;
+    for resource in resources.as_slice() {
+        let kind = text_of(&resource.kind);
+        let id = text_of(&resource.id);
+        write!(told, " {kind}:{id}:{}", resource.slots)?;
     }
     Ok(told)
 }
 
-fn name_told(name: &Name) -> &str {
-    str::from_utf8(name.bytes()).unwrap_or("?")
-}
-
-fn fault_told(alloc: Global, fault: SpecFault) -> Result<String, AllocError> {
+fn fault_told(alloc: Global, fault: &SpecFault) -> Result<String, AllocError> {
     match fault {
         SpecFault::NotJson => format!(in alloc; " NotJson"),
         SpecFault::BadVersion => format!(in alloc; " BadVersion"),
         SpecFault::BadLocal => format!(in alloc; " BadLocal"),
-        SpecFault::BadKind { kind } => format!(in alloc; " BadKind {}", name_told(&kind)),
+        SpecFault::BadKind { kind } => format!(in alloc; " BadKind {}", text_of(kind)),
         SpecFault::BadId { kind, entry } => {
-            format!(in alloc; " BadId {} {entry}", name_told(&kind))
+            format!(in alloc; " BadId {} {entry}", text_of(kind))
         }
         SpecFault::TwiceId { kind, entry } => {
-            format!(in alloc; " TwiceId {} {entry}", name_told(&kind))
+            format!(in alloc; " TwiceId {} {entry}", text_of(kind))
         }
         SpecFault::BadSlots { kind, entry } => {
-            format!(in alloc; " BadSlots {} {entry}", name_told(&kind))
+            format!(in alloc; " BadSlots {} {entry}", text_of(kind))
         }
         SpecFault::TooMany => format!(in alloc; " TooMany"),
         SpecFault::NoMemory => format!(in alloc; " NoMemory"),
     }
 }
 
+/// The resources of a text, or its fault.
+fn told(alloc: Global, text: &str) -> Result<String, AllocError> {
+    match Spec::parse(alloc, text.as_bytes()) {
+        Ok(spec) => resources_told(alloc, spec.resources()),
+        Err(fault) => fault_told(alloc, &fault),
+    }
+}
+
+/// What the value of `local` comes to, beside a version that is read.
+fn local_told(alloc: Global, local: &str) -> Result<String, AllocError> {
+    let text = format!(in alloc; r#"{{"version":{{"major":1,"minor":0}},"local":{local}}}"#)?;
+    told(alloc, text.as_str())
+}
+
 #[test]
 fn reads_the_kinds_of_this_machine(rt: HostRuntime) -> Result<(), Fail> {
-    let alloc = rt.alloc();
     for row in LOCALS.lines().skip(1) {
         let (local, want) = row.split_once(" is").unwrap_or((row, ""));
-        let text = format!(in alloc; r#"{{"version":{{"major":1,"minor":0}},"local":{local}}}"#)?;
-        assert_eq!(rt; told(alloc, text.as_str())?.as_str(), want, "{row}");
+        let told = local_told(rt.alloc(), local)?;
+        is_told(&rt, row, told.as_str(), want);
     }
     Ok(())
 }
@@ -141,7 +146,8 @@ fn reads_the_kinds_of_this_machine(rt: HostRuntime) -> Result<(), Fail> {
 fn refuses_what_is_no_specification(rt: HostRuntime) -> Result<(), Fail> {
     for row in WHOLE.lines().skip(1) {
         let (text, want) = row.split_once(" is").unwrap_or((row, " NotJson"));
-        assert_eq!(rt; told(rt.alloc(), text)?.as_str(), want, "{row}");
+        let told = told(rt.alloc(), text)?;
+        is_told(&rt, row, told.as_str(), want);
     }
     Ok(())
 }
@@ -149,25 +155,26 @@ fn refuses_what_is_no_specification(rt: HostRuntime) -> Result<(), Fail> {
 /// So many resources of one kind.
 fn many(alloc: Global, count: u32) -> Result<String, AllocError> {
     let mut text = format!(in alloc; r#"{{"version":{{"major":1,"minor":0}},"local":[{{"a":["#)?;
-    for id in 0..count {
-        let comma = if id == 0 { "" } else { "," };
-        text.push_str(format!(in alloc; r#"{comma}{{"id":"{id}"}}"#)?.as_str())?;
+    for id in 1..count {
+        write!(text, r#"{{"id":"{id}"}},"#)?;
     }
-    text.push_str("]}]}")?;
+    text.push_str(r#"{"id":"0"}]}]}"#)?;
     Ok(text)
+}
+
+/// How many resources are read of so many.
+fn many_read(alloc: Global, count: u32) -> Result<usize, AllocError> {
+    let text = many(alloc, count)?;
+    Ok(match Spec::parse(alloc, text.as_bytes()) {
+        Ok(spec) => spec.resources().len(),
+        Err(_) => 0,
+    })
 }
 
 #[test]
 fn reads_up_to_4096_resources(rt: HostRuntime) -> Result<(), Fail> {
-    let alloc = rt.alloc();
-    for (count, want) in [(4_096, 4_096), (4_097, 0)] {
-        let text = many(alloc, count)?;
-        let read = match Spec::parse(alloc, text.as_bytes()) {
-            Ok(spec) => spec.resources().len(),
-            Err(_) => 0,
-        };
-        assert_eq!(rt; read, want, "{count}");
-    }
+    assert_eq!(rt; many_read(rt.alloc(), 4_096)?, 4_096);
+    assert_eq!(rt; many_read(rt.alloc(), 4_097)?, 0);
     Ok(())
 }
 
@@ -186,10 +193,10 @@ fn nested(alloc: Global, depth: u32) -> Result<String, AllocError> {
 
 #[test]
 fn reads_126_arrays_inside_one_another(rt: HostRuntime) -> Result<(), Fail> {
-    let alloc = rt.alloc();
     for (depth, want) in [(126, ""), (127, " NotJson")] {
-        let text = nested(alloc, depth)?;
-        assert_eq!(rt; told(alloc, text.as_str())?.as_str(), want, "{depth}");
+        let text = nested(rt.alloc(), depth)?;
+        let told = told(rt.alloc(), text.as_str())?;
+        is_told(&rt, "arrays inside one another", told.as_str(), want);
     }
     Ok(())
 }

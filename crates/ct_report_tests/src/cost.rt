@@ -1,0 +1,161 @@
+//! Cost data: what is read of a text, and what a run leaves in it.
+
+ghost use Rattle.std.specs.Prelude.{◌≡◌, true};
+ghost use Rattle.ct_history.specs.Verdicts.{are_all_final};
+
+use crate::rows::{Record, record_of};
+use ct_base::{Blob, Name, NoMemory};
+use ct_cost::{CostData, failed_log};
+use std::alloc::Global;
+use std::process::Abort;
+use std::str;
+use std::test::Fail;
+
+/// A text and what is written of it again; `|` stands for a line feed.
+const TEXTS: &str = "\
+---| => ---|
+ => ---|
+a 1 0.010000|---| => a 1 0.010000|---|
+a 2 3|---|b => a 2 3.000000|---|b|
+a 2 3.000000|old 1 9.000000|odd line x|---|b => a 2 3.000000|old 1 9.000000|---|b|
+two words 3 1.5 => two words 3 1.500000|---|
+two  words 3 1.5 => two  words 3 1.500000|---|
+a  1 1 => a  1 1.000000|---|
+a 1 x|b x 1|c 1|d|1 1| 1 1|e 1 1 |f 1  1|g -1 1|h +1 1|i 1 1.|j 1 .5|k 1 1e3| => ---|
+l 1.0 1|m 0x1 1|n 1 --1|o 1 1.5.5| => ---|
+a 0 7|b 007 007.5 => a 0 7.000000|b 7 7.500000|---|
+a 1 -5 => a 1 0.000000|---|
+a 1 0.0000019|b 1 0.1 => a 1 0.000001|b 1 0.100000|---|
+a 1000000 1|b 1000001 1|c 99999999999999999999999999 1 => a 1000000 1.000000|b 1000000 1.000000|c 1000000 1.000000|---|
+a 1 1000000000|b 1 1000000000.000001|c 1 99999999999999999999999999 => a 1 1000000000.000000|b 1 1000000000.000000|c 1 1000000000.000000|---|
+b 1 1|a 1 1|b 2 2|a 3 3 => b 1 1.000000|a 1 1.000000|---|
+b x 1|b 2 2 => b 2 2.000000|---|
+--- 1 2|---- 1 2|--- |--|b 1 1 => --- 1 2.000000|---- 1 2.000000|b 1 1.000000|---|
+---|x||y|x => ---|x|y|
+a 1 1|---|---|b 1 1| => a 1 1.000000|---|---|b 1 1|
+||a 1 1||---||x|| => a 1 1.000000|---|x|
+a 1 1 => a 1 1.000000|---|
+";
+
+/// Changes a row's `|` to line feeds.
+fn lines(alloc: Global, row: &str) -> Result<Blob, NoMemory> {
+    let mut text = Blob::new(alloc);
+    for byte in row.bytes() {
+        text.append(&[if byte == b'|' { b'\n' } else { byte }])?;
+    }
+    Ok(text)
+}
+
+fn says(
+    rt: &impl Abort,
+    alloc: Global,
+    text: &Blob,
+    want: &str,
+    row: &str,
+) -> Result<(), NoMemory> {
+    let want = lines(alloc, want)?;
+    let said = str::from_utf8(text.bytes()).unwrap_or("?");
+    assert!(rt; text.bytes() == want.bytes(), "{row}: {said}");
+    Ok(())
+}
+
+/// Reads the cost data that a row gives.
+fn read(alloc: Global, row: &str) -> Result<CostData, NoMemory> {
+    let text = lines(alloc, row)?;
+    CostData::read(alloc, text.bytes())
+}
+
+#[test]
+fn passes_over_what_is_no_line(rt: HostRuntime) -> Result<(), Fail> {
+    let alloc = rt.alloc();
+    for row in TEXTS.lines() {
+        let (text, want) = row.split_once(" => ").unwrap_or((row, ""));
+        let text = read(alloc, text)?.text(alloc)?;
+        says(&rt, alloc, &text, want, row)?;
+    }
+    Ok(())
+}
+
+/// Names, each with its cost, where one is known, and how its test ended.
+const NAMES: &str = "\
+a b => 3500000 passed
+a => 9000000 passed
+c => 0 failed
+--- => none failed
+ => none passed
+b => none passed
+";
+
+#[test]
+fn looks_costs_and_failures_up(rt: HostRuntime) -> Result<(), Fail> {
+    let alloc = rt.alloc();
+    let costs = read(alloc, "a b 2 3.5|c 1 0|a 1 9|---|c|---")?;
+    for row in NAMES.lines() {
+        let (name, want) = row.split_once(" => ").unwrap_or((row, ""));
+        let name = Name::of(alloc, name.as_bytes())?;
+        assert!(rt; is_known(&costs, &name, want), "{row}");
+    }
+    Ok(())
+}
+
+/// Tells whether the cost and the end of a test are known as the text says.
+fn is_known(costs: &CostData, name: &Name, want: &str) -> bool {
+    let (cost, end) = want.split_once(' ').unwrap_or((want, ""));
+    let cost: Option<u64> = cost.parse().ok();
+    costs.cost(name) == cost && costs.failed(name) == (end == "failed")
+}
+
+/// Cost data before a run, the run as a row, the cost data behind it, and the log.
+const RUNS: &str = "\
+a 2 3.000000|old 1 9.000000|odd line x|---|b => a 0 6000000;b 1 1000000 => a 3 4.000000|old 1 9.000000|---|b| => 2:b|
+ => ok 0 10000 => ok 1 0.010000|---| =>
+---|a|b => a 0 1 => a 1 0.000001|---| =>
+a 1 0.000002|---| => a 0 1 => a 2 0.000001|---| =>
+a 2 0.000001|---| => a 0 0 => a 3 0.000000|---| =>
+a 2 5 => a 1 1;b 77 1;c unavailable 0;d off => a 2 5.000000|---|a|c| => 1:a|3:c|
+a 1000000 5 => a 0 6000000 => a 1000000 5.000000|---| =>
+a 999999 5 => a 0 6000000 => a 1000000 5.000001|---| =>
+a 0 9 => a 0 10000000000000000 => a 1 1000000000.000000|---| =>
+a 1000000 1000000000 => a 0 18446744073709551615 => a 1000000 1000000000.000000|---| =>
+z 1 1|a 1 3 => c 0 1000000;a 0 5000000;b 0 2000000 => z 1 1.000000|a 2 4.000000|c 1 1.000000|b 1 2.000000|---| =>
+a 1 3 => a 0 2000000;a 0 4000000 => a 3 3.000000|---| =>
+ => a 0 2000000;a 1 4000000;a 3 1 => a 1 2.000000|---|a| => 2:a|3:a|
+ => a timeout 5000000, 0 7000000 => a 1 7.000000|---| =>
+ => a timeout 5000000, timeout 7000000;b timeout 1, 1 9 => ---|a|b| => 1:a|2:b|
+";
+
+#[test]
+fn takes_costs_on_after_a_run(rt: HostRuntime) -> Result<(), Fail> {
+    for row in RUNS.lines() {
+        check_run(&rt, rt.alloc(), row)?;
+    }
+    Ok(())
+}
+
+fn check_run(rt: &impl Abort, alloc: Global, row: &str) -> Result<(), NoMemory> {
+    let (old, rest) = row.split_once(" => ").unwrap_or((row, ""));
+    let (run, rest) = rest.split_once(" => ").unwrap_or((rest, ""));
+    let (new, log) = rest.split_once(" =>").unwrap_or((rest, ""));
+    let record = record_of(rt, alloc, run)?;
+    let text = text_after(alloc, &record, old)?;
+    says(rt, alloc, &text, new, row)?;
+    let text = log_of(alloc, &record)?;
+    says(rt, alloc, &text, log.trim_start(), row)?;
+    Ok(())
+}
+
+/// The text of the cost data that a run leaves.
+fn text_after(alloc: Global, past: &Record, old: &str) -> Result<Blob, NoMemory>
+    requires { are_all_final past.now.plan past.now.history.entries.items ≡ true }
+{
+    let costs = read(alloc, old)?;
+    let costs = costs.after(alloc, &past.plan, &past.history)?;
+    costs.text(alloc)
+}
+
+/// The log of failed tests that a run leaves.
+fn log_of(alloc: Global, past: &Record) -> Result<Blob, NoMemory>
+    requires { are_all_final past.now.plan past.now.history.entries.items ≡ true }
+{
+    failed_log(alloc, &past.plan, &past.history)
+}

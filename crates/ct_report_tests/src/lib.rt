@@ -1,0 +1,15 @@
+//! The tests of what is reported and kept of a run: its texts, the lists in place of one, and the cost data.
+//!
+//! Hands up: nothing. A crate with tests of its own is proved twice, so they stand here.
+//! Stands on: ct_report, ct_cost, ct_history, ct_samples and what is below them.
+//! Read first: `rows.rt` makes what the others test.
+#![tactic(auto)]
+
+#[cfg(test)]
+mod cost;
+#[cfg(test)]
+mod lists;
+#[cfg(test)]
+mod report;
+#[cfg(test)]
+mod rows;
