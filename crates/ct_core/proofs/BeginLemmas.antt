@@ -13,6 +13,7 @@ use Rattle.ct_history.specs.declared.plan.PlanParts.{PlanParts}
 use Rattle.ct_history.specs.Plan.{IsSound, has_sound_links, is_before_rank, test_at}
 use Rattle.ct_history.specs.Verdicts.{is_over, verdict_at, verdict_in, verdict_of_test}
 use Rattle.ct_history.specs.Rules.{cause_behind, is_pending, is_passed_verdict}
+use Rattle.ct_history.proofs.ProgressLemmas.{all_found}
 use Rattle.ct_queue.specs.Ready.{StandsIn, count_of, none_out, place_of}
 use Rattle.ct_queue.specs.Marks.{is_marked}
 use Rattle.ct_queue.proofs.CallerLemmas.{test_at_place}
@@ -20,7 +21,7 @@ use Rattle.ct_core.specs.Lines.{AreLinesOf}
 use Rattle.ct_core.specs.Standing.{open_before}
 use Rattle.ct_core.specs.Waiting.{AreSettleable, IsQueued, cause_then, is_pending_at, open_before_at, settles_but}
 use Rattle.ct_core.specs.Begin.{count_before, first_counts, settles_first}
-use Rattle.ct_core.proofs.QueueLemmas.{all_found, queued_test}
+use Rattle.ct_core.proofs.EnabledLemmas.{queued_enabled}
 use Rattle.ct_core.proofs.LowerLemmas.{and_true, follows_by_count, settle_going}
 
 -- what holds of each element holds of the one at a place
@@ -97,15 +98,15 @@ module _ (plan : PlanParts) (sound : IsSound plan) where
     counted = length-map plan.queue (λ (k : ℕ). count_before (test_at plan.tests k));
     said = length-replicate (length plan.queue) false;
     counts = λ n stands.
-        let at = queued_test plan sound n stands in
+        let at = queued_enabled plan sound n stands in
         let t = at.test in
         let linked = all_found (has_sound_links plan.tests) (λ (x : PlanTest). x.number == n) plan.tests t sound.links at.found in
         let here : length t.before ≡ open_before plan [] t + 0 = omega (arith, open_first plan t linked) in
         count_first lines n stands ∙ subst (λ (o : Option PlanTest). count_before o ≡ open_before_at plan [] o + 0) (sym at.found) here;
     outs = λ n stands.
-        let at = queued_test plan sound n stands in
+        let at = queued_enabled plan sound n stands in
         let t = at.test in
-        let pending : not (is_pending plan t []) ≡ false = ap not (pending_first plan t) ∙ ap (λ (b : Bool). not (not b)) at.works in
+        let pending : not (is_pending plan t []) ≡ false = ap not (pending_first plan t) ∙ ap (λ (b : Bool). not (not b)) at.enabled in
         get_or-replicate (length plan.queue) (place_of plan.queue n) false false stands
         ∙ sym (ap (λ (o : Option PlanTest). not (is_pending_at plan [] o)) at.found ∙ pending);
     lines = are;

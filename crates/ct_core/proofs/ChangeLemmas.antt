@@ -24,9 +24,10 @@ use Rattle.ct_queue.specs.Ready.{ReadyValue, StandsIn, count_of, is_out, place_o
 use Rattle.ct_queue.proofs.CallerLemmas.{out_said}
 use Rattle.ct_core.specs.Standing.{IsPlaceOf, open_before}
 use Rattle.ct_core.specs.Waiting.{AreSettleable, IsQueued, followers_of, is_one_of, is_pending_at, open_before_at, settles_but}
-use Rattle.ct_core.proofs.NumberLemmas.{at_place, listed, one_place}
+use Rattle.ct_core.proofs.NumberLemmas.{listed}
 use Rattle.ct_core.proofs.PredecessorLemmas.{none_of_setups, not_all, one_if, one_less, same_all, same_first}
 use Rattle.ct_core.proofs.EnabledLemmas.{out_other, queued_enabled}
+use Rattle.ct_core.proofs.QueueLemmas.{one_place, there_found}
 
 true_is_false : true ≡ false → ⊥
 true_is_false is = cc
@@ -120,7 +121,7 @@ module _ (plan : PlanParts) (sound : IsSound plan) (es more : List Entry) (n : �
       by_test : (q : ℕ) (o : Option PlanTest) → slice_get plan.tests q ≡ o → settles_but plan more left o ≡ settles_but plan es [] o
       by_test q None at = refl
       by_test q (Some u) at =
-          let itself = at_place 1 plan.tests q u sound.numbers at in
+          let itself = there_found plan.tests q u sound.numbers at in
           elim (cases_Bool (u.number == n)) [
             | inl here ↦ subst (λ (x : PlanTest). SettlesAsBefore left x) (sym (this_test u itself here)) own
             | inr other ↦ others u itself other
@@ -144,11 +145,11 @@ module _ (plan : PlanParts) (sound : IsSound plan) (es more : List Entry) (n : �
       by_test : (q : ℕ) → (q ≡ place → ⊥) → (o : Option PlanTest) → slice_get plan.tests q ≡ o → settles_but plan more left o ≡ settles_but plan es [] o
       by_test q apart None at = refl
       by_test q apart (Some u) at =
-          let itself = at_place 1 plan.tests q u sound.numbers at in
+          let itself = there_found plan.tests q u sound.numbers at in
           elim (cases_Bool (u.number == n)) [
             | inl same ↦
                 let equal : u.number ≡ t.number = ap (λ (x : PlanTest). x.number) (this_test u itself same) in
-                absurd (apart (one_place 1 plan.tests place q t u sound.numbers (here.there ∙ found) at equal))
+                absurd (apart (one_place plan.tests q place u t sound.numbers at (here.there ∙ found) equal))
             | inr other ↦ others u itself other
           ]
 

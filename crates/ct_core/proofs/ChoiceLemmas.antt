@@ -1,6 +1,6 @@
 -- What is kept beside the history says of the choice: which test is settled, and which starts.
 use Rattle.std.proofs.Common.{◌≡◌, ◌≢◌, ◌∙◌, sym, ap, subst, Bool, true, false, ℕ, ◌+◌, ◌-◌, ◌<◌, ◌≤◌, ◌^◌, List, [], ◌∷◌, ◌++◌, length, refl, arith, inl, inr, get_or, suc, take, drop}
-use Rattle.std.specs.Prelude.{Option, Some, None, ◌==◌, ◌&&◌, ◌||◌, not, is_some, nat_le, option_and_then, slice_get, if◌then◌else◌, MatchOption}
+use Rattle.std.specs.Prelude.{Result, Ok, Err, IfErr, Option, Some, None, ◌==◌, ◌&&◌, ◌||◌, not, is_some, nat_le, option_and_then, slice_get, if◌then◌else◌, MatchOption}
 use Rattle.std.proofs.Math.Path.{fun_ext}
 use Rattle.std.proofs.lemmas.Bool.{and_from, and_parts, cases_Bool, false_from_ne_true, leb-true, ne_eqb}
 use Rattle.std.proofs.Math.Seq.{split_at}
@@ -30,12 +30,13 @@ use Rattle.ct_core.specs.declared.in_use.InUse.{InUse}
 use Rattle.ct_core.specs.declared.parts.Parts.{Parts}
 use Rattle.ct_core.specs.declared.state.State.{State}
 use Rattle.ct_core.specs.declared.state.State.TheVariants.{Pending}
-use Rattle.ct_core.specs.Choice.{IsLeastToSettle, IsStartOf, IsStartable, IsStuck, NoneStarts, attempt_after}
+use Rattle.ct_core.specs.Choice.{IsLeastToSettle, IsStartOf, IsStartable, IsStuck, NoneSettles, NoneStarts, SomeIsToPlace, TakesMemory, attempt_after, may_start_if_placed_at}
 use Rattle.ct_core.specs.InUse.{IsInUse, has_room_beside}
 use Rattle.ct_core.specs.Parts.{AreTold, IsKept}
 use Rattle.ct_core.specs.Slots.{IsFreeBeside, resources_of, used_of}
 use Rattle.ct_core.specs.Standing.{IsPlaceOf, count_unfinished, state_of, states_of, verdict_of_state}
 use Rattle.ct_core.specs.Waiting.{IsDue, cause_then}
+use Rattle.ct_core.proofs.CallerLemmas.{done_settles_none, done_starts_none}
 use Rattle.ct_core.proofs.InUseLemmas.{room_beside}
 use Rattle.ct_core.proofs.PickLemmas.{MayBeNext, SettlesAt, cause_going, cause_stopped, none_beside_serial, none_when_full}
 use Rattle.ct_core.proofs.StandingLemmas.{all_finished, pending_at, verdict_state_at}
@@ -231,3 +232,47 @@ none_full plan es u sound is full = elim (cases_Bool (nat_le plan.level u.proces
       none_beside_serial plan sound es plan.queue
       (sym is.serial ∙ sym (ap (λ (b : Bool). b || u.serial) left) ∙ full)
 ]
+
+-- what comes next takes memory where a test may be settled
+pub settle_takes : (plan : PlanParts) (es : List Entry) (n : ℕ) (cause : Cause) → IsLeastToSettle plan es n cause → TakesMemory plan es
+settle_takes plan es n cause least = record {
+  unfinished = false_from_ne_true (are_all_final plan es) (λ done. done_settles_none plan es n cause done least.may);
+  goes_on = inl (record { number = n; cause = cause; may = least.may });
+}
+
+-- or may start
+pub start_takes : (plan : PlanParts) (es : List Entry) (start : Startable) → NoneSettles plan es → IsStartable plan es start → TakesMemory plan es
+start_takes plan es start unsettled able = record {
+  unfinished = false_from_ne_true (are_all_final plan es) (λ done. done_starts_none plan es start.test done (record { placement = start.placement; may = able.first.may }));
+  goes_on = inr (
+    unsettled,
+    record {
+      earlier = able.first.earlier;
+      number = start.test;
+      later = able.first.later;
+      queued = able.first.queued;
+      may = if_placed (test_at plan.tests start.test) able.first.may;
+      first = able.first.first;
+    },
+  );
+}
+  where
+    if_placed : (o : Option PlanTest) → may_start_at plan es start.placement o ≡ true → may_start_if_placed_at plan es o ≡ true
+    if_placed None may = may
+    if_placed (Some t) may = (and_parts (may_start_if_placed plan t es) (is_placed plan.resources t.needs (used_slots es) start.placement) may).0
+
+-- or is to be placed, as the one at this place of the queue
+pub placing : (plan : PlanParts) (es : List Entry) (i n : ℕ) → i < length plan.queue → n ≡ get_or plan.queue i 0 → NoneStarts plan es (take i plan.queue) → may_start_if_placed_at plan es (test_at plan.tests n) ≡ true → SomeIsToPlace plan es
+placing plan es i n lt is none may = record {
+  earlier = take i plan.queue;
+  number = n;
+  later = drop (suc i) plan.queue;
+  queued = split_at plan.queue i 0 lt ∙ ap (λ (m : ℕ). take i plan.queue ++ m ∷ drop (suc i) plan.queue) (sym is);
+  may = may;
+  first = none;
+}
+
+-- what holds where a call failed holds however it did
+pub failed : {A E P : Type 0} (r : Result A E) → P → IfErr r (λ _. P)
+failed (Ok x) holds = tt
+failed (Err e) holds = holds

@@ -22,6 +22,7 @@ use Rattle.ct_history.proofs.LegalLemmas.{due-snoc, legal_allowed, legal_not_due
 use Rattle.ct_core.specs.Standing.{states_of, verdict_of_state}
 use Rattle.ct_core.specs.Core.{with_due_stop}
 use Rattle.ct_core.proofs.AllowedLemmas.{IsAboutOnly, about_end, about_settle, allowed_induction}
+use Rattle.ct_core.proofs.KeptLemmas.{stop_stays}
 use Rattle.ct_core.proofs.OpenStartLemmas.{opens_stop}
 use Rattle.ct_core.proofs.StateLemmas.{pending_other, state_after, verdict_ended, verdict_in_other, verdict_other, verdict_settled}
 use Rattle.ct_core.proofs.StandingLemmas.{states_stopped}
@@ -186,11 +187,7 @@ module _ (plan : PlanParts) (es : List Entry) where
   stop_with_stop e plain = by_due (is_stop_due plan (es ++ e ∷ []))
     where
       before : has_stop (es ++ e ∷ []) ≡ has_stop es
-      before = stop-snoc es e ∙ ap (λ (b : Bool). has_stop es || (b || false)) plain ∙ or_none (has_stop es)
-        where
-          or_none : (b : Bool) → (b || (false || false)) ≡ b
-          or_none true = refl
-          or_none false = refl
+      before = stop_stays es e plain
 
       by_due : (b : Bool) → has_stop (if b then (es ++ e ∷ []) ++ Stop ∷ [] else es ++ e ∷ []) ≡ (has_stop es || b)
       by_due true = stop-snoc (es ++ e ∷ []) Stop ∙ ap (λ (b : Bool). b || (true || false)) before

@@ -1,8 +1,8 @@
 -- The queue of a sound plan has its enabled tests, and what is said of one of them leaves the others.
-use Rattle.std.proofs.Common.{◌≡◌, ◌∙◌, sym, ap, Bool, true, false, ℕ, List, [], ◌∷◌, refl, inl, inr}
-use Rattle.std.specs.Prelude.{Option, Some, None, not, ◌||◌, ◌==◌, cond, find, map}
+use Rattle.std.proofs.Common.{◌≡◌, ◌∙◌, sym, ap, Bool, true, false, ℕ, List, [], ◌∷◌, get_or, refl, inl, inr}
+use Rattle.std.specs.Prelude.{Contains, Option, Some, None, not, ◌||◌, ◌==◌, cond, find, map}
 use Rattle.std.specs.List.{list_any}
-use Rattle.std.proofs.lemmas.Bool.{cases_Bool, not-true}
+use Rattle.std.proofs.lemmas.Bool.{cases_Bool, eq-eqb, not-true}
 use Rattle.std.proofs.lemmas.List.{get_or-set_other}
 use Rattle.std.proofs.lemmas.List.Folds.{find_at, list_any_at}
 use Rattle.std.proofs.lemmas.List.Sorted.{list_any-IsPermutation}
@@ -65,7 +65,12 @@ module _ (plan : PlanParts) (sound : IsSound plan) where
           let passes : not t.disabled ≡ true = sym (listed (λ (u : PlanTest). not u.disabled) 1 plan.tests t sound.numbers itself) ∙ ap (λ (m : ℕ). is_one_of m (numbers_of (λ (u : PlanTest). not u.disabled) plan.tests)) number ∙ one in
           record { test = t; found = found; number = number; itself = itself; enabled = not-true t.disabled passes }
 
-  -- each enabled test stands in the queue
+  -- the number of each enabled test stands in the queue
+  pub enabled_stands : (n : ℕ) → Contains (numbers_of (λ (t : PlanTest). not t.disabled) plan.tests) n → StandsIn plan.queue n
+  enabled_stands n (k, lt, is) =
+      one_stands plan.queue n
+      (in_queue n ∙ list_any_at (λ (m : ℕ). m == n) (numbers_of (λ (t : PlanTest). not t.disabled) plan.tests) k n lt (eq-eqb (get_or (numbers_of (λ (t : PlanTest). not t.disabled) plan.tests) k n) n is))
+
   pub enabled_queued : (n : ℕ) (t : PlanTest) → test_at plan.tests n ≡ Some t → t.disabled ≡ false → StandsIn plan.queue n
   enabled_queued n t found enabled =
       let number = number_at plan.tests n t found in

@@ -1,6 +1,6 @@
 -- What a run keeps as an attempt ends.
 use Rattle.std.proofs.Common.{◌≡◌, ◌∙◌, sym, ap, subst, Bool, true, false, ℕ, ◌+◌, ◌<◌, ◌≤◌, List, [], ◌∷◌, ◌++◌, length, refl, arith, length-append, get_or}
-use Rattle.std.specs.Prelude.{AllPairs, Option, Some, None, not, ◌&&◌, ◌||◌, slice_get, slice_set, if◌then◌else◌}
+use Rattle.std.specs.Prelude.{AllPairs, Option, Some, None, not, ◌&&◌, slice_get, slice_set, if◌then◌else◌}
 use Rattle.std.proofs.lemmas.List.{length-map, take_all}
 use Rattle.std.proofs.lemmas.Option.{slice_get_read}
 use Rattle.ct_alloc.specs.declared.placement.Placement.{Placement}
@@ -15,7 +15,7 @@ use Rattle.ct_history.specs.Plan.{test_at}
 use Rattle.ct_history.specs.History.{Running, attempts_of, has_stop, holds_start, open_starts, used_slots}
 use Rattle.ct_history.specs.Verdicts.{is_failing_in, verdict_of_test}
 use Rattle.ct_history.specs.Legal.{GetAlong, is_allowed_so_far, is_stop_due}
-use Rattle.ct_history.proofs.LegalLemmas.{allowed-snoc, legal_allowed, legal_from, stop-snoc}
+use Rattle.ct_history.proofs.LegalLemmas.{allowed-snoc, legal_allowed, legal_from}
 use Rattle.ct_history.proofs.WithinLemmas.{stays_within}
 use Rattle.ct_queue.specs.Ready.{ReadyValue, StandsIn, is_out, with_out}
 use Rattle.ct_core.specs.declared.state.State.{State}
@@ -29,7 +29,7 @@ use Rattle.ct_core.specs.Standing.{IsPlaceOf, count_unfinished, state_of, states
 use Rattle.ct_core.specs.Waiting.{AreSettleable, IsQueued, followers_of}
 use Rattle.ct_core.specs.Parts.{AreTold, HasRoom, IsConcluding, IsKept}
 use Rattle.ct_core.proofs.DueLemmas.{end_due}
-use Rattle.ct_core.proofs.KeptLemmas.{end_allowed}
+use Rattle.ct_core.proofs.KeptLemmas.{end_allowed, stop_stays}
 use Rattle.ct_core.proofs.InUseLemmas.{give_possible, given}
 use Rattle.ct_core.proofs.OpenStartLemmas.{IsHeldOpen, held_open, open_apart, open_placed}
 use Rattle.ct_core.proofs.StateLemmas.{state_after, verdict_ended}
@@ -104,11 +104,7 @@ module _ (plan : PlanParts) (es : List Entry) (room : ℕ) (parts : Parts) (kept
       omega (arith, some, reserved)
 
   stops : has_stop more ≡ has_stop es
-  stops = stop-snoc es (End n a w s) ∙ or_falses (has_stop es)
-    where
-      or_falses : (b : Bool) → (b || (false || false)) ≡ b
-      or_falses true = refl
-      or_falses false = refl
+  stops = stop_stays es (End n a w s) refl
 
   going_on : parts.stopped ≡ false → has_stop es ≡ false
   going_on runs = sym kept.told.stopped ∙ runs

@@ -1,5 +1,5 @@
 -- Which entry is allowed next, and what it makes of a legal history.
-use Rattle.std.proofs.Common.{◌≡◌, ◌∙◌, sym, ap, subst, Bool, true, false, ℕ, ◌+◌, List, [], ◌∷◌, ◌++◌, length, refl, arith, length-append, inl, inr}
+use Rattle.std.proofs.Common.{◌≡◌, ◌∙◌, sym, ap, subst, Bool, true, false, ℕ, ◌+◌, ◌≤◌, List, [], ◌∷◌, ◌++◌, length, refl, arith, length-append, inl, inr}
 use Rattle.std.specs.Prelude.{Option, Some, None, map, not, ◌&&◌, ◌||◌, ◌==◌, if◌then◌else◌}
 use Rattle.std.proofs.lemmas.Bool.{and_from, cases_Bool, false_from_ne_true}
 use Rattle.std.proofs.lemmas.Bool.Decides.{nat_tests}
@@ -27,6 +27,18 @@ true_is_false is = cc
 or_falses : (b : Bool) → (b || (false || false)) ≡ b
 or_falses true = refl
 or_falses false = refl
+
+-- an entry that is no Stop leaves whether one stands
+pub stop_stays : (es : List Entry) (e : Entry) → is_stop e ≡ false → has_stop (es ++ e ∷ []) ≡ has_stop es
+stop_stays es e plain = stop-snoc es e ∙ ap (λ (b : Bool). has_stop es || (b || false)) plain ∙ or_falses (has_stop es)
+
+-- a Stop takes one place at most
+pub one_place_most : (es : List Entry) → stop_places es ≤ 1
+one_place_most es = by (has_stop es)
+  where
+    by : (b : Bool) → (if b then 0 else 1) ≤ 1
+    by true = omega arith
+    by false = omega arith
 
 or_stop : (b : Bool) → (b || (true || false)) ≡ true
 or_stop true = refl
@@ -84,7 +96,7 @@ module _ (plan : PlanParts) (ascends : IsAscendingFrom 1 (map (λ (t : PlanTest)
 
   without_stop : (e : Entry) → is_stop e ≡ false → is_allowed plan es e ≡ true → is_stop_due plan (es ++ e ∷ []) ≡ false → IsFinalStep plan es e (es ++ e ∷ [])
   without_stop e plain allowed not_due =
-      let same : stop_places (es ++ e ∷ []) ≡ stop_places es = ap (λ (b : Bool). if b then 0 else 1) (stop-snoc es e ∙ ap (λ (b : Bool). has_stop es || (b || false)) plain ∙ or_falses (has_stop es)) in
+      let same : stop_places (es ++ e ∷ []) ≡ stop_places es = ap (λ (b : Bool). if b then 0 else 1) (stop_stays es e plain) in
       record {
         legal = legal_from plan (es ++ e ∷ []) (allowed-snoc plan es e (legal_allowed plan es legal) allowed) not_due;
         opens = refl;

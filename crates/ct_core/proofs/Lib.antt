@@ -24,6 +24,7 @@ pub mod LineLemmas
 pub mod FirstLemmas
 pub mod StopLemmas
 pub mod CallerLemmas
+pub mod OrderLemmas
 pub mod RecordedLemmas
 pub mod ConcludeLemmas
 pub mod NoteLemmas

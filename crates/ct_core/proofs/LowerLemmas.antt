@@ -21,7 +21,9 @@ use Rattle.ct_queue.specs.Marks.{is_marked}
 use Rattle.ct_queue.proofs.CallerLemmas.{count_lowered, places_apart}
 use Rattle.ct_core.specs.Standing.{IsPlaceOf, open_before}
 use Rattle.ct_core.specs.Waiting.{AreSettleable, IsQueued, cause_then, followers_of, is_one_of, is_pending_at, open_before_at, settles_but}
-use Rattle.ct_core.proofs.QueueLemmas.{ascend-drop, ascend-filter, enabled_stands, found_number, none_lesser, numbers_of, one_place}
+use Rattle.ct_core.proofs.AllowedLemmas.{number_at}
+use Rattle.ct_core.proofs.EnabledLemmas.{enabled_stands}
+use Rattle.ct_core.proofs.QueueLemmas.{ascend-drop, ascend-filter, none_lesser, numbers_of, one_place}
 
 -- no predecessor is left exactly where each is final
 none_left : (verdict : ℕ → Option Verdict) (js : List ℕ) → list_all (λ j. is_some (verdict j)) js ≡ (length (filter (λ j. is_none (verdict j)) js) == 0)
@@ -125,7 +127,7 @@ module _ (plan : PlanParts) (sound : IsSound plan) (es : List Entry) (n : ℕ) (
   there = let at = low.place_of_it in at.there ∙ low.found
 
   number : t.number ≡ n
-  number = found_number plan.tests n t low.found
+  number = number_at plan.tests n t low.found
 
   -- while it is left it has no mark
   unmarked : is_marked m place ≡ false

@@ -1,12 +1,10 @@
--- The numbers of some tests of a plan, and the places of its tests.
-use Rattle.std.proofs.Common.{◌≡◌, ◌∙◌, sym, ap, Bool, false, ℕ, zero, suc, ◌+◌, ◌<◌, List, [], ◌∷◌, refl, arith, inl, inr}
-use Rattle.std.specs.Prelude.{Some, None, ◌||◌, ◌==◌, cond, map, filter, slice_get}
+-- The numbers of some tests of a plan.
+use Rattle.std.proofs.Common.{◌≡◌, ◌∙◌, sym, ap, Bool, false, ℕ, ◌+◌, ◌<◌, List, [], ◌∷◌, refl, arith, inl, inr}
+use Rattle.std.specs.Prelude.{Some, None, ◌||◌, ◌==◌, cond, map, filter}
 use Rattle.std.proofs.lemmas.Bool.{cases_Bool}
-use Rattle.std.proofs.lemmas.Option.{slice_get_within, get_or_from_slice_get}
 use Rattle.ct_history.specs.declared.plan.PlanTest.{PlanTest}
 use Rattle.ct_history.specs.Plan.{IsAscendingFrom, test_at}
 use Rattle.ct_history.proofs.BoolLemmas.{eq_more}
-use Rattle.ct_history.proofs.PlanLemmas.{contained_at, found_bound}
 use Rattle.ct_core.specs.Waiting.{is_one_of}
 
 -- the numbers of the tests that pass
@@ -71,23 +69,3 @@ unlisted p (x ∷ xs) m none = elim (cases_Bool (x.number == m)) [
         | inr gone ↦ ap (λ (b : Bool). is_one_of m (map (λ (y : PlanTest). y.number) (cond b (x ∷ filter p xs) (filter p xs)))) gone ∙ later
       ]
 ]
-
--- a test at a place is found by its number
-pub at_place : (least : ℕ) (ts : List PlanTest) (place : ℕ) (t : PlanTest) → IsAscendingFrom least (map (λ (x : PlanTest). x.number) ts) → slice_get ts place ≡ Some t → test_at ts t.number ≡ Some t
-at_place least ts place t ascends is = contained_at least ts t ascends (place, slice_get_within ts place t is, get_or_from_slice_get ts place t t is)
-
--- two places have tests of two numbers
-pub one_place : (least : ℕ) (ts : List PlanTest) (p q : ℕ) (t u : PlanTest) → IsAscendingFrom least (map (λ (x : PlanTest). x.number) ts) → slice_get ts p ≡ Some t → slice_get ts q ≡ Some u → u.number ≡ t.number → q ≡ p
-one_place least [] p q t u ascends here there same = cc
-one_place least (x ∷ xs) zero zero t u ascends here there same = refl
-one_place least (x ∷ xs) zero (suc q) t u ascends here there same =
-    let this : x ≡ t = cc in
-    let above = found_bound (λ (y : PlanTest). y.number == u.number) (x.number + 1) xs u ascends.1 (at_place (x.number + 1) xs q u ascends.1 there) in
-    let equal : x.number ≡ t.number = ap (λ (y : PlanTest). y.number) this in
-    absurd (omega (arith, above, equal, same))
-one_place least (x ∷ xs) (suc p) zero t u ascends here there same =
-    let this : x ≡ u = cc in
-    let above = found_bound (λ (y : PlanTest). y.number == t.number) (x.number + 1) xs t ascends.1 (at_place (x.number + 1) xs p t ascends.1 here) in
-    let equal : x.number ≡ u.number = ap (λ (y : PlanTest). y.number) this in
-    absurd (omega (arith, above, equal, same))
-one_place least (x ∷ xs) (suc p) (suc q) t u ascends here there same = ap suc (one_place (x.number + 1) xs p q t u ascends.1 here there same)

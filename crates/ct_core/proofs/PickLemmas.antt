@@ -16,11 +16,14 @@ use Rattle.ct_history.specs.Plan.{IsSound, has_sound_processors, test_at}
 use Rattle.ct_history.specs.History.{Running, has_stop, open_starts, used_processors}
 use Rattle.ct_history.specs.Rules.{CanStart, cause_behind, exclude, first_unpassed, follows_finals, has_room, is_pending, is_ready, is_serial, locks_of, may_start_at, may_start_if_placed, settle_cause, settle_cause_at, shares_name}
 use Rattle.ct_history.proofs.MayLemmas.{MayStart, may_start-parts}
+use Rattle.ct_history.proofs.ProgressLemmas.{all_found}
 use Rattle.ct_queue.specs.Ready.{ReadyValue, IsBehind, count_at, is_member, is_out_at, place_of}
 use Rattle.ct_queue.specs.Marks.{is_marked, IsLeastWithin, NoneWithin}
 use Rattle.ct_core.specs.Choice.{IsLeastToSettle, NoneSettles, NoneStarts}
 use Rattle.ct_core.specs.Waiting.{AreSettleable, IsQueued, cause_then, settles_but}
-use Rattle.ct_core.proofs.QueueLemmas.{all_found, found_number, found_place, place_there, places_ascend, queued_test, stands_there, there_found}
+use Rattle.ct_core.proofs.AllowedLemmas.{number_at}
+use Rattle.ct_core.proofs.EnabledLemmas.{queued_enabled}
+use Rattle.ct_core.proofs.QueueLemmas.{found_place, place_there, places_ascend, stands_there, there_found}
 use Rattle.ct_core.proofs.LowerLemmas.{ready_says, settle_going}
 
 -- the least test that may be settled stands at this place, and is settled with this cause
@@ -66,7 +69,7 @@ module _ (plan : PlanParts) (sound : IsSound plan) (es : List Entry) (m : List B
   unsettled_lesser : (place n : ℕ) (t u : PlanTest) → NoneWithin m 0 0 place → slice_get plan.tests place ≡ Some t → n < t.number → test_at plan.tests n ≡ Some u → settle_cause plan u es ≡ None
   unsettled_lesser place n t u none there less found =
       let at = found_place plan.tests n u found in
-      let number = found_number plan.tests n u found in
+      let number = number_at plan.tests n u found in
       unsettled at.0 u (none at.0 (omega arith) (omega arith) (before at.0 at.1 number)) at.1
     where
       before : (k : ℕ) → slice_get plan.tests k ≡ Some u → u.number ≡ n → k < place
@@ -156,7 +159,7 @@ module _ (plan : PlanParts) (sound : IsSound plan) (es : List Entry) (r : ReadyV
   member_may place on unsettled member =
       let within = member_within place member in
       let n = get_or plan.queue place 0 in
-      let at = queued_test plan sound n (stands_there plan sound place within) in
+      let at = queued_enabled plan sound n (stands_there plan sound place within) in
       let t = at.test in
       let both = and_parts (follows_finals plan t es) (is_pending plan t es) (sym (member_says place t within at.found) ∙ member) in
       let none : settle_cause plan t es ≡ None = sym (ap (λ (o : Option PlanTest). settle_cause_at plan es o) at.found) ∙ unsettled n in
@@ -180,7 +183,7 @@ module _ (plan : PlanParts) (sound : IsSound plan) (es : List Entry) (r : ReadyV
   pub no_member : (place : ℕ) → place < length plan.queue → is_member r place ≡ false → CanStart plan es (get_or plan.queue place 0) → ⊥
   no_member place within none can =
       let n = get_or plan.queue place 0 in
-      let at = queued_test plan sound n (stands_there plan sound place within) in
+      let at = queued_enabled plan sound n (stands_there plan sound place within) in
       let t = at.test in
       let may = may_start-parts plan t can.placement es (sym (ap (λ (o : Option PlanTest). may_start_at plan es can.placement o) at.found) ∙ can.may) in
       let ready = and_parts (follows_finals plan t es && is_none (first_unpassed plan t es)) (is_none t.fixed) may.ready in

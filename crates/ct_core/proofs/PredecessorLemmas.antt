@@ -1,5 +1,5 @@
 -- The verdicts of a test's predecessors and setups, where one test becomes final.
-use Rattle.std.proofs.Common.{◌≡◌, ◌∙◌, sym, ap, Bool, true, false, ℕ, suc, ◌+◌, ◌<◌, List, [], ◌∷◌, length, refl, arith, inl, inr}
+use Rattle.std.proofs.Common.{◌≡◌, ◌∙◌, sym, ap, Bool, true, false, ℕ, suc, ◌+◌, List, [], ◌∷◌, length, refl, arith, inl, inr}
 use Rattle.std.specs.Prelude.{Option, Some, None, is_some, is_none, not, ◌&&◌, ◌||◌, ◌==◌, cond, filter, find, if◌then◌else◌}
 use Rattle.std.specs.List.{list_any, list_all}
 use Rattle.std.proofs.lemmas.Bool.{and_parts, cases_Bool, or_parts}
@@ -7,8 +7,9 @@ use Rattle.std.proofs.lemmas.Bool.Decides.{nat_tests}
 use Rattle.ct_verdict.specs.declared.verdict.Verdict.{Verdict}
 use Rattle.ct_history.specs.Plan.{IsAscendingFrom}
 use Rattle.ct_history.specs.Verdicts.{is_passed_verdict}
-use Rattle.ct_history.proofs.BoolLemmas.{and_false, eq_more}
+use Rattle.ct_history.proofs.BoolLemmas.{and_false}
 use Rattle.ct_core.specs.Waiting.{is_one_of}
+use Rattle.ct_core.proofs.QueueLemmas.{none_lesser}
 
 true_is_false : true ≡ false → ⊥
 true_is_false is = cc
@@ -16,14 +17,6 @@ true_is_false is = cc
 -- one, or none
 abbrev pub one_if : Bool → ℕ
 one_if b = if b then 1 else 0
-
--- a number below all of these is none of them
-none_below : (n least : ℕ) (js : List ℕ) → IsAscendingFrom least js → n < least → is_one_of n js ≡ false
-none_below n least [] ascends lt = refl
-none_below n least (j ∷ js) ascends lt =
-    let le = ascends.0 in
-    let other : (j == n) ≡ false = eq_more j n (omega (arith, lt, le)) in
-    ap (λ (b : Bool). b || is_one_of n js) other ∙ none_below n (j + 1) js ascends.1 (omega (arith, lt, le))
 
 -- none of the setups, where it is none of the predecessors
 pub none_of_setups : (n : ℕ) (js ss : List ℕ) → list_all (λ s. list_any (λ j. j == s) js) ss ≡ true → is_one_of n js ≡ false → is_one_of n ss ≡ false
@@ -123,7 +116,7 @@ module _ (f g : ℕ → Option Verdict) (n : ℕ) (same : (j : ℕ) → (j == n)
               let this : j ≡ n = grind (arith, nat_tests) in
               let was : length (filter (λ k. is_none (f k)) (j ∷ js)) ≡ suc (length fs) = ap (λ (o : Option Verdict). length (cond (is_none o) (j ∷ fs) fs)) (ap f this ∙ before) in
               let now : length (filter (λ k. is_none (g k)) (j ∷ js)) ≡ length gs = ap (λ (b : Bool). length (cond b (j ∷ gs) gs)) (ap (λ (k : ℕ). is_none (g k)) this ∙ behind) in
-              let alike : length gs ≡ length fs = ap length (same_open js (none_below n (j + 1) js ascends.1 (omega (arith, this)))) in
+              let alike : length gs ≡ length fs = ap length (same_open js (none_lesser (j + 1) n js ascends.1 (omega (arith, this)))) in
               let one : one_if (is_one_of n (j ∷ js)) ≡ 1 = ap (λ (b : Bool). one_if (b || is_one_of n js)) here in
               omega (arith, was, now, alike, one)
           | inr other ↦

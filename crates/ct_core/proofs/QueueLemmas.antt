@@ -1,14 +1,14 @@
 -- Where the tests of a plan stand: by their number, by their place, and in the queue.
-use Rattle.std.proofs.Common.{◌≡◌, ◌∙◌, sym, ap, subst, Bool, true, false, not, cond, ◌==◌, eqb, ℕ, zero, suc, ◌+◌, ◌<◌, ◌≤◌, List, [], ◌∷◌, length, map, filter, get_or, drop, Contains, slice_get, refl, arith, inl, inr}
+use Rattle.std.proofs.Common.{◌≡◌, ◌∙◌, sym, subst, Bool, false, not, cond, ◌==◌, eqb, ℕ, zero, suc, ◌+◌, ◌<◌, ◌≤◌, List, [], ◌∷◌, length, map, filter, get_or, drop, Contains, slice_get, refl, arith, inl, inr}
 use Rattle.std.specs.Prelude.{Some}
-use Rattle.std.specs.List.{IsDistinct, find, list_all}
-use Rattle.std.proofs.lemmas.Bool.{true≢false, and_parts, cases_Bool, cases_eq, cases_lt, cases_order, eq-eqb, eqb-true, ne_eqb, or_from}
+use Rattle.std.specs.List.{IsDistinct}
+use Rattle.std.proofs.lemmas.Bool.{true≢false, cases_Bool, cases_eq, cases_lt, cases_order, eq-eqb, ne_eqb, or_from}
 use Rattle.std.proofs.lemmas.Bool.Decides.{Decides-eqb}
 use Rattle.std.proofs.lemmas.List.{length-map}
 use Rattle.std.proofs.lemmas.List.Elements.{All-cons, All-nil, All-weaker, Contains-get_or}
 use Rattle.std.proofs.lemmas.List.Kept.{AllPairs-cons}
-use Rattle.std.proofs.lemmas.List.Sorted.{Contains-permutation, IsPermutation-sym, length_permutation}
-use Rattle.std.proofs.lemmas.List.Sums.{count_by-le-length, fails_before_first, length-filter, passes_at_first}
+use Rattle.std.proofs.lemmas.List.Sorted.{IsPermutation-sym, length_permutation}
+use Rattle.std.proofs.lemmas.List.Sums.{count_by-le-length, fails_before_first, length-filter}
 use Rattle.std.proofs.lemmas.Map.Keys.{IsDistinct-IsPermutation}
 use Rattle.std.proofs.lemmas.Map.Made.{AllPairs-from_IsDistinct, IsDistinct-from_AllPairs}
 use Rattle.std.proofs.lemmas.Option.{get_or_from_slice_get, none-some, same_Some, slice_get_read, slice_get_within}
@@ -16,8 +16,8 @@ use Rattle.std.specs.List.{All, AllPairs}
 use Rattle.ct_history.specs.declared.plan.PlanTest.{PlanTest}
 use Rattle.ct_history.specs.declared.plan.PlanParts.{PlanParts}
 use Rattle.ct_history.specs.Plan.{IsAscendingFrom, IsSound, enabled, test_at}
-use Rattle.ct_history.proofs.BoolLemmas.{eq_is, eq_less, eq_more}
-use Rattle.ct_history.proofs.PlanLemmas.{contained_at, find_passes, found_bound}
+use Rattle.ct_history.proofs.BoolLemmas.{eq_more}
+use Rattle.ct_history.proofs.PlanLemmas.{contained_at}
 use Rattle.ct_history.proofs.ProgressLemmas.{found_contains}
 use Rattle.ct_queue.specs.Ready.{NamesOnce, StandsIn, place_of}
 use Rattle.ct_queue.proofs.CallerLemmas.{place_of_test}
@@ -94,10 +94,7 @@ one_place ts p q t u ascends there other same = elim (cases_order p q) [
   ]
 ]
 
--- a test that was looked up has its number, and a place
-pub found_number : (ts : List PlanTest) (n : ℕ) (t : PlanTest) → test_at ts n ≡ Some t → t.number ≡ n
-found_number ts n t found = eqb-true t.number n (find_passes (λ (x : PlanTest). x.number == n) ts t found)
-
+-- a test that was looked up has a place
 pub found_place : (ts : List PlanTest) (n : ℕ) (t : PlanTest) → test_at ts n ≡ Some t → (place : ℕ) × (slice_get ts place ≡ Some t)
 found_place ts n t found =
     let at = found_contains (λ (x : PlanTest). x.number == n) ts t found in
@@ -116,55 +113,6 @@ stands_from_contains order n is = elim (cases_lt (place_of order n) (length orde
       absurd (true≢false (sym (eq-eqb (get_or order is.0 n) n is.2) ∙ fails))
 ]
 
-contains_from_stands : (order : List ℕ) (n : ℕ) → StandsIn order n → Contains order n
-contains_from_stands order n stands =
-    (place_of order n, stands, eqb-true (get_or order (place_of order n) n) n (passes_at_first (λ t. eqb t n) order n stands))
-
--- what holds of each element holds of the one that was found
-pub all_found : {A : Type 0} (p q : A → Bool) (xs : List A) (x : A) → list_all p xs ≡ true → find q xs ≡ Some x → p x ≡ true
-all_found p q [] x all is = absurd (none-some x is)
-all_found p q (y ∷ ys) x all is = elim (cases_Bool (q y)) [
-  | inl here ↦
-      let found : Some y ≡ Some x = sym (ap (λ (b : Bool). cond b (Some y) (find q ys)) here) ∙ is in
-      ap p (sym (same_Some y x found)) ∙ (and_parts (p y) (list_all p ys) all).0
-  | inr not_here ↦ all_found p q ys x (and_parts (p y) (list_all p ys) all).1 (sym (ap (λ (b : Bool). cond b (Some y) (find q ys)) not_here) ∙ is)
-]
-
--- a test of the plan with this number, which is not disabled
-pub record IsEnabledAt (tests : List PlanTest) (number : ℕ) : Type 0 where
-  pub test : PlanTest
-  pub found : test_at tests number ≡ Some test
-  pub works : test.disabled ≡ false
-
-found_behind : (u : PlanTest) (us : List PlanTest) (n : ℕ) → IsAscendingFrom (u.number + 1) (numbers_of us) → IsEnabledAt us n → IsEnabledAt (u ∷ us) n
-found_behind u us n ascends later =
-    let bound = found_bound (λ (x : PlanTest). x.number == n) (u.number + 1) us later.test ascends later.found in
-    let number = found_number us n later.test later.found in
-    record {
-      test = later.test;
-      found = ap (λ (b : Bool). cond b (Some u) (test_at us n)) (eq_less u.number n (omega (arith, bound, number))) ∙ later.found;
-      works = later.works;
-    }
-
-first_or_behind : (u : PlanTest) (us : List PlanTest) (n : ℕ) → u.disabled ≡ false → IsAscendingFrom (u.number + 1) (numbers_of us) → (Contains (numbers_of (enabled us)) n → IsEnabledAt us n) → Contains (u.number ∷ numbers_of (enabled us)) n → IsEnabledAt (u ∷ us) n
-first_or_behind u us n works ascends more (zero, lt, same) = record {
-  test = u;
-  found = ap (λ (b : Bool). cond b (Some u) (test_at us n)) (eq_is u.number n same);
-  works = works;
-}
-first_or_behind u us n works ascends more (suc k, lt, same) = found_behind u us n ascends (more (k, omega (arith, lt), same))
-
-enabled_found : (least : ℕ) (ts : List PlanTest) (n : ℕ) → IsAscendingFrom least (numbers_of ts) → Contains (numbers_of (enabled ts)) n → IsEnabledAt ts n
-enabled_found least [] n ascends is = absurd (omega (arith, is.1))
-enabled_found least (u ∷ us) n ascends is = elim (cases_Bool u.disabled) [
-  | inl off ↦
-      found_behind u us n ascends.1
-      (enabled_found (u.number + 1) us n ascends.1 (subst (λ (b : Bool). Contains (numbers_of (cond (not b) (u ∷ enabled us) (enabled us))) n) off is))
-  | inr works ↦
-      first_or_behind u us n works ascends.1 (λ more. enabled_found (u.number + 1) us n ascends.1 more)
-      (subst (λ (b : Bool). Contains (numbers_of (cond (not b) (u ∷ enabled us) (enabled us))) n) works is)
-]
-
 eqb_flips : (x y : ℕ) → eqb x y ≡ eqb y x
 eqb_flips x y = elim (cases_eq x y) [
   | inl same ↦ eq-eqb x y same ∙ sym (eq-eqb y x (sym same))
@@ -172,18 +120,6 @@ eqb_flips x y = elim (cases_eq x y) [
 ]
 
 module _ (plan : PlanParts) (sound : IsSound plan) where
-  -- what stands in the queue is the number of a test that is not disabled
-  pub queued_test : (n : ℕ) → StandsIn plan.queue n → IsEnabledAt plan.tests n
-  queued_test n stands =
-      enabled_found 1 plan.tests n sound.numbers
-      (Contains-permutation plan.queue (numbers_of (enabled plan.tests)) n sound.queue (contains_from_stands plan.queue n stands))
-
-  -- and such a number stands in the queue
-  pub enabled_stands : (n : ℕ) → Contains (numbers_of (enabled plan.tests)) n → StandsIn plan.queue n
-  enabled_stands n is =
-      stands_from_contains plan.queue n
-      (Contains-permutation (numbers_of (enabled plan.tests)) plan.queue n (IsPermutation-sym plan.queue (numbers_of (enabled plan.tests)) sound.queue) is)
-
   distinct_numbers : IsDistinct eqb (numbers_of (enabled plan.tests))
   distinct_numbers =
       let ns = numbers_of (enabled plan.tests) in

@@ -1,6 +1,6 @@
 -- What a run keeps as it settles a test.
 use Rattle.std.proofs.Common.{◌≡◌, ◌∙◌, sym, ap, subst, Bool, true, false, ℕ, ◌+◌, ◌≤◌, List, [], ◌∷◌, ◌++◌, length, refl, arith, length-append}
-use Rattle.std.specs.Prelude.{Option, Some, None, not, ◌&&◌, ◌||◌, slice_get, slice_set, if◌then◌else◌}
+use Rattle.std.specs.Prelude.{Option, Some, None, not, ◌&&◌, slice_get, slice_set}
 use Rattle.ct_verdict.specs.declared.verdict.Cause.{Cause}
 use Rattle.ct_verdict.specs.declared.verdict.Verdict.TheVariants.{NotRun}
 use Rattle.ct_verdict.specs.Verdict.{is_failing_cause}
@@ -11,7 +11,7 @@ use Rattle.ct_history.specs.declared.history.Entry.TheVariants.{Settle}
 use Rattle.ct_history.specs.Plan.{test_at}
 use Rattle.ct_history.specs.History.{Running, attempts_of, has_stop, open_starts}
 use Rattle.ct_history.specs.Rules.{is_pending, settle_cause, settle_cause_at, settle_cause_of_test}
-use Rattle.ct_history.proofs.LegalLemmas.{allowed-snoc, legal_allowed, stop-snoc}
+use Rattle.ct_history.proofs.LegalLemmas.{allowed-snoc, legal_allowed}
 use Rattle.ct_history.proofs.MayLemmas.{settled_pending}
 use Rattle.ct_queue.specs.Ready.{ReadyValue, StandsIn, is_ready}
 use Rattle.ct_core.specs.declared.state.State.{State}
@@ -24,7 +24,7 @@ use Rattle.ct_core.specs.Standing.{IsPlaceOf, count_unfinished}
 use Rattle.ct_core.specs.Waiting.{AreSettleable, IsQueued, followers_of}
 use Rattle.ct_core.specs.Parts.{IsConcluding, IsKept, IsSettled}
 use Rattle.ct_core.proofs.DueLemmas.{settle_due}
-use Rattle.ct_core.proofs.KeptLemmas.{settle_allowed}
+use Rattle.ct_core.proofs.KeptLemmas.{one_place_most, settle_allowed, stop_stays}
 use Rattle.ct_core.proofs.OpenStartLemmas.{opens_settle}
 use Rattle.ct_core.proofs.StateLemmas.{verdict_settled}
 use Rattle.ct_core.proofs.StandingLemmas.{pending_settles, states_settled, unfinished_less}
@@ -42,10 +42,6 @@ settled_test plan es n c may = by_test (test_at plan.tests n) refl may
     by_test : (o : Option PlanTest) → test_at plan.tests n ≡ o → settle_cause_at plan es o ≡ Some c → SettledTest plan es n c
     by_test None found has = cc
     by_test (Some t) found has = record { test = t; found = found; has = has }
-
-most_one : (b : Bool) → (if b then 0 else 1) ≤ 1
-most_one true = omega arith
-most_one false = omega arith
 
 module _ (plan : PlanParts) (es : List Entry) (room : ℕ) (parts : Parts) (kept : IsKept plan es room parts) (n : ℕ) (c : Cause) (may : settle_cause_of_test plan es n ≡ Some c) (place : ℕ) (at : IsPlaceOf plan.tests n place) where
   abbrev more : List Entry
@@ -69,11 +65,7 @@ module _ (plan : PlanParts) (es : List Entry) (room : ℕ) (parts : Parts) (kept
   is_member runs = settle_member plan kept.told.sound es n one.test one.found c one.has parts.ready (going_on runs) (kept.queued.ready (going_on runs))
 
   stops : has_stop more ≡ has_stop es
-  stops = stop-snoc es (Settle n c) ∙ or_falses (has_stop es)
-    where
-      or_falses : (b : Bool) → (b || (false || false)) ≡ b
-      or_falses true = refl
-      or_falses false = refl
+  stops = stop_stays es (Settle n c) refl
 
   pub concluding-settled : (new : Parts) → IsSettled place n c parts new → (room' : ℕ) → length es + (parts.in_use.open_count + 2) ≤ room' → IsConcluding plan more room' n (NotRun c) new
   concluding-settled new set room' le = record {
@@ -85,7 +77,7 @@ module _ (plan : PlanParts) (es : List Entry) (room : ℕ) (parts : Parts) (kept
     reserved = λ some.
         let longer : length more ≡ length es + 1 = length-append es (Settle n c ∷ []) in
         let same : new.in_use.open_count ≡ parts.in_use.open_count = ap (λ (u : InUse). u.open_count) set.in_use in
-        let most : stop_places more ≤ 1 = most_one (has_stop more) in
+        let most : stop_places more ≤ 1 = one_place_most more in
         omega (arith, longer, same, most, le);
     stop_room = λ going. let longer : length more ≡ length es + 1 = length-append es (Settle n c ∷ []) in omega (arith, longer, le);
     told = record {

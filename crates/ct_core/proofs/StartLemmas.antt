@@ -1,6 +1,6 @@
 -- What a run keeps as an attempt starts.
 use Rattle.std.proofs.Common.{◌≡◌, ◌∙◌, sym, ap, subst, Bool, true, false, ℕ, ◌+◌, ◌<◌, ◌≤◌, ◌^◌, List, [], ◌∷◌, ◌++◌, length, refl, arith, length-append}
-use Rattle.std.specs.Prelude.{Option, Some, None, ◌||◌, slice_get, slice_set, if◌then◌else◌}
+use Rattle.std.specs.Prelude.{Option, Some, None, slice_get, slice_set}
 use Rattle.std.proofs.lemmas.List.{length-map}
 use Rattle.ct_alloc.specs.declared.placement.Placement.{Placement}
 use Rattle.ct_history.specs.declared.plan.PlanTest.{PlanTest}
@@ -10,7 +10,7 @@ use Rattle.ct_history.specs.declared.history.Entry.TheVariants.{Start}
 use Rattle.ct_history.specs.Plan.{test_at}
 use Rattle.ct_history.specs.History.{Running, attempts_of, has_stop, is_busy_in, open_starts}
 use Rattle.ct_history.specs.Rules.{may_start, may_start_at}
-use Rattle.ct_history.proofs.LegalLemmas.{allowed-snoc, legal_allowed, legal_from, start_not_due, stop-snoc}
+use Rattle.ct_history.proofs.LegalLemmas.{allowed-snoc, legal_allowed, legal_from, start_not_due}
 use Rattle.ct_history.proofs.MayLemmas.{may_start-parts}
 use Rattle.ct_queue.specs.Ready.{ReadyValue, StandsIn, is_ready, with_out}
 use Rattle.ct_core.specs.declared.choice.Startable.{Startable}
@@ -23,7 +23,7 @@ use Rattle.ct_core.specs.Places.{stop_places}
 use Rattle.ct_core.specs.Standing.{IsPlaceOf, count_unfinished, state_of}
 use Rattle.ct_core.specs.Waiting.{AreSettleable, IsQueued}
 use Rattle.ct_core.specs.Parts.{IsKept}
-use Rattle.ct_core.proofs.KeptLemmas.{start_allowed}
+use Rattle.ct_core.proofs.KeptLemmas.{one_place_most, start_allowed, stop_stays}
 use Rattle.ct_core.proofs.InUseLemmas.{take_possible, taken}
 use Rattle.ct_core.proofs.OpenStartLemmas.{start_opens}
 use Rattle.ct_core.proofs.StandingLemmas.{pending_starts, states_started, unfinished_same}
@@ -53,10 +53,6 @@ started_test plan es n p a may next = by_test (test_at plan.tests n) refl may ne
     by_test : (o : Option PlanTest) → test_at plan.tests n ≡ o → may_start_at plan es p o ≡ true → a ≡ attempt_after es o → StartedTest plan es n p a
     by_test None found may next = cc
     by_test (Some t) found may next = record { test = t; found = found; may = may; next = next }
-
-most_one : (b : Bool) → (if b then 0 else 1) ≤ 1
-most_one true = omega arith
-most_one false = omega arith
 
 module _ (plan : PlanParts) (es : List Entry) (room : ℕ) (parts : Parts) (kept : IsKept plan es room parts) (w : ℕ) (free : is_busy_in w es ≡ false) (start : Startable) (can : IsStartable plan es start) (place : ℕ) (at : IsPlaceOf plan.tests start.test place) (t : PlanTest) (found : test_at plan.tests start.test ≡ Some t) where
   abbrev n : ℕ
@@ -104,11 +100,7 @@ module _ (plan : PlanParts) (es : List Entry) (room : ℕ) (parts : Parts) (kept
   is_member = start_member plan kept.told.sound es n t found start.attempt w p may parts.ready (kept.queued.ready going)
 
   stops : has_stop more ≡ has_stop es
-  stops = stop-snoc es (Start n start.attempt w p) ∙ or_falses (has_stop es)
-    where
-      or_falses : (b : Bool) → (b || (false || false)) ≡ b
-      or_falses true = refl
-      or_falses false = refl
+  stops = stop_stays es (Start n start.attempt w p) refl
 
   was : slice_get parts.states.items place ≡ Some (Pending ended)
   was = ap (λ (ss : List State). slice_get ss place) kept.told.states ∙ pending_starts plan es n place t at found p may
@@ -122,7 +114,7 @@ module _ (plan : PlanParts) (es : List Entry) (room : ℕ) (parts : Parts) (kept
     reserved = λ some.
         let longer : length more ≡ length es + 1 = length-append es (Start n start.attempt w p ∷ []) in
         let one_more = begun.in_use.opens in
-        let most : stop_places more ≤ 1 = most_one (has_stop more) in
+        let most : stop_places more ≤ 1 = one_place_most more in
         omega (arith, longer, one_more, most, le);
     told = record {
       sound = kept.told.sound;

@@ -30,6 +30,7 @@ use Rattle.ct_core.specs.Waiting.{AreSettleable, IsQueued, followers_of, is_one_
 use Rattle.ct_core.proofs.BegunLemmas.{open_is_ready}
 use Rattle.ct_core.proofs.ChangeLemmas.{ChangesOne, cause_of, cause_stopped, counts_final, counts_same, marks_set, marks_stay, no_cause, no_cause_ready, others_final, others_same, others_stopped, queue_set, queue_stays, ready_same}
 use Rattle.ct_core.proofs.AllowedLemmas.{IsAboutOnly, about_end, about_settle, about_start, number_at, undecided}
+use Rattle.ct_core.proofs.KeptLemmas.{stop_stays}
 use Rattle.ct_core.proofs.OpenStartLemmas.{held_open, open_planned, start_opens}
 use Rattle.ct_core.proofs.PredecessorLemmas.{none_open}
 use Rattle.ct_core.proofs.EnabledLemmas.{enabled_queued}
@@ -38,14 +39,10 @@ use Rattle.ct_core.proofs.StateLemmas.{pending_other, pending_state, verdict_oth
 -- an entry about one test changes this one alone
 changes_one : (plan : PlanParts) (es : List Entry) (e : Entry) (n : ℕ) → is_stop e ≡ false → IsAboutOnly n e → ChangesOne plan es (es ++ e ∷ []) n
 changes_one plan es e n plain only = record {
-  stops = stop-snoc es e ∙ ap (λ (b : Bool). has_stop es || (b || false)) plain ∙ or_false (has_stop es);
+  stops = stop_stays es e plain;
   verdicts = λ j other. verdict_other plan es e j (only j other);
   pendings = λ u other. pending_other plan u es e (only u.number other);
 }
-  where
-    or_false : (b : Bool) → (b || (false || false)) ≡ b
-    or_false true = refl
-    or_false false = refl
 
 not_some : {A : Type 0} (o : Option A) → is_some o ≡ false → o ≡ None
 not_some None none = refl

@@ -1,5 +1,5 @@
 -- What a run does next, by what its history says. The order of the cases is this project's choice.
-use Rattle.std.specs.Prelude.{◌≡◌, ℕ, ◌+◌, ◌<◌, true, false, List, ◌∷◌, ◌++◌, length, All, Option, Some, None}
+use Rattle.std.specs.Prelude.{◌≡◌, ◌⊎◌, ℕ, ◌+◌, ◌<◌, Bool, true, false, List, ◌∷◌, ◌++◌, length, All, Option, Some, None}
 use Rattle.ct_alloc.specs.declared.placement.Placement.{Placement}
 use Rattle.ct_verdict.specs.declared.verdict.Cause.{Cause}
 use Rattle.ct_history.specs.declared.plan.PlanTest.{PlanTest}
@@ -8,7 +8,7 @@ use Rattle.ct_history.specs.declared.history.Entry.{Entry}
 use Rattle.ct_history.specs.Plan.{test_at}
 use Rattle.ct_history.specs.History.{attempts_of}
 use Rattle.ct_history.specs.Verdicts.{are_all_final}
-use Rattle.ct_history.specs.Rules.{CanStart, is_idle, may_start_at, settle_cause_of_test}
+use Rattle.ct_history.specs.Rules.{CanStart, is_idle, may_start_at, may_start_if_placed, settle_cause_of_test}
 use Rattle.ct_core.specs.declared.choice.Startable.{Startable}
 use Rattle.ct_core.specs.declared.choice.Choice.{Choice}
 use Rattle.ct_core.specs.declared.choice.Choice.TheVariants.{Done, Settle, Start, Wait}
@@ -55,6 +55,32 @@ pub record IsStuck (plan : PlanParts) (entries : List Entry) : Type 0 where
   pub unfinished : are_all_final plan entries ≡ false
   pub unsettled : NoneSettles plan entries
   pub unstarted : NoneStarts plan entries plan.queue
+
+-- some test may be settled
+pub record SomeSettles (plan : PlanParts) (entries : List Entry) : Type 0 where
+  pub number : ℕ
+  pub cause : Cause
+  pub may : settle_cause_of_test plan entries number ≡ Some cause
+
+-- the test that was looked up may start wherever its needs are met
+abbrev pub may_start_if_placed_at : PlanParts → List Entry → Option PlanTest → Bool
+may_start_if_placed_at plan entries None = false
+may_start_if_placed_at plan entries (Some t) = may_start_if_placed plan t entries
+
+-- some test of the queue may start wherever its needs are met (so it may where it has none), and no earlier one may with
+-- any placement
+pub record SomeIsToPlace (plan : PlanParts) (entries : List Entry) : Type 0 where
+  pub earlier : List ℕ
+  pub number : ℕ
+  pub later : List ℕ
+  pub queued : plan.queue ≡ earlier ++ number ∷ later
+  pub may : may_start_if_placed_at plan entries (test_at plan.tests number) ≡ true
+  pub first : NoneStarts plan entries earlier
+
+-- what comes next takes memory: some test is not final, and one may be settled, or else one may start or is to be placed
+pub record TakesMemory (plan : PlanParts) (entries : List Entry) : Type 0 where
+  pub unfinished : are_all_final plan entries ≡ false
+  pub goes_on : SomeSettles plan entries ⊎ (NoneSettles plan entries × SomeIsToPlace plan entries)
 
 -- what a choice says: the first that holds of these
 abbrev pub IsChoice : PlanParts → List Entry → Choice → Type 0

@@ -12,7 +12,7 @@ use Rattle.ct_history.specs.Legal.{is_stop_due}
 use Rattle.ct_core.specs.declared.ticket.Ticket.{Ticket}
 use Rattle.ct_core.specs.declared.scheduler.Next.{Next}
 use Rattle.ct_core.specs.declared.scheduler.Next.TheVariants.{Start, Settled, Wait, Done, Aborted, NoMemory}
-use Rattle.ct_core.specs.Choice.{IsFirstToStart, IsLeastToSettle, IsStuck, NoneSettles, attempt_after}
+use Rattle.ct_core.specs.Choice.{IsFirstToStart, IsLeastToSettle, IsStuck, NoneSettles, TakesMemory, attempt_after}
 use Rattle.ct_core.specs.Ticket.{start_of}
 use Rattle.ct_core.specs.CoreValue.{CoreValue}
 
@@ -57,14 +57,20 @@ pub record IsDone (old new : CoreValue) : Type 0 where
   pub final : are_all_final old.plan old.entries ≡ true
   pub kept : new ≡ old
 
--- what an answer of `next` says; want of memory alone is free
+-- memory was wanting, where what comes next takes some
+pub record LacksMemory (old new : CoreValue) : Type 0 where
+  pub goes_on : old.aborted ≡ false
+  pub takes : TakesMemory old.plan old.entries
+  pub kept : new ≡ old
+
+-- what an answer of `next` says
 abbrev pub IsNext : CoreValue → ℕ → Next → CoreValue → Type 0
 IsNext old worker (Start ticket) new = StartsFirst old worker ticket new
 IsNext old worker (Settled test) new = SettlesLeast old test new
 IsNext old worker Wait new = Waits old new
 IsNext old worker Done new = IsDone old new
 IsNext old worker Aborted new = (old.aborted ≡ true) × (new ≡ old)
-IsNext old worker NoMemory new = new ≡ old
+IsNext old worker NoMemory new = LacksMemory old new
 
 -- a core has no sink: nothing was told as written, and no fault was counted
 abbrev pub no_base : Base

@@ -3,13 +3,13 @@ use Rattle.std.specs.Prelude.{ℕ, Bool, not, ◌&&◌, List, map, filter, ◌==
 use Rattle.std.specs.List.{list_any}
 use Rattle.ct_history.specs.declared.plan.PlanTest.{PlanTest}
 
--- the test with this number is one of a test's predecessors
-abbrev pub is_predecessor : ℕ → List ℕ → Bool
-is_predecessor number before = list_any (λ j. j == number) before
+-- the number is one of these
+abbrev pub is_one_of : ℕ → List ℕ → Bool
+is_one_of number numbers = list_any (λ n. n == number) numbers
 
 -- the test is not disabled, and waits for the one with this number
 abbrev pub follows : ℕ → PlanTest → Bool
-follows number t = not t.disabled && is_predecessor number t.before
+follows number t = not t.disabled && is_one_of number t.before
 
 -- the numbers of the tests that wait for the one with this number, in order
 abbrev pub followers_of : List PlanTest → ℕ → List ℕ

@@ -4,6 +4,7 @@ pub mod Choice
 pub mod Ticket
 pub mod CoreValue
 pub mod Core
+pub mod Order
 pub mod Standing
 pub mod Followers
 pub mod Lines

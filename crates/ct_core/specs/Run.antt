@@ -3,6 +3,7 @@ use Rattle.std.specs.Prelude.{ℕ, List, vec_capacity}
 use Rattle.ct_verdict.specs.declared.verdict.Verdict.{Verdict}
 use Rattle.ct_history.specs.declared.history.Entry.{Entry}
 use Rattle.ct_core.specs.declared.run.Run.{Run}
+use Rattle.ct_core.specs.Order.{FollowsQueue}
 use Rattle.ct_core.specs.Parts.{IsConcluding, IsKept}
 
 -- what happened in the run
@@ -12,6 +13,11 @@ entries_of run = run.history.entries.items
 -- its history is legal, and its parts say what it says
 abbrev pub IsKeptRun : Run → Type 0
 IsKeptRun run = IsKept run.plan (entries_of run) (vec_capacity run.history.entries) run.parts
+
+-- it is kept, and its history follows the queue
+pub record IsOrderlyRun (run : Run) : Type 0 where
+  pub kept : IsKeptRun run
+  pub order : FollowsQueue run.plan (entries_of run)
 
 -- its last entry made the test final with this verdict, and that alone is not noted yet
 abbrev pub IsConcludingRun : ℕ → Verdict → Run → Type 0

@@ -1,7 +1,6 @@
 -- Which tests of a plan wait for others, and which of them may be settled.
 -- Source: CMake manual, cmake-properties(7), DEPENDS, FIXTURES_REQUIRED. The sets are this project's own.
-use Rattle.std.specs.Prelude.{◌≡◌, ℕ, ◌+◌, ◌≤◌, Bool, true, false, not, ◌&&◌, List, length, Option, Some, None, is_some, slice_get, ◌==◌, if◌then◌else◌}
-use Rattle.std.specs.List.{list_any}
+use Rattle.std.specs.Prelude.{◌≡◌, ℕ, ◌+◌, ◌≤◌, Bool, true, false, not, ◌&&◌, List, length, Option, Some, None, is_some, slice_get, if◌then◌else◌}
 use Rattle.ct_verdict.specs.declared.verdict.Cause.{Cause}
 use Rattle.ct_history.specs.declared.plan.PlanTest.{PlanTest}
 use Rattle.ct_history.specs.declared.plan.PlanParts.{PlanParts}
@@ -13,11 +12,7 @@ use Rattle.ct_queue.specs.Ready.{ReadyValue, StandsIn, count_of, is_out}
 use Rattle.ct_queue.specs.Marks.{is_marked}
 use Rattle.ct_core.specs.Lines.{AreLinesOf}
 use Rattle.ct_core.specs.Standing.{open_before}
-pub use Rattle.ct_core.specs.Followers.{followers_of}
-
--- the number is one of these
-abbrev pub is_one_of : ℕ → List ℕ → Bool
-is_one_of number numbers = list_any (λ n. n == number) numbers
+pub use Rattle.ct_core.specs.Followers.{followers_of, is_one_of}
 
 -- how many predecessors of the test that was looked up are not final
 abbrev pub open_before_at : PlanParts → List Entry → Option PlanTest → ℕ

@@ -1,10 +1,10 @@
-ghost use Rattle.std.specs.Prelude.{◌≡◌, find, not, IfOk, MatchOption, Some, if◌then◌else◌};
-ghost use Rattle.ct_core.specs.Choice.{IsChoice, IsLeastToSettle, IsStartOf, IsStartable, NoneSettles, NoneStarts};
+ghost use Rattle.std.specs.Prelude.{◌≡◌, find, not, true, IfErr, IfOk, MatchOption, Some, if◌then◌else◌};
+ghost use Rattle.ct_core.specs.Choice.{IsChoice, IsLeastToSettle, IsStartOf, IsStartable, NoneSettles, NoneStarts, SomeIsToPlace, TakesMemory, may_start_if_placed_at};
 ghost use Rattle.ct_core.specs.Parts.{AreTold};
 ghost use Rattle.ct_core.specs.Run.{IsKeptRun, entries_of};
 ghost use Rattle.ct_core.specs.Waiting.{IsDue, cause_then};
 ghost use Rattle.ct_history.specs.History.{has_stop};
-ghost use Rattle.ct_history.specs.Plan.{IsSound};
+ghost use Rattle.ct_history.specs.Plan.{IsSound, test_at};
 ghost use Rattle.ct_history.specs.Rules.{CanStart, is_passed_verdict};
 ghost use Rattle.ct_history.specs.Verdicts.{verdict_of_test};
 ghost use Rattle.ct_verdict.specs.declared.verdict.Cause.TheVariants.{Stopped};
@@ -41,9 +41,12 @@ pub(crate) enum Choice {
 
 impl Run {
     /// Chooses the first that holds: all is done, a test may be settled, a test may start.
+    ///
+    /// Memory is taken only to look for a placement.
     pub(crate) fn choose(&self, alloc: Global) -> Result<Choice, NoMemory>
         requires { IsKeptRun self.now }
-        ensures { IfOk result (λ choice. IsChoice self.now.plan (entries_of self.now) choice) }
+        ensures ok { IfOk result (λ choice. IsChoice self.now.plan (entries_of self.now) choice) }
+        ensures err { IfErr result (λ _. TakesMemory self.now.plan (entries_of self.now)) }
     {
         if self.parts.unfinished == 0 {
             return Ok(Choice::Done);
@@ -126,8 +129,9 @@ impl Run {
     fn first_to_start(&self, alloc: Global) -> Result<Option<Startable>, NoMemory>
         requires kept { IsKeptRun self.now }
         requires unsettled { NoneSettles self.now.plan (entries_of self.now) }
-        ensures { IfOk result (λ found. MatchOption found (NoneStarts self.now.plan (entries_of self.now) self.now.plan.queue)
+        ensures ok { IfOk result (λ found. MatchOption found (NoneStarts self.now.plan (entries_of self.now) self.now.plan.queue)
             (λ start. IsStartable self.now.plan (entries_of self.now) start)) }
+        ensures err { IfErr result (λ _. SomeIsToPlace self.now.plan (entries_of self.now)) }
     {
         let plan = self.plan.parts();
         if self.parts.stopped || self.parts.in_use.is_full(plan.level) {
@@ -149,8 +153,9 @@ impl Run {
     fn next_start(&self, alloc: Global, number: u32) -> Result<Option<Startable>, NoMemory>
         requires kept { IsKeptRun self.now }
         requires due { IsDue self.now.plan (entries_of self.now) number }
-        ensures { IfOk result (λ found. MatchOption found (CanStart self.now.plan (entries_of self.now) number → ⊥)
+        ensures ok { IfOk result (λ found. MatchOption found (CanStart self.now.plan (entries_of self.now) number → ⊥)
             (λ start. IsStartOf self.now.plan (entries_of self.now) number start)) }
+        ensures err { IfErr result (λ _. may_start_if_placed_at self.now.plan (entries_of self.now) (test_at self.now.plan.tests number) ≡ true) }
     {
         let plan = self.plan.parts();
         let _times = plan.repeat.times;

@@ -22,7 +22,7 @@ pub enum Next {
     Done,
     /// The run was given up.
     Aborted,
-    /// Memory was wanting, and all is as before.
+    /// Memory was wanting for what comes next, and all is as before.
     NoMemory,
 }
 
@@ -38,19 +38,20 @@ pub struct Core {
 
 impl Model for Core {
     ghost use Rattle.ct_core.specs.CoreValue.{CoreValue};
-    ghost use Rattle.ct_core.specs.Run.{IsKeptRun};
+    ghost use Rattle.ct_core.specs.Run.{IsOrderlyRun};
 
     ghost Value = { CoreValue };
 
     ghost view = { λ c. record { plan = c.run.plan; entries = c.run.history.entries.items; aborted = c.aborted } };
 
-    ghost invariant = { λ c. IsKeptRun c.run };
+    ghost invariant = { λ c. IsOrderlyRun c.run };
 }
 
 impl Core {
     ghost use Rattle.ct_core.specs.Choice.{IsChoice, IsLeastToSettle, IsStartable, NoneSettles};
     ghost use Rattle.ct_core.specs.Core.{IsNext, with_final};
     ghost use Rattle.ct_core.specs.CoreValue.{CoreValue};
+    ghost use Rattle.ct_core.specs.Order.{FollowsQueue};
     ghost use Rattle.ct_core.specs.Ticket.{end_of, holds_ticket, test_of};
     ghost use Rattle.ct_history.specs.History.{is_busy_in};
     ghost use Rattle.ct_history.specs.Legal.{StaysWithin, is_legal};
@@ -84,11 +85,12 @@ impl Core {
         &self.run.plan
     }
 
-    /// Lends the history, which is legal and has stayed within what the plan declares.
+    /// Lends the history, which is legal, has stayed within what the plan declares, and follows its queue.
     pub fn history(&self) -> &History
         ensures is { result.now.entries.items ≡ self.now.entries }
         ensures legal { is_legal self.now.plan self.now.entries ≡ true }
         ensures within { StaysWithin self.now.plan self.now.entries }
+        ensures order { FollowsQueue self.now.plan self.now.entries }
     {
         &self.run.history
     }
@@ -105,7 +107,9 @@ impl Core {
     ///
     /// The first that holds: the run was given up; every test is final; a test may be settled, and
     /// the least is; a test may start, and the first in the queue does; wait for an end. So some
-    /// attempt is open after `Wait`.
+    /// attempt is open after `Wait`. Memory can be wanting where an entry is to be appended, and
+    /// while a placement is looked for: it never is in a run that was given up, or whose tests are
+    /// all final.
     pub fn next(&mut self, worker: u32) -> Next
         requires { is_busy_in worker self.old.entries ≡ false }
         ensures { IsNext self.old worker result self.new }
@@ -154,6 +158,7 @@ impl Core {
         ensures history { result.1.entries.items ≡ self.entries }
         ensures legal { is_legal self.plan self.entries ≡ true }
         ensures within { StaysWithin self.plan self.entries }
+        ensures order { FollowsQueue self.plan self.entries }
     {
         let Run { plan, history, .. } = self.run;
         (plan, history)
@@ -183,6 +188,7 @@ impl Core {
         })
     }
 
+    #[tactic(auto, using(crate::proofs::ChoiceLemmas::settle_takes))]
     fn settle(&mut self, test: u32, cause: Cause) -> Next
         requires goes_on { self.old.aborted ≡ false }
         requires least { IsLeastToSettle self.old.plan self.old.entries test cause }

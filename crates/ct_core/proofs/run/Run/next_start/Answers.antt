@@ -2,18 +2,20 @@ use Rattle.std.proofs.Common.{◌≡◌, ◌∙◌, ◌+◌, ◌<◌, ◌^◌, �
 use Rattle.std.specs.Prelude.{Option}
 use Rattle.std.proofs.lemmas.Grind.{common_steps}
 use Rattle.ct_alloc.specs.Free.{FreeValue}
+use Rattle.ct_history.specs.declared.plan.PlanTest.{PlanTest}
 use Rattle.ct_history.specs.declared.plan.PlanParts.{PlanParts}
 use Rattle.ct_history.specs.History.{attempts_of}
 use Rattle.ct_core.specs.declared.slots.Place.{Place}
+use Rattle.ct_core.specs.Choice.{may_start_if_placed_at}
 use Rattle.ct_core.specs.InUse.{has_room_beside}
 use Rattle.ct_core.specs.Run.{entries_of}
 use Rattle.ct_core.specs.Slots.{IsPlaceFor}
-use Rattle.ct_core.proofs.ChoiceLemmas.{attempt_fits, attempts_stand, due_at, not_due, nowhere, starts_of}
+use Rattle.ct_core.proofs.ChoiceLemmas.{attempt_fits, attempts_stand, due_at, failed, not_due, nowhere, starts_of}
 use Rattle.ct_core.proofs.InUseLemmas.{free_beside}
 use Rattle.ct_core.proofs.run.Run.next_start.Goals as goal
 
-pub returns-then-not-has_room : goal.returns-then-not-has_room
-returns-then-not-has_room c =
+pub returns-then-not-has_room-clause-ok : goal.returns-then-not-has_room-clause-ok
+returns-then-not-has_room-clause-ok c =
     let run = c.args.self.now in
     let t = c.index-tests-place.result in
     let tests = c.as_slice-tests.ensures ∙ ap (λ (p : PlanParts). p.tests) c.parts-plan.ensures.is in
@@ -43,8 +45,8 @@ overflow_add-result c =
     let small = subst (λ (p : PlanParts). p.repeat.times < 2 ^ 32) c.parts-plan.ensures.is read in
     omega (arith, count, attempt_fits run.plan t (entries_of run) (room ∙ c.if-not-has_room.false) small)
 
-pub returns-in-Here : goal.returns-in-Here
-returns-in-Here c =
+pub returns-in-Here-clause-ok : goal.returns-in-Here-clause-ok
+returns-in-Here-clause-ok c =
     let run = c.args.self.now in
     let t = c.index-tests-place.result in
     let ended = length (attempts_of t.number t.rules (entries_of run)) in
@@ -58,8 +60,8 @@ returns-in-Here c =
     starts_of run.plan (entries_of run) free t c.args.number (c.in-Pending.attempts + 1) c.in-Here.placement (free_beside run.plan (entries_of run) run.parts.in_use c.requires.kept.told.in_use) at.found (room ∙ c.if-not-has_room.false) placed
     (ap (λ (k : ℕ). k + 1) count)
 
-pub returns-in-Nowhere : goal.returns-in-Nowhere
-returns-in-Nowhere c =
+pub returns-in-Nowhere-clause-ok : goal.returns-in-Nowhere-clause-ok
+returns-in-Nowhere-clause-ok c =
     let run = c.args.self.now in
     let t = c.index-tests-place.result in
     let tests = c.as_slice-tests.ensures ∙ ap (λ (p : PlanParts). p.tests) c.parts-plan.ensures.is in
@@ -68,3 +70,12 @@ returns-in-Nowhere c =
     let found = subst (λ (o : Option FreeValue). IsPlaceFor o t.needs c.in_ok-placement.field-0) c.as_ref.ensures.value c.in_ok-placement.ensures in
     let none = subst (λ (place : Place). IsPlaceFor free t.needs place) c.in-Nowhere.is found in
     nowhere run.plan (entries_of run) free t c.args.number (free_beside run.plan (entries_of run) run.parts.in_use c.requires.kept.told.in_use) at.found none
+
+pub returns-in_err-placement-clause-err : goal.returns-in_err-placement-clause-err
+returns-in_err-placement-clause-err c =
+    let run = c.args.self.now in
+    let t = c.index-tests-place.result in
+    let tests = c.as_slice-tests.ensures ∙ ap (λ (p : PlanParts). p.tests) c.parts-plan.ensures.is in
+    let at = due_at run.plan (entries_of run) run.parts c.args.number c.expect_place-place.result t c.as_slice-tests.result.now c.requires.kept.told c.requires.due tests c.expect_place-place.ensures c.index-tests-place.is in
+    let room = at.room ∙ sym (c.has_room.ensures ∙ ap (λ (p : PlanParts). has_room_beside p.level run.parts.in_use t) c.parts-plan.ensures.is) in
+    failed c.from_residual.result (ap (λ (o : Option PlanTest). may_start_if_placed_at run.plan (entries_of run) o) at.found ∙ room ∙ c.if-not-has_room.false)
