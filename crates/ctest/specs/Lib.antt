@@ -1,6 +1,1 @@
 pub mod Start
-pub mod Machine
-pub mod Process
-pub mod Required
-pub mod Heard
-pub mod Transfer

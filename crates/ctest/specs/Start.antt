@@ -7,9 +7,9 @@ use Rattle.ct_app.specs.Calls.{sides}
 use Rattle.ct_app.specs.Ends.{history_entries}
 use Rattle.ct_app.specs.declared.outcome.Finished.{Finished}
 use Rattle.ct_core.specs.Gate.{GateTell}
-use Rattle.ctest.specs.Machine.{files_tell, gate_tell, sink_tell}
-use Rattle.ctest.specs.declared.real_files.RealFiles.{RealFiles}
-use Rattle.ctest.specs.declared.real_sink.RealSink.{RealSink}
+use Rattle.ct_edge.specs.Machine.{files_tell, gate_tell, sink_tell}
+use Rattle.ct_edge.specs.declared.real_files.RealFiles.{RealFiles}
+use Rattle.ct_edge.specs.declared.real_sink.RealSink.{RealSink}
 use Rattle.ctest.specs.declared.start.BeginFault.{BeginFault}
 use Rattle.ctest.specs.declared.start.BeginFault.TheVariants.{Failed, NoMemory}
 

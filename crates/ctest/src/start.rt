@@ -4,19 +4,19 @@ ghost use Rattle.std.specs.Process.{exit_status};
 ghost use Rattle.std.specs.declared.env.VarError.TheVariants as VarCause;
 ghost use Rattle.std.specs.declared.io.ErrorKind.TheVariants as ErrorKind;
 ghost use Rattle.ctest.specs.declared.start.BeginFault.TheVariants as BeginCause;
-ghost use Rattle.ctest.specs.Machine.{gates_tell};
+ghost use Rattle.ct_edge.specs.Machine.{gates_tell};
 ghost use Rattle.ctest.specs.Start.{RunsOnMachine, pairs_in, status_of_fault, status_of_run, unused_gates, words_in};
 
-use crate::process_gate::ProcessGate;
-use crate::real_files::RealFiles;
-use crate::real_sink::RealSink;
 use ct_app::{Finished, ctest_main};
 use ct_base::{Name, NoMemory, Pair};
 use ct_core::Gate;
+use ct_edge::{ProcessGate, RealFiles, RealSink};
 use std::alloc::{AllocError, AllocFailed, Global};
 use std::env::VarError;
 use std::io::Stdout;
 use std::process::ExitCode;
+use std::sync::Wait;
+use std::thread::Threads;
 use std::{env, io};
 
 /// How many programs of tests can run at once.
@@ -107,16 +107,21 @@ pub type Run<G> = Finished<RealFiles<HostRuntime>, G, RealSink<Stdout>>;
 /// or puts the list that they ask for.
 ///
 /// Where it cannot begin, it writes nothing.
-pub fn begin<G: Gate + Send + Drop>(rt: HostRuntime, gates: Vec<G>) -> Result<Run<G>, BeginFault>
+pub fn begin<R: Threads + Wait + Sync, G: Gate + Send + Drop>(
+    threads: &R,
+    rt: HostRuntime,
+    gates: Vec<G>,
+) -> Result<Run<G>, BeginFault>
     requires { map G.tells gates.items ≡ unused_gates }
 {
     let args: Vec<String> = env::args(&rt)?.collect(rt.alloc())?;
     let vars: Vec<(String, String)> = env::vars(&rt)?.collect(rt.alloc())?;
-    run(rt, args.as_slice(), vars.as_slice(), gates)
+    run(threads, rt, args.as_slice(), vars.as_slice(), gates)
 }
 
 /// Hands the words, the variables and the machine to the top call.
-fn run<G: Gate + Send + Drop>(
+fn run<R: Threads + Wait + Sync, G: Gate + Send + Drop>(
+    threads: &R,
     rt: HostRuntime,
     args: &[String],
     vars: &[(String, String)],
@@ -129,6 +134,7 @@ fn run<G: Gate + Send + Drop>(
     let words = words_of(rt.alloc(), args)?;
     let env = pairs_of(rt.alloc(), vars)?;
     Ok(ctest_main(
+        threads,
         rt.alloc(),
         words.as_slice(),
         env.as_slice(),

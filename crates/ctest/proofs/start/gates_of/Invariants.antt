@@ -1,5 +1,5 @@
 use Rattle.std.proofs.Common.{◌≡◌, vec_len, replicate}
-use Rattle.ctest.specs.Machine.{gate_tell, gates_tell}
+use Rattle.ct_edge.specs.Machine.{gate_tell, gates_tell}
 use Rattle.ctest.proofs.start.gates_of.Given as goal
 
 abbrev pub invariant-loop : goal.invariant-loop

@@ -1,0 +1,122 @@
+ghost use Rattle.std.specs.Prelude.{◌≡◌, ◌++◌, ◌∷◌, All, IfErr, IfOk, IsSomeAnd, IsUtf8, OnErr, OnOk, Some, slice_get, true};
+ghost use Rattle.std.specs.Process.{SameDir, SameProgramAndArgs, command_args, command_dir, command_program};
+ghost use Rattle.ct_edge.specs.declared.fault.StartFault.TheVariants as StartCause;
+ghost use Rattle.ct_edge.specs.Process.{AreTexts, HasEnv, IsTextPair, found_as, is_bare, program_as};
+
+use crate::fault::StartFault;
+use crate::text::text_of;
+use ct_base::{Name, NoMemory, Pair, join_path};
+use ct_core::Request;
+use std::alloc::Global;
+use std::process::{Command, Stdio};
+use std::{fs, rt};
+
+/// Tells whether the program of a request is named without a `/`, and is a file of the folder in
+/// which it starts.
+///
+/// Source: this project's choice, as ctest does it for `add_test(name program)`.
+pub(crate) fn is_beside<R: rt::Files>(
+    rt: &R,
+    alloc: Global,
+    request: &Request,
+) -> Result<bool, NoMemory>
+    ensures { IfOk result (λ beside. beside ≡ true → IsSomeAnd (slice_get request.now.command 0) (λ program. is_bare program ≡ true)) }
+{
+    let Some(program) = request.command.get(0) else {
+        return Ok(false);
+    };
+    if !is_bare(program) {
+        return Ok(false);
+    }
+    let path = join_path(alloc, &request.dir, program)?;
+    Ok(is_file(rt, &path))
+}
+
+/// Tells whether a program is named without a `/`.
+fn is_bare(program: &Name) -> bool
+    ensures { result ≡ is_bare program.now }
+{
+    !program.bytes().contains(&b'/')
+}
+
+/// What the system does not tell of is no file.
+fn is_file<R: rt::Files>(rt: &R, path: &Name) -> bool {
+    match text_of(path) {
+        Some(path) => fs::metadata(rt, path).is_ok_and(|found| found.is_file()),
+        None => false,
+    }
+}
+
+/// The command as the system takes it, with a pipe for each of its two outputs.
+///
+/// A program name with `/` is read from the folder that the program starts in, unless it begins
+/// with `/`; one without is the file of that name in this folder where it is there, and is else
+/// looked up in the folders that its own PATH names.
+pub(crate) fn command_of(
+    alloc: Global,
+    request: &Request,
+    beside: bool,
+) -> Result<Command, StartFault>
+    ensures call { IfOk result (λ command. command_program command ∷ command_args command ≡ found_as beside request.now.command) }
+    ensures dir { IfOk result (λ command. command_dir command ≡ Some request.now.dir) }
+    ensures env { IfOk result (λ command. HasEnv request.now.env command) }
+    ensures texts { IfErr result (λ fault. AreTexts request.now → fault ≡ StartCause.NoMemory) }
+{
+    let Some((program, args)) = request.command.as_slice().split_first() else {
+        return Err(StartFault::Failed);
+    };
+    let program = program_of(alloc, program, beside)?;
+    let mut command = Command::new(alloc, word_of(&program)?)?;
+    command.stdin(Stdio::null());
+    command.stdout(Stdio::piped());
+    command.stderr(Stdio::piped());
+    add_arguments(&mut command, args)?;
+    command.current_dir(word_of(&request.dir)?)?;
+    set_environment(&mut command, request.env.as_slice())?;
+    Ok(command)
+}
+
+/// The program as the system looks it up.
+fn program_of(alloc: Global, program: &Name, beside: bool) -> Result<Name, NoMemory>
+    ensures { IfOk result (λ name. name ≡ program_as beside program.now) }
+{
+    if !beside {
+        return program.copy(alloc);
+    }
+    let mut name = Vec::from_slice(alloc, b"./")?;
+    name.extend_from_slice(program.bytes())?;
+    Ok(Name::from_vec(name))
+}
+
+fn add_arguments(command: &mut Command, args: &[Name]) -> Result<(), StartFault>
+    ensures args { OnOk result (command_args command.new ≡ command_args command.old ++ args.now) }
+    ensures program { OnOk result (command_program command.new ≡ command_program command.old) }
+    ensures texts { IfErr result (λ fault. All IsUtf8 args.now → fault ≡ StartCause.NoMemory) }
+{
+    for arg in args {
+        command.arg(word_of(arg)?)?;
+    }
+    Ok(())
+}
+
+/// Gives the program these variables alone; of several of one name the last counts.
+fn set_environment(command: &mut Command, env: &[Pair]) -> Result<(), StartFault>
+    ensures env { OnOk result (HasEnv env.now command.new) }
+    ensures call { OnOk result (SameProgramAndArgs command.old command.new) }
+    ensures dir { OnOk result (SameDir command.old command.new) }
+    ensures texts { IfErr result (λ fault. All IsTextPair env.now → fault ≡ StartCause.NoMemory) }
+{
+    command.env_clear();
+    for pair in env {
+        command.env(word_of(&pair.name)?, word_of(&pair.value)?)?;
+    }
+    Ok(())
+}
+
+/// The word as text; one that is not UTF-8 is a start that failed.
+fn word_of(word: &Name) -> Result<&str, StartFault>
+    ensures ok { IfOk result (λ text. text.now ≡ word.entry.now) }
+    ensures text { OnErr result (IsUtf8 word.entry.now → ⊥) }
+{
+    text_of(word).ok_or(StartFault::Failed)
+}

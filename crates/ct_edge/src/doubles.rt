@@ -1,0 +1,73 @@
+//! What stands in the tests for a program's outputs and for the standard output.
+
+use ct_base::Blob;
+use std::io;
+use std::io::{ErrorKind, Read, Write};
+use std::os::fd::{AsRawFd, RawFd};
+
+/// A source that gives one byte at a time, and fails once it gave so many.
+#[derive(Drop)]
+pub(crate) struct Drip {
+    pub left: &'static [u8],
+    pub good: usize,
+    /// Whether it is never ready where it has run dry.
+    pub dries: bool,
+    /// A descriptor that is always ready.
+    pub ready: RawFd,
+}
+
+impl Read for Drip {
+    fn read(&mut self, room: &mut [u8]) -> io::Result<usize> {
+        if self.good == 0 {
+            return Err(io::Error::from(ErrorKind::Other));
+        }
+        let Some((first, left)) = self.left.split_first() else {
+            return Ok(0);
+        };
+        if room.is_empty() {
+            return Ok(0);
+        }
+        room[0] = *first;
+        self.left = left;
+        self.good -= 1;
+        Ok(1)
+    }
+}
+
+impl AsRawFd for Drip {
+    fn as_raw_fd(&self) -> RawFd {
+        if self.left.is_empty() && self.dries {
+            -1
+        } else {
+            self.ready
+        }
+    }
+}
+
+/// An output that takes one byte at a time, and once it took so many fails, or takes nothing.
+#[derive(Drop)]
+pub(crate) struct Sip {
+    pub taken: Blob,
+    pub good: usize,
+    pub fails: bool,
+}
+
+impl Write for Sip {
+    fn write(&mut self, bytes: &[u8]) -> io::Result<usize> {
+        let Some(first) = bytes.get(..1) else {
+            return Ok(0);
+        };
+        if self.good > 0 && self.taken.append(first).is_ok() {
+            self.good -= 1;
+            return Ok(1);
+        }
+        if self.fails {
+            return Err(io::Error::from(ErrorKind::Other));
+        }
+        Ok(0)
+    }
+
+    fn flush(&mut self) -> io::Result<()> {
+        Ok(())
+    }
+}

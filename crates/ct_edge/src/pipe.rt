@@ -1,0 +1,158 @@
+ghost use Rattle.std.specs.Prelude.{◌≡◌, ◌≢◌, ◌∷◌, [], Err, IfOk, IsSome, Ok, OnOk, false, true};
+ghost use Rattle.std.specs.Io.KnownBytes.{IsAtEnd};
+ghost use Rattle.std.specs.IoError.{error_kind};
+ghost use Rattle.std.specs.declared.io.ErrorKind.TheVariants as ErrorKind;
+ghost use Rattle.ct_edge.specs.Heard.{Hears};
+ghost use Rattle.ct_edge.specs.Transfer.{Moves};
+
+use crate::fault::StartFault;
+use crate::limit::Limit;
+use crate::transfer::read_piece;
+use ct_base::{Blob, Ear};
+use libc::net::{POLLIN, poll};
+use libc::types::pollfd;
+use std::io;
+use std::io::{ErrorKind, Read};
+use std::os::fd::{AsRawFd, RawFd};
+use std::rt::Clock;
+
+/// The longest wait for an output of a program without a limit, in microseconds: an hour.
+const LONGEST_WAIT: u64 = 3_600_000_000;
+
+/// The system never finds this descriptor ready.
+const NO_DESCRIPTOR: RawFd = -1;
+
+/// Hands on what comes of an output and keeps what comes of the errors beside it, each as soon as it
+/// can be read, and tells whether both came to their ends within the limit.
+#[tactic(auto, using(crate::proofs::HeardLemmas::hears_none, crate::proofs::HeardLemmas::hears_more))]
+pub fn read_both<C: Clock, O: Read + AsRawFd, P: Read + AsRawFd, E: Ear>(
+    clock: &C,
+    limit: &Limit,
+    output: &mut O,
+    errors: &mut P,
+    ear: &mut E,
+    kept: &mut Blob,
+) -> Result<bool, StartFault>
+    ensures heard { OnOk result (Hears (O.remaining output.old) (O.remaining output.new) (E.stands_for ear.old) (E.stands_for ear.new)) }
+    ensures moved { OnOk result (Moves (P.remaining errors.old) kept.old (P.remaining errors.new) kept.new) }
+    ensures output { IfOk result (λ whole. whole ≡ true → IsAtEnd (O.remaining output.new)) }
+    ensures errors { IfOk result (λ whole. whole ≡ true → IsAtEnd (P.remaining errors.new)) }
+    ensures unlimited { IfOk result (λ whole. whole ≡ false → IsSome limit.now.micros) }
+{
+    let mut more_output = true;
+    let mut more_errors = true;
+    for _ in 0..u64::MAX {
+        if !more_output && !more_errors {
+            return Ok(true);
+        }
+        let left = limit.left(clock, LONGEST_WAIT)?;
+        if left == 0 {
+            return Ok(false);
+        }
+        let both = [awaited(output, more_output), awaited(errors, more_errors)];
+        let [output_ready, errors_ready] = ready(both, left)?;
+        if output_ready {
+            more_output = hear_piece(output, ear)?;
+        }
+        if errors_ready {
+            more_errors = read_piece(errors, kept, u64::MAX)?;
+        }
+    }
+    Err(StartFault::Failed)
+}
+
+/// Hands on what one read gives, and tells whether more may come.
+fn hear_piece<R: Read, E: Ear>(output: &mut R, ear: &mut E) -> io::Result<bool>
+    ensures moved { OnOk result (Hears (R.remaining output.old) (R.remaining output.new) (E.stands_for ear.old) (E.stands_for ear.new)) }
+    ensures end { IfOk result (λ more. more ≡ false → IsAtEnd (R.remaining output.new)) }
+{
+    let mut room = [0u8; 8192];
+    let got = output.read(&mut room)?;
+    ear.hear(&room[..got]);
+    Ok(got > 0)
+}
+
+/// The descriptor that tells when an output can be read, while more may come of it.
+fn awaited<R: AsRawFd>(output: &R, more: bool) -> pollfd {
+    let fd = if more {
+        output.as_raw_fd()
+    } else {
+        NO_DESCRIPTOR
+    };
+    pollfd {
+        fd,
+        events: POLLIN,
+        revents: 0,
+    }
+}
+
+/// Waits until a read of one of these gives at once, but no longer than this, in microseconds, and
+/// tells of each whether it does.
+///
+/// It waits in whole milliseconds, rounded up. A signal ends the wait early.
+fn ready(mut awaited: [pollfd; 2], micros: u64) -> io::Result<[bool; 2]> {
+    let millis = i32::try_from(micros.div_ceil(1000)).unwrap_or(i32::MAX);
+    if poll(&mut awaited, millis) >= 0 {
+        return Ok([awaited[0].revents != 0, awaited[1].revents != 0]);
+    }
+    broken_off(io::Error::from_raw_os_error(os::errno()))
+}
+
+/// What a wait tells that the system broke off: a signal made neither ready, and any other error is a
+/// fault.
+fn broken_off(fault: io::Error) -> io::Result<[bool; 2]>
+    ensures signal { error_kind fault ≡ ErrorKind.Interrupted → result ≡ Ok (false ∷ false ∷ []) }
+    ensures failed { error_kind fault ≢ ErrorKind.Interrupted → result ≡ Err fault }
+{
+    if fault.kind() == ErrorKind::Interrupted {
+        return Ok([false, false]);
+    }
+    Err(fault)
+}
+
+#[cfg(test)]
+mod tests {
+    use super::*;
+    use crate::doubles::Drip;
+    use ct_base::Collect;
+    use std::fs;
+    use std::test::Fail;
+
+    /// How many bytes of `hello` can be read, whether no end comes behind them, the limit in
+    /// microseconds; what is told of this output beside one of `no`, what is heard, what is kept.
+    const READS: [(usize, bool, Option<u64>, Option<bool>, &str, &str); 6] = [
+        (9, false, None, Some(true), "hello", "no"),
+        (9, false, Some(60_000_000), Some(true), "hello", "no"),
+        (9, false, Some(0), Some(false), "", ""),
+        (9, true, Some(20_000), Some(false), "hello", "no"),
+        (3, false, None, None, "hel", "no"),
+        (1, false, None, None, "h", "n"),
+    ];
+
+    #[test]
+    fn reads_both_to_the_end_or_the_limit_or_the_fault(rt: HostRuntime) -> Result<(), Fail> {
+        let file = fs::File::open(&rt, "/dev/null")?;
+        let ready = file.as_raw_fd();
+        for (good, dries, limit, want, heard, kept) in READS {
+            let limit = Limit::from_now(&rt, limit)?;
+            let mut output = drip(b"hello", good, dries, ready);
+            let mut errors = drip(b"no", 9, false, ready);
+            let mut ear = Collect::new(rt.alloc());
+            let mut all = Blob::new(rt.alloc());
+            let whole = read_both(&rt, &limit, &mut output, &mut errors, &mut ear, &mut all).ok();
+            assert_eq!(rt; whole, want, "after {good}");
+            assert_eq!(rt; ear.heard().bytes(), heard.as_bytes(), "after {good}");
+            assert_eq!(rt; all.bytes(), kept.as_bytes(), "after {good}");
+        }
+        Ok(())
+    }
+
+    fn drip(left: &'static [u8], good: usize, dries: bool, ready: RawFd) -> Drip {
+        Drip {
+            left,
+            good,
+            dries,
+            ready,
+        }
+    }
+}

@@ -1,0 +1,106 @@
+ghost use Rattle.std.specs.Prelude.{◌≡◌, IfOk, IsSome, false};
+ghost use Rattle.ct_core.specs.Gate.{HasStartCause, is_not_started};
+ghost use Rattle.ct_verdict.specs.declared.attempt.How.TheVariants as Ends;
+ghost use Rattle.ct_edge.specs.Heard.{HearsNothing};
+ghost use Rattle.ct_edge.specs.Machine.{gate_tell};
+ghost use Rattle.ct_edge.specs.Process.{has_run, how_of_run};
+
+use crate::command::{command_of, is_beside};
+use crate::fault::StartFault;
+use crate::limit::{Limit, micros_of};
+use crate::real_files::RealFiles;
+use crate::required::first_missing;
+use crate::watch::{Running, attend};
+use ct_base::Ear;
+use ct_core::{Ended, Gate, Request, Ticket};
+use ct_verdict::How;
+use std::alloc::Global;
+use std::time::Instant;
+
+/// Runs the programs of tests on the machine, and waits for each.
+///
+/// It tells nothing of them. A program has no input.
+#[derive(Drop)]
+pub struct ProcessGate {
+    rt: HostRuntime,
+    /// The starts and waits that failed. It stands still at its last value.
+    faults: u64,
+}
+
+impl ProcessGate {
+    /// Makes the gate of which no start has failed.
+    pub fn new(rt: HostRuntime) -> ProcessGate
+        ensures { result.faults ≡ 0 }
+    {
+        ProcessGate { rt, faults: 0 }
+    }
+
+    /// Runs the program, and takes the time that this took; 0 where the clock failed.
+    fn attempt<E: Ear>(&mut self, alloc: Global, request: &Request, ear: &mut E) -> Ended
+        ensures cause { HasStartCause self.old.faults self.new.faults result.how }
+        ensures unlimited { result.how ≡ Ends.TimedOut → IsSome request.now.limit }
+    {
+        let began = Instant::now(&self.rt);
+        let outcome = run_program(self.rt, alloc, request, ear);
+        let passed = began.and_then(|began| began.elapsed(&self.rt));
+        Ended {
+            how: self.count(outcome),
+            micros: passed.map_or(0, micros_of),
+        }
+    }
+
+    /// Counts a start or a wait that failed, and tells how the attempt ended.
+    fn count(&mut self, outcome: Result<How, StartFault>) -> How
+        requires { IfOk outcome (λ how. is_not_started how ≡ false) }
+        ensures how { result ≡ how_of_run outcome }
+        ensures cause { HasStartCause self.old.faults self.new.faults result }
+    {
+        match outcome {
+            Ok(how) => how,
+            Err(StartFault::NoMemory) => How::NoMemory,
+            Err(StartFault::Failed) => {
+                self.faults = self.faults.saturating_add(1);
+                How::NotStarted
+            }
+        }
+    }
+}
+
+impl Gate for ProcessGate {
+    ghost tells = { λ gate. gate_tell gate.faults };
+
+    fn run<E: Ear>(
+        &mut self,
+        alloc: Global,
+        _ticket: &Ticket,
+        request: &Request,
+        ear: &mut E,
+    ) -> Ended {
+        self.attempt(alloc, request, ear)
+    }
+}
+
+/// Runs the program of a request to its end, and hands what it writes to the ear. Without one of the
+/// required files it is not started.
+fn run_program<E: Ear>(
+    rt: HostRuntime,
+    alloc: Global,
+    request: &Request,
+    ear: &mut E,
+) -> Result<How, StartFault>
+    ensures started { IfOk result (λ how. is_not_started how ≡ false) }
+    ensures unheard { IfOk result (λ how. has_run how ≡ false → HearsNothing (E.stands_for ear.old) (E.stands_for ear.new)) }
+    ensures unlimited { IfOk result (λ how. how ≡ Ends.TimedOut → IsSome request.now.limit) }
+{
+    let required = request.required.as_slice();
+    if let Some(place) = first_missing(&mut RealFiles::new(rt), alloc, required)? {
+        return Ok(How::Lacks(u32::try_from(place).unwrap_or(u32::MAX)));
+    }
+    let limit = Limit::from_now(&rt, request.limit)?;
+    let beside = is_beside(&rt, alloc, request)?;
+    let child = command_of(alloc, request, beside)?.spawn(&rt)?;
+    attend(&rt, alloc, &limit, &mut Running::of(child)?, ear)
+}
+
+#[cfg(test)]
+mod tests;

@@ -1,0 +1,207 @@
+ghost use Rattle.std.specs.Prelude.{◌≡◌, ◌≢◌, ◌+◌, ◌≤◌, Err, IfErr, IfOk, IfSome, None, Ok, OnErr, OnOk, Some, length};
+ghost use Rattle.std.specs.IoError.{error_kind};
+ghost use Rattle.std.specs.declared.io.ErrorKind.TheVariants as ErrorKind;
+ghost use Rattle.ct_edge.specs.Machine.{files_tell};
+ghost use Rattle.ct_base.specs.Outside.{HasCause};
+ghost use Rattle.ct_base.specs.declared.files.FilesFault.TheVariants as FilesCause;
+
+use crate::text::text_of;
+use crate::transfer::{read_up_to, write_whole};
+use ct_base::{Blob, Files, FilesFault, Name};
+use std::alloc::Global;
+use std::io::ErrorKind;
+use std::{fs, io, rt};
+
+/// The files of the machine, which a path names as text.
+///
+/// A relative path begins at the folder that the process is in. It tells neither what the files
+/// hold nor which call failed last.
+#[derive(Drop)]
+pub struct RealFiles<R> {
+    rt: R,
+    /// The calls that failed. It stands still at its last value.
+    faults: u64,
+}
+
+impl<R> RealFiles<R> {
+    /// Makes the files of which no call has failed.
+    pub fn new(rt: R) -> RealFiles<R>
+        ensures { result.faults ≡ 0 }
+    {
+        RealFiles { rt, faults: 0 }
+    }
+
+    /// Counts a call that failed.
+    fn count<T>(&mut self, outcome: Result<T, FilesFault>) -> Result<T, FilesFault>
+        ensures same { result ≡ outcome }
+        ensures cause { HasCause FilesCause.Failed self.old.faults self.new.faults result }
+        ensures kept { OnOk result (self.new.faults ≡ self.old.faults) }
+    {
+        if matches!(&outcome, Err(FilesFault::Failed)) {
+            self.faults = self.faults.saturating_add(1);
+        }
+        outcome
+    }
+}
+
+impl<R: rt::Files> Files for RealFiles<R> {
+    ghost tells = { λ files. files_tell files.faults };
+
+    fn read(&mut self, alloc: Global, path: &Name, most: u64) -> Result<Option<Blob>, FilesFault> {
+        let got = read_file(&self.rt, alloc, path, most);
+        self.count(got)
+    }
+
+    fn exists(&mut self, _alloc: Global, path: &Name) -> Result<bool, FilesFault> {
+        let seen = is_there(&self.rt, path);
+        self.count(seen)
+    }
+
+    fn write(&mut self, _alloc: Global, path: &Name, bytes: &[u8]) -> Result<(), FilesFault> {
+        let wrote = write_file(&self.rt, path, bytes);
+        self.count(wrote)
+    }
+}
+
+/// Reads at most one byte more than `most`; an absent path gives `None`.
+fn read_file<R: rt::Files>(
+    rt: &R,
+    alloc: Global,
+    path: &Name,
+    most: u64,
+) -> Result<Option<Blob>, FilesFault>
+    ensures bound { IfOk result (λ got. IfSome got (λ bytes. length bytes ≤ most + 1)) }
+{
+    match present(fs::open(rt, path_of(path)?))? {
+        Some(mut file) => Ok(Some(read_up_to(alloc, &mut file, most)?)),
+        None => Ok(None),
+    }
+}
+
+fn is_there<R: rt::Files>(rt: &R, path: &Name) -> Result<bool, FilesFault> {
+    Ok(present(fs::metadata(rt, path_of(path)?))?.is_some())
+}
+
+/// Makes the folders above the path that are missing, and then the file.
+fn write_file<R: rt::Files>(rt: &R, path: &Name, bytes: &[u8]) -> Result<(), FilesFault> {
+    let path = path_of(path)?;
+    if let Some((above, _)) = path.rsplit_once('/') {
+        answer(fs::create_dir_all(rt, above))?;
+    }
+    let mut file = answer(fs::create(rt, path))?;
+    answer(write_whole(&mut file, bytes))
+}
+
+/// The path as text; one that is not UTF-8 is a fault.
+fn path_of(path: &Name) -> Result<&str, FilesFault>
+    ensures { IfOk result (λ text. text.now ≡ path.entry.now) }
+{
+    text_of(path).ok_or(FilesFault::Failed)
+}
+
+/// What the system gave. Each of its errors is a fault.
+fn answer<T>(outcome: io::Result<T>) -> Result<T, FilesFault>
+    ensures ok { IfOk outcome (λ got. result ≡ Ok got) }
+    ensures failed { OnErr outcome (result ≡ Err FilesCause.Failed) }
+{
+    outcome.map_err(|_| FilesFault::Failed)
+}
+
+/// What the system found, and `None` where nothing is at the path, as below what is no folder. Its
+/// other errors are faults.
+fn present<T>(found: io::Result<T>) -> Result<Option<T>, FilesFault>
+    ensures ok { IfOk found (λ file. result ≡ Ok (Some file)) }
+    ensures absent { IfErr found (λ e. error_kind e ≡ ErrorKind.NotFound → result ≡ Ok None) }
+    ensures below { IfErr found (λ e. error_kind e ≡ ErrorKind.NotADirectory → result ≡ Ok None) }
+    ensures failed { IfErr found (λ e. error_kind e ≢ ErrorKind.NotFound → error_kind e ≢ ErrorKind.NotADirectory
+        → result ≡ Err FilesCause.Failed) }
+{
+    match found {
+        Ok(file) => Ok(Some(file)),
+        Err(e) if e.kind() == ErrorKind::NotFound => Ok(None),
+        Err(e) if e.kind() == ErrorKind::NotADirectory => Ok(None),
+        Err(_) => Err(FilesFault::Failed),
+    }
+}
+
+#[cfg(test)]
+mod tests {
+    use super::*;
+    use std::test::Fail;
+
+    /// How many bytes of a file of `hello` are wanted and one more, and what is read.
+    const READS: [(u64, &str); 5] = [
+        (5, "hello"),
+        (4, "hello"),
+        (3, "hell"),
+        (0, "h"),
+        (u64::MAX, "hello"),
+    ];
+
+    /// Nothing is at these paths: the last two lie below what is no folder.
+    const ABSENT: [&[u8]; 4] = [
+        b"absent",
+        b"/no/such/file",
+        b"/dev/null/a",
+        b"/bin/sh/below/it",
+    ];
+
+    const UNREADABLE: [&[u8]; 3] = [b"/", b"\xff", b"a\0b"];
+
+    const UNWRITABLE: [&[u8]; 5] = [b"/", b"\xff", b"a\0b", b"/dev/full", b"/dev/null/a"];
+
+    #[test]
+    fn reads_back_what_it_wrote(rt: HostRuntime) -> Result<(), Fail> {
+        let mut files = RealFiles::new(&rt);
+        let path = Name::of(rt.alloc(), b"made/for/it/file")?;
+        assert!(rt; !files.exists(rt.alloc(), &path)?);
+        files.write(rt.alloc(), &path, b"something longer")?;
+        files.write(rt.alloc(), &path, b"hello")?;
+        for (most, want) in READS {
+            let got = files.read(rt.alloc(), &path, most)?;
+            let is_read = got.is_some_and(|bytes| bytes.bytes() == want.as_bytes());
+            assert!(rt; is_read, "at {most}");
+        }
+        assert!(rt; files.exists(rt.alloc(), &path)?);
+        assert_eq!(rt; files.faults, 0);
+        Ok(())
+    }
+
+    #[test]
+    fn finds_nothing_where_nothing_is(rt: HostRuntime) -> Result<(), Fail> {
+        let mut files = RealFiles::new(&rt);
+        for path in ABSENT {
+            let path = Name::of(rt.alloc(), path)?;
+            assert!(rt; !files.exists(rt.alloc(), &path)?, "at {path:?}");
+            assert!(rt; files.read(rt.alloc(), &path, 9)?.is_none(), "at {path:?}");
+        }
+        assert_eq!(rt; files.faults, 0);
+        Ok(())
+    }
+
+    #[test]
+    fn counts_the_reads_and_looks_that_fail(rt: HostRuntime) -> Result<(), Fail> {
+        let mut files = RealFiles::new(&rt);
+        for path in UNREADABLE {
+            let path = Name::of(rt.alloc(), path)?;
+            assert!(rt; files.read(rt.alloc(), &path, 9).is_err(), "at {path:?}");
+        }
+        assert_eq!(rt; files.faults, 3);
+        let path = Name::of(rt.alloc(), b"a\0b")?;
+        assert!(rt; files.exists(rt.alloc(), &path).is_err());
+        assert_eq!(rt; files.faults, 4);
+        Ok(())
+    }
+
+    #[test]
+    fn counts_the_writes_that_fail(rt: HostRuntime) -> Result<(), Fail> {
+        let mut files = RealFiles::new(&rt);
+        for path in UNWRITABLE {
+            let path = Name::of(rt.alloc(), path)?;
+            let wrote = files.write(rt.alloc(), &path, b"x");
+            assert!(rt; wrote.is_err(), "at {path:?}");
+        }
+        assert_eq!(rt; files.faults, 5);
+        Ok(())
+    }
+}

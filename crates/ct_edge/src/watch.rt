@@ -1,0 +1,159 @@
+ghost use Rattle.std.specs.Prelude.{◌≡◌, ◌≢◌, false, IfOk, IfSome, IsOk, IsSome, None, OnOk, Some, true};
+ghost use Rattle.std.specs.Io.KnownBytes.{IsAtEnd};
+ghost use Rattle.ct_core.specs.Gate.{is_not_started};
+ghost use Rattle.ct_verdict.specs.declared.attempt.How.TheVariants as Ends;
+ghost use Rattle.ct_edge.specs.Heard.{Hears, HearsBoth};
+ghost use Rattle.ct_edge.specs.Process.{has_run, how_of_end};
+ghost use Rattle.ct_edge.specs.Transfer.{Moves};
+
+use crate::fault::StartFault;
+use crate::limit::Limit;
+use crate::pipe::read_both;
+use ct_base::{Blob, Ear};
+use ct_verdict::How;
+use std::alloc::Global;
+use std::io::Read;
+use std::os::fd::AsRawFd;
+use std::process::{Child, ChildStderr, ChildStdout, ExitStatus};
+use std::rt::Clock;
+use std::thread;
+use std::time::Duration;
+
+/// How many looks at a program that has closed its outputs come without a pause: it mostly ends at once.
+const QUICK_LOOKS: u64 = 64;
+
+/// The first pause and the longest one, in microseconds, between two looks behind these.
+const SHORTEST_PAUSE: u64 = 100;
+
+const LONGEST_PAUSE: u64 = 20_000;
+
+/// A program that runs, and the ends of its two outputs.
+#[derive(Drop)]
+pub struct Running<O, P> {
+    pub child: Child,
+    pub output: O,
+    pub errors: P,
+}
+
+impl Running<ChildStdout, ChildStderr> {
+    /// Takes the outputs of a program that was started; one without them is stopped.
+    pub fn of(mut child: Child) -> Result<Running<ChildStdout, ChildStderr>, StartFault>
+        ensures ok { IsSome child.stdout → IsSome child.stderr → IsOk result }
+        ensures output { IfOk result (λ program. child.stdout ≡ Some program.output) }
+        ensures errors { IfOk result (λ program. child.stderr ≡ Some program.errors) }
+    {
+        let (Some(output), Some(errors)) = (child.stdout.take(), child.stderr.take()) else {
+            stop(&mut child)?;
+            return Err(StartFault::Failed);
+        };
+        Ok(Running {
+            child,
+            output,
+            errors,
+        })
+    }
+}
+
+/// Hands on what a program writes, its standard output while it runs and then its standard error,
+/// and tells how it ended.
+///
+/// It returns when the program has ended and nothing holds its outputs any more, or else at the
+/// limit, when the program is stopped and its outputs are read no further.
+pub fn attend<C: Clock, O: Read + AsRawFd, P: Read + AsRawFd, E: Ear>(
+    clock: &C,
+    alloc: Global,
+    limit: &Limit,
+    program: &mut Running<O, P>,
+    ear: &mut E,
+) -> Result<How, StartFault>
+    ensures heard { OnOk result (HearsBoth (O.remaining program.old.output) (O.remaining program.new.output)
+        (P.remaining program.old.errors) (P.remaining program.new.errors) (E.stands_for ear.old) (E.stands_for ear.new)) }
+    ensures output { IfOk result (λ how. how ≢ Ends.TimedOut → IsAtEnd (O.remaining program.new.output)) }
+    ensures errors { IfOk result (λ how. how ≢ Ends.TimedOut → IsAtEnd (P.remaining program.new.errors)) }
+    ensures ran { IfOk result (λ how. has_run how ≡ true) }
+    ensures started { IfOk result (λ how. is_not_started how ≡ false) }
+    ensures unlimited { IfOk result (λ how. how ≡ Ends.TimedOut → IsSome limit.now.micros) }
+{
+    let mut kept = Blob::new(alloc);
+    let ended = watch(clock, limit, program, ear, &mut kept);
+    if !matches!(ended, Ok(Some(_))) {
+        stop(&mut program.child)?;
+    }
+    let how = how_of(ended?);
+    ear.hear(kept.bytes());
+    Ok(how)
+}
+
+/// Reads both outputs of a program to their ends and waits for its own. `None` is the limit.
+fn watch<C: Clock, O: Read + AsRawFd, P: Read + AsRawFd, E: Ear>(
+    clock: &C,
+    limit: &Limit,
+    program: &mut Running<O, P>,
+    ear: &mut E,
+    kept: &mut Blob,
+) -> Result<Option<ExitStatus>, StartFault>
+    ensures heard { OnOk result (Hears (O.remaining program.old.output) (O.remaining program.new.output) (E.stands_for ear.old) (E.stands_for ear.new)) }
+    ensures moved { OnOk result (Moves (P.remaining program.old.errors) kept.old (P.remaining program.new.errors) kept.new) }
+    ensures output { IfOk result (λ ended. IfSome ended (λ _. IsAtEnd (O.remaining program.new.output))) }
+    ensures errors { IfOk result (λ ended. IfSome ended (λ _. IsAtEnd (P.remaining program.new.errors))) }
+    ensures unlimited { IfOk result (λ ended. ended ≡ None → IsSome limit.now.micros) }
+{
+    let Running {
+        child,
+        output,
+        errors,
+    } = program;
+    if !read_both(clock, limit, output, errors, ear, kept)? {
+        return Ok(None);
+    }
+    end_of(clock, limit, child)
+}
+
+/// Waits for the end of a program. `None` is the limit.
+fn end_of<C: Clock>(
+    clock: &C,
+    limit: &Limit,
+    child: &mut Child,
+) -> Result<Option<ExitStatus>, StartFault>
+    ensures unlimited { IfOk result (λ ended. ended ≡ None → IsSome limit.now.micros) }
+{
+    if !limit.is_set() {
+        return Ok(Some(child.wait()?));
+    }
+    let mut pause = SHORTEST_PAUSE;
+    for look in 0..u64::MAX {
+        let ended = child.try_wait()?;
+        if ended.is_some() {
+            return Ok(ended);
+        }
+        let left = limit.left(clock, pause)?;
+        if left == 0 {
+            return Ok(None);
+        }
+        if look < QUICK_LOOKS {
+            thread::yield_now();
+        } else {
+            thread::sleep(clock, Duration::from_micros(left));
+            pause = (2 * pause).min(LONGEST_PAUSE);
+        }
+    }
+    Err(StartFault::Failed)
+}
+
+/// Stops a program that still runs, and waits for its end.
+fn stop(child: &mut Child) -> Result<(), StartFault> {
+    child.kill()?;
+    child.wait()?;
+    Ok(())
+}
+
+/// How the program ended; `None` is the limit.
+fn how_of(ended: Option<ExitStatus>) -> How
+    ensures { result ≡ how_of_end ended }
+{
+    match ended.map(|status| status.code()) {
+        Some(Some(code)) => How::Exited(code),
+        Some(None) => How::Signalled,
+        None => How::TimedOut,
+    }
+}
