@@ -1,29 +1,22 @@
 -- The answer of a run, once its end is told.
-use Rattle.std.proofs.Common.{◌≡◌, ◌∙◌, sym, ap, subst, true, ℕ, ◌<◌, ◌≤◌, min, List, [], ◌∷◌, length, get_or, refl, arith, inl, inr}
-use Rattle.std.specs.Prelude.{Option, Some, None, IsSomeAnd, Result, Ok, Err, map, nat_lt, slice_set}
-use Rattle.std.proofs.lemmas.Bool.{and_from, and_parts}
-use Rattle.std.proofs.lemmas.Bool.Decides.{nat_tests}
+use Rattle.std.proofs.Common.{◌≡◌, sym, subst, ℕ, List, [], refl, inl, inr}
+use Rattle.std.specs.Prelude.{Option, Some, None, IsSomeAnd, Result, Ok, Err}
 use Rattle.ct_base.specs.declared.defs.Pair.{Pair}
 use Rattle.ct_base.specs.declared.sink.SinkFault.TheVariants as Sinks
 use Rattle.ct_base.specs.Outside.{FilesTell, Puts, SinkTell}
 use Rattle.ct_history.specs.declared.plan.PlanParts.{PlanParts}
 use Rattle.ct_history.specs.declared.history.Entry.{Entry}
-use Rattle.ct_history.specs.declared.history.Entry.TheVariants.{Start, End, Settle, Stop}
 use Rattle.ct_core.specs.Gate.{GateTell}
 use Rattle.ct_args.specs.declared.invocation.Invocation.{Invocation}
 use Rattle.ct_plan.specs.Source.{Source}
 use Rattle.ct_app.specs.declared.outcome.Outcome.{Outcome}
 use Rattle.ct_app.specs.declared.outcome.Outcome.TheVariants.{Completed, Listed, Usage, Refused, FilesFault, OutputFault, Memory}
 use Rattle.ct_app.specs.declared.outcome.Refusal.{Refusal}
-use Rattle.ct_app.specs.declared.props.Tests.{Tests}
 use Rattle.ct_app.specs.Calls.{IsReadFault, IsUnrun, IsUsage, PutsOrFails, Tries, sides}
 use Rattle.ct_app.specs.Runs.{AnswersRun, HasRunWith, IsCompleted, IsCutOff, IsRefusal, IsReported, IsRun, IsShort, IsShortRun, IsUnwritten, RanWith}
 use Rattle.ct_app.specs.Ends.{Ends, RunLeaves, TellsEnd, Told}
-use Rattle.ct_app.specs.Gates.{AreAsked, are_below, is_below}
 use Rattle.ct_app.specs.Outcome.{fault_line, fault_status}
 use Rattle.ct_app.specs.RunFiles.{FilesStay}
-use Rattle.ct_app.specs.Tests.{tests_of}
-use Rattle.ct_app.proofs.GateLemmas.{asked_first}
 
 -- what holds of a plan and a history that are there
 run_map : (plan : Option PlanParts) (history : Option (List Entry)) (P Q : PlanParts → List Entry → Type 0) → ((p : PlanParts) (es : List Entry) → P p es → Q p es) → IsSomeAnd plan (λ p. IsSomeAnd history (λ es. P p es)) → IsSomeAnd plan (λ p. IsSomeAnd history (λ es. Q p es))
@@ -40,53 +33,25 @@ pub tried : (text : List ℕ) (before now : SinkTell) → PutsOrFails text befor
 tried text before now (inl put) = (Ok tt, put)
 tried text before now (inr put) = (Err Sinks.Failed, put)
 
--- the first workers are among more of them
-module _ (m n : ℕ) (most : m ≤ n) where
-  one_below : (e : Entry) → is_below m e ≡ true → is_below n e ≡ true
-  one_below (Start t a w p) is = lt_more w is
-    where
-      lt_more : (w : ℕ) → nat_lt w m ≡ true → nat_lt w n ≡ true
-      lt_more w is = grind (arith, nat_tests)
-  one_below (End t a w seen) is = lt_more w is
-    where
-      lt_more : (w : ℕ) → nat_lt w m ≡ true → nat_lt w n ≡ true
-      lt_more w is = grind (arith, nat_tests)
-  one_below (Settle t cause) is = refl
-  one_below Stop is = refl
+-- a call before its end is told, and behind that
+module _ (words : List (List ℕ)) (env : List Pair) (files files_now : FilesTell) (gates gates_now : List GateTell) (sink mid now : SinkTell) (plan : Option PlanParts) (history : Option (List Entry)) (names : List (List ℕ)) where
+  unrun_late : IsUnrun (sides words env files files_now gates gates_now sink mid plan history) → IsUnrun (sides words env files files_now gates gates_now sink now plan history)
+  unrun_late unrun = record { no_plan = unrun.no_plan; no_history = unrun.no_history; unasked = unrun.unasked }
 
-  below_more : (es : List Entry) → are_below m es ≡ true → are_below n es ≡ true
-  below_more [] is = refl
-  below_more (e ∷ es) is =
-      let parts = and_parts (is_below m e) (are_below m es) is in
-      and_from (is_below n e) (are_below n es) (one_below e parts.0) (below_more es parts.1)
-
--- a call before its end is told, of which one gate is looked at, and behind that, of which all are
-module _ (words : List (List ℕ)) (env : List Pair) (files files_now : FilesTell) (gate gate_now : GateTell) (gates gates_now : List GateTell) (sink mid now : SinkTell) (plan : Option PlanParts) (history : Option (List Entry)) (names : List (List ℕ)) (some : 1 ≤ length gates) (widen : (tests : Tests) (es : List Entry) → are_below 1 es ≡ true → AreAsked env tests 0 (gate ∷ []) (gate_now ∷ []) es → AreAsked env tests 0 gates gates_now es) (same : (gate_now ∷ []) ≡ (gate ∷ []) → gates_now ≡ gates) where
-  unrun_late : IsUnrun (sides words env files files_now (gate ∷ []) (gate_now ∷ []) sink mid plan history) → IsUnrun (sides words env files files_now gates gates_now sink now plan history)
-  unrun_late unrun = record { no_plan = unrun.no_plan; no_history = unrun.no_history; unasked = same unrun.unasked }
-
-  run_late : (invocation : Invocation) (source : Source) (p : PlanParts) (es : List Entry) → IsRun (sides words env files files_now (gate ∷ []) (gate_now ∷ []) sink mid plan history) invocation source p es → IsRun (sides words env files files_now gates gates_now sink now plan history) invocation source p es
+  run_late : (invocation : Invocation) (source : Source) (p : PlanParts) (es : List Entry) → IsRun (sides words env files files_now gates gates_now sink mid plan history) invocation source p es → IsRun (sides words env files files_now gates gates_now sink now plan history) invocation source p es
   run_late invocation source p es run = record {
     words = run.words;
     read = run.read;
-    ran = record {
-      few = run.ran.few;
-      planned = run.ran.planned;
-      legal = run.ran.legal;
-      within = run.ran.within;
-      closed = run.ran.closed;
-      workers = below_more (min p.level 1) (min p.level (length gates)) (omega (arith, some)) es run.ran.workers;
-      asked = widen (tests_of source invocation.timeout) es (below_more (min p.level 1) 1 (omega arith) es run.ran.workers) run.ran.asked;
-    };
+    ran = run.ran;
   }
 
-  ran_late : (P Q : Invocation → PlanParts → List Entry → Type 0) → ((i : Invocation) (p : PlanParts) (es : List Entry) → P i p es → Q i p es) → HasRunWith (sides words env files files_now (gate ∷ []) (gate_now ∷ []) sink mid plan history) P → HasRunWith (sides words env files files_now gates gates_now sink now plan history) Q
+  ran_late : (P Q : Invocation → PlanParts → List Entry → Type 0) → ((i : Invocation) (p : PlanParts) (es : List Entry) → P i p es → Q i p es) → HasRunWith (sides words env files files_now gates gates_now sink mid plan history) P → HasRunWith (sides words env files files_now gates gates_now sink now plan history) Q
   ran_late P Q each run =
-      run_map plan history (RanWith (sides words env files files_now (gate ∷ []) (gate_now ∷ []) sink mid plan history) P) (RanWith (sides words env files files_now gates gates_now sink now plan history) Q)
+      run_map plan history (RanWith (sides words env files files_now gates gates_now sink mid plan history) P) (RanWith (sides words env files files_now gates gates_now sink now plan history) Q)
       (λ p es was. record { invocation = was.invocation; source = was.source; run = run_late was.invocation was.source p es was.run; holds = each was.invocation p es was.holds }) run
 
-  none_ran : (P : Invocation → PlanParts → List Entry → Type 0) → ((i : Invocation) (p : PlanParts) (es : List Entry) → P i p es → ⊥) → HasRunWith (sides words env files files_now (gate ∷ []) (gate_now ∷ []) sink mid plan history) P → ⊥
-  none_ran P never run = run_none plan history (RanWith (sides words env files files_now (gate ∷ []) (gate_now ∷ []) sink mid plan history) P) (λ p es was. never was.invocation p es was.holds) run
+  none_ran : (P : Invocation → PlanParts → List Entry → Type 0) → ((i : Invocation) (p : PlanParts) (es : List Entry) → P i p es → ⊥) → HasRunWith (sides words env files files_now gates gates_now sink mid plan history) P → ⊥
+  none_ran P never run = run_none plan history (RanWith (sides words env files files_now gates gates_now sink mid plan history) P) (λ p es was. never was.invocation p es was.holds) run
 
   at : (o outcome : Outcome) (status : ℕ) → outcome ≡ o → status ≡ fault_status outcome → AnswersRun (sides words env files files_now gates gates_now sink now plan history) o (fault_status o) → AnswersRun (sides words env files files_now gates gates_now sink now plan history) outcome status
   at o outcome status is status_is answer =
@@ -101,7 +66,7 @@ module _ (words : List (List ℕ)) (env : List Pair) (files files_now : FilesTel
   memory_tried outcome (inl (is, puts)) = (is, tried (fault_line [] Memory) mid now puts)
   memory_tried outcome (inr (is, puts)) = (is, (Err Sinks.NoMemory, puts))
 
-  refusal_late : (refusal : Refusal) → IsRefusal (sides words env files files_now (gate ∷ []) (gate_now ∷ []) sink mid plan history) refusal names → IsRefusal (sides words env files files_now gates gates_now sink now plan history) refusal names
+  refusal_late : (refusal : Refusal) → IsRefusal (sides words env files files_now gates gates_now sink mid plan history) refusal names → IsRefusal (sides words env files files_now gates gates_now sink now plan history) refusal names
   refusal_late refusal (inl was) = inl (record { invocation = was.invocation; words = was.words; refused = was.refused; files = was.files; unrun = unrun_late was.unrun })
   refusal_late refusal (inr (inl was)) =
       inr (inl (record { invocation = was.invocation; words = was.words; defs = was.defs; props = was.props; read = was.read; refused = was.refused; files = was.files; unrun = unrun_late was.unrun }))
@@ -109,26 +74,26 @@ module _ (words : List (List ℕ)) (env : List Pair) (files files_now : FilesTel
       inr (inr (record { invocation = was.invocation; words = was.words; source = was.source; read = was.read; refused = was.refused; files = was.files; unrun = unrun_late was.unrun }))
 
   -- the files failed behind the report
-  write_fault_told : (path : List ℕ) (outcome : Outcome) (status : ℕ) → HasRunWith (sides words env files files_now (gate ∷ []) (gate_now ∷ []) sink mid plan history) (λ i p es. RunLeaves (sides words env files files_now (gate ∷ []) (gate_now ∷ []) sink mid plan history) i p es (Err (FilesFault path))) → Told names (FilesFault path) outcome mid now → status ≡ fault_status outcome → AnswersRun (sides words env files files_now gates gates_now sink now plan history) outcome status
+  write_fault_told : (path : List ℕ) (outcome : Outcome) (status : ℕ) → HasRunWith (sides words env files files_now gates gates_now sink mid plan history) (λ i p es. RunLeaves (sides words env files files_now gates gates_now sink mid plan history) i p es (Err (FilesFault path))) → Told names (FilesFault path) outcome mid now → status ≡ fault_status outcome → AnswersRun (sides words env files files_now gates gates_now sink now plan history) outcome status
   write_fault_told path outcome status run (inl (is, puts)) status_is =
-      at (FilesFault path) outcome status is status_is (inr (ran_late (λ i p es. RunLeaves (sides words env files files_now (gate ∷ []) (gate_now ∷ []) sink mid plan history) i p es (Err (FilesFault path))) (λ i. IsUnwritten (sides words env files files_now gates gates_now sink now plan history) path) (λ i p es was. (was.0, record { middle = mid; first = was.1; line = puts })) run), refl)
+      at (FilesFault path) outcome status is status_is (inr (ran_late (λ i p es. RunLeaves (sides words env files files_now gates gates_now sink mid plan history) i p es (Err (FilesFault path))) (λ i. IsUnwritten (sides words env files files_now gates gates_now sink now plan history) path) (λ i p es was. (was.0, record { middle = mid; first = was.1; line = puts })) run), refl)
   write_fault_told path outcome status run (inr (is, puts)) status_is =
-      at Memory outcome status is status_is ((FilesFault path, inr (ran_late (λ i p es. RunLeaves (sides words env files files_now (gate ∷ []) (gate_now ∷ []) sink mid plan history) i p es (Err (FilesFault path))) (λ i. IsShortRun (sides words env files files_now gates gates_now sink now plan history) (FilesFault path)) (λ i p es was. (was.0, record { middle = mid; first = was.1; line = puts })) run)), refl)
+      at Memory outcome status is status_is ((FilesFault path, inr (ran_late (λ i p es. RunLeaves (sides words env files files_now gates gates_now sink mid plan history) i p es (Err (FilesFault path))) (λ i. IsShortRun (sides words env files files_now gates gates_now sink now plan history) (FilesFault path)) (λ i p es was. (was.0, record { middle = mid; first = was.1; line = puts })) run)), refl)
 
-  pub told_answer : (ended : Result ℕ Outcome) (outcome : Outcome) (status : ℕ) → Ends (sides words env files files_now (gate ∷ []) (gate_now ∷ []) sink mid plan history) names ended → TellsEnd names ended outcome status mid now → AnswersRun (sides words env files files_now gates gates_now sink now plan history) outcome status
+  pub told_answer : (ended : Result ℕ Outcome) (outcome : Outcome) (status : ℕ) → Ends (sides words env files files_now gates gates_now sink mid plan history) names ended → TellsEnd names ended outcome status mid now → AnswersRun (sides words env files files_now gates gates_now sink now plan history) outcome status
   told_answer (Ok st) outcome status (inl run) (is, status_is, unput) =
-      let reports = ran_late (λ i p es. RunLeaves (sides words env files files_now (gate ∷ []) (gate_now ∷ []) sink mid plan history) i p es (Ok st)) (IsCompleted (sides words env files files_now gates gates_now sink now plan history) st) (λ i p es was. record { reported = subst (λ (t : SinkTell). IsReported p es sink t) (sym unput) was.0; left = was.1; is = was.2 }) run in
+      let reports = ran_late (λ i p es. RunLeaves (sides words env files files_now gates gates_now sink mid plan history) i p es (Ok st)) (IsCompleted (sides words env files files_now gates gates_now sink now plan history) st) (λ i p es was. record { reported = subst (λ (t : SinkTell). IsReported p es sink t) (sym unput) was.0; left = was.1; is = was.2 }) run in
       subst (λ (n : ℕ). AnswersRun (sides words env files files_now gates gates_now sink now plan history) outcome n) (sym status_is) (subst (λ (x : Outcome). AnswersRun (sides words env files files_now gates gates_now sink now plan history) x st) (sym is) reports)
   told_answer (Ok st) outcome status (inr (never, unput)) told = absurd never
-  told_answer (Err Completed) outcome status (inl run) told = absurd (none_ran (λ i p es. RunLeaves (sides words env files files_now (gate ∷ []) (gate_now ∷ []) sink mid plan history) i p es (Err Completed)) (λ i p es none. none) run)
+  told_answer (Err Completed) outcome status (inl run) told = absurd (none_ran (λ i p es. RunLeaves (sides words env files files_now gates gates_now sink mid plan history) i p es (Err Completed)) (λ i p es none. none) run)
   told_answer (Err Completed) outcome status (inr (never, unput)) told = absurd never
-  told_answer (Err Listed) outcome status (inl run) told = absurd (none_ran (λ i p es. RunLeaves (sides words env files files_now (gate ∷ []) (gate_now ∷ []) sink mid plan history) i p es (Err Listed)) (λ i p es none. none) run)
+  told_answer (Err Listed) outcome status (inl run) told = absurd (none_ran (λ i p es. RunLeaves (sides words env files files_now gates gates_now sink mid plan history) i p es (Err Listed)) (λ i p es none. none) run)
   told_answer (Err Listed) outcome status (inr (never, unput)) told = absurd never
-  told_answer (Err (Usage word kind)) outcome status (inl run) told = absurd (none_ran (λ i p es. RunLeaves (sides words env files files_now (gate ∷ []) (gate_now ∷ []) sink mid plan history) i p es (Err (Usage word kind))) (λ i p es none. none) run)
+  told_answer (Err (Usage word kind)) outcome status (inl run) told = absurd (none_ran (λ i p es. RunLeaves (sides words env files files_now gates gates_now sink mid plan history) i p es (Err (Usage word kind))) (λ i p es none. none) run)
   told_answer (Err (Usage word kind)) outcome status (inr (usage, unput)) told =
       let late_usage : IsUsage (sides words env files files_now gates gates_now sink now plan history) word kind = record { words = usage.words; files = usage.files; unrun = unrun_late usage.unrun } in
       line_told (fault_line [] (Usage word kind)) (Usage word kind) outcome status refl unput told.0 told.1 (λ puts. (late_usage, puts, refl)) (λ puts. (late_usage, puts))
-  told_answer (Err (Refused refusal)) outcome status (inl run) told = absurd (none_ran (λ i p es. RunLeaves (sides words env files files_now (gate ∷ []) (gate_now ∷ []) sink mid plan history) i p es (Err (Refused refusal))) (λ i p es none. none) run)
+  told_answer (Err (Refused refusal)) outcome status (inl run) told = absurd (none_ran (λ i p es. RunLeaves (sides words env files files_now gates gates_now sink mid plan history) i p es (Err (Refused refusal))) (λ i p es none. none) run)
   told_answer (Err (Refused refusal)) outcome status (inr (refused, unput)) told =
       let late = refusal_late refusal refused in
       line_told (fault_line names (Refused refusal)) (Refused refusal) outcome status refl unput told.0 told.1 (λ puts. (record { names = names; refused = late; line = puts }, refl)) (λ puts. record { names = names; refused = late; line = puts })
@@ -137,37 +102,13 @@ module _ (words : List (List ℕ)) (env : List Pair) (files files_now : FilesTel
       let late_fault : IsReadFault (sides words env files files_now gates gates_now sink now plan history) path = record { invocation = fault.invocation; words = fault.words; files = fault.files; unrun = unrun_late fault.unrun } in
       line_told (fault_line [] (FilesFault path)) (FilesFault path) outcome status refl unput told.0 told.1 (λ puts. (inl (late_fault, puts), refl)) (λ puts. (late_fault, puts))
   told_answer (Err OutputFault) outcome status (inl run) told =
-      let cut = ran_late (λ i p es. RunLeaves (sides words env files files_now (gate ∷ []) (gate_now ∷ []) sink mid plan history) i p es (Err OutputFault)) (λ i p es. IsCutOff p es sink now × FilesStay files files_now) (λ i p es was. (subst (λ (t : SinkTell). IsCutOff p es sink t) (sym told.0.1) was.0, was.1)) run in
+      let cut = ran_late (λ i p es. RunLeaves (sides words env files files_now gates gates_now sink mid plan history) i p es (Err OutputFault)) (λ i p es. IsCutOff p es sink now × FilesStay files files_now) (λ i p es was. (subst (λ (t : SinkTell). IsCutOff p es sink t) (sym told.0.1) was.0, was.1)) run in
       at OutputFault outcome status told.0.0 told.1 (cut, refl)
   told_answer (Err OutputFault) outcome status (inr (never, unput)) told = absurd never
   told_answer (Err Memory) outcome status (inl run) told =
       let tries = memory_tried outcome told.0 in
-      let short = ran_late (λ i p es. RunLeaves (sides words env files files_now (gate ∷ []) (gate_now ∷ []) sink mid plan history) i p es (Err Memory)) (λ i. IsShortRun (sides words env files files_now gates gates_now sink now plan history) Memory) (λ i p es was. record { middle = mid; first = was; line = tries.1 }) run in
+      let short = ran_late (λ i p es. RunLeaves (sides words env files files_now gates gates_now sink mid plan history) i p es (Err Memory)) (λ i. IsShortRun (sides words env files files_now gates gates_now sink now plan history) Memory) (λ i p es was. record { middle = mid; first = was; line = tries.1 }) run in
       at Memory outcome status tries.0 told.1 ((Memory, inr short), refl)
   told_answer (Err Memory) outcome status (inr (unrun, unput)) told =
       let tries = memory_tried outcome told.0 in
       at Memory outcome status tries.0 told.1 ((Memory, inl (unrun_late unrun.0, unrun.1, subst (λ (t : SinkTell). Tries (fault_line [] Memory) t now) unput tries.1)), refl)
-
--- as many gates tell as there are
-pub some_told : {G : Type 0} (tells : G → GateTell) (gates : List G) → 0 < length gates → 1 ≤ length (map tells gates)
-some_told tells [] none = absurd (omega arith)
-some_told tells (g ∷ gs) some = omega arith
-
--- what all gates tell, from what the first does
-module _ {G : Type 0} (tells : G → GateTell) (gates : List G) (gate new : G) (some : 0 < length gates) (is : gate ≡ get_or gates 0 gate) where
-  pub widened : (env : List Pair) (tests : Tests) (es : List Entry) → are_below 1 es ≡ true → AreAsked env tests 0 (tells gate ∷ []) (tells new ∷ []) es → AreAsked env tests 0 (map tells gates) (map tells (slice_set gates 0 new)) es
-  widened env tests es below asked = by gates some is
-    where
-      by : (gs : List G) → 0 < length gs → gate ≡ get_or gs 0 gate → AreAsked env tests 0 (map tells gs) (map tells (slice_set gs 0 new)) es
-      by [] none is = absurd (omega arith)
-      by (g ∷ gs) some is = asked_first env tests (tells g) (tells new) (map tells gs) es below (subst (λ (x : G). AreAsked env tests 0 (tells x ∷ []) (tells new ∷ []) es) is asked)
-
-  pub unchanged : (tells new ∷ []) ≡ (tells gate ∷ []) → map tells (slice_set gates 0 new) ≡ map tells gates
-  unchanged same = by gates some is
-    where
-      first : tells new ≡ tells gate
-      first = cc
-
-      by : (gs : List G) → 0 < length gs → gate ≡ get_or gs 0 gate → map tells (slice_set gs 0 new) ≡ map tells gs
-      by [] none is = absurd (omega arith)
-      by (g ∷ gs) some is = ap (λ (t : GateTell). t ∷ map tells gs) (first ∙ ap tells is)

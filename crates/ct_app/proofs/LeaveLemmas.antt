@@ -1,39 +1,36 @@
 -- What a run came to with its files, from what its steps say.
-use Rattle.std.proofs.Common.{◌≡◌, ◌∙◌, sym, ap, subst, Bool, true, ℕ, ◌≤◌, min, List, [], ◌∷◌, refl, arith, inl, inr}
+use Rattle.std.proofs.Common.{◌≡◌, sym, ap, subst, Bool, true, ℕ, List, refl, inl, inr}
 use Rattle.std.specs.Prelude.{Option, Some, None, is_some, Result, Ok, Err, IfOk, IfSome}
 use Rattle.ct_base.specs.declared.defs.Pair.{Pair}
 use Rattle.ct_base.specs.declared.defs.Resource.{Resource}
-use Rattle.ct_base.specs.Outside.{FilesTell, Held, SinkTell}
+use Rattle.ct_base.specs.Outside.{FilesTell, SinkTell}
 use Rattle.ct_history.specs.declared.plan.PlanParts.{PlanParts}
 use Rattle.ct_history.specs.declared.history.Entry.{Entry}
-use Rattle.ct_history.specs.Plan.{IsSound}
 use Rattle.ct_history.specs.Verdicts.{are_all_final}
 use Rattle.ct_core.specs.Gate.{GateTell}
+use Rattle.ct_core.specs.Order.{FollowsQueue}
 use Rattle.ct_cost.specs.declared.cost_data.CostData.{CostData}
 use Rattle.ct_args.specs.declared.invocation.Invocation.{Invocation}
 use Rattle.ct_plan.specs.declared.fault.PlanFault.{PlanFault}
 use Rattle.ct_plan.specs.declared.fault.PlanFault.TheVariants as Plans
-use Rattle.ct_plan.specs.PlanOf.{IsPlanAnswer}
-use Rattle.ct_plan.specs.Source.{source}
+use Rattle.ct_plan.specs.PlanOf.{IsPlanAnswer, IsPlanOf}
+use Rattle.ct_plan.specs.Source.{Source, source}
+use Rattle.ct_worker.specs.Gates.{AreAsked, Terms}
 use Rattle.ct_app.specs.declared.outcome.Outcome.{Outcome}
 use Rattle.ct_app.specs.declared.outcome.Outcome.TheVariants.{Completed, Listed, Usage, Refused, FilesFault, OutputFault, Memory}
 use Rattle.ct_app.specs.declared.outcome.Refusal.TheVariants.{Cycle, TooManyEdges}
-use Rattle.ct_app.specs.declared.props.Terms.{Terms}
 use Rattle.ct_app.specs.declared.props.Tests.{Tests}
 use Rattle.ct_app.specs.declared.run_files.RunFileFault.{RunFileFault}
 use Rattle.ct_app.specs.declared.run_files.RunFileFault.TheVariants as Fault
 use Rattle.ct_app.specs.Calls.{IsUnrun, Sides, sides}
 use Rattle.ct_app.specs.Runs.{IsRunOf}
-use Rattle.ct_app.specs.Ends.{Ends, EndsWithFiles, HasRun, IsReadFolder, IsUnplanned, IsUnreadFolder, PlanEnds, RunLeaves, terms_asked, with_status}
-use Rattle.ct_app.specs.Gates.{IsAsked, are_below}
+use Rattle.ct_app.specs.Ends.{Ends, EndsWithFiles, IsReadFolder, IsUnplanned, IsUnreadFolder, PlanEnds, RunLeaves, with_status}
 use Rattle.ct_app.specs.Outcome.{outcome_of_file}
 use Rattle.ct_app.specs.Reading.{AskFor, IsSource, most_edges}
-use Rattle.ct_app.specs.Run.{PlansTests}
+use Rattle.ct_app.specs.Run.{HasRun}
 use Rattle.ct_app.specs.RunFiles.{FilesStay, Leaves, LeavesPart, LeavesTorn, WritesFiles, done_of, last_costs}
-use Rattle.ct_app.specs.SpecFile.{AreLent}
-use Rattle.ct_app.specs.Tests.{tests_of}
+use Rattle.ct_app.specs.Tests.{terms_from}
 use Rattle.ct_app.proofs.ChangeLemmas.{fails_with_last, serves_with_last}
-use Rattle.ct_app.proofs.PlanLemmas.{plans_tests}
 use Rattle.ct_app.proofs.RunFilesLemmas.{leaves_behind, leaves_part_behind, leaves_torn_behind}
 
 -- a run that ended well is complete
@@ -76,23 +73,9 @@ module _ (s : Sides) (invocation : Invocation) (between : FilesTell) (costs : Co
       subst (λ (o : Result (Unit {0}) Outcome). RunLeaves s invocation plan entries (with_status invocation.empty_is_error plan entries o)) (sym left.0)
       (early outcome ends (subst (λ (f : FilesTell). FilesStay s.files_before f) (sym left.1) stay))
 
--- resources are lent where a file is named that declares them
-lent_where_named : (told : Option Held) (file : Option (List ℕ)) (lent : Option (List Resource)) → AreLent told file lent → is_some file ≡ is_some lent
-lent_where_named told None lent is = sym (ap is_some is)
-lent_where_named told (Some path) None is = absurd is
-lent_where_named told (Some path) (Some resources) is = refl
-
--- the tests that were read are those of the plan's source, within the terms of the invocation
-same_tests : (invocation : Invocation) (told : Option Held) (tests : Tests) (lent : Option (List Resource)) (costs : CostData) → tests.terms ≡ terms_asked invocation → AreLent told invocation.spec_file lent → tests ≡ tests_of (source tests.defs tests.props invocation.wanted lent costs) invocation.timeout
-same_tests invocation told tests lent costs terms is =
-    ap (λ (x : Terms). let t : Tests = record { defs = tests.defs; props = tests.props; terms = x } in t)
-    (terms ∙ ap (λ (lends : Bool). let x : Terms = record { limit = invocation.timeout; lends = lends } in x) (lent_where_named told invocation.spec_file lent is))
-
--- the plan is one of them
-pub plans_read : (invocation : Invocation) (files between : FilesTell) (tests : Tests) (lent : Option (List Resource)) (costs : CostData) (plan : PlanParts) → IsReadFolder invocation files between tests lent costs → IsSound plan → IsPlanAnswer most_edges (source tests.defs tests.props invocation.wanted lent costs) (Ok plan) → PlansTests tests plan
-plans_read invocation files between tests lent costs plan read sound planned =
-    subst (λ (t : Tests). PlansTests t plan) (sym (same_tests invocation files.held tests lent costs read.read.terms read.lent))
-    (plans_tests (source tests.defs tests.props invocation.wanted lent costs) invocation.timeout read.read.read.have plan sound planned.1)
+-- what a run of a plan says of its attempts is what the plan's source says
+pub terms_are : (own : List Pair) (s : Source) (limit : ℕ) (plan : PlanParts) → IsPlanOf s plan → (let t : Terms = record { own = own; defs = s.defs; props = s.props; limit = limit; lends = is_some plan.resources } in t) ≡ terms_from own s limit
+terms_are own s limit plan is = ap (λ (x : Option (List Resource)). let t : Terms = record { own = own; defs = s.defs; props = s.props; limit = limit; lends = is_some x } in t) is.resources
 
 -- a plan was made of the tests of a folder
 module _ (words : List (List ℕ)) (env : List Pair) (invocation : Invocation) (asked : AskFor words invocation) (files between files_now : FilesTell) (tests : Tests) (lent : Option (List Resource)) (costs : CostData) (read : IsReadFolder invocation files between tests lent costs) where
@@ -100,20 +83,20 @@ module _ (words : List (List ℕ)) (env : List Pair) (invocation : Invocation) (
   is_source = record { tests = read.read.read; wanted = refl; resources = read.lent; costs = read.last }
 
   -- the plan was run, and what the run leaves was written where it is complete
-  pub folder_ends : (gate gate_now : GateTell) (sink sink_now : SinkTell) (plan : PlanParts) (entries : List Entry) (names : List (List ℕ)) (ended given : Result (Unit {0}) Outcome) → 1 ≤ invocation.wanted.level → IsPlanAnswer most_edges (source tests.defs tests.props invocation.wanted lent costs) (Ok plan) → HasRun env tests gate gate_now plan entries → PlanEnds plan entries sink sink_now ended → EndsWithFiles plan entries costs between files_now ended given → Ends (sides words env files files_now (gate ∷ []) (gate_now ∷ []) sink sink_now (Some plan) (Some entries)) names (with_status invocation.empty_is_error plan entries given)
-  folder_ends gate gate_now sink sink_now plan entries names ended given level planned ran ends left =
-      let s = sides words env files files_now (gate ∷ []) (gate_now ∷ []) sink sink_now (Some plan) (Some entries) in
+  pub folder_ends : (terms : Terms) (gates gates_now : List GateTell) (sink sink_now : SinkTell) (plan : PlanParts) (entries : List Entry) (names : List (List ℕ)) (ended given : Result (Unit {0}) Outcome) → terms ≡ terms_from env (source tests.defs tests.props invocation.wanted lent costs) invocation.timeout → IsPlanAnswer most_edges (source tests.defs tests.props invocation.wanted lent costs) (Ok plan) → HasRun terms gates gates_now plan entries → FollowsQueue plan entries → PlanEnds plan entries sink sink_now ended → EndsWithFiles plan entries costs between files_now ended given → Ends (sides words env files files_now gates gates_now sink sink_now (Some plan) (Some entries)) names (with_status invocation.empty_is_error plan entries given)
+  folder_ends terms gates gates_now sink sink_now plan entries names ended given same planned ran order ends left =
+      let s = sides words env files files_now gates gates_now sink sink_now (Some plan) (Some entries) in
       let made = source tests.defs tests.props invocation.wanted lent costs in
       let last = subst (λ (dir : List ℕ). IfSome files.held (λ held. costs ≡ last_costs dir held)) (sym planned.1.dir) read.last in
-      let one : 1 ≡ min plan.level 1 = omega (arith, level, planned.1.level) in
-      let run : IsRunOf env made invocation.timeout (gate ∷ []) (gate_now ∷ []) plan entries = record {
+      let run : IsRunOf env made invocation.timeout gates gates_now plan entries = record {
         few = planned.0;
         planned = planned.1;
         legal = ran.legal;
         within = ran.within;
+        order = order;
         closed = ran.closed;
-        workers = subst (λ (n : ℕ). are_below n entries ≡ true) one ran.workers;
-        asked = (subst (λ (t : Tests). IsAsked env t 0 gate gate_now entries) (same_tests invocation files.held tests lent costs read.read.terms read.lent) ran.asked, tt);
+        workers = ran.workers;
+        asked = subst (λ (t : Terms). AreAsked t 0 gates gates_now entries) same ran.asked;
       } in
       inl (record {
         invocation = invocation;
@@ -123,16 +106,16 @@ module _ (words : List (List ℕ)) (env : List Pair) (invocation : Invocation) (
       })
 
   -- there is no plan
-  pub unplanned_ends : (gate : GateTell) (sink : SinkTell) (plan : Option PlanParts) (history : Option (List Entry)) (names : List (List ℕ)) (ended : Result ℕ Outcome) (fault : PlanFault) → plan ≡ None → history ≡ None → IsPlanAnswer most_edges (source tests.defs tests.props invocation.wanted lent costs) (Err fault) → IsUnplanned tests.defs fault names ended → Ends (sides words env files between (gate ∷ []) (gate ∷ []) sink sink plan history) names ended
-  unplanned_ends gate sink plan history names ended fault no_plan no_history answer unplanned = by fault answer unplanned
+  pub unplanned_ends : (gates : List GateTell) (sink : SinkTell) (plan : Option PlanParts) (history : Option (List Entry)) (names : List (List ℕ)) (ended : Result ℕ Outcome) (fault : PlanFault) → plan ≡ None → history ≡ None → IsPlanAnswer most_edges (source tests.defs tests.props invocation.wanted lent costs) (Err fault) → IsUnplanned tests.defs fault names ended → Ends (sides words env files between gates gates sink sink plan history) names ended
+  unplanned_ends gates sink plan history names ended fault no_plan no_history answer unplanned = by fault answer unplanned
     where
-      unrun : IsUnrun (sides words env files between (gate ∷ []) (gate ∷ []) sink sink plan history)
+      unrun : IsUnrun (sides words env files between gates gates sink sink plan history)
       unrun = record { no_plan = no_plan; no_history = no_history; unasked = refl }
 
-      said : (other : Result ℕ Outcome) → ended ≡ other → Ends (sides words env files between (gate ∷ []) (gate ∷ []) sink sink plan history) names other → Ends (sides words env files between (gate ∷ []) (gate ∷ []) sink sink plan history) names ended
-      said other is ends = subst (λ (o : Result ℕ Outcome). Ends (sides words env files between (gate ∷ []) (gate ∷ []) sink sink plan history) names o) (sym is) ends
+      said : (other : Result ℕ Outcome) → ended ≡ other → Ends (sides words env files between gates gates sink sink plan history) names other → Ends (sides words env files between gates gates sink sink plan history) names ended
+      said other is ends = subst (λ (o : Result ℕ Outcome). Ends (sides words env files between gates gates sink sink plan history) names o) (sym is) ends
 
-      by : (f : PlanFault) → IsPlanAnswer most_edges (source tests.defs tests.props invocation.wanted lent costs) (Err f) → IsUnplanned tests.defs f names ended → Ends (sides words env files between (gate ∷ []) (gate ∷ []) sink sink plan history) names ended
+      by : (f : PlanFault) → IsPlanAnswer most_edges (source tests.defs tests.props invocation.wanted lent costs) (Err f) → IsUnplanned tests.defs f names ended → Ends (sides words env files between gates gates sink sink plan history) names ended
       by (Plans.Cycle cycle) refused (inl (is, named)) =
           said (Err (Refused (Cycle cycle))) is
           (inr (
@@ -165,11 +148,11 @@ module _ (words : List (List ℕ)) (env : List Pair) (invocation : Invocation) (
       by Plans.NoMemory refused is = said (Err Memory) is (inr ((unrun, read.read.files), refl))
 
 -- the tests of a folder were not read, or what else is read for its run
-module _ (words : List (List ℕ)) (env : List Pair) (invocation : Invocation) (asked : AskFor words invocation) (files files_now : FilesTell) (gate : GateTell) (sink : SinkTell) (names : List (List ℕ)) where
-  unrun_so : IsUnrun (sides words env files files_now (gate ∷ []) (gate ∷ []) sink sink None None)
+module _ (words : List (List ℕ)) (env : List Pair) (invocation : Invocation) (asked : AskFor words invocation) (files files_now : FilesTell) (gates : List GateTell) (sink : SinkTell) (names : List (List ℕ)) where
+  unrun_so : IsUnrun (sides words env files files_now gates gates sink sink None None)
   unrun_so = record { no_plan = refl; no_history = refl; unasked = refl }
 
-  pub unread_ends : (outcome : Outcome) → IsUnreadFolder invocation files files_now outcome → Ends (sides words env files files_now (gate ∷ []) (gate ∷ []) sink sink None None) names (Err outcome)
+  pub unread_ends : (outcome : Outcome) → IsUnreadFolder invocation files files_now outcome → Ends (sides words env files files_now gates gates sink sink None None) names (Err outcome)
   unread_ends Completed unread = absurd unread
   unread_ends Listed unread = absurd unread
   unread_ends (Usage word kind) unread = absurd unread

@@ -1,11 +1,4 @@
 pub mod TestLemmas
-pub mod StopLemmas
-pub mod LackLemmas
-pub mod FallLemmas
-pub mod GateLemmas
-pub mod AskLemmas
-pub mod StepLemmas
-pub mod AlongLemmas
 pub mod ReportLemmas
 pub mod ChangeLemmas
 pub mod FrontLemmas
@@ -13,6 +6,7 @@ pub mod RunFilesLemmas
 pub mod SpecLemmas
 pub mod ReadLemmas
 pub mod PlanLemmas
+pub mod PoolLemmas
 pub mod EndLemmas
 pub mod LeaveLemmas
 pub mod AnswerLemmas

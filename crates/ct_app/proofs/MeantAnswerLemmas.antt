@@ -4,7 +4,6 @@ use Rattle.std.specs.Prelude.{Option, Some, None, IfSome, IsSomeAnd, filter, not
 use Rattle.std.specs.List.{range_with_len}
 use Rattle.std.proofs.lemmas.Bool.{and_parts, cases_Bool, ltb-true, not-true}
 use Rattle.std.proofs.lemmas.Bool.Decides.{nat_tests}
-use Rattle.ct_base.specs.declared.defs.Pair.{Pair}
 use Rattle.ct_base.specs.declared.defs.TestDef.{TestDef}
 use Rattle.ct_props.specs.declared.props.Props.{Props}
 use Rattle.ct_props.specs.declared.wanted.Wanted.{Wanted}
@@ -26,16 +25,15 @@ use Rattle.ct_plan.specs.Source.{Source, run_members}
 use Rattle.ct_plan.specs.Planned.{ArePlannedTests}
 use Rattle.ct_app.specs.declared.outcome.Outcome.{Outcome}
 use Rattle.ct_app.specs.declared.outcome.Outcome.TheVariants.{Completed}
-use Rattle.ct_app.specs.declared.props.Tests.{Tests}
 use Rattle.ct_app.specs.Answers.{Answers}
 use Rattle.ct_app.specs.Calls.{Sides}
-use Rattle.ct_app.specs.Gates.{AreAsked, AreTold, SawTold, are_below, had_memory, is_below, lacks_memory, seen_of}
+use Rattle.ct_worker.specs.Gates.{AreAsked, SawAllTold, SawTold, Terms, are_below, had_memory, is_below, lacks_memory, seen_of}
 use Rattle.ct_app.specs.Meant.{AreSeen, IsSeen}
 use Rattle.ct_app.specs.MeantRuns.{AnswersAsMeant, HasRunAsMeant, RanAsMeant}
 use Rattle.ct_app.specs.MeantTold.{AllTell, ComesAsMeant, seen_as_told, seen_in}
 use Rattle.ct_app.specs.Reading.{ask_for_list}
 use Rattle.ct_app.specs.Runs.{HasRunWith, IsCompleted, IsRun, RanWith}
-use Rattle.ct_app.specs.Tests.{tests_of}
+use Rattle.ct_app.specs.Tests.{terms_from}
 use Rattle.ct_app.proofs.MeantLemmas.{IsRanked}
 use Rattle.ct_app.proofs.MeantRunLemmas.{are_meant}
 use Rattle.ct_app.proofs.MeantTextLemmas.{has_meant_texts}
@@ -88,17 +86,17 @@ ranked s invocation source plan entries run = record {
 }
 
 -- each worker saw what the one world tells
-told_by : (env : List Pair) (tests : Tests) (world : List Told) (entries : List Entry) (first : ℕ) (befores nows : List GateTell) → AreAsked env tests first befores nows entries → AllTell world befores → (worker : ℕ) → first ≤ worker → worker < first + length befores → AreTold tests.props world worker entries
-told_by env tests world entries first [] nows asked all worker low high = absurd (omega (arith, low, high))
-told_by env tests world entries first (before ∷ befores) [] asked all worker low high = absurd asked
-told_by env tests world entries first (before ∷ befores) (now ∷ nows) asked all worker low high = elim (cases_Bool (first == worker)) [
+told_by : (terms : Terms) (world : List Told) (entries : List Entry) (first : ℕ) (befores nows : List GateTell) → AreAsked terms first befores nows entries → AllTell world befores → (worker : ℕ) → first ≤ worker → worker < first + length befores → SawAllTold terms.props world worker entries
+told_by terms world entries first [] nows asked all worker low high = absurd (omega (arith, low, high))
+told_by terms world entries first (before ∷ befores) [] asked all worker low high = absurd asked
+told_by terms world entries first (before ∷ befores) (now ∷ nows) asked all worker low high = elim (cases_Bool (first == worker)) [
   | inl same ↦
       let here : first ≡ worker = grind (arith, nat_tests) in
-      subst (λ (w : ℕ). AreTold tests.props world w entries) here
-      (subst (λ (o : Option (List Told)). IfSome o (λ own. AreTold tests.props own first entries)) all.0 asked.0.told)
+      subst (λ (w : ℕ). SawAllTold terms.props world w entries) here
+      (subst (λ (o : Option (List Told)). IfSome o (λ own. SawAllTold terms.props own first entries)) all.0 asked.0.told)
   | inr later ↦
       let less : first < worker = grind (arith, nat_tests) in
-      told_by env tests world entries (first + 1) befores nows asked.1 all.1 worker (omega (arith, less)) (omega (arith, high))
+      told_by terms world entries (first + 1) befores nows asked.1 all.1 worker (omega (arith, less)) (omega (arith, high))
 ]
 
 seen_entry : (props : List Props) (world : List Told) (workers : ℕ) (e : Entry) → is_below workers e ≡ true → not (lacks_memory e) ≡ true → ((worker : ℕ) → worker < workers → SawTold props world worker e) → IsSeen (seen_in props world) e
@@ -112,7 +110,7 @@ seen_entry props world workers (Settle t c) below had saw = tt
 seen_entry props world workers Stop below had saw = tt
 
 -- what the workers saw is what is seen in the world
-seen_entries : (props : List Props) (world : List Told) (workers : ℕ) (entries : List Entry) → are_below workers entries ≡ true → had_memory entries ≡ true → ((worker : ℕ) → worker < workers → AreTold props world worker entries) → AreSeen (seen_in props world) entries
+seen_entries : (props : List Props) (world : List Told) (workers : ℕ) (entries : List Entry) → are_below workers entries ≡ true → had_memory entries ≡ true → ((worker : ℕ) → worker < workers → SawAllTold props world worker entries) → AreSeen (seen_in props world) entries
 seen_entries props world workers [] below had saw = tt
 seen_entries props world workers (e ∷ es) below had saw =
     let few = and_parts (is_below workers e) (are_below workers es) below in
@@ -134,7 +132,7 @@ comes_as_meant s status invocation source plan entries run completed world all =
     are_seen : AreSeen (seen_in source.props world) entries
     are_seen =
         seen_entries source.props world (min plan.level (length s.gates_before)) entries run.ran.workers completed.reported.memory
-        (λ worker less. told_by s.env (tests_of source invocation.timeout) world entries 0 s.gates_before s.gates_now run.ran.asked all worker (omega arith) (omega (arith, less)))
+        (λ worker less. told_by (terms_from s.env source invocation.timeout) world entries 0 s.gates_before s.gates_now run.ran.asked all worker (omega arith) (omega (arith, less)))
 
 some_and : {A : Type 0} (P Q : A → Type 0) (o : Option A) → ((x : A) → P x → Q x) → IsSomeAnd o P → IsSomeAnd o Q
 some_and P Q None each is = absurd is

@@ -67,7 +67,7 @@ module _ (invocation : Invocation) (before between : FilesTell) (tests : Tests) 
   read_folder behind now lent costs named last =
       let stay = then_stay before between behind read.files named.1 in
       record {
-        read = record { read = read.read; few = read.few; terms = read.terms; files = then_stay before behind now stay last.1 };
+        read = record { read = read.read; few = read.few; files = then_stay before behind now stay last.1 };
         lent = same_lent invocation.spec_file lent before.held between.held read.files.held named.0;
         last = same_last invocation.wanted.dir costs before.held behind.held stay.held last.0;
       }

@@ -1,6 +1,5 @@
 -- How a call ended, before its outcome is told. This project's own.
-use Rattle.std.specs.Prelude.{◌≡◌, ◌⊎◌, ℕ, ◌-◌, ◌^◌, ◌<◌, Bool, true, List, [], length, Option, is_some, Result, Ok, Err, IfSome}
-use Rattle.ct_base.specs.declared.defs.Pair.{Pair}
+use Rattle.std.specs.Prelude.{◌≡◌, ◌⊎◌, ℕ, ◌-◌, ◌^◌, ◌<◌, Bool, List, [], length, Option, Result, Ok, Err, IfSome}
 use Rattle.ct_base.specs.declared.defs.Resource.{Resource}
 use Rattle.ct_base.specs.declared.defs.TestDef.{TestDef}
 use Rattle.ct_base.specs.declared.sink.SinkFault.{SinkFault}
@@ -9,9 +8,6 @@ use Rattle.ct_base.specs.Outside.{FilesTell, Puts, SameHeld, SinkTell}
 use Rattle.ct_history.specs.declared.plan.PlanParts.{PlanParts}
 use Rattle.ct_history.specs.declared.history.Entry.{Entry}
 use Rattle.ct_history.specs.declared.history.History.{History}
-use Rattle.ct_history.specs.History.{open_starts}
-use Rattle.ct_history.specs.Legal.{StaysWithin, is_legal}
-use Rattle.ct_core.specs.Gate.{GateTell}
 use Rattle.ct_cost.specs.declared.cost_data.CostData.{CostData}
 use Rattle.ct_args.specs.declared.invocation.Invocation.{Invocation}
 use Rattle.ct_plan.specs.declared.fault.PlanFault.{PlanFault}
@@ -20,11 +16,9 @@ use Rattle.ct_app.specs.declared.outcome.Outcome.{Outcome}
 use Rattle.ct_app.specs.declared.outcome.Outcome.TheVariants.{Completed, Listed, Usage, Refused, FilesFault, OutputFault, Memory}
 use Rattle.ct_app.specs.declared.outcome.Refusal.{Refusal}
 use Rattle.ct_app.specs.declared.outcome.Refusal.TheVariants.{Cycle, TooManyEdges}
-use Rattle.ct_app.specs.declared.props.Terms.{Terms}
 use Rattle.ct_app.specs.declared.props.Tests.{Tests}
 use Rattle.ct_app.specs.Calls.{IsReadFault, IsUnreadable, IsUnrun, IsUsage, PutsOrFails, Sides}
-use Rattle.ct_app.specs.Runs.{HasRunWith, IsCutOff, IsCutShort, IsGivenUp, IsLeft, IsRefusal, IsReported, IsWriteFault}
-use Rattle.ct_app.specs.Gates.{IsAsked, are_below}
+use Rattle.ct_app.specs.Runs.{HasRunWith, IsCutOff, IsCutShort, IsGivenUp, FilesAreLeft, IsRefusal, IsReported, IsWriteFault}
 use Rattle.ct_app.specs.Lists.{HasList}
 use Rattle.ct_app.specs.Outcome.{fault_line, fault_status, names_at, outcome_of_sink, status_of}
 use Rattle.ct_app.specs.Reading.{AreRead, AskFor, RefusesReading, RefusesSpec}
@@ -53,7 +47,7 @@ ended_as (Err fault) = Err (outcome_of_sink fault)
 
 -- how a run ended, its files too: it is complete and they were written or could not be, or it ended early and they stay
 abbrev pub RunLeaves : Sides → Invocation → PlanParts → List Entry → Result ℕ Outcome → Type 0
-RunLeaves s invocation plan entries (Ok status) = IsReported plan entries s.sink_before s.sink_now × IsLeft s plan entries × (status ≡ status_of invocation.empty_is_error plan entries)
+RunLeaves s invocation plan entries (Ok status) = IsReported plan entries s.sink_before s.sink_now × FilesAreLeft s plan entries × (status ≡ status_of invocation.empty_is_error plan entries)
 RunLeaves s invocation plan entries (Err Completed) = ⊥
 RunLeaves s invocation plan entries (Err Listed) = ⊥
 RunLeaves s invocation plan entries (Err (Usage word kind)) = ⊥
@@ -79,15 +73,10 @@ abbrev pub with_status : Bool → PlanParts → List Entry → Result (Unit {0})
 with_status empty_is_error plan entries (Ok done) = Ok (status_of empty_is_error plan entries)
 with_status empty_is_error plan entries (Err outcome) = Err outcome
 
--- what an invocation says of each attempt: how long one may run that does not say so itself, and whether resources are lent
-abbrev pub terms_asked : Invocation → Terms
-terms_asked invocation = record { limit = invocation.timeout; lends = is_some invocation.spec_file }
-
 -- the tests that an invocation asks for were read, and the files stay
 pub record HasTests (invocation : Invocation) (before now : FilesTell) (tests : Tests) : Type 0 where
   pub read : AreRead before.held invocation tests.defs tests.props
   pub few : length tests.defs < 2 ^ 32 - 1
-  pub terms : tests.terms ≡ terms_asked invocation
   pub files : FilesStay before now
 
 -- why they were not: a test file or a property is refused, or the files failed at a path that was read, or memory was wanting
@@ -123,15 +112,6 @@ abbrev pub IsUnplanned : List TestDef → PlanFault → List (List ℕ) → Resu
 IsUnplanned defs (Plans.Cycle tests) names ended = ((ended ≡ Err (Refused (Cycle tests))) × (names ≡ names_at defs tests)) ⊎ (ended ≡ Err Memory)
 IsUnplanned defs Plans.TooManyEdges names ended = ended ≡ Err (Refused TooManyEdges)
 IsUnplanned defs Plans.NoMemory names ended = ended ≡ Err Memory
-
--- the tests of a plan ran on one gate as far as the history goes: it is legal and leaves nothing open, at no moment was more
--- given than is declared, and it says what the gate was asked and told
-pub record HasRun (env : List Pair) (tests : Tests) (gate_before gate_now : GateTell) (plan : PlanParts) (entries : List Entry) : Type 0 where
-  pub legal : is_legal plan entries ≡ true
-  pub within : StaysWithin plan entries
-  pub closed : open_starts entries ≡ []
-  pub workers : are_below 1 entries ≡ true
-  pub asked : IsAsked env tests 0 gate_before gate_now entries
 
 -- nothing was run, for this cause; the tests of a cycle have these names
 abbrev pub EndsUnrun : Sides → List (List ℕ) → Result ℕ Outcome → Type 0

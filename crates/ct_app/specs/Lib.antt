@@ -1,7 +1,6 @@
 -- The definitions that contracts cite, in reading order.
 pub mod Tests
 pub mod Outcome
-pub mod Gates
 pub mod Meant
 pub mod MeantTexts
 pub mod MeantTold
@@ -10,10 +9,10 @@ pub mod SpecFile
 pub mod Reading
 pub mod Calls
 pub mod Run
+pub mod Stops
 pub mod Runs
 pub mod MeantRuns
 pub mod Lists
 pub mod Answers
 pub mod Complete
-pub mod Attempt
 pub mod Ends

@@ -8,7 +8,7 @@ use Rattle.ct_history.specs.declared.plan.PlanParts.{PlanParts}
 use Rattle.ct_history.specs.declared.history.Entry.{Entry}
 use Rattle.ct_core.specs.declared.gate.Told.{Told}
 use Rattle.ct_core.specs.Gate.{GateTell, told}
-use Rattle.ct_app.specs.Gates.{seen_of}
+use Rattle.ct_worker.specs.Gates.{seen_of}
 use Rattle.ct_app.specs.Meant.{AreMeant, is_meant_to_fail}
 use Rattle.ct_app.specs.MeantTexts.{HasMeantTexts}
 

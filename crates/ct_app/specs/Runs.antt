@@ -8,32 +8,34 @@ use Rattle.ct_history.specs.declared.history.Entry.{Entry}
 use Rattle.ct_history.specs.History.{open_starts}
 use Rattle.ct_history.specs.Legal.{IsComplete, StaysWithin, is_legal}
 use Rattle.ct_core.specs.Gate.{GateTell}
+use Rattle.ct_core.specs.Order.{FollowsQueue}
 use Rattle.ct_args.specs.declared.invocation.Invocation.{Invocation}
 use Rattle.ct_plan.specs.PlanOf.{IsPlanOf}
 use Rattle.ct_plan.specs.Source.{Source, edge_count}
-use Rattle.ct_report.specs.Report.{header_line, report_text}
+use Rattle.ct_report.specs.Report.{report_text}
 use Rattle.ct_app.specs.declared.outcome.Refusal.{Refusal}
 use Rattle.ct_app.specs.declared.outcome.Outcome.{Outcome}
 use Rattle.ct_app.specs.declared.outcome.Outcome.TheVariants.{Completed, Listed, Usage, Refused, FilesFault, OutputFault, Memory}
-use Rattle.ct_app.specs.Tests.{tests_of}
-use Rattle.ct_app.specs.Gates.{AreAsked, are_below, had_memory}
+use Rattle.ct_worker.specs.Gates.{AreAsked, are_below, had_memory}
+use Rattle.ct_app.specs.Stops.{StopsSo}
+use Rattle.ct_app.specs.Tests.{terms_from}
 use Rattle.ct_app.specs.Outcome.{fault_line, status_of}
 use Rattle.ct_app.specs.Reading.{AskFor, IsSource, RefusesPlan, most_edges}
-use Rattle.ct_app.specs.Run.{RunEnds}
 use Rattle.ct_app.specs.RunFiles.{FilesFail, FilesServe, FilesStay, IsWritten, Leaves, LeavesPart, LeavesTorn, WithLast}
 use Rattle.ct_app.specs.Calls.{IsReadFault, IsUndeclared, IsUnreadable, IsUnrun, IsUsage, PutsOrFails, Sides, ThenLine, Tries}
 
 -- a plan was made of these tests, and they ran as far as the history goes: it is legal and leaves nothing open, at no moment
--- was more given than is declared, no more workers took part than the level and the gates admit, and it says what the gates
--- were asked and told
+-- was more given than is declared, each test was started or settled when it came next by the queue, no more workers took part
+-- than the level and the gates admit, and it says what the gates were asked and told
 pub record IsRunOf (env : List Pair) (source : Source) (limit : ℕ) (gates_before gates_now : List GateTell) (plan : PlanParts) (entries : List Entry) : Type 0 where
   pub few : edge_count source ≤ most_edges
   pub planned : IsPlanOf source plan
   pub legal : is_legal plan entries ≡ true
   pub within : StaysWithin plan entries
+  pub order : FollowsQueue plan entries
   pub closed : open_starts entries ≡ []
   pub workers : are_below (min plan.level (length gates_before)) entries ≡ true
-  pub asked : AreAsked env (tests_of source limit) 0 gates_before gates_now entries
+  pub asked : AreAsked (terms_from env source limit) 0 gates_before gates_now entries
 
 -- the tests that the words ask for were read, and ran
 pub record IsRun (s : Sides) (invocation : Invocation) (source : Source) (plan : PlanParts) (entries : List Entry) : Type 0 where
@@ -58,15 +60,13 @@ pub record IsReported (plan : PlanParts) (entries : List Entry) (before now : Si
   pub memory : had_memory entries ≡ true
   pub put : Puts (report_text plan entries) before now (Ok tt)
 
--- the sink failed at the report, and no attempt wanted memory
-pub record IsCutOff (plan : PlanParts) (entries : List Entry) (before now : SinkTell) : Type 0 where
-  pub memory : had_memory entries ≡ true
-  pub put : Puts (report_text plan entries) before now (Err Sinks.Failed)
+-- the sink failed at the report, and the run stopped there
+abbrev pub IsCutOff : PlanParts → List Entry → SinkTell → SinkTell → Type 0
+IsCutOff plan entries before now = StopsSo Sinks.Failed plan entries before now
 
--- a run was given up for want of memory: for its last attempt, or for a step or a text behind attempts that had it
-pub record IsGivenUp (plan : PlanParts) (entries : List Entry) (before now : SinkTell) : Type 0 where
-  pub why : RunEnds (header_line plan) plan entries before now (Err Sinks.NoMemory)
-  pub put : Puts (report_text plan entries) before now (Err Sinks.NoMemory)
+-- memory was wanting for the report, for an attempt or for a step, and the run was given up
+abbrev pub IsGivenUp : PlanParts → List Entry → SinkTell → SinkTell → Type 0
+IsGivenUp plan entries before now = StopsSo Sinks.NoMemory plan entries before now
 
 -- the tests that were read have no plan, and nothing was run; the tests of a cycle have these names
 pub record IsUnplannable (s : Sides) (refusal : Refusal) (names : List (List ℕ)) : Type 0 where
@@ -89,8 +89,8 @@ pub record TellsRefusal (s : Sides) (refusal : Refusal) (Line : List ℕ → Typ
   pub line : Line (fault_line names (Refused refusal))
 
 -- the files of a complete run were written
-abbrev pub IsLeft : Sides → PlanParts → List Entry → Type 0
-IsLeft s plan entries = FilesServe (WithLast plan.dir (Leaves plan entries)) s.files_before s.files_now
+abbrev pub FilesAreLeft : Sides → PlanParts → List Entry → Type 0
+FilesAreLeft s plan entries = FilesServe (WithLast plan.dir (Leaves plan entries)) s.files_before s.files_now
 
 -- the files failed at a path that a complete run writes
 abbrev pub IsWriteFault : Sides → List ℕ → PlanParts → List Entry → Type 0
@@ -124,7 +124,7 @@ IsShortRun s Memory plan entries = ThenLine (IsCutShort s plan entries) (λ midd
 -- a run was completed: it was reported, its files were written, and this is its status
 pub record IsCompleted (s : Sides) (status : ℕ) (invocation : Invocation) (plan : PlanParts) (entries : List Entry) : Type 0 where
   pub reported : IsReported plan entries s.sink_before s.sink_now
-  pub left : IsLeft s plan entries
+  pub left : FilesAreLeft s plan entries
   pub is : status ≡ status_of invocation.empty_is_error plan entries
 
 -- the report of a complete run stands in front of the line of a write that failed

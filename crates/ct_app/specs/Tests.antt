@@ -1,25 +1,21 @@
 -- The tests of a call, and the first property of them that is refused.
 -- Source: CMake manual, cmake-properties(7), Properties on Tests. The order of refusals is this project's own.
-use Rattle.std.specs.Prelude.{◌≡◌, ℕ, ◌-◌, ◌≤◌, List, take, All, Option, Some, None, is_some, ⊤}
-use Rattle.ct_base.specs.declared.defs.Resource.{Resource}
+use Rattle.std.specs.Prelude.{◌≡◌, ℕ, ◌-◌, ◌≤◌, List, take, All, Some, None, is_some, ⊤}
+use Rattle.ct_base.specs.declared.defs.Pair.{Pair}
 use Rattle.ct_base.specs.declared.defs.TestDef.{TestDef}
 use Rattle.ct_props.specs.declared.fault.PropKind.{PropKind}
 use Rattle.ct_props.specs.Refusal.{IsLeastRefused, refused_as}
 use Rattle.ct_props.specs.Numbered.{at_number}
 use Rattle.ct_plan.specs.Source.{Source}
-use Rattle.ct_app.specs.declared.props.Terms.{Terms}
-use Rattle.ct_app.specs.declared.props.Tests.{Tests}
+use Rattle.ct_worker.specs.Gates.{Terms}
 use Rattle.ct_app.specs.declared.outcome.Outcome.{Outcome}
 use Rattle.ct_app.specs.declared.outcome.Outcome.TheVariants.{Completed, Listed, Usage, Refused, FilesFault, OutputFault, Memory}
 use Rattle.ct_app.specs.declared.outcome.Refusal.TheVariants.{TestFile, Prop, Spec, Cycle, TooManyEdges}
 
--- what a run says of each attempt of its tests: how long one may run that does not say so itself, and whether resources are lent
-abbrev pub terms_of : Option (List Resource) → ℕ → Terms
-terms_of lent limit = record { limit = limit; lends = is_some lent }
-
--- the tests of a plan's source with their properties, and what the run says of their attempts
-abbrev pub tests_of : Source → ℕ → Tests
-tests_of source limit = record { defs = source.defs; props = source.props; terms = terms_of source.resources limit }
+-- what a run says of its attempts: its own environment, the tests of its plan's source, and for how long an attempt may run of a
+-- test that does not say so; resources are lent where there are any to lend
+abbrev pub terms_from : List Pair → Source → ℕ → Terms
+terms_from own source limit = record { own = own; defs = source.defs; props = source.props; limit = limit; lends = is_some source.resources }
 
 -- no property of the test is refused
 abbrev pub IsUnrefused : TestDef → Type 0

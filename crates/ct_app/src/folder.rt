@@ -1,15 +1,17 @@
-ghost use Rattle.std.specs.Prelude.{◌≡◌, ◌==◌, ◌<◌, ◌-◌, ◌^◌, [], ◌∷◌, None, true, IfOk, IfErr, if◌then◌else◌, length, option_map};
+ghost use Rattle.std.specs.Prelude.{◌≡◌, ◌==◌, ◌<◌, ◌≤◌, [], None, true, IfOk, IfErr, if◌then◌else◌, length, map, option_map, vec_len};
 ghost use Rattle.ct_args.specs.Invocation.{IsBounded};
 ghost use Rattle.ct_app.specs.Calls.{sides};
-ghost use Rattle.ct_app.specs.Ends.{EndsFor, EndsWithFiles, HasRun, IsReadFolder, IsUnplanned, IsUnreadFolder, PlanEnds, ended_as, history_entries, with_status as ended_with};
-ghost use Rattle.ct_app.specs.Run.{PlansTests};
+ghost use Rattle.ct_app.specs.Ends.{EndsFor, EndsWithFiles, IsReadFolder, IsUnplanned, IsUnreadFolder, PlanEnds, ended_as, history_entries, with_status as ended_with};
+ghost use Rattle.ct_app.specs.Run.{HasRun, OthersStay, RestStays};
 ghost use Rattle.ct_app.specs.RunFiles.{done_of};
+ghost use Rattle.ct_core.specs.Order.{FollowsQueue};
 ghost use Rattle.ct_history.specs.Plan.{IsSound};
 ghost use Rattle.ct_history.specs.Verdicts.{are_all_final};
+ghost use Rattle.ct_worker.specs.Work.{Reach, terms_in};
 
 use crate::props::Tests;
 use crate::reading::{names_at, read_tests};
-use crate::run::run;
+use crate::run::{Reported, run};
 use crate::run_files::{read_costs, write_files};
 use crate::spec_file::read_spec;
 use crate::{Outcome, Refusal};
@@ -20,11 +22,14 @@ use ct_cost::CostData;
 use ct_history::{History, Plan, PlanParts};
 use ct_plan::{PlanFault, plan};
 use ct_spec::Spec;
+use ct_worker::Jobs;
 use std::alloc::Global;
+use std::sync::Wait;
+use std::thread::Threads;
 
-/// What a call came to, before its outcome is told.
+/// What a call came to, before its outcome is told, and what it was made with.
 #[derive(Drop)]
-pub(crate) struct Ran {
+pub(crate) struct Ran<G, S> {
     /// The status of a run that is completed, or what else the call came to.
     pub(crate) ended: Result<u8, Outcome>,
     /// The names of the tests of a cycle, where one is refused.
@@ -33,6 +38,8 @@ pub(crate) struct Ran {
     pub(crate) plan: Option<Plan>,
     /// What happened in the run, where a plan was made.
     pub(crate) history: Option<History>,
+    pub(crate) gates: Vec<G>,
+    pub(crate) sink: S,
 }
 
 /// What is read for an invocation before its tests are planned.
@@ -47,41 +54,55 @@ struct Folder {
 
 /// What the run of a plan came to, before its files are written.
 #[derive(Drop)]
-struct PlanRun {
+struct PlanRun<G, S> {
     ended: Result<(), Outcome>,
     plan: Plan,
     history: History,
+    gates: Vec<G>,
+    sink: S,
 }
 
 /// Reads the tests of a folder, the specification that is named and what the last run tells of the
 /// tests, plans and runs them, and leaves the same for the next run.
-pub(crate) fn run_folder<F: Files, G: Gate, S: Sink>(
+pub(crate) fn run_folder<R: Threads + Wait + Sync, F: Files, G: Gate + Send, S: Sink + Send>(
+    rt: &R,
     alloc: Global,
     invocation: &Invocation,
     env: &[Pair],
     files: &mut F,
-    gate: &mut G,
-    sink: &mut S,
-) -> Ran
-    requires { IsBounded invocation.now }
-    ensures { EndsFor invocation.now (λ words. sides words env.now (F.tells files.old) (F.tells files.new) (G.tells gate.old ∷ []) (G.tells gate.new ∷ []) (S.tells sink.old) (S.tells sink.new) result.plan (option_map history_entries result.history)) result.names result.ended }
+    gates: Vec<G>,
+    sink: S,
+) -> Ran<G, S>
+    requires bounded { IsBounded invocation.now }
+    requires some { 0 < vec_len gates }
+    ensures ends { EndsFor invocation.now (λ words. sides words env.now (F.tells files.old) (F.tells files.new) (map G.tells gates.items) (map G.tells result.gates.items) (S.tells sink) (S.tells result.sink) result.plan (option_map history_entries result.history)) result.names result.ended }
+    ensures all { vec_len result.gates ≡ vec_len gates }
+    ensures others { OthersStay result.plan gates.items result.gates.items }
 {
     let Folder { tests, spec, costs } = match read_folder(alloc, files, invocation) {
         Ok(folder) => folder,
-        Err(outcome) => return unplanned(alloc, outcome),
+        Err(outcome) => return unplanned(alloc, outcome, gates, sink),
     };
     let wanted = &invocation.wanted;
     let spec = spec.as_ref();
     let planned = match plan(alloc, &tests.defs, &tests.props, wanted, spec, &costs) {
         Ok(planned) => planned,
-        Err(fault) => return refused(alloc, tests.defs.as_slice(), fault),
+        Err(fault) => return refused(alloc, tests.defs.as_slice(), fault, gates, sink),
     };
     hand_out_sound(&planned);
+    let jobs = Jobs {
+        own: env,
+        defs: &tests.defs,
+        props: &tests.props,
+        timeout: invocation.timeout,
+    };
     let PlanRun {
         ended,
         plan,
         history,
-    } = run_plan(alloc, planned, env, &tests, gate, sink);
+        gates,
+        sink,
+    } = run_plan(rt, alloc, planned, &jobs, gates, sink);
     let empty_is_error = invocation.empty_is_error;
     let ended = leave_files(alloc, files, empty_is_error, &costs, &plan, &history, ended);
     Ran {
@@ -89,6 +110,8 @@ pub(crate) fn run_folder<F: Files, G: Gate, S: Sink>(
         names: List::new(alloc),
         plan: Some(plan),
         history: Some(history),
+        gates,
+        sink,
     }
 }
 
@@ -100,22 +123,32 @@ fn hand_out_sound(plan: &Plan)
 }
 
 /// What a call came to that made no plan.
-pub(crate) fn unplanned(alloc: Global, outcome: Outcome) -> Ran
-    ensures { result ≡ record { ended = Err outcome; names = []; plan = None; history = None } }
+pub(crate) fn unplanned<G, S>(alloc: Global, outcome: Outcome, gates: Vec<G>, sink: S) -> Ran<G, S>
+    ensures { result ≡ record { ended = Err outcome; names = []; plan = None; history = None; gates = gates; sink = sink } }
 {
     Ran {
         ended: Err(outcome),
         names: List::new(alloc),
         plan: None,
         history: None,
+        gates,
+        sink,
     }
 }
 
 /// What a call came to that could not plan the tests that it read.
-fn refused(alloc: Global, defs: &[TestDef], fault: PlanFault) -> Ran
+fn refused<G, S>(
+    alloc: Global,
+    defs: &[TestDef],
+    fault: PlanFault,
+    gates: Vec<G>,
+    sink: S,
+) -> Ran<G, S>
     ensures why { IsUnplanned defs.now fault result.names result.ended }
     ensures plan { result.plan ≡ None }
     ensures history { result.history ≡ None }
+    ensures gates { result.gates ≡ gates }
+    ensures sink { result.sink ≡ sink }
 {
     match fault {
         PlanFault::Cycle(tests) => match names_at(alloc, defs, tests.as_slice()) {
@@ -124,11 +157,15 @@ fn refused(alloc: Global, defs: &[TestDef], fault: PlanFault) -> Ran
                 names,
                 plan: None,
                 history: None,
+                gates,
+                sink,
             },
-            Err(NoMemory) => unplanned(alloc, Outcome::Memory),
+            Err(NoMemory) => unplanned(alloc, Outcome::Memory, gates, sink),
         },
-        PlanFault::TooManyEdges => unplanned(alloc, Outcome::Refused(Refusal::TooManyEdges)),
-        PlanFault::NoMemory => unplanned(alloc, Outcome::Memory),
+        PlanFault::TooManyEdges => {
+            unplanned(alloc, Outcome::Refused(Refusal::TooManyEdges), gates, sink)
+        }
+        PlanFault::NoMemory => unplanned(alloc, Outcome::Memory, gates, sink),
     }
 }
 
@@ -148,30 +185,40 @@ fn read_folder<F: Files>(
     Ok(Folder { tests, spec, costs })
 }
 
-/// Runs the plan of these tests.
-fn run_plan<G: Gate, S: Sink>(
+/// Runs a plan.
+fn run_plan<R: Threads + Wait + Sync, G: Gate + Send, S: Sink + Send>(
+    rt: &R,
     alloc: Global,
     plan: Plan,
-    env: &[Pair],
-    tests: &Tests,
-    gate: &mut G,
-    sink: &mut S,
-) -> PlanRun
-    requires planned { PlansTests tests.now plan }
-    requires few { length tests.now.defs < 2 ^ 32 - 1 }
+    jobs: &Jobs<'_>,
+    gates: Vec<G>,
+    sink: S,
+) -> PlanRun<G, S>
+    requires level { 1 ≤ plan.level }
+    requires some { 0 < vec_len gates }
+    requires reach { Reach jobs.now plan }
     ensures plan { result.plan ≡ plan }
-    ensures ran { HasRun env.now tests.now (G.tells gate.old) (G.tells gate.new) result.plan (history_entries result.history) }
-    ensures ends { PlanEnds result.plan (history_entries result.history) (S.tells sink.old) (S.tells sink.new) result.ended }
+    ensures ran { HasRun (terms_in jobs.now plan) (map G.tells gates.items) (map G.tells result.gates.items) result.plan (history_entries result.history) }
+    ensures order { FollowsQueue result.plan (history_entries result.history) }
+    ensures all { vec_len result.gates ≡ vec_len gates }
+    ensures ends { PlanEnds result.plan (history_entries result.history) (S.tells sink) (S.tells result.sink) result.ended }
+    ensures others { RestStays result.plan gates.items result.gates.items }
 {
     match Core::open(alloc, plan) {
-        Ok(mut core) => {
-            let run = run(alloc, &mut core, env, tests, gate, sink);
-            let ended = ended(run);
+        Ok(core) => {
+            let Reported {
+                core,
+                gates,
+                sink,
+                ended,
+            } = run(rt, alloc, core, jobs, gates, sink);
             let (plan, history) = core.into_parts();
             PlanRun {
-                ended,
+                ended: outcome_of(ended),
                 plan,
                 history,
+                gates,
+                sink,
             }
         }
         Err(plan) => PlanRun {
@@ -180,12 +227,14 @@ fn run_plan<G: Gate, S: Sink>(
             history: History {
                 entries: Vec::new(alloc),
             },
+            gates,
+            sink,
         },
     }
 }
 
 /// What the end of a run is to a call.
-fn ended(run: Result<(), SinkFault>) -> Result<(), Outcome>
+fn outcome_of(run: Result<(), SinkFault>) -> Result<(), Outcome>
     ensures { result ≡ ended_as run }
 {
     match run {

@@ -2,15 +2,13 @@
 //! to a list.
 //!
 //! Hands up: `ctest_main`, which does all that the program does, and `list_main`, which lists alone.
-//! Stands on: ct_base, ct_testfile, ct_regex, ct_props, ct_env, ct_graph, ct_alloc, ct_verdict,
-//! ct_history, ct_core, ct_cost, ct_spec, ct_plan, ct_report, ct_args.
-//! Read first: `specs/Reading.antt`, `specs/SpecFile.antt`, `specs/Gates.antt`, `specs/RunFiles.antt`,
-//! `specs/Answers.antt`, `specs/Lists.antt`, `specs/Complete.antt`, then `top.rt`, and the steps of a
-//! call: `words.rt`, `reading.rt`, `spec_file.rt`, `folder.rt`, `run.rt`, `attempt.rt`, `run_files.rt`,
-//! and `list.rt`.
+//! Stands on: ct_base, ct_testfile, ct_props, ct_graph, ct_verdict, ct_history, ct_core, ct_cost,
+//! ct_spec, ct_plan, ct_report, ct_worker, ct_args.
+//! Read first: `specs/Reading.antt`, `specs/SpecFile.antt`, `specs/Run.antt`, `specs/Stops.antt`,
+//! `specs/RunFiles.antt`, `specs/Answers.antt`, `specs/Lists.antt`, `specs/Complete.antt`, then `top.rt`, and the steps of a
+//! call: `words.rt`, `reading.rt`, `spec_file.rt`, `folder.rt`, `run.rt`, `run_files.rt`, and `list.rt`.
 #![tactic(auto)]
 
-mod attempt;
 mod fault;
 mod folder;
 mod list;

@@ -1,4 +1,4 @@
-ghost use Rattle.std.specs.Prelude.{◌≡◌, ◌≤◌, ◌-◌, ◌^◌, ◌<◌, IfOk, IfErr, Some, length};
+ghost use Rattle.std.specs.Prelude.{◌≡◌, ◌-◌, ◌^◌, ◌<◌, IfOk, IfErr, length};
 ghost use Rattle.std.specs.Option.{option_copied};
 ghost use Rattle.ct_props.specs.Numbered.{at_number};
 ghost use Rattle.ct_plan.specs.Source.{HaveProps};
@@ -11,41 +11,11 @@ use ct_base::{List, TestDef};
 use ct_props::{PropFault, Props};
 use std::alloc::Global;
 
-/// What a run says of each attempt of its tests.
-#[derive(Clone, Copy)]
-pub(crate) struct Terms {
-    /// How long an attempt may run of a test that does not say so, in microseconds; 0 is no limit.
-    pub(crate) limit: u64,
-    /// Whether a specification is given, so that resources are lent.
-    pub(crate) lends: bool,
-}
-
 /// The tests of a call and their properties, which belong together by place.
 #[derive(Drop)]
 pub(crate) struct Tests {
     pub(crate) defs: List<TestDef>,
     pub(crate) props: List<Props>,
-    pub(crate) terms: Terms,
-}
-
-impl Tests {
-    /// Lends the test with this number.
-    pub(crate) fn def(&self, number: u32) -> &TestDef
-        requires low { 1 ≤ number }
-        requires there { number ≤ length self.now.defs }
-        ensures { at_number self.now.defs number ≡ Some result.now }
-    {
-        &self.defs.as_slice()[number as usize - 1]
-    }
-
-    /// Lends the properties of the test with this number.
-    pub(crate) fn props(&self, number: u32) -> &Props
-        requires low { 1 ≤ number }
-        requires there { number ≤ length self.now.props }
-        ensures { at_number self.now.props number ≡ Some result.now }
-    {
-        &self.props.as_slice()[number as usize - 1]
-    }
 }
 
 /// Looks up what a list has for the test with this number.

@@ -4,7 +4,7 @@ ghost use Rattle.ct_app.specs.Outcome.{name_there, names_at as names_of};
 ghost use Rattle.ct_props.specs.Numbered.{at_number as stands_at};
 
 use crate::Outcome;
-use crate::props::{Terms, Tests, at_number, read_props};
+use crate::props::{Tests, at_number, read_props};
 use ct_args::Invocation;
 use ct_base::{Files, List, Name, NoMemory, TestDef};
 use ct_testfile::read_tree;
@@ -22,14 +22,7 @@ pub(crate) fn read_tests<F: Files>(
 {
     let defs = read_tree(alloc, files, &invocation.wanted.dir, &invocation.config)?;
     let props = read_props(alloc, defs.as_slice())?;
-    Ok(Tests {
-        defs,
-        props,
-        terms: Terms {
-            limit: invocation.timeout,
-            lends: invocation.spec_file.is_some(),
-        },
-    })
+    Ok(Tests { defs, props })
 }
 
 /// The names of the tests with these numbers.

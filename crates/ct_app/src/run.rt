@@ -1,111 +1,133 @@
-ghost use Rattle.std.specs.Prelude.{◌≡◌, ◌==◌, ◌+◌, ◌-◌, ◌^◌, ◌<◌, [], Some, true, OnOk, length};
-ghost use Rattle.ct_app.specs.Gates.{IsAsked};
-ghost use Rattle.ct_app.specs.Run.{IsBetween, PlansTests, RunEnds, fresh};
+ghost use Rattle.std.specs.Prelude.{◌≡◌, ◌<◌, ◌≤◌, min, [], IfErr, Err, Some, false, true, map, vec_len};
+ghost use Rattle.ct_app.specs.Run.{Begins, HasRun, RestStays, RunEnds, lines_of_run};
+ghost use Rattle.ct_app.specs.Stops.{StopsAt, StopsBehind};
 ghost use Rattle.ct_base.specs.Outside.{Puts};
 ghost use Rattle.ct_history.specs.Verdicts.{are_all_final};
-ghost use Rattle.ct_report.specs.Report.{header_line, lines_of_test, report_text, summary_lines, test_lines, text_of};
-ghost use Rattle.ct_report.specs.RunLines.{KnowsLines};
+ghost use Rattle.ct_report.specs.Report.{report_text, summary_lines, text_of};
+ghost use Rattle.ct_worker.specs.State.{put_of};
+ghost use Rattle.ct_worker.specs.Work.{Reach, terms_in};
 
-use crate::attempt::step;
-use crate::props::Tests;
-use ct_base::{Pair, Sink, SinkFault};
+use ct_base::{Sink, SinkFault};
 use ct_core::{Core, Gate};
-use ct_report::{TestLines, header, no_tests, summary};
+use ct_report::{header, no_tests, summary};
+use ct_worker::{Halt, Jobs, Pooled, State, pool};
 use std::alloc::Global;
+use std::sync::Wait;
+use std::thread::Threads;
 
-/// Runs the tests one after the other, with the report around them.
-///
-/// A fault is that of the sink, or want of memory, also for an attempt.
-pub(crate) fn run<G: Gate, S: Sink>(
+/// A run of a plan, behind its report, and what it was made with.
+#[derive(Drop)]
+pub(crate) struct Reported<G, S> {
+    pub(crate) core: Core,
+    pub(crate) gates: Vec<G>,
+    pub(crate) sink: S,
+    /// A fault is that of the sink, or want of memory, also for an attempt.
+    pub(crate) ended: Result<(), SinkFault>,
+}
+
+/// Runs the tests of a plan by as many workers as its level and the gates admit, with the report
+/// around them.
+pub(crate) fn run<R: Threads + Wait + Sync, G: Gate + Send, S: Sink + Send>(
+    rt: &R,
     alloc: Global,
-    core: &mut Core,
-    env: &[Pair],
-    tests: &Tests,
-    gate: &mut G,
-    sink: &mut S,
-) -> Result<(), SinkFault>
-    requires fresh { core.old ≡ fresh core.old.plan }
-    requires planned { PlansTests tests.now core.old.plan }
-    requires few { length tests.now.defs < 2 ^ 32 - 1 }
-    ensures plan { core.new.plan ≡ core.old.plan }
-    ensures between { IsBetween tests.now core.new }
-    ensures asked { IsAsked env.now tests.now 0 (G.tells gate.old) (G.tells gate.new) core.new.entries }
-    ensures puts { Puts (report_text core.new.plan core.new.entries) (S.tells sink.old) (S.tells sink.new) result }
-    ensures ends { RunEnds (header_line core.new.plan) core.new.plan core.new.entries (S.tells sink.old) (S.tells sink.new) result }
+    core: Core,
+    jobs: &Jobs<'_>,
+    gates: Vec<G>,
+    mut sink: S,
+) -> Reported<G, S>
+    requires fresh { core ≡ record { plan = core.plan; entries = []; aborted = false } }
+    requires level { 1 ≤ core.plan.level }
+    requires some { 0 < vec_len gates }
+    requires reach { Reach jobs.now core.plan }
+    ensures plan { result.core.plan ≡ core.plan }
+    ensures ran { HasRun (terms_in jobs.now core.plan) (map G.tells gates.items) (map G.tells result.gates.items) result.core.plan result.core.entries }
+    ensures all { vec_len result.gates ≡ vec_len gates }
+    ensures puts { Puts (report_text result.core.plan result.core.entries) (S.tells sink) (S.tells result.sink) result.ended }
+    ensures ends { RunEnds result.core.plan result.core.entries result.ended }
+    ensures stops { IfErr result.ended (λ fault. StopsAt fault result.core.plan result.core.entries (S.tells sink) (S.tells result.sink)) }
+    ensures others { RestStays result.core.plan gates.items result.gates.items }
+{
+    match begin(alloc, &core, &mut sink) {
+        Ok(true) => run_tests(rt, alloc, core, jobs, gates, sink),
+        Ok(false) => Reported {
+            core,
+            gates,
+            sink,
+            ended: Ok(()),
+        },
+        Err(fault) => Reported {
+            core,
+            gates,
+            sink,
+            ended: Err(fault),
+        },
+    }
+}
+
+/// Puts the header, and the line of a plan without tests; tells whether there are tests.
+fn begin<S: Sink>(alloc: Global, core: &Core, sink: &mut S) -> Result<bool, SinkFault>
+    ensures { Begins core.now.plan (S.tells sink.old) (S.tells sink.new) result }
 {
     header(alloc, sink, core.plan())?;
-    if is_empty(core) {
+    if core.plan().parts().tests.is_empty() {
         no_tests(sink)?;
-        return Ok(());
+        return Ok(false);
     }
-    run_tests(alloc, core, env, tests, gate, sink)?;
-    put_summary(alloc, core, sink)?;
-    Ok(())
+    Ok(true)
 }
 
-/// Tells whether the run has no test.
-fn is_empty(core: &Core) -> bool
-    ensures { result ≡ (length core.now.plan.tests == 0) }
-{
-    core.plan().parts().tests.is_empty()
-}
-
-/// Runs the tests one after the other, and puts the line of each.
-fn run_tests<G: Gate, S: Sink>(
+/// Runs the tests of a plan that has some, and puts the summary behind their lines.
+fn run_tests<R: Threads + Wait + Sync, G: Gate + Send, S: Sink + Send>(
+    rt: &R,
     alloc: Global,
-    core: &mut Core,
-    env: &[Pair],
-    tests: &Tests,
-    gate: &mut G,
-    sink: &mut S,
-) -> Result<(), SinkFault>
-    requires fresh { core.old ≡ fresh core.old.plan }
-    requires planned { PlansTests tests.now core.old.plan }
-    requires few { length tests.now.defs < 2 ^ 32 - 1 }
-    ensures plan { core.new.plan ≡ core.old.plan }
-    ensures between { IsBetween tests.now core.new }
-    ensures asked { IsAsked env.now tests.now 0 (G.tells gate.old) (G.tells gate.new) core.new.entries }
-    ensures puts { Puts (text_of (test_lines core.new.plan core.new.entries)) (S.tells sink.old) (S.tells sink.new) result }
-    ensures ends { RunEnds [] core.new.plan core.new.entries (S.tells sink.old) (S.tells sink.new) result }
+    core: Core,
+    jobs: &Jobs<'_>,
+    gates: Vec<G>,
+    sink: S,
+) -> Reported<G, S>
+    requires fresh { core ≡ record { plan = core.plan; entries = []; aborted = false } }
+    requires level { 1 ≤ core.plan.level }
+    requires some { 0 < vec_len gates }
+    requires reach { Reach jobs.now core.plan }
+    ensures plan { result.core.plan ≡ core.plan }
+    ensures ran { HasRun (terms_in jobs.now core.plan) (map G.tells gates.items) (map G.tells result.gates.items) result.core.plan result.core.entries }
+    ensures all { vec_len result.gates ≡ vec_len gates }
+    ensures puts { Puts (text_of (lines_of_run result.core.plan result.core.entries)) (S.tells sink) (S.tells result.sink) result.ended }
+    ensures ends { RunEnds result.core.plan result.core.entries result.ended }
+    ensures stops { IfErr result.ended (λ fault. StopsBehind fault result.core.plan result.core.entries (S.tells sink) (S.tells result.sink)) }
+    ensures others { RestStays result.core.plan gates.items result.gates.items }
 {
-    let mut lines = TestLines::new(alloc, core.plan())?;
-    let mut count = 0;
-    while let Some(test) = step(alloc, core, env, tests, gate)? {
-        put_line(alloc, core, sink, test, &mut lines, &mut count)?;
-    }
-    Ok(())
-}
-
-/// Puts the line of a test where it is final, behind so many lines of others, and counts it.
-fn put_line<S: Sink>(
-    alloc: Global,
-    core: &Core,
-    sink: &mut S,
-    test: u32,
-    lines: &mut TestLines,
-    count: &mut u32,
-) -> Result<(), SinkFault>
-    requires few { count.old < 2 ^ 32 - 1 }
-    requires knows { KnowsLines core.now.plan core.now.entries lines.old }
-    ensures puts { Puts (text_of (lines_of_test core.now.plan core.now.entries (count.old + 1) (Some test))) (S.tells sink.old) (S.tells sink.new) result }
-    ensures count { OnOk result (count.new ≡ count.old + length (lines_of_test core.now.plan core.now.entries (count.old + 1) (Some test))) }
-    ensures knows { KnowsLines core.now.plan core.now.entries lines.new }
-{
-    let Some(verdict) = core.verdict(test) else {
-        return Ok(());
+    let workers = worker_count(&core, gates.len());
+    let Pooled { state, gates } = pool(rt, alloc, State::open(core, sink), gates, workers, jobs);
+    let halt = state.halt();
+    let (core, mut sink) = state.into_parts();
+    let ended = match halt {
+        None => put_summary(alloc, &core, &mut sink),
+        Some(halt) => Err(fault_of(halt)),
     };
-    let place = *count + 1;
-    lines.put(
-        alloc,
+    Reported {
+        core,
+        gates,
         sink,
-        core.plan(),
-        core.history(),
-        test,
-        place,
-        verdict,
-    )?;
-    *count = place;
-    Ok(())
+        ended,
+    }
+}
+
+/// How many workers take part: one for each processor of the level, where there is a gate for it.
+fn worker_count(core: &Core, gates: usize) -> u32
+    ensures { result ≡ min core.now.plan.level gates }
+{
+    (core.plan().parts().level as usize).min(gates) as u32
+}
+
+/// The fault that a run was given up for.
+fn fault_of(halt: Halt) -> SinkFault
+    ensures { put_of (Some halt) ≡ Err result }
+{
+    match halt {
+        Halt::Output => SinkFault::Failed,
+        Halt::Memory => SinkFault::NoMemory,
+    }
 }
 
 /// Puts the summary of a run in which each test is final.

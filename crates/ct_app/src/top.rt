@@ -1,4 +1,4 @@
-ghost use Rattle.std.specs.Prelude.{◌≡◌, ◌<◌, ◌-◌, ◌^◌, drop, true, length, map, option_map, vec_len};
+ghost use Rattle.std.specs.Prelude.{◌≡◌, ◌<◌, ◌-◌, ◌^◌, true, length, map, option_map, vec_len};
 ghost use Rattle.ct_app.specs.Answers.{Answers};
 ghost use Rattle.ct_app.specs.Calls.{list_sides, sides};
 ghost use Rattle.ct_app.specs.Complete.{Completes, CompletesList};
@@ -6,6 +6,7 @@ ghost use Rattle.ct_app.specs.Ends.{history_entries};
 ghost use Rattle.ct_app.specs.Lists.{AnswersList};
 ghost use Rattle.ct_app.specs.MeantRuns.{AnswersAsMeant};
 ghost use Rattle.ct_app.specs.Reading.{ask_for_list};
+ghost use Rattle.ct_app.specs.Run.{OthersStay};
 
 use crate::fault::{tell, tell_outcome};
 use crate::folder::Ran;
@@ -14,25 +15,28 @@ use crate::{Finished, Listed};
 use ct_base::{Files, Name, Pair, Sink};
 use ct_core::Gate;
 use std::alloc::Global;
+use std::sync::Wait;
+use std::thread::Threads;
 
 /// Runs the tests that the words ask for, reports on them, and leaves what they cost and which of
 /// them failed for the next run; or puts the list that the words ask for: all that the program
 /// `ctest` does.
 ///
 /// It takes the words of the command line behind the program's name, the environment of the tests,
-/// and what stands for the machine. The tests run one after the other on the first gate; the other
-/// gates come back untouched. Behind the report of a complete run that has tests, the cost data is
+/// and what stands for the machine. As many workers run the tests as the level and the gates admit, each
+/// on the gate of its place; all gates come back, in order. Behind the report of a complete run that has tests, the cost data is
 /// written, and then, where some test failed, the log of the failed tests; nothing else is written
 /// but the path of a write that failed. The call may wait for the programs that its gate runs.
 ///
 /// Source: CMake manual, ctest(1), Run Tests. Statuses other than 0 and 8 are this project's choice.
-pub fn ctest_main<F: Files, G: Gate + Send, S: Sink + Send>(
+pub fn ctest_main<R: Threads + Wait + Sync, F: Files, G: Gate + Send, S: Sink + Send>(
+    rt: &R,
     alloc: Global,
     words: &[Name],
     env: &[Pair],
     mut files: F,
-    mut gates: Vec<G>,
-    mut sink: S,
+    gates: Vec<G>,
+    sink: S,
 ) -> Finished<F, G, S>
     requires some { 0 < vec_len gates }
     requires few { length words.now < 2 ^ 32 - 1 }
@@ -46,15 +50,17 @@ pub fn ctest_main<F: Files, G: Gate + Send, S: Sink + Send>(
         (map G.tells gates.items) (map G.tells result.gates.items) (S.tells sink) (S.tells result.sink)
         result.plan (option_map history_entries result.history)) result.outcome }
     ensures all { length result.gates.items ≡ length gates.items }
-    ensures others { drop 1 result.gates.items ≡ drop 1 gates.items }
     ensures unasked { ask_for_list words.now ≡ true → result.gates.items ≡ gates.items }
+    ensures others { OthersStay result.plan gates.items result.gates.items }
 {
     let Ran {
         ended,
         names,
         plan,
         history,
-    } = run_words(alloc, words, env, &mut files, &mut gates[0], &mut sink);
+        gates,
+        mut sink,
+    } = run_words(rt, alloc, words, env, &mut files, gates, sink);
     let (outcome, status) = tell(alloc, &mut sink, names.as_slice(), ended);
     Finished {
         outcome,

@@ -1,7 +1,8 @@
-ghost use Rattle.std.specs.Prelude.{◌≡◌, ◌-◌, ◌^◌, ◌<◌, [], ◌∷◌, None, false, true, length, option_map};
+ghost use Rattle.std.specs.Prelude.{◌≡◌, ◌-◌, ◌^◌, ◌<◌, None, false, true, length, map, option_map, vec_len};
 ghost use Rattle.ct_app.specs.Calls.{list_sides, sides};
 ghost use Rattle.ct_app.specs.Ends.{Ends, EndsList, ListEnds, history_entries};
 ghost use Rattle.ct_app.specs.Reading.{ask_for_list};
+ghost use Rattle.ct_app.specs.Run.{OthersStay};
 
 use crate::Outcome;
 use crate::folder::{Ran, run_folder, unplanned};
@@ -10,31 +11,38 @@ use ct_args::{Task, read_words};
 use ct_base::{Files, Name, Pair, Sink};
 use ct_core::Gate;
 use std::alloc::Global;
+use std::sync::Wait;
+use std::thread::Threads;
 
 /// Reads the words, and runs the tests or puts the list that they ask for.
-pub(crate) fn run_words<F: Files, G: Gate, S: Sink>(
+pub(crate) fn run_words<R: Threads + Wait + Sync, F: Files, G: Gate + Send, S: Sink + Send>(
+    rt: &R,
     alloc: Global,
     words: &[Name],
     env: &[Pair],
     files: &mut F,
-    gate: &mut G,
-    sink: &mut S,
-) -> Ran
-    requires { length words.now < 2 ^ 32 - 1 }
-    ensures run { ask_for_list words.now ≡ false → Ends (sides words.now env.now (F.tells files.old) (F.tells files.new) (G.tells gate.old ∷ []) (G.tells gate.new ∷ []) (S.tells sink.old) (S.tells sink.new) result.plan (option_map history_entries result.history)) result.names result.ended }
-    ensures list { ask_for_list words.now ≡ true → EndsList (list_sides words.now (F.tells files.old) (F.tells files.new) (S.tells sink.old) (S.tells sink.new)) result.names result.ended }
-    ensures unasked { ask_for_list words.now ≡ true → gate.new ≡ gate.old }
+    gates: Vec<G>,
+    mut sink: S,
+) -> Ran<G, S>
+    requires few { length words.now < 2 ^ 32 - 1 }
+    requires some { 0 < vec_len gates }
+    ensures run { ask_for_list words.now ≡ false → Ends (sides words.now env.now (F.tells files.old) (F.tells files.new) (map G.tells gates.items) (map G.tells result.gates.items) (S.tells sink) (S.tells result.sink) result.plan (option_map history_entries result.history)) result.names result.ended }
+    ensures list { ask_for_list words.now ≡ true → EndsList (list_sides words.now (F.tells files.old) (F.tells files.new) (S.tells sink) (S.tells result.sink)) result.names result.ended }
+    ensures unasked { ask_for_list words.now ≡ true → result.gates ≡ gates }
     ensures plan { ask_for_list words.now ≡ true → result.plan ≡ None }
     ensures history { ask_for_list words.now ≡ true → result.history ≡ None }
+    ensures all { vec_len result.gates ≡ vec_len gates }
+    ensures others { OthersStay result.plan gates.items result.gates.items }
 {
     match read_words(alloc, words) {
         Ok(invocation) => match invocation.task {
-            Task::Run => run_folder(alloc, &invocation, env, files, gate, sink),
+            Task::Run => run_folder(rt, alloc, &invocation, env, files, gates, sink),
             Task::ListTests | Task::ListLabels => {
-                unplanned(alloc, list_folder(alloc, &invocation, files, sink))
+                let outcome = list_folder(alloc, &invocation, files, &mut sink);
+                unplanned(alloc, outcome, gates, sink)
             }
         },
-        Err(fault) => unplanned(alloc, Outcome::from(fault)),
+        Err(fault) => unplanned(alloc, Outcome::from(fault), gates, sink),
     }
 }
 

@@ -2,11 +2,12 @@
 
 ghost use Rattle.std.specs.Prelude.{None};
 
-use crate::calls::{ask_as_told, calls_of, end_as_told, run, run_on, written};
-use ct_base::Ear;
+use crate::calls::{Ran, asked, calls_of, ending, ending_with, report_on, requests, run_as_told};
+use ct_base::{Ear, NoMemory};
 use ct_core::{Ended, Gate, Request, Ticket};
 use ct_verdict::How;
-use std::alloc::Global;
+use std::alloc::{AllocError, Global};
+use std::str;
 use std::test::Fail;
 
 /// Runs that come to their end.
@@ -344,43 +345,71 @@ a|./w|p |PATH=/bin |1500000|./w/f /g
 b|.|p |PATH=/bin |none|
 ";
 
-/// A run whose only test is to write a word, and the line on it.
+/// Runs and the attempts that they ask for.
+const ASKED: &str = "
+=== the second of three tests is not started
+told 2 unstarted 0
+---
+add_test(a true)
+add_test(b true)
+add_test(c true)
+>>>
+1/1 2/1 3/1 unstarted 1
+";
+
+/// A run whose only test is to write a word.
 const WRITES: &str = "
 === a word in two pieces
 ---
 add_test(t p)
 set_tests_properties(t PROPERTIES PASS_REGULAR_EXPRESSION \"^done$\")
 >>>
+status 0
+Test project .
 1/1 Test #1: t ... Passed 0.00 sec
+
+100% tests passed, 0 tests failed out of 1
 ";
 
 #[test]
 fn reports_what_the_tests_came_to(rt: HostRuntime) -> Result<(), Fail> {
-    end_as_told(&rt, RUNS)
+    run_as_told(&rt, RUNS, ending)
 }
 
 #[test]
 fn tells_why_there_is_no_whole_report(rt: HostRuntime) -> Result<(), Fail> {
-    end_as_told(&rt, HALTS)
+    run_as_told(&rt, HALTS, ending)
+}
+
+/// Reports as `ending` does, by the pieces that were put; behind one that is no line stands a `|`.
+fn ending_by_pieces(alloc: Global, ran: &Ran) -> Result<String, NoMemory> {
+    let mut text = String::new(alloc);
+    for piece in ran.sink.pieces() {
+        let piece = str::from_utf8(piece.bytes()).unwrap_or("?");
+        let end = if is_line(piece) { "" } else { "|" };
+        text = format!(in alloc; "{text}{piece}{end}")?;
+    }
+    ending_with(alloc, ran, text.as_str())
+}
+
+/// Tells whether a text is one line, with its end.
+fn is_line(text: &str) -> bool {
+    text.ends_with('\n') && text.lines().count() == 1
 }
 
 #[test]
 fn puts_each_line_by_itself(rt: HostRuntime) -> Result<(), Fail> {
-    for call in &calls_of(rt.alloc(), RUNS)? {
-        let ran = run(&rt, call)?;
-        let report = written(&ran.sink);
-        let pieces = ran.sink.pieces();
-        assert_eq!(rt; pieces.len(), report.lines().count(), "{call}");
-        for (piece, line) in pieces.iter().zip(report.split_inclusive('\n')) {
-            assert_eq!(rt; piece.bytes(), line.as_bytes(), "{call}");
-        }
-    }
-    Ok(())
+    run_as_told(&rt, RUNS, ending_by_pieces)
 }
 
 #[test]
 fn asks_for_what_a_test_is_defined_with(rt: HostRuntime) -> Result<(), Fail> {
-    ask_as_told(&rt, REQUESTS)
+    run_as_told(&rt, REQUESTS, requests)
+}
+
+#[test]
+fn counts_a_start_that_fails_and_goes_on(rt: HostRuntime) -> Result<(), Fail> {
+    run_as_told(&rt, ASKED, asked)
 }
 
 /// A gate whose programs write `done` in two pieces. It tells nothing.
@@ -409,9 +438,10 @@ impl Gate for Halves {
 #[test]
 fn finds_a_pattern_that_is_cut_in_two(rt: HostRuntime) -> Result<(), Fail> {
     for call in &calls_of(rt.alloc(), WRITES)? {
-        let ran = run_on(&rt, call, Halves)?;
-        let second = written(&ran.sink).lines().nth(1);
-        assert_eq!(rt; second, Some(call.want));
+        let mut gates = Vec::new(rt.alloc());
+        gates.push(Halves).map_err(AllocError::from)?;
+        let report = report_on(&rt, call, gates)?;
+        assert_eq!(rt; report.trim_end(), call.want, "{call}");
     }
     Ok(())
 }

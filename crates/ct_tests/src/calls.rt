@@ -1,22 +1,45 @@
-//! Calls of the top over files, a gate and a sink in memory, as tables tell of them.
+//! Calls of the top over files, gates and a sink in memory, as tables tell of them.
 //!
 //! In a table each row begins with `===` and what it shows. Then come the facts in which it
 //! differs, and its files, each behind `---` and its path, or behind `---` alone the test file of
 //! the folder. Behind each `>>>` stand the words of a call, and from the next line on what comes
-//! of it.
+//! of it; where nothing stands there, what came of the call in front of it. A line `or` stands
+//! between two texts of which each is allowed.
 //!
 //! A fact is of one of these forms: `told 2/3 1 10000 done`, by which the third attempt of test 2
 //! writes `done` and exits with 1 behind 10,000 microseconds, and the first one where no attempt is
-//! named; `call 1 fails`, a call on the files; `put 1 fails`, a put.
+//! named; `call 1 fails`, a call on the files; `put 1 fails`, a put; `gates 1`, where there is not
+//! a gate for each processor that the words ask for by `-j`; `costs a 1 2.000000;---;` and
+//! `log 7:a;`, what the files of the last run hold, with a `;` for the end of each line; `fill 99`,
+//! where the cost file goes on with `x` up to so many bytes.
 
-use ct_app::{Finished, Listed, ctest_main, list_main};
+ghost use Rattle.std.specs.Prelude.{◌<◌, vec_len};
+
+use ct_app::{Finished, Listed, Outcome, ctest_main, list_main};
 use ct_base::{Blob, List, MemFiles, MemSink, Name, NoMemory, Pair};
 use ct_core::{Ended, Gate, Request, ScriptGate, Told};
+use ct_history::Entry;
 use ct_verdict::How;
 use std::alloc::{AllocError, Global};
 use std::process::Abort;
+use std::sync::Wait;
 use std::test::Fail;
+use std::thread::Threads;
 use std::{fmt, str};
+
+/// The test file of the folder.
+const TREE: &str = "./CTestTestfile.cmake";
+
+/// The cost file.
+pub(crate) const COSTS: &str = "./Testing/Temporary/CTestCostData.txt";
+
+/// The log of failed tests.
+pub(crate) const LOG: &str = "./Testing/Temporary/LastTestsFailed.log";
+
+/// What a run wants of the runtime, and the assertions on it.
+pub(crate) trait Machine: Abort + AllocGlobal + Threads + Wait + Sync {}
+
+impl<R: Abort + AllocGlobal + Threads + Wait + Sync> Machine for R {}
 
 /// A call of a table.
 #[derive(Clone, Copy)]
@@ -32,19 +55,38 @@ pub(crate) struct Call<'a> {
 }
 
 impl<'a> Call<'a> {
-    /// Reads a call of the row that has these facts and files.
-    fn of(given: &'a str, call: &'a str) -> Call<'a> {
+    /// Reads a call of the row that has these facts and files, behind one that came to `before`.
+    fn of(given: &'a str, call: &'a str, before: &'a str) -> Call<'a> {
         let (facts, files) = match given.split_once("\n---") {
             Some((facts, files)) => (facts, Some(files)),
             None => (given, None),
         };
         let (words, want) = call.split_once('\n').unwrap_or((call, ""));
+        let want = want.trim_end();
         Call {
             facts,
             files,
             words,
-            want: want.trim_end(),
+            want: if want.is_empty() { before } else { want },
         }
+    }
+
+    /// What the first fact of this kind says.
+    fn fact(&self, kind: &str) -> Option<&'a str> {
+        for fact in self.facts.lines() {
+            if let Some(said) = fact.strip_prefix(kind) {
+                return Some(said);
+            }
+        }
+        None
+    }
+
+    /// How many gates it has.
+    pub(crate) fn gates(&self) -> usize {
+        let (_, level) = self.words.split_once("-j ").unwrap_or(("", ""));
+        let level = level.split(' ').next().unwrap_or("");
+        let gates = self.fact("gates ").unwrap_or(level);
+        gates.parse().unwrap_or(1).max(1)
     }
 }
 
@@ -60,31 +102,68 @@ pub(crate) fn calls_of<'a>(alloc: Global, table: &'a str) -> Result<Vec<Call<'a>
     for row in table.split("\n===").skip(1) {
         let (given, of_row) = row.split_once("\n>>>").unwrap_or((row, ""));
         for call in of_row.split("\n>>>") {
-            calls.push(Call::of(given, call))?;
+            calls.push(Call::of(given, call, last_want(calls.as_slice())))?;
         }
     }
     Ok(calls)
 }
 
-/// The files of a call.
-fn held(alloc: Global, files: Option<&str>) -> Result<List<Pair>, NoMemory> {
-    let mut held = List::new(alloc);
-    let Some(files) = files else {
-        return Ok(held);
-    };
-    for file in files.split("\n---") {
-        let (path, text) = file.split_once('\n').unwrap_or((file, ""));
-        let path = path.strip_prefix(' ').unwrap_or("./CTestTestfile.cmake");
-        held.push(pair(alloc, path, text)?)?;
+/// What is wanted of the last of these calls.
+fn last_want<'a>(calls: &[Call<'a>]) -> &'a str {
+    match calls {
+        [.., last] => last.want,
+        [] => "",
+    }
+}
+
+/// The files of a call, and those that the last run left.
+fn held(alloc: Global, call: &Call<'_>) -> Result<List<Pair>, NoMemory> {
+    let mut held = test_files(alloc, call)?;
+    if let Some(costs) = call.fact("costs ") {
+        let mut text = lines_in(alloc, costs)?;
+        if let Some(len) = call.fact("fill ") {
+            text.resize(len.parse().unwrap_or(0), b'x')?;
+        }
+        held.push(file(alloc, COSTS, text)?)?;
+    }
+    if let Some(log) = call.fact("log ") {
+        held.push(file(alloc, LOG, lines_in(alloc, log)?)?)?;
     }
     Ok(held)
 }
 
-fn pair(alloc: Global, name: &str, value: &str) -> Result<Pair, NoMemory> {
+/// The files of a call.
+fn test_files(alloc: Global, call: &Call<'_>) -> Result<List<Pair>, NoMemory> {
+    let mut files = List::new(alloc);
+    let Some(texts) = call.files else {
+        return Ok(files);
+    };
+    for text in texts.split("\n---") {
+        let (path, text) = text.split_once('\n').unwrap_or((text, ""));
+        let path = path.strip_prefix(' ').unwrap_or(TREE);
+        files.push(pair(alloc, path, text)?)?;
+    }
+    Ok(files)
+}
+
+fn file(alloc: Global, path: &str, text: Vec<u8>) -> Result<Pair, NoMemory> {
     Ok(Pair {
-        name: Name::of(alloc, name.as_bytes())?,
-        value: Name::of(alloc, value.as_bytes())?,
+        name: Name::of(alloc, path.as_bytes())?,
+        value: Name::from_vec(text),
     })
+}
+
+fn pair(alloc: Global, name: &str, value: &str) -> Result<Pair, NoMemory> {
+    file(alloc, name, Vec::from_slice(alloc, value.as_bytes())?)
+}
+
+/// The text of a file from a fact.
+fn lines_in(alloc: Global, fact: &str) -> Result<Vec<u8>, NoMemory> {
+    let mut text = Vec::new(alloc);
+    for byte in fact.as_bytes() {
+        text.push(if *byte == b';' { b'\n' } else { *byte })?;
+    }
+    Ok(text)
 }
 
 /// The calls of a kind that fail, by their numbers from 1.
@@ -100,7 +179,7 @@ fn failing(alloc: Global, facts: &str, kind: &str) -> Result<List<u64>, NoMemory
 }
 
 /// The words of a line.
-pub(crate) fn words_of(alloc: Global, line: &str) -> Result<List<Name>, NoMemory> {
+fn words_of(alloc: Global, line: &str) -> Result<List<Name>, NoMemory> {
     let mut words = List::new(alloc);
     for word in line.split(' ') {
         if !word.is_empty() {
@@ -147,32 +226,59 @@ fn how(word: &str) -> How {
     }
 }
 
-/// Runs on a gate, with one variable in the environment.
-pub(crate) fn run_on<G: Gate + Send + Drop>(
-    rt: &(impl Abort + AllocGlobal),
+/// The files and the sink of a call.
+fn files_and_sink(alloc: Global, call: &Call<'_>) -> Result<(MemFiles, MemSink), NoMemory> {
+    let fails = failing(alloc, call.facts, "call ")?;
+    let files = MemFiles::new(held(alloc, call)?, fails);
+    Ok((files, sink(alloc, call)?))
+}
+
+/// The sink of a call.
+pub(crate) fn sink(alloc: Global, call: &Call<'_>) -> Result<MemSink, NoMemory> {
+    Ok(MemSink::new(alloc, failing(alloc, call.facts, "put ")?))
+}
+
+/// Runs on these gates, with one variable in the environment.
+fn run_on<G: Gate + Send + Drop>(
+    rt: &impl Machine,
     call: &Call<'_>,
-    gate: G,
-) -> Result<Finished<MemFiles, G, MemSink>, Fail> {
+    gates: Vec<G>,
+) -> Result<Finished<MemFiles, G, MemSink>, Fail>
+    requires { 0 < vec_len gates }
+{
     let alloc = rt.alloc();
-    let files = MemFiles::new(
-        held(alloc, call.files)?,
-        failing(alloc, call.facts, "call ")?,
-    );
-    let sink = MemSink::new(alloc, failing(alloc, call.facts, "put ")?);
+    let (files, sink) = files_and_sink(alloc, call)?;
     let words = words_of(alloc, call.words)?;
     assert!(rt; words.len() < 100, "{call}");
     let env = [pair(alloc, "PATH", "/bin")?];
-    let mut gates = Vec::new(alloc);
-    gates.push(gate).map_err(AllocError::from)?;
-    Ok(ctest_main(alloc, words.as_slice(), &env, files, gates, sink))
+    Ok(ctest_main(rt, alloc, words.as_slice(), &env, files, gates, sink))
+}
+
+/// Runs on these gates, and reports the status and what was written.
+pub(crate) fn report_on<G: Gate + Send + Drop>(
+    rt: &impl Machine,
+    call: &Call<'_>,
+    gates: Vec<G>,
+) -> Result<String, Fail>
+    requires { 0 < vec_len gates }
+{
+    let ran = run_on(rt, call, gates)?;
+    Ok(format!(in rt.alloc(); "status {}\n{}", ran.status, written(&ran.sink))?)
 }
 
 pub(crate) type Ran = Finished<MemFiles, ScriptGate, MemSink>;
 
-/// Runs on a gate that tells what the facts say.
-pub(crate) fn run(rt: &(impl Abort + AllocGlobal), call: &Call<'_>) -> Result<Ran, Fail> {
-    let gate = gate(rt.alloc(), call.facts)?;
-    run_on(rt, call, gate)
+/// Runs on gates that tell what the facts say.
+pub(crate) fn run(rt: &impl Machine, call: &Call<'_>) -> Result<Ran, Fail> {
+    let alloc = rt.alloc();
+    let mut gates = Vec::new(alloc);
+    for _ in 0..call.gates() {
+        gates
+            .push(gate(alloc, call.facts)?)
+            .map_err(AllocError::from)?;
+    }
+    assert!(rt; !gates.is_empty(), "{call}");
+    run_on(rt, call, gates)
 }
 
 /// Lists without a gate.
@@ -181,46 +287,133 @@ pub(crate) fn list(
     call: &Call<'_>,
 ) -> Result<Listed<MemFiles, MemSink>, Fail> {
     let alloc = rt.alloc();
-    let files = MemFiles::new(
-        held(alloc, call.files)?,
-        failing(alloc, call.facts, "call ")?,
-    );
-    let sink = MemSink::new(alloc, failing(alloc, call.facts, "put ")?);
+    let (files, sink) = files_and_sink(alloc, call)?;
     let words = words_of(alloc, call.words)?;
     assert!(rt; words.len() < 100, "{call}");
     Ok(list_main(alloc, words.as_slice(), files, sink))
+}
+
+/// Compares what comes of each call of a table, as a report says it, with what is wanted. The
+/// test files stay as they were.
+pub(crate) fn run_as_told<F: Fn(Global, &Ran) -> Result<String, NoMemory>>(
+    rt: &impl Machine,
+    table: &str,
+    report: F,
+) -> Result<(), Fail>
+    requires { F.IsAlwaysCallable report }
+{
+    let alloc = rt.alloc();
+    for call in &calls_of(alloc, table)? {
+        let ran = run(rt, call)?;
+        let kept = keeps_test_files(alloc, call, &ran.files)?;
+        assert!(rt; kept, "{call}");
+        let text = report(alloc, &ran)?;
+        let text = text.trim_end();
+        assert!(rt; is_allowed(text, call.want), "{call}\n{text}");
+    }
+    Ok(())
+}
+
+/// Tells whether the files of a call hold what they held.
+fn keeps_test_files(alloc: Global, call: &Call<'_>, files: &MemFiles) -> Result<bool, NoMemory> {
+    for pair in test_files(alloc, call)?.as_slice() {
+        match files.held(&pair.name) {
+            Some(text) if text.is(&pair.value) => {}
+            _ => return Ok(false),
+        }
+    }
+    Ok(true)
+}
+
+/// Tells whether this is one of the texts that are allowed.
+fn is_allowed(text: &str, want: &str) -> bool {
+    for allowed in want.split("\nor\n") {
+        if allowed == text {
+            return true;
+        }
+    }
+    false
 }
 
 pub(crate) fn written(sink: &MemSink) -> &str {
     str::from_utf8(sink.written().bytes()).unwrap_or("?")
 }
 
-/// How a run ended, how many attempts it asked for, how many of them were not started, and what
-/// was written.
-fn ending(alloc: Global, ran: &Ran) -> Result<String, AllocError> {
-    let (asked, unstarted) = match ran.gates.first() {
-        Some(gate) => (gate.asked().len(), gate.faults()),
-        None => (0, 0),
-    };
-    let status = ran.status;
-    let written = written(&ran.sink);
-    format!(in alloc; "status {status}, asked {asked}, unstarted {unstarted}\n{written}")
-}
-
-/// Compares what comes of each call of a table.
-pub(crate) fn end_as_told(rt: &(impl Abort + AllocGlobal), table: &str) -> Result<(), Fail> {
-    for call in &calls_of(rt.alloc(), table)? {
-        let ending = ending(rt.alloc(), &run(rt, call)?)?;
-        assert_eq!(rt; ending.trim_end(), call.want, "{call}");
-    }
-    Ok(())
-}
-
-fn text_of(name: &Name) -> &str {
+pub(crate) fn text_of(name: &Name) -> &str {
     str::from_utf8(name.bytes()).unwrap_or("?")
 }
 
-fn names(alloc: Global, names: &List<Name>) -> Result<String, AllocError> {
+pub(crate) fn name_of(outcome: &Outcome) -> &'static str {
+    match outcome {
+        Outcome::Completed => "Completed",
+        Outcome::Listed => "Listed",
+        Outcome::Usage { .. } => "Usage",
+        Outcome::Refused(_) => "Refused",
+        Outcome::FilesFault { .. } => "FilesFault",
+        Outcome::OutputFault => "OutputFault",
+        Outcome::Memory => "Memory",
+    }
+}
+
+/// Reports how a run ended, how many attempts it asked for, how many of them were not started, and
+/// what was written.
+pub(crate) fn ending(alloc: Global, ran: &Ran) -> Result<String, NoMemory> {
+    ending_with(alloc, ran, written(&ran.sink))
+}
+
+/// Puts this text of a report behind how a run ended.
+pub(crate) fn ending_with(alloc: Global, ran: &Ran, report: &str) -> Result<String, NoMemory> {
+    let (mut asked, mut unstarted) = (0usize, 0u64);
+    for gate in &ran.gates {
+        asked = asked.saturating_add(gate.asked().len());
+        unstarted = unstarted.saturating_add(gate.faults());
+    }
+    let status = ran.status;
+    Ok(format!(in alloc; "status {status}, asked {asked}, unstarted {unstarted}\n{report}")?)
+}
+
+/// Reports the attempts that each gate was asked for, and how many of them were not started.
+pub(crate) fn asked(alloc: Global, ran: &Ran) -> Result<String, NoMemory> {
+    let mut text = String::new(alloc);
+    for gate in &ran.gates {
+        for asked in gate.asked().as_slice() {
+            text = format!(in alloc; "{text}{}/{} ", asked.test, asked.attempt)?;
+        }
+        text = format!(in alloc; "{text}unstarted {}\n", gate.faults())?;
+    }
+    Ok(text)
+}
+
+/// Reports the requests that the gates were sent, each on its line: name, folder, command,
+/// environment, microseconds at most and the files that have to be there, with a space behind each
+/// item of a list.
+pub(crate) fn requests(alloc: Global, ran: &Ran) -> Result<String, NoMemory> {
+    let mut text = String::new(alloc);
+    for gate in &ran.gates {
+        for request in gate.sent().as_slice() {
+            text = with_request(alloc, text, request)?;
+        }
+    }
+    Ok(text)
+}
+
+/// Puts a request on a line behind the text.
+fn with_request(alloc: Global, text: String, request: &Request) -> Result<String, NoMemory> {
+    let limit = match request.limit {
+        Some(micros) => micros.to_string(alloc)?,
+        None => format!(in alloc; "none")?,
+    };
+    Ok(format!(in alloc;
+        "{text}{}|{}|{}|{}|{limit}|{}\n",
+        text_of(&request.name),
+        text_of(&request.dir),
+        names(alloc, &request.command)?,
+        pairs(alloc, &request.env)?,
+        names(alloc, &request.required)?,
+    )?)
+}
+
+fn names(alloc: Global, names: &List<Name>) -> Result<String, NoMemory> {
     let mut text = String::new(alloc);
     for name in names.as_slice() {
         text = format!(in alloc; "{text}{} ", text_of(name))?;
@@ -228,7 +421,7 @@ fn names(alloc: Global, names: &List<Name>) -> Result<String, AllocError> {
     Ok(text)
 }
 
-fn pairs(alloc: Global, pairs: &List<Pair>) -> Result<String, AllocError> {
+fn pairs(alloc: Global, pairs: &List<Pair>) -> Result<String, NoMemory> {
     let mut text = String::new(alloc);
     for pair in pairs.as_slice() {
         text = format!(in alloc; "{text}{}={} ", text_of(&pair.name), text_of(&pair.value))?;
@@ -236,47 +429,31 @@ fn pairs(alloc: Global, pairs: &List<Pair>) -> Result<String, AllocError> {
     Ok(text)
 }
 
-/// The requests that a gate was sent, each on its line: name, folder, command, environment,
-/// microseconds at most and the files that have to be there, with a space behind each item of a
-/// list.
-fn requests(alloc: Global, requests: &List<Request>) -> Result<String, AllocError> {
+/// Reports what happened in a run, an entry a line, with test and attempt.
+pub(crate) fn happened(alloc: Global, ran: &Ran) -> Result<String, NoMemory> {
+    match &ran.history {
+        Some(history) => entries(alloc, history.entries.as_slice()),
+        None => Ok(String::new(alloc)),
+    }
+}
+
+/// What happened, an entry a line, with test and attempt.
+pub(crate) fn entries(alloc: Global, entries: &[Entry]) -> Result<String, NoMemory> {
     let mut text = String::new(alloc);
-    for request in requests.as_slice() {
-        let limit = match request.limit {
-            Some(micros) => micros.to_string(alloc)?,
-            None => format!(in alloc; "none")?,
-        };
-        text = format!(in alloc;
-            "{text}{}|{}|{}|{}|{limit}|{}\n",
-            text_of(&request.name),
-            text_of(&request.dir),
-            names(alloc, &request.command)?,
-            pairs(alloc, &request.env)?,
-            names(alloc, &request.required)?,
-        )?;
+    for entry in entries {
+        text = with_entry(alloc, text, entry)?;
     }
     Ok(text)
 }
 
-/// Compares the requests of each call of a table, with a line `or` between those that are allowed.
-pub(crate) fn ask_as_told(rt: &(impl Abort + AllocGlobal), table: &str) -> Result<(), Fail> {
-    for call in &calls_of(rt.alloc(), table)? {
-        let ran = run(rt, call)?;
-        for gate in &ran.gates {
-            let sent = requests(rt.alloc(), gate.sent())?;
-            let sent = sent.trim_end();
-            assert!(rt; is_allowed(sent, call.want), "{call}\n{sent}");
+/// Puts what an entry says on a line behind the text.
+fn with_entry(alloc: Global, text: String, entry: &Entry) -> Result<String, NoMemory> {
+    Ok(match entry {
+        Entry::Start { test, attempt, .. } => {
+            format!(in alloc; "{text}Start {test}/{attempt}\n")?
         }
-    }
-    Ok(())
-}
-
-/// Tells whether this is one of the answers that are allowed.
-fn is_allowed(sent: &str, want: &str) -> bool {
-    for allowed in want.split("\nor\n") {
-        if allowed == sent {
-            return true;
-        }
-    }
-    false
+        Entry::End { test, attempt, .. } => format!(in alloc; "{text}End {test}/{attempt}\n")?,
+        Entry::Settle { test, .. } => format!(in alloc; "{text}Settle {test}\n")?,
+        Entry::Stop => format!(in alloc; "{text}Stop\n")?,
+    })
 }

@@ -1,8 +1,10 @@
 //! Runs in which tests wait for others: what is drawn in, in which order it runs, and what is not
 //! run for it.
 
-use crate::calls::{calls_of, end_as_told, run};
+use crate::calls::{Ran, ending, run_as_told};
 use ct_app::{Outcome, Refusal};
+use ct_base::NoMemory;
+use std::alloc::Global;
 use std::test::Fail;
 
 /// Runs with DEPENDS.
@@ -163,32 +165,32 @@ set_tests_properties(s PROPERTIES FIXTURES_SETUP db FIXTURES_REQUIRED db)
 >>>
 status 2, asked 0, unstarted 0
 ctest: cycle: s -> s
+cycle 1
 ";
 
 #[test]
 fn waits_for_the_tests_that_are_named(rt: HostRuntime) -> Result<(), Fail> {
-    end_as_told(&rt, DEPENDS)
+    run_as_told(&rt, DEPENDS, ending)
 }
 
 #[test]
 fn runs_fixtures_around_the_tests_that_require_them(rt: HostRuntime) -> Result<(), Fail> {
-    end_as_told(&rt, FIXTURES)
+    run_as_told(&rt, FIXTURES, ending)
 }
 
-/// The numbers of the tests of the cycle that is refused, if one is.
-fn cycle_in(outcome: &Outcome) -> Option<&[u32]> {
-    match outcome {
-        Outcome::Refused(Refusal::Cycle(tests)) => Some(tests.as_slice()),
-        _ => None,
+/// Reports how a run ended, and the numbers of the tests of the cycle that it refused.
+fn refused(alloc: Global, ran: &Ran) -> Result<String, NoMemory> {
+    let mut text = ending(alloc, ran)?;
+    if let Outcome::Refused(Refusal::Cycle(tests)) = &ran.outcome {
+        text = format!(in alloc; "{text}cycle")?;
+        for test in tests.as_slice() {
+            text = format!(in alloc; "{text} {test}")?;
+        }
     }
+    Ok(text)
 }
 
 #[test]
 fn refuses_a_cycle(rt: HostRuntime) -> Result<(), Fail> {
-    end_as_told(&rt, CYCLE)?;
-    for call in &calls_of(rt.alloc(), CYCLE)? {
-        let ran = run(&rt, call)?;
-        assert!(rt; cycle_in(&ran.outcome) == Some([1].as_slice()), "{call}");
-    }
-    Ok(())
+    run_as_told(&rt, CYCLE, refused)
 }

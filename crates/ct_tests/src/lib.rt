@@ -1,7 +1,7 @@
 //! The tests of whole runs.
 //!
 //! Hands up: nothing. A crate with tests of its own is proved twice, so they stand here.
-//! Stands on: ct_app and what is below it.
+//! Stands on: ct_app, ct_worker and what is below them.
 //! Read first: `calls.rt`, then `app.rt`.
 #![tactic(auto)]
 
@@ -18,4 +18,8 @@ mod resources;
 #[cfg(test)]
 mod run_files;
 #[cfg(test)]
+mod states;
+#[cfg(test)]
 mod words;
+#[cfg(test)]
+mod workers;

@@ -1,9 +1,10 @@
 //! Lists of tests and of labels, by the call that lists alone and by the one that may run tests.
 
-use crate::calls::{Call, calls_of, list, run, written};
-use ct_app::Outcome;
+use crate::calls::{Machine, Ran, calls_of, list, name_of, run_as_told, written};
+use ct_app::{Listed, Outcome};
 use ct_base::{MemFiles, MemSink, Name, NoMemory};
-use std::alloc::{AllocError, Global};
+use ct_core::ScriptGate;
+use std::alloc::Global;
 use std::process::Abort;
 use std::test::Fail;
 
@@ -357,28 +358,23 @@ add_test(ok \"true\")
 OutputFault, status 4
 ";
 
-fn name_of(outcome: &Outcome) -> &'static str {
-    match outcome {
-        Outcome::Completed => "Completed",
-        Outcome::Listed => "Listed",
-        Outcome::Usage { .. } => "Usage",
-        Outcome::Refused(_) => "Refused",
-        Outcome::FilesFault { .. } => "FilesFault",
-        Outcome::OutputFault => "OutputFault",
-        Outcome::Memory => "Memory",
-    }
-}
-
-/// What a call came to, its status, and what was written.
+/// What a call came to, its status, and what was written; then, where files of a run are left, that
+/// they are.
 fn ending(
     alloc: Global,
     outcome: &Outcome,
     status: u8,
     sink: &MemSink,
-) -> Result<String, AllocError> {
+    files: &MemFiles,
+) -> Result<String, NoMemory> {
     let name = name_of(outcome);
     let written = written(sink);
-    format!(in alloc; "{name}, status {status}\n{written}")
+    let left = if has_run_files(alloc, files)? {
+        "files of a run"
+    } else {
+        ""
+    };
+    Ok(format!(in alloc; "{name}, status {status}\n{written}{left}")?)
 }
 
 /// Tells whether a run left files in one of the folders that these tables name.
@@ -396,41 +392,45 @@ fn has_run_files(alloc: Global, files: &MemFiles) -> Result<bool, NoMemory> {
     Ok(false)
 }
 
-/// Compares a call of `list_main`, which leaves no file, with what comes of it.
-fn list_as_told(rt: &(impl Abort + AllocGlobal), call: &Call<'_>) -> Result<(), Fail> {
-    let alloc = rt.alloc();
-    let listed = list(rt, call)?;
-    let ending = ending(alloc, &listed.outcome, listed.status, &listed.sink)?;
-    assert_eq!(rt; ending.trim_end(), call.want, "{call}");
-    let left = has_run_files(alloc, &listed.files)?;
-    assert!(rt; !left, "{call}");
-    Ok(())
+/// Reports on a list by `ctest_main`, and what it has of a run, if anything.
+fn listing(alloc: Global, ran: &Ran) -> Result<String, NoMemory> {
+    let text = ending(alloc, &ran.outcome, ran.status, &ran.sink, &ran.files)?;
+    if ran.plan.is_some() || ran.history.is_some() || are_asked(&ran.gates) {
+        return Ok(format!(in alloc; "{text}a run")?);
+    }
+    Ok(text)
 }
 
-/// Compares a call of `ctest_main`, which asks no gate and leaves no file, with what comes of it.
-fn run_as_told(rt: &(impl Abort + AllocGlobal), call: &Call<'_>) -> Result<(), Fail> {
+/// Tells whether a gate was asked for an attempt, or sent a request.
+fn are_asked(gates: &[ScriptGate]) -> bool {
+    for gate in gates {
+        if !gate.asked().is_empty() || !gate.sent().is_empty() {
+            return true;
+        }
+    }
+    false
+}
+
+/// Compares the lists of `list_main` with what comes of each call of a table.
+fn list_as_told(rt: &(impl Abort + AllocGlobal), table: &str) -> Result<(), Fail> {
     let alloc = rt.alloc();
-    let ran = run(rt, call)?;
-    let ending = ending(alloc, &ran.outcome, ran.status, &ran.sink)?;
-    assert_eq!(rt; ending.trim_end(), call.want, "{call}");
-    let left = has_run_files(alloc, &ran.files)?;
-    assert!(rt; !left, "{call}");
-    assert!(rt; ran.plan.is_none(), "{call}");
-    assert!(rt; ran.history.is_none(), "{call}");
-    for gate in &ran.gates {
-        assert_eq!(rt; gate.asked().len(), 0, "{call}");
-        assert_eq!(rt; gate.sent().len(), 0, "{call}");
+    for call in &calls_of(alloc, table)? {
+        let Listed {
+            outcome,
+            status,
+            files,
+            sink,
+        } = list(rt, call)?;
+        let text = ending(alloc, &outcome, status, &sink, &files)?;
+        assert_eq!(rt; text.trim_end(), call.want, "{call}");
     }
     Ok(())
 }
 
-/// Compares both calls of the top with what comes of each row of a table.
-fn both_as_told(rt: &(impl Abort + AllocGlobal), table: &str) -> Result<(), Fail> {
-    for call in &calls_of(rt.alloc(), table)? {
-        list_as_told(rt, call)?;
-        run_as_told(rt, call)?;
-    }
-    Ok(())
+/// Compares the lists of both calls of the top with what comes of each call of a table.
+fn both_as_told(rt: &impl Machine, table: &str) -> Result<(), Fail> {
+    list_as_told(rt, table)?;
+    run_as_told(rt, table, listing)
 }
 
 #[test]
@@ -450,8 +450,5 @@ fn tells_why_there_is_no_whole_list(rt: HostRuntime) -> Result<(), Fail> {
 
 #[test]
 fn lists_where_the_words_ask_for_a_run(rt: HostRuntime) -> Result<(), Fail> {
-    for call in &calls_of(rt.alloc(), RUNS)? {
-        list_as_told(&rt, call)?;
-    }
-    Ok(())
+    list_as_told(&rt, RUNS)
 }

@@ -1,7 +1,9 @@
 //! Runs of tests that ask for resources, and the file that declares them.
 
-use crate::calls::{ask_as_told, calls_of, end_as_told, run};
+use crate::calls::{Ran, ending, requests, run_as_told};
 use ct_app::{Outcome, Refusal, SpecFault, SpecRefusal};
+use ct_base::NoMemory;
+use std::alloc::Global;
 use std::test::Fail;
 
 /// Runs with a specification.
@@ -35,6 +37,7 @@ Test project .
 
 100% tests passed, 0 tests failed out of 2
 === needs that fit only in one way, and one more
+gates 1
 ---
 add_test(fits p)
 add_test(over p)
@@ -147,6 +150,7 @@ t|.|p |CTEST_RESOURCE_GROUP_0=gpus \
 CTEST_RESOURCE_GROUP_0_GPUS=id:b,slots:2;id:a,slots:2;id:b,slots:3;id:a,slots:3 \
 CTEST_RESOURCE_GROUP_COUNT=1 PATH=/bin |1500000000|
 === three tests in turn, each on the one card that has so much
+gates 1
 ---
 add_test(one p)
 add_test(two p)
@@ -268,32 +272,36 @@ const REPEATED: &str = "
   \"chips\":[{\"id\":\"0\"}],
   \"gpus\":[{\"id\":\"0\"},{\"id\":\"0\"}]}]}
 >>> --resource-spec-file r.json
+entry 1
 ";
 
 #[test]
 fn runs_tests_on_what_a_specification_declares(rt: HostRuntime) -> Result<(), Fail> {
-    end_as_told(&rt, RUNS)
+    run_as_told(&rt, RUNS, ending)
 }
 
 #[test]
 fn tells_a_test_of_its_resources(rt: HostRuntime) -> Result<(), Fail> {
-    ask_as_told(&rt, REQUESTS)
+    run_as_told(&rt, REQUESTS, requests)
 }
 
 #[test]
 fn refuses_a_specification_before_it_plans(rt: HostRuntime) -> Result<(), Fail> {
-    end_as_told(&rt, REFUSALS)
+    run_as_told(&rt, REFUSALS, ending)
+}
+
+/// Reports which entry of its list has the id of another one.
+fn repeated(alloc: Global, ran: &Ran) -> Result<String, NoMemory> {
+    let text = match &ran.outcome {
+        Outcome::Refused(Refusal::Spec(SpecRefusal::Fault(SpecFault::TwiceId { entry, .. }))) => {
+            format!(in alloc; "entry {entry}")?
+        }
+        _ => format!(in alloc; "no entry")?,
+    };
+    Ok(text)
 }
 
 #[test]
 fn tells_which_entry_repeats_an_id(rt: HostRuntime) -> Result<(), Fail> {
-    for call in &calls_of(rt.alloc(), REPEATED)? {
-        let ran = run(&rt, call)?;
-        let second = matches!(
-            &ran.outcome,
-            Outcome::Refused(Refusal::Spec(SpecRefusal::Fault(SpecFault::TwiceId { entry: 1, .. })))
-        );
-        assert!(rt; second, "{call}");
-    }
-    Ok(())
+    run_as_told(&rt, REPEATED, repeated)
 }

@@ -1,8 +1,6 @@
 //! Runs with words: what they run, how often and how long, and what they come to.
 
-use crate::calls::{Ran, ask_as_told, calls_of, end_as_told, run};
-use ct_history::Entry;
-use std::alloc::{AllocError, Global};
+use crate::calls::{ending, happened, requests, run_as_told};
 use std::test::Fail;
 
 /// Runs of a folder and a configuration that the words name.
@@ -67,6 +65,7 @@ Errors while running CTest
 /// Runs with more than one processor.
 const LEVELS: &str = "
 === two of three tests cost more than the first one
+gates 1
 ---
 add_test(a p)
 add_test(b p)
@@ -427,68 +426,40 @@ Settle 3
 
 #[test]
 fn runs_the_tests_of_a_place(rt: HostRuntime) -> Result<(), Fail> {
-    end_as_told(&rt, PLACES)
+    run_as_told(&rt, PLACES, ending)
 }
 
 #[test]
 fn starts_costly_tests_first_on_two_processors(rt: HostRuntime) -> Result<(), Fail> {
-    end_as_told(&rt, LEVELS)
+    run_as_told(&rt, LEVELS, ending)
 }
 
 #[test]
 fn tries_again_as_often_as_is_asked_for(rt: HostRuntime) -> Result<(), Fail> {
-    end_as_told(&rt, REPEATS)
+    run_as_told(&rt, REPEATS, ending)
 }
 
 #[test]
 fn starts_no_test_behind_a_failure(rt: HostRuntime) -> Result<(), Fail> {
-    end_as_told(&rt, STOPS)
+    run_as_told(&rt, STOPS, ending)
 }
 
 #[test]
 fn tells_whether_tests_were_found(rt: HostRuntime) -> Result<(), Fail> {
-    end_as_told(&rt, NO_TESTS)
+    run_as_told(&rt, NO_TESTS, ending)
 }
 
 #[test]
 fn refuses_words_before_it_reads_files(rt: HostRuntime) -> Result<(), Fail> {
-    end_as_told(&rt, REFUSED)
+    run_as_told(&rt, REFUSED, ending)
 }
 
 #[test]
 fn asks_with_the_folder_and_the_limit_of_the_words(rt: HostRuntime) -> Result<(), Fail> {
-    ask_as_told(&rt, REQUESTS)
-}
-
-/// Puts what an entry says on a line behind the text.
-fn with_entry(alloc: Global, text: String, entry: &Entry) -> Result<String, AllocError> {
-    match entry {
-        Entry::Start { test, attempt, .. } => {
-            format!(in alloc; "{text}Start {test}/{attempt}\n")
-        }
-        Entry::End { test, attempt, .. } => format!(in alloc; "{text}End {test}/{attempt}\n"),
-        Entry::Settle { test, .. } => format!(in alloc; "{text}Settle {test}\n"),
-        Entry::Stop => format!(in alloc; "{text}Stop\n"),
-    }
-}
-
-/// What happened in a run, an entry a line.
-fn happened(alloc: Global, ran: &Ran) -> Result<String, AllocError> {
-    let mut text = String::new(alloc);
-    let Some(history) = &ran.history else {
-        return Ok(text);
-    };
-    for entry in &history.entries {
-        text = with_entry(alloc, text, entry)?;
-    }
-    Ok(text)
+    run_as_told(&rt, REQUESTS, requests)
 }
 
 #[test]
 fn stops_and_tries_again_in_this_order(rt: HostRuntime) -> Result<(), Fail> {
-    for call in &calls_of(rt.alloc(), HISTORIES)? {
-        let happened = happened(rt.alloc(), &run(&rt, call)?)?;
-        assert_eq!(rt; happened.trim_end(), call.want, "{call}");
-    }
-    Ok(())
+    run_as_told(&rt, HISTORIES, happened)
 }

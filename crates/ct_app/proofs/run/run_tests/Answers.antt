@@ -1,66 +1,69 @@
-use Rattle.std.proofs.Common.{rules, ◌≡◌, [], Err}
-use Rattle.ct_base.specs.declared.sink.SinkFault.TheVariants as Sinks
-use Rattle.ct_report.specs.Report.{test_lines, text_of}
-use Rattle.ct_report.proofs.PutLemmas.{puts_none}
-use Rattle.ct_app.proofs.AlongLemmas.{along_fresh, asked_fresh, between_fresh, had_fresh, knows_fresh, refused_ends, refused_puts, room, torn_ends, tried_along, tried_knows, tried_memory, tried_puts}
+use Rattle.std.proofs.Common.{◌≡◌, ◌∙◌, sym, ap, subst, ℕ, min, length, map, arith}
+use Rattle.std.specs.Prelude.{Result, Err, IfErr, vec_len}
+use Rattle.std.proofs.lemmas.List.{length-map}
+use Rattle.ct_base.specs.declared.sink.SinkFault.{SinkFault}
+use Rattle.ct_base.specs.Outside.{Puts}
+use Rattle.ct_core.specs.CoreValue.{CoreValue}
+use Rattle.ct_report.specs.Report.{text_of}
+use Rattle.ct_worker.specs.State.{StateValue, put_of}
+use Rattle.ct_worker.specs.Work.{terms_in}
+use Rattle.ct_app.specs.Run.{HasRun, lines_of_run}
+use Rattle.ct_app.specs.Stops.{StopsBehind}
+use Rattle.ct_app.proofs.PoolLemmas.{given_up_behind, given_up_stops, pooled_run, rest_stays, summary_behind, summary_stops}
 use Rattle.ct_app.proofs.run.run_tests.Goals as goal
+use Rattle.ct_app.proofs.run.run_tests.Goals.{in-None, in-Some}
 
-pub returns-in_err-lines-clause-between : goal.returns-in_err-lines-clause-between
-returns-in_err-lines-clause-between g c = between_fresh c.args.tests.now c.args.core.now c.requires.fresh c.requires.planned
+pub returns-clause-ran : goal.returns-clause-ran
+returns-clause-ran g c =
+    let core = c.into_parts-core.result.0 in
+    let gates = map g.G.Gate.tells c.args.gates.items in
+    let gates_now = map g.G.Gate.tells c.pool-state.result.gates.items in
+    let counted : vec_len c.args.gates ≡ length c.args.gates.items = omega arith in
+    let most : c.worker_count-workers.result ≡ min c.args.core.plan.level (length gates) = c.worker_count-workers.ensures ∙ ap (λ (n : ℕ). min c.args.core.plan.level n) (c.len.ensures ∙ counted ∙ sym (length-map c.args.gates.items g.G.Gate.tells)) in
+    subst (λ (s : StateValue). HasRun (terms_in c.args.jobs.now s.plan) gates gates_now core.plan core.entries) c.open.ensures
+    (pooled_run (terms_in c.args.jobs.now c.open.result.plan) c.worker_count-workers.result c.args.core core (g.S.Sink.tells c.args.sink) c.open.result c.pool-state.result.state gates gates_now c.open.ensures c.pool-state.ensures.pooled c.into_parts-core.ensures.core most)
 
-pub returns-in_err-lines-clause-asked : goal.returns-in_err-lines-clause-asked
-returns-in_err-lines-clause-asked g c = asked_fresh c.args.tests.now c.args.core.now c.requires.fresh c.args.env.now (g.G.Gate.tells c.args.gate.now)
+pub returns-clause-puts : goal.returns-clause-puts
+returns-clause-puts g c =
+    let core = c.into_parts-core.result.0 in
+    let gates = map g.G.Gate.tells c.args.gates.items in
+    let gates_now = map g.G.Gate.tells c.pool-state.result.gates.items in
+    let terms = terms_in c.args.jobs.now c.open.result.plan in
+    elim c.match-halt.branch [
+      | in-None w ↦
+          let puts = summary_behind terms c.worker_count-workers.result c.args.core core (g.S.Sink.tells c.args.sink) c.open.result c.pool-state.result.state gates gates_now c.open.ensures c.pool-state.ensures.pooled c.into_parts-core.ensures.core
+          c.halt-halt.result c.halt-halt.ensures w.in-None.is c.into_parts-core.ensures.put (g.S.Sink.tells c.into_parts-core.result.1) (g.S.Sink.tells w.put_summary-ended.new.sink) w.put_summary-ended.result c.into_parts-core.ensures.sink w.put_summary-ended.ensures in
+          subst (λ (r : Result (Unit {0}) SinkFault). Puts (text_of (lines_of_run core.plan core.entries)) (g.S.Sink.tells c.args.sink) (g.S.Sink.tells c.match-halt.sink) r) (sym w.ended-is)
+          (subst (λ (s : g.row.S.Denot). Puts (text_of (lines_of_run core.plan core.entries)) (g.S.Sink.tells c.args.sink) (g.S.Sink.tells s) w.put_summary-ended.result) (sym w.sink-is) puts)
+      | in-Some w ↦
+          let puts = given_up_behind terms c.worker_count-workers.result c.args.core core (g.S.Sink.tells c.args.sink) c.open.result c.pool-state.result.state gates gates_now c.open.ensures c.pool-state.ensures.pooled c.into_parts-core.ensures.core
+          c.halt-halt.result c.halt-halt.ensures w.fault_of.result (ap put_of w.in-Some.is ∙ w.fault_of.ensures) c.into_parts-core.ensures.put (g.S.Sink.tells c.into_parts-core.result.1) c.into_parts-core.ensures.sink in
+          subst (λ (r : Result (Unit {0}) SinkFault). Puts (text_of (lines_of_run core.plan core.entries)) (g.S.Sink.tells c.args.sink) (g.S.Sink.tells c.match-halt.sink) r) (sym w.ended-is)
+          (subst (λ (s : g.row.S.Denot). Puts (text_of (lines_of_run core.plan core.entries)) (g.S.Sink.tells c.args.sink) (g.S.Sink.tells s) (Err w.fault_of.result)) (sym w.sink-is) puts)
+    ]
 
-pub returns-in_err-lines-clause-puts : goal.returns-in_err-lines-clause-puts
-returns-in_err-lines-clause-puts g c =
-    let gave : c.from_residual.result ≡ Err Sinks.NoMemory = search rules in
-    rw gave (puts_none (g.S.Sink.tells c.args.sink.now) (text_of (test_lines c.args.core.now.plan c.args.core.now.entries)))
+pub returns-clause-stops : goal.returns-clause-stops
+returns-clause-stops g c =
+    let core = c.into_parts-core.result.0 in
+    let gates = map g.G.Gate.tells c.args.gates.items in
+    let gates_now = map g.G.Gate.tells c.pool-state.result.gates.items in
+    let terms = terms_in c.args.jobs.now c.open.result.plan in
+    elim c.match-halt.branch [
+      | in-None w ↦
+          let stops = summary_stops terms c.worker_count-workers.result c.args.core core (g.S.Sink.tells c.args.sink) c.open.result c.pool-state.result.state gates gates_now c.open.ensures c.pool-state.ensures.pooled c.into_parts-core.ensures.core
+          c.halt-halt.result c.halt-halt.ensures w.in-None.is c.into_parts-core.ensures.put (g.S.Sink.tells c.into_parts-core.result.1) (g.S.Sink.tells w.put_summary-ended.new.sink) w.put_summary-ended.result c.into_parts-core.ensures.sink w.put_summary-ended.ensures in
+          subst (λ (r : Result (Unit {0}) SinkFault). IfErr r (λ fault. StopsBehind fault core.plan core.entries (g.S.Sink.tells c.args.sink) (g.S.Sink.tells c.match-halt.sink))) (sym w.ended-is)
+          (subst (λ (s : g.row.S.Denot). IfErr w.put_summary-ended.result (λ fault. StopsBehind fault core.plan core.entries (g.S.Sink.tells c.args.sink) (g.S.Sink.tells s))) (sym w.sink-is) stops)
+      | in-Some w ↦
+          let stops = given_up_stops terms c.worker_count-workers.result c.args.core core (g.S.Sink.tells c.args.sink) c.open.result c.pool-state.result.state gates gates_now c.open.ensures c.pool-state.ensures.pooled c.into_parts-core.ensures.core
+          c.halt-halt.result c.halt-halt.ensures w.fault_of.result (ap put_of w.in-Some.is ∙ w.fault_of.ensures) c.into_parts-core.ensures.halted (g.S.Sink.tells c.into_parts-core.result.1) c.into_parts-core.ensures.sink in
+          subst (λ (r : Result (Unit {0}) SinkFault). IfErr r (λ fault. StopsBehind fault core.plan core.entries (g.S.Sink.tells c.args.sink) (g.S.Sink.tells c.match-halt.sink))) (sym w.ended-is)
+          (subst (λ (s : g.row.S.Denot). StopsBehind w.fault_of.result core.plan core.entries (g.S.Sink.tells c.args.sink) (g.S.Sink.tells s)) (sym w.sink-is) stops)
+    ]
 
-pub returns-in_err-lines-clause-ends : goal.returns-in_err-lines-clause-ends
-returns-in_err-lines-clause-ends g c =
-    let gave : c.from_residual.result ≡ Err Sinks.NoMemory = search rules in
-    let sink = g.S.Sink.tells c.args.sink.now in
-    rw gave (torn_ends [] c.args.core.now.plan c.args.core.now.entries sink sink Sinks.NoMemory (had_fresh c.args.tests.now c.args.core.now c.requires.fresh))
-
-pub loop-lines-init : goal.loop-lines-init
-loop-lines-init g c =
-    let knows = knows_fresh c.args.tests.now c.args.core.now c.requires.fresh c.plan.result.now c.in_ok-lines.lines c.plan.ensures c.in_ok-lines.ensures in
-    along_fresh c.args.tests.now c.args.core.now c.requires.fresh c.args.env.now (g.G.Gate.tells c.args.gate.now) (g.S.Sink.tells c.args.sink.now) c.in_ok-lines.lines c.requires.planned knows
-
-pub returns-in_err-test-clause-puts : goal.returns-in_err-test-clause-puts
-returns-in_err-test-clause-puts g c =
-    let gave : c.from_residual-in_err-test.result ≡ Err Sinks.NoMemory = search rules in
-    rw gave (refused_puts c.loop-lines.invariant c.in_err-test.field-0.0 c.in_err-test.ensures.gives)
-
-pub returns-in_err-test-clause-ends : goal.returns-in_err-test-clause-ends
-returns-in_err-test-clause-ends g c =
-    let gave : c.from_residual-in_err-test.result ≡ Err Sinks.NoMemory = search rules in
-    rw gave (refused_ends c.loop-lines.invariant c.in_err-test.field-0.0 c.in_err-test.ensures.gives)
-
-pub put_line-requires : goal.put_line-requires
-put_line-requires g c =
-    let step = rw c.in-Some.is at c.in_ok-test.ensures.gives in
-    record { few = room c.loop-lines.invariant c.requires.few; knows = tried_knows c.loop-lines.invariant step }
-
-pub returns-in_err-put_line-clause-puts : goal.returns-in_err-put_line-clause-puts
-returns-in_err-put_line-clause-puts g c =
-    let step = rw c.in-Some.is at c.in_ok-test.ensures.gives in
-    let gave : c.from_residual-in_err-put_line.result ≡ Err c.in_err-put_line.field-0.0 = search rules in
-    rw gave (tried_puts c.loop-lines.invariant step (g.S.Sink.tells c.put_line.new.sink) (Err c.in_err-put_line.field-0.0) c.in_err-put_line.ensures.puts)
-
-pub returns-in_err-put_line-clause-ends : goal.returns-in_err-put_line-clause-ends
-returns-in_err-put_line-clause-ends g c =
-    let step = rw c.in-Some.is at c.in_ok-test.ensures.gives in
-    let gave : c.from_residual-in_err-put_line.result ≡ Err c.in_err-put_line.field-0.0 = search rules in
-    let now = c.step.new.core in
-    rw gave (torn_ends [] now.plan now.entries (g.S.Sink.tells c.args.sink.now) (g.S.Sink.tells c.put_line.new.sink) c.in_err-put_line.field-0.0 (tried_memory c.loop-lines.invariant step))
-
-pub loop-lines-smaller : goal.loop-lines-smaller
-loop-lines-smaller g c =
-    let step = rw c.in-Some.is at c.in_ok-test.ensures.gives in
-    step.less
-
-pub loop-lines-preserved : goal.loop-lines-preserved
-loop-lines-preserved g c =
-    let step = rw c.in-Some.is at c.in_ok-test.ensures.gives in
-    tried_along c.loop-lines.invariant step (g.G.Gate.tells c.step.new.gate) (g.S.Sink.tells c.put_line.new.sink) c.put_line.new.count c.put_line.new.lines c.in_ok-test.ensures.between c.in_ok-test.ensures.asked c.in_ok-put_line.ensures.puts c.in_ok-put_line.ensures.count c.in_ok-put_line.ensures.knows
+pub returns-clause-others : goal.returns-clause-others
+returns-clause-others g c =
+    let planned = ap (λ (k : CoreValue). k.plan) c.into_parts-core.ensures.core ∙ c.pool-state.ensures.pooled.plan ∙ ap (λ (s : StateValue). s.plan) c.open.ensures in
+    let counted : vec_len c.args.gates ≡ length c.args.gates.items = omega arith in
+    rest_stays c.args.core.plan c.into_parts-core.result.0.plan c.worker_count-workers.result c.args.gates.items c.pool-state.result.gates.items planned
+    (c.worker_count-workers.ensures ∙ ap (λ (n : ℕ). min c.args.core.plan.level n) (c.len.ensures ∙ counted)) c.pool-state.ensures.others

@@ -1,8 +1,8 @@
-use Rattle.std.proofs.Common.{[], ◌∷◌, ◌<◌, ℕ, List, ap, subst, length, arith, map, slice_set}
+use Rattle.std.proofs.Common.{List, ℕ, ap, subst, map}
 use Rattle.std.specs.Prelude.{Option, option_map}
 use Rattle.ct_history.specs.declared.history.History.{History}
 use Rattle.ct_app.specs.Ends.{TellsEnd, history_entries}
-use Rattle.ct_app.proofs.AnswerLemmas.{some_told, told_answer, unchanged, widened}
+use Rattle.ct_app.proofs.AnswerLemmas.{told_answer}
 use Rattle.ct_app.proofs.CompleteLemmas.{call_completes}
 use Rattle.ct_app.proofs.ListLemmas.{list_told}
 use Rattle.ct_app.proofs.MeantAnswerLemmas.{answers_as_meant}
@@ -10,23 +10,17 @@ use Rattle.ct_app.proofs.top.ctest_main.Goals as goal
 
 pub returns-clause-answer : goal.returns-clause-answer
 returns-clause-answer g c =
-    let some : 0 < length c.args.gates.items = omega (arith, c.requires.some) in
     let ran = c.run_words-ended in
-    let told = subst (λ (names : List (List ℕ)). TellsEnd names ran.result.ended c.tell-outcome.result.0 c.tell-outcome.result.1 (g.S.Sink.tells ran.new.sink) (g.S.Sink.tells c.tell-outcome.new.sink)) c.as_slice.ensures c.tell-outcome.ensures in
-    let gates = map g.G.Gate.tells c.args.gates.items in
+    let told = subst (λ (names : List (List ℕ)). TellsEnd names ran.result.ended c.tell-outcome.result.0 c.tell-outcome.result.1 (g.S.Sink.tells ran.result.sink) (g.S.Sink.tells c.tell-outcome.new.sink)) c.as_slice.ensures c.tell-outcome.ensures in
     record {
-      run = λ no_list. told_answer c.args.words.now c.args.env.now (g.F.Files.tells c.args.files) (g.F.Files.tells ran.new.files) (g.G.Gate.tells c.index_mut.result.now) (g.G.Gate.tells ran.new.gate) gates (map g.G.Gate.tells (slice_set c.args.gates.items 0 ran.new.gate)) (g.S.Sink.tells c.args.sink) (g.S.Sink.tells ran.new.sink) (g.S.Sink.tells c.tell-outcome.new.sink) ran.result.plan (option_map history_entries ran.result.history) ran.result.names
-          (some_told g.G.Gate.tells c.args.gates.items some)
-          (λ tests es below asked. widened g.G.Gate.tells c.args.gates.items c.index_mut.result.now ran.new.gate some c.index_mut.ensures.value c.args.env.now tests es below asked)
-          (λ same. unchanged g.G.Gate.tells c.args.gates.items c.index_mut.result.now ran.new.gate some c.index_mut.ensures.value same)
+      run = λ no_list. told_answer c.args.words.now c.args.env.now (g.F.Files.tells c.args.files) (g.F.Files.tells ran.new.files) (map g.G.Gate.tells c.args.gates.items) (map g.G.Gate.tells ran.result.gates.items) (g.S.Sink.tells c.args.sink) (g.S.Sink.tells ran.result.sink) (g.S.Sink.tells c.tell-outcome.new.sink) ran.result.plan (option_map history_entries ran.result.history) ran.result.names
           ran.result.ended c.tell-outcome.result.0 c.tell-outcome.result.1 (ran.ensures.run no_list) told;
       list = λ asks.
-          let same = ap (λ x. g.G.Gate.tells x ∷ []) (ran.ensures.unasked asks) in
-          list_told c.args.words.now c.args.env.now (g.F.Files.tells c.args.files) (g.F.Files.tells ran.new.files) (map g.G.Gate.tells c.args.gates.items) (map g.G.Gate.tells (slice_set c.args.gates.items 0 ran.new.gate)) (g.S.Sink.tells c.args.sink) (g.S.Sink.tells ran.new.sink) (g.S.Sink.tells c.tell-outcome.new.sink) ran.result.plan (option_map history_entries ran.result.history)
+          list_told c.args.words.now c.args.env.now (g.F.Files.tells c.args.files) (g.F.Files.tells ran.new.files) (map g.G.Gate.tells c.args.gates.items) (map g.G.Gate.tells ran.result.gates.items) (g.S.Sink.tells c.args.sink) (g.S.Sink.tells ran.result.sink) (g.S.Sink.tells c.tell-outcome.new.sink) ran.result.plan (option_map history_entries ran.result.history)
           (record {
             no_plan = ran.ensures.plan asks;
             no_history = ap (λ (h : Option History). option_map history_entries h) (ran.ensures.history asks);
-            unasked = unchanged g.G.Gate.tells c.args.gates.items c.index_mut.result.now ran.new.gate some c.index_mut.ensures.value same;
+            unasked = ap (λ gates. map g.G.Gate.tells gates.items) (ran.ensures.unasked asks);
           })
           ran.result.names ran.result.ended c.tell-outcome.result.0 c.tell-outcome.result.1 (ran.ensures.list asks) told;
     }

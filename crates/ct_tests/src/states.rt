@@ -1,0 +1,220 @@
+//! The state that workers share, one step after another: in one hand, and at a turn.
+
+ghost use Rattle.std.specs.Prelude.{◌≡◌, IfOk, [], None, Some, false};
+ghost use Rattle.ct_history.specs.Plan.{IsSound};
+ghost use Rattle.ct_turn.specs.Seen.{held_start};
+ghost use Rattle.ct_worker.specs.Attempt.{run_of};
+ghost use Rattle.ct_worker.specs.Work.{AsksNext, EndsOwn};
+
+use crate::calls::{Call, Machine, calls_of, entries, run, sink, written};
+use ct_app::Finished;
+use ct_base::{MemSink, NoMemory};
+use ct_core::{Core, Next, Ticket};
+use ct_history::{Plan, holds_start, is_busy};
+use ct_turn::{Pass, Turn};
+use ct_verdict::{How, Seen};
+use ct_worker::{Halt, State};
+use std::alloc::Global;
+use std::process::Abort;
+use std::sync::Wait;
+use std::test::Fail;
+
+/// A run of five tests on three processors, of which the second line cannot be put.
+const FIVE: &str = "
+=== five tests
+put 2 fails
+---
+add_test(a p)
+add_test(b p)
+add_test(c p)
+add_test(d p)
+add_test(e p)
+>>> -j 3
+1/5 Test #1: a ... Passed 0.00 sec
+Start 1/1
+Start 2/1
+Start 3/1
+End 1/1
+Start 4/1
+End 2/1
+End 3/1
+End 4/1
+";
+
+/// A run of one test.
+const ONE: &str = "
+=== one test
+---
+add_test(a p)
+>>>
+1/1 Test #1: a ... Passed 0.00 sec
+Start 1/1
+End 1/1
+";
+
+/// The plan of a call.
+fn plan_of(rt: &impl Machine, call: &Call<'_>) -> Result<Plan, Fail> {
+    let Finished { plan, .. } = run(rt, call)?;
+    Ok(plan.ok_or("no plan")?)
+}
+
+/// Opens the core of a plan.
+fn core_of(alloc: Global, plan: Plan) -> Result<Core, NoMemory>
+    ensures { IfOk result (λ core. (core.entries ≡ []) × (core.aborted ≡ false)) }
+{
+    match Core::open(alloc, plan) {
+        Ok(core) => Ok(core),
+        Err(_plan) => Err(NoMemory),
+    }
+}
+
+/// Opens a state with the plan of a call.
+fn open(rt: &impl Machine, call: &Call<'_>) -> Result<State<MemSink>, Fail>
+    ensures { IfOk result (λ state. (state.entries ≡ []) × (state.halt ≡ None)) }
+{
+    let core = core_of(rt.alloc(), plan_of(rt, call)?)?;
+    let sink = sink(rt.alloc(), call)?;
+    Ok(State::open(core, sink))
+}
+
+/// Compares what was written, and then what happened, with what is wanted of a call.
+fn close(rt: &impl Machine, call: &Call<'_>, state: State<MemSink>) -> Result<(), Fail> {
+    let alloc = rt.alloc();
+    let (core, sink) = state.into_parts();
+    let happened = entries(alloc, core.history().entries.as_slice())?;
+    let text = format!(in alloc; "{}{happened}", written(&sink))?;
+    assert_eq!(rt; text.trim_end(), call.want, "{call}");
+    Ok(())
+}
+
+/// What a worker that has no attempt is to do next.
+fn next(rt: &impl Abort, state: &mut State<MemSink>, worker: u32) -> Next {
+    assert!(rt; !is_busy(state.core().history().entries.as_slice(), worker));
+    state.next(worker)
+}
+
+/// Lets a worker start an attempt.
+fn start(rt: &impl Abort, state: &mut State<MemSink>, worker: u32) -> Ticket {
+    match next(rt, state, worker) {
+        Next::Start(ticket) => ticket,
+        Next::Settled(_) | Next::Wait | Next::Done | Next::Aborted | Next::NoMemory => {
+            panic!(rt; "worker {worker} starts nothing")
+        }
+    }
+}
+
+/// Ends an attempt, which passes.
+fn finish(rt: &impl Abort, state: &mut State<MemSink>, ticket: Ticket) {
+    let entries = state.core().history().entries.as_slice();
+    assert!(rt; holds_start(entries, ticket.test(), ticket.attempt(), ticket.worker()));
+    state.finish(ticket, passed());
+}
+
+/// Checks that the run is given up for a worker.
+fn expect_aborted(rt: &impl Abort, state: &mut State<MemSink>, worker: u32) {
+    match next(rt, state, worker) {
+        Next::Aborted => {}
+        Next::Start(_ticket) => panic!(rt; "worker {worker} starts an attempt"),
+        Next::Settled(_) | Next::Wait | Next::Done | Next::NoMemory => {
+            panic!(rt; "worker {worker} goes on")
+        }
+    }
+}
+
+fn passed() -> Seen {
+    Seen {
+        how: How::Exited(0),
+        fail_hit: false,
+        pass_hit: false,
+        skip_hit: false,
+        micros: 0,
+    }
+}
+
+#[test]
+fn writes_nothing_behind_a_line_that_fails(rt: HostRuntime) -> Result<(), Fail> {
+    for call in &calls_of(rt.alloc(), FIVE)? {
+        let mut state = open(&rt, call)?;
+        let first = start(&rt, &mut state, 0);
+        let second = start(&rt, &mut state, 1);
+        let third = start(&rt, &mut state, 2);
+        finish(&rt, &mut state, first);
+        let fourth = start(&rt, &mut state, 0);
+        assert_eq!(rt; state.halt(), None);
+        finish(&rt, &mut state, second);
+        assert_eq!(rt; state.halt(), Some(Halt::Output));
+        expect_aborted(&rt, &mut state, 1);
+        finish(&rt, &mut state, third);
+        finish(&rt, &mut state, fourth);
+        close(&rt, call, state)?;
+    }
+    Ok(())
+}
+
+/// Takes the turn, asks what the worker has to do next, and gives the turn back.
+fn begin<R: Wait>(rt: &R, turn: &Turn<State<MemSink>>, pass: &mut Pass, worker: u32) -> Next
+    requires turn { pass.old.turn ≡ turn.now.id }
+    requires idle { (pass.old.taken ≡ None) × (held_start pass.old.known ≡ None) }
+    requires worker { pass.old.known.worker ≡ worker }
+    ensures begins { AsksNext pass.old result pass.new }
+    ensures sound { IsSound pass.old.known.plan }
+{
+    let mut state = turn.take(rt, pass);
+    let next = state.next(worker);
+    let _ = state.core().plan().parts();
+    turn.give(pass, state);
+    next
+}
+
+/// Takes the turn, ends an attempt, and gives the turn back.
+fn end<R: Wait>(rt: &R, turn: &Turn<State<MemSink>>, pass: &mut Pass, ticket: Ticket, seen: Seen)
+    requires turn { pass.old.turn ≡ turn.now.id }
+    requires idle { pass.old.taken ≡ None }
+    requires holds { held_start pass.old.known ≡ Some (run_of ticket) }
+    requires sound { IsSound pass.old.known.plan }
+    ensures { EndsOwn pass.old ticket seen pass.new }
+{
+    let mut state = turn.take(rt, pass);
+    state.finish(ticket, seen);
+    turn.give(pass, state);
+}
+
+/// Lets two workers have a state in turn: the first starts a test, the second has to wait, and the
+/// first ends the test.
+fn play<R: Wait + Abort>(
+    rt: &R,
+    alloc: Global,
+    state: State<MemSink>,
+) -> Result<State<MemSink>, NoMemory>
+    requires { (state.entries ≡ []) × (state.halt ≡ None) }
+{
+    let Ok((turn, mut first)) = Turn::open(alloc, state, 2) else {
+        return Err(NoMemory);
+    };
+    let mut second = turn.split(&mut first);
+    let ticket = match begin(rt, &turn, &mut first, 0) {
+        Next::Start(ticket) => ticket,
+        Next::Settled(_) | Next::Wait | Next::Done | Next::Aborted | Next::NoMemory => {
+            panic!(rt; "the first worker starts nothing")
+        }
+    };
+    match begin(rt, &turn, &mut second, 1) {
+        Next::Wait => {}
+        Next::Start(_ticket) => panic!(rt; "the second worker starts an attempt"),
+        Next::Settled(_) | Next::Done | Next::Aborted | Next::NoMemory => {
+            panic!(rt; "the second worker does not wait")
+        }
+    }
+    end(rt, &turn, &mut first, ticket, passed());
+    turn.join(&mut first, second);
+    Ok(turn.close(first))
+}
+
+#[test]
+fn lends_one_state_to_two_workers_in_turn(rt: HostRuntime) -> Result<(), Fail> {
+    for call in &calls_of(rt.alloc(), ONE)? {
+        let state = play(&rt, rt.alloc(), open(&rt, call)?)?;
+        close(&rt, call, state)?;
+    }
+    Ok(())
+}

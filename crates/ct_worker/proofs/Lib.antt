@@ -1,0 +1,13 @@
+-- What the functions' proofs rest on.
+pub mod AskLemmas
+pub mod GateLemmas
+pub mod StopLemmas
+pub mod LineLemmas
+pub mod StateLemmas
+pub mod StepLemmas
+pub mod EventLemmas
+pub mod WorkLemmas
+pub mod CrewLemmas
+pub mod CrossLemmas
+pub mod PartLemmas
+pub mod PoolLemmas

@@ -1,0 +1,114 @@
+-- What the gate of a worker was asked, event by event.
+use Rattle.std.proofs.Common.{◌≡◌, ◌∙◌, sym, ap, subst, false, ℕ, List, [], ◌∷◌, ◌++◌, refl, inl, inr, append_assoc}
+use Rattle.std.specs.Prelude.{◌⊎◌, None}
+use Rattle.std.specs.List.{list_any}
+use Rattle.std.proofs.lemmas.List.{append-nil}
+use Rattle.ct_verdict.specs.declared.attempt.Seen.{Seen}
+use Rattle.ct_history.specs.declared.history.Entry.{Entry}
+use Rattle.ct_history.specs.declared.history.Entry.TheVariants as Is
+use Rattle.ct_core.specs.declared.scheduler.Next.{Next}
+use Rattle.ct_core.specs.declared.scheduler.Next.TheVariants as Nexts
+use Rattle.ct_core.specs.declared.ticket.Ticket.{Ticket}
+use Rattle.ct_core.specs.Gate.{GateTell}
+use Rattle.ct_core.specs.Ticket.{end_of, start_of}
+use Rattle.ct_turn.specs.Pass.{PassValue}
+use Rattle.ct_turn.specs.Seen.{GoesOn, has_seen, held_start, is_by}
+use Rattle.ct_worker.specs.Attempt.{RunsAttempt, run_of}
+use Rattle.ct_worker.specs.Gates.{IsAsked, Terms}
+use Rattle.ct_worker.specs.Work.{AsksSince, EndsOwn, SeesNext, GoesAlong, Starts, Stays}
+use Rattle.ct_worker.proofs.GateLemmas.{asked_attempt, asked_none, asked_others, asked_then}
+use Rattle.ct_worker.proofs.StopLemmas.{due_keeps}
+
+-- while only others went on, the gate was not asked
+asks_none : (terms : Terms) (w : ℕ) (tell : GateTell) (before now : List Entry) → GoesOn w before now → AsksSince terms w tell tell before now
+asks_none terms w tell before now goes = record {
+  more = goes.more;
+  is = goes.is;
+  asked = asked_others terms w tell tell [] goes.more goes.others (asked_none terms w tell);
+}
+
+-- entries that are none of the worker's behind
+asks_more : (terms : Terms) (w : ℕ) (old new : GateTell) (before now : List Entry) (more : List Entry) → list_any (is_by w) more ≡ false → AsksSince terms w old new before now → AsksSince terms w old new before (now ++ more)
+asks_more terms w old new before now more none asks = record {
+  more = asks.more ++ more;
+  is = ap (λ (es : List Entry). es ++ more) asks.is ∙ append_assoc before asks.more more;
+  asked = asked_others terms w old new asks.more more none asks.asked;
+}
+
+asks_then : (terms : Terms) (w : ℕ) (first second third : GateTell) (a b c : List Entry) → AsksSince terms w first second a b → AsksSince terms w second third b c → AsksSince terms w first third a c
+asks_then terms w first second third a b c one other = record {
+  more = one.more ++ other.more;
+  is = other.is ∙ ap (λ (es : List Entry). es ++ other.more) one.is ∙ append_assoc a one.more other.more;
+  asked = asked_then terms w first second third one.more other.more one.asked other.asked;
+}
+
+-- an answer without a ticket
+pub settled_stays : (next : Next) (old new : PassValue) → SeesNext next old new → (((test : ℕ) × (next ≡ Nexts.Settled test)) ⊎ (next ≡ Nexts.NoMemory)) → Stays old new
+settled_stays next old new follows (inl (test, is)) = subst (λ (n : Next). SeesNext n old new) is follows
+settled_stays next old new follows (inr is) = subst (λ (n : Next). SeesNext n old new) is follows
+
+pub done_stays : (next : Next) (old new : PassValue) → SeesNext next old new → ((next ≡ Nexts.Done) ⊎ (next ≡ Nexts.Aborted)) → Stays old new
+done_stays next old new follows (inl is) = (subst (λ (n : Next). SeesNext n old new) is follows).0
+done_stays next old new follows (inr is) = (subst (λ (n : Next). SeesNext n old new) is follows).0
+
+-- the worker did nothing on its gate
+pub along_stays : (terms : Terms) (old new : PassValue) (tell : GateTell) → new ≡ record old { known = has_seen old.known new.known.seen } → Stays old new → GoesAlong terms old new tell tell
+along_stays terms old new tell pass stays = record {
+  pass = pass;
+  idle = stays.1;
+  asked = asks_none terms old.known.worker tell old.known.seen.entries new.known.seen.entries stays.0;
+}
+
+-- and at first
+pub along_none : (terms : Terms) (pass : PassValue) (tell : GateTell) → held_start pass.known ≡ None → GoesAlong terms pass pass tell tell
+along_none terms pass tell idle = record {
+  pass = refl;
+  idle = idle;
+  asked = record { more = []; is = sym (append-nil pass.known.seen.entries); asked = asked_none terms pass.known.worker tell };
+}
+
+pub along_then : (terms : Terms) (a b c : PassValue) (first second third : GateTell) → GoesAlong terms a b first second → GoesAlong terms b c second third → GoesAlong terms a c first third
+along_then terms a b c first second third one other =
+    let worker : b.known.worker ≡ a.known.worker = ap (λ (p : PassValue). p.known.worker) one.pass in
+    record {
+      pass = other.pass ∙ ap (λ (p : PassValue). record p { known = has_seen p.known c.known.seen }) one.pass;
+      idle = other.idle;
+      asked = asks_then terms a.known.worker first second third a.known.seen.entries b.known.seen.entries c.known.seen.entries one.asked (subst (λ (w : ℕ). AsksSince terms w second third b.known.seen.entries c.known.seen.entries) worker other.asked);
+    }
+
+-- an attempt was started, run on the gate, and ended
+module _ (terms : Terms) (a b c : PassValue) (ticket : Ticket) (seen : Seen) (old new : GateTell) (pass : b ≡ record a { known = has_seen a.known b.known.seen }) (starts : Starts ticket a b) (runs : RunsAttempt terms (run_of ticket) seen old new) (ends : EndsOwn b ticket seen c) where
+  abbrev w : ℕ
+  w = a.known.worker
+
+  same_worker : b.known.worker ≡ w
+  same_worker = ap (λ (p : PassValue). p.known.worker) pass
+
+  behind : GoesOn w b.known.seen.entries ends.others
+  behind = subst (λ (v : ℕ). GoesOn v b.known.seen.entries ends.others) same_worker ends.went_on
+
+  attempt_asked : IsAsked terms w old new (starts.went_on.more ++ (start_of ticket ∷ (behind.more ++ end_of ticket seen ∷ [])))
+  attempt_asked =
+      subst (λ (v : ℕ). IsAsked terms w old new (starts.went_on.more ++ (Is.Start ticket.test ticket.attempt v ticket.placement ∷ (behind.more ++ Is.End ticket.test ticket.attempt v seen ∷ [])))) (sym starts.by)
+      (asked_attempt terms w old old new starts.went_on.more behind.more ticket.test ticket.attempt ticket.placement seen behind.others
+      (asked_others terms w old old [] starts.went_on.more starts.went_on.others (asked_none terms w old))
+      (subst (λ (v : ℕ). RunsAttempt terms (record { test = ticket.test; attempt = ticket.attempt; worker = v; placement = ticket.placement }) seen old new) starts.by runs))
+
+  entries_are : ends.others ++ end_of ticket seen ∷ [] ≡ a.known.seen.entries ++ (starts.went_on.more ++ (start_of ticket ∷ (behind.more ++ end_of ticket seen ∷ [])))
+  entries_are =
+      ap (λ (es : List Entry). es ++ end_of ticket seen ∷ []) (behind.is ∙ ap (λ (es : List Entry). es ++ behind.more) (starts.started ∙ ap (λ (es : List Entry). es ++ start_of ticket ∷ []) starts.went_on.is))
+      ∙ append_assoc ((a.known.seen.entries ++ starts.went_on.more) ++ start_of ticket ∷ []) behind.more (end_of ticket seen ∷ [])
+      ∙ append_assoc (a.known.seen.entries ++ starts.went_on.more) (start_of ticket ∷ []) (behind.more ++ end_of ticket seen ∷ [])
+      ∙ append_assoc a.known.seen.entries starts.went_on.more (start_of ticket ∷ (behind.more ++ end_of ticket seen ∷ []))
+
+  asks_attempt : AsksSince terms w old new a.known.seen.entries (ends.others ++ end_of ticket seen ∷ [])
+  asks_attempt = record { more = starts.went_on.more ++ (start_of ticket ∷ (behind.more ++ end_of ticket seen ∷ [])); is = entries_are; asked = attempt_asked }
+
+  pub along_attempt : GoesAlong terms a c old new
+  along_attempt = record {
+    pass = ends.pass ∙ ap (λ (p : PassValue). record p { known = has_seen p.known c.known.seen }) pass;
+    idle = ends.idle;
+    asked = subst (λ (es : List Entry). AsksSince terms w old new a.known.seen.entries es) (sym ends.ended)
+        (due_keeps b.known.plan (ends.others ++ end_of ticket seen ∷ []) (λ xs. AsksSince terms w old new a.known.seen.entries xs) asks_attempt
+        (asks_more terms w old new a.known.seen.entries (ends.others ++ end_of ticket seen ∷ []) (Is.Stop ∷ []) refl asks_attempt));
+  }

@@ -1,0 +1,187 @@
+ghost use Rattle.std.specs.Prelude.{◌≡◌, ◌||◌, [], false, true, IfErr, None, Some, is_some};
+ghost use Rattle.ct_worker.specs.State.{first_halt, halt_of};
+
+use crate::lines::Lines;
+use ct_base::{Sink, SinkFault};
+use ct_core::{Core, Next, Ticket};
+use ct_history::Board;
+use ct_verdict::Seen;
+use std::marker::Model;
+use std::snapshot::Snapshot;
+
+/// Why a run was given up.
+#[derive(Clone, Copy, Debug, PartialEq, Eq)]
+pub enum Halt {
+    /// The sink did not take a line.
+    Output,
+    /// Memory was wanting for an attempt, for a step or for a line.
+    Memory,
+}
+
+/// A run that goes on: its core, and the sink that the lines of its tests go to.
+///
+/// Contracts see its plan, its entries, why it was given up, and what the sink told when the state
+/// was opened and tells now.
+#[derive(Drop)]
+pub struct State<S: Sink> {
+    core: Core,
+    lines: Lines<S>,
+    /// The sink as it was when the state was opened.
+    opened: Snapshot<S>,
+    /// Why the run was given up, by the first cause.
+    halt: Option<Halt>,
+}
+
+impl<S: Sink> Model for State<S> {
+    ghost use Rattle.ct_worker.specs.State.{StateValue};
+    ghost use Rattle.ct_worker.specs.Kept.{IsKeptState};
+
+    ghost Value = { StateValue };
+
+    ghost view = { λ s. record {
+      plan = s.core.plan;
+      entries = s.core.entries;
+      halt = s.halt;
+      opened = S.tells s.opened.value;
+      sink = S.tells s.lines.sink;
+    } };
+
+    ghost invariant = { λ s. IsKeptState s.core s.halt s.lines.known s.lines.count (S.tells s.opened.value) (S.tells s.lines.sink) };
+}
+
+impl<S: Sink> State<S> {
+    ghost use Rattle.ct_base.specs.Outside.{Puts};
+    ghost use Rattle.ct_core.specs.Ticket.{holds_ticket};
+    ghost use Rattle.ct_history.specs.History.{is_busy_in};
+    ghost use Rattle.ct_report.specs.Report.{test_lines, text_of};
+    ghost use Rattle.ct_worker.specs.declared.state.Halt.TheVariants.{Memory};
+    ghost use Rattle.ct_worker.specs.Gates.{had_memory};
+    ghost use Rattle.ct_worker.specs.Halted.{IsHalted};
+    ghost use Rattle.ct_worker.specs.State.{IsFinished, IsStateNext, core_of, given_up, opened_with, put_of};
+
+    /// Opens the state of a run that has done nothing yet.
+    pub fn open(core: Core, sink: S) -> State<S>
+        requires empty { core.entries ≡ [] }
+        requires going { core.aborted ≡ false }
+        ensures { result ≡ opened_with core (S.tells sink) }
+    {
+        let opened = Snapshot::of(&sink);
+        State {
+            core,
+            lines: Lines::new(sink),
+            opened,
+            halt: None,
+        }
+    }
+
+    /// Says what this worker has to do next, as the core does, and puts the line of a test that was
+    /// settled.
+    ///
+    /// Where memory is wanting, or the line cannot be put, the run is given up.
+    pub fn next(&mut self, worker: u32) -> Next
+        requires { is_busy_in worker self.old.entries ≡ false }
+        ensures { IsStateNext self.old worker result self.new }
+    {
+        let next = self.core.next(worker);
+        let put = self.lines.put_for(&self.core, &next);
+        heed(put, &mut self.core, &mut self.halt);
+        next
+    }
+
+    /// Ends the attempt of a ticket, and puts the line of its test where that is now final.
+    ///
+    /// Where memory was wanting for the attempt, or the line cannot be put, the run is given up.
+    /// No line is put any more once it was.
+    pub fn finish(&mut self, ticket: Ticket, seen: Seen)
+        requires { holds_ticket ticket self.old.entries ≡ true }
+        ensures { IsFinished self.old ticket seen self.new }
+    {
+        let test = ticket.test();
+        let _ = self.core.finish(ticket, seen);
+        if self.halt.is_none() {
+            let put = self.lines.put_end(&self.core, test, seen.how);
+            heed(put, &mut self.core, &mut self.halt);
+        }
+    }
+
+    /// Gives the run up for want of memory, where it was not given up before.
+    pub(crate) fn give_up_for_memory(&mut self)
+        ensures { self.new ≡ given_up Memory self.old }
+    {
+        give_up(Halt::Memory, &mut self.core, &mut self.halt);
+    }
+
+    /// Why the run was given up, if it was.
+    pub fn halt(&self) -> Option<Halt>
+        ensures { result ≡ self.now.halt }
+    {
+        self.halt
+    }
+
+    /// Lends the core.
+    pub fn core(&self) -> &Core
+        ensures { result.now ≡ core_of self.now }
+    {
+        &self.core
+    }
+
+    /// Takes the state apart.
+    ///
+    /// The sink took the lines of the tests that became final. Where the run was given up, it took
+    /// those in front of the halt, and no test was started or settled behind it; where it was not,
+    /// memory was there for each attempt.
+    pub fn into_parts(self) -> (Core, S)
+        ensures core { result.0 ≡ core_of self }
+        ensures sink { S.tells result.1 ≡ self.sink }
+        ensures put { Puts (text_of (test_lines self.plan self.entries)) self.opened self.sink (put_of self.halt) }
+        ensures halted { IfErr (put_of self.halt) (λ fault. IsHalted fault self.plan self.entries self.opened self.sink) }
+        ensures memory { self.halt ≡ None → had_memory self.entries ≡ true }
+    {
+        let State { core, lines, .. } = self;
+        (core, lines.sink)
+    }
+}
+
+impl<S: Sink> Board for State<S> {
+    ghost use Rattle.std.specs.Prelude.{is_some};
+    ghost use Rattle.ct_worker.specs.State.{base_of};
+
+    ghost plan = { λ s. s.plan };
+
+    ghost history = { λ s. s.entries };
+
+    ghost base = { λ s. base_of s };
+
+    ghost halted = { λ s. is_some s.halt };
+
+    fn length(&self) -> usize {
+        self.core.length()
+    }
+
+    fn is_halted(&self) -> bool {
+        self.halt.is_some()
+    }
+}
+
+/// Gives the run up where a line could not be put, and it was not given up before.
+fn heed(put: Result<(), SinkFault>, core: &mut Core, halt: &mut Option<Halt>)
+    ensures core { core.new ≡ record core.old { aborted = core.old.aborted || is_some (halt_of put) } }
+    ensures halt { halt.new ≡ first_halt halt.old (halt_of put) }
+{
+    match put {
+        Ok(()) => {}
+        Err(SinkFault::Failed) => give_up(Halt::Output, core, halt),
+        Err(SinkFault::NoMemory) => give_up(Halt::Memory, core, halt),
+    }
+}
+
+/// Gives the run up for this cause, where it was not given up before.
+fn give_up(cause: Halt, core: &mut Core, halt: &mut Option<Halt>)
+    ensures core { core.new ≡ record core.old { aborted = true } }
+    ensures halt { halt.new ≡ first_halt halt.old (Some cause) }
+{
+    core.abort();
+    if halt.is_none() {
+        *halt = Some(cause);
+    }
+}

@@ -1,0 +1,139 @@
+ghost use Rattle.std.specs.Prelude.{◌≡◌, None, Some, false, is_some};
+ghost use Rattle.ct_history.specs.Plan.{IsSound};
+ghost use Rattle.ct_turn.specs.Seen.{held_start};
+ghost use Rattle.ct_worker.specs.Attempt.{run_of};
+ghost use Rattle.ct_worker.specs.Work.{AsksNext, EndsOwn, GoesAlong, IsEnded, Reach, terms_in};
+
+use crate::attempt::ask;
+use crate::{Jobs, State};
+use ct_base::Sink;
+use ct_core::{Gate, Next, Ticket};
+use ct_turn::{Pass, Turn};
+use ct_verdict::Seen;
+use std::alloc::Global;
+use std::sync::Wait;
+
+/// The pass and the gate of a worker, behind its work.
+#[derive(Drop)]
+pub struct Worked<G> {
+    pub pass: Pass,
+    pub gate: G,
+}
+
+/// Takes part in the run as this worker, until every test is final or the run was given up.
+///
+/// It starts what may start, runs the program of each attempt on its gate while others have the turn,
+/// and waits where nothing can be done before an attempt of another ends. An attempt for which memory
+/// is wanting ends for want of it.
+pub fn work<R: Wait, G: Gate, S: Sink>(
+    rt: &R,
+    alloc: Global,
+    turn: &Turn<State<S>>,
+    mut pass: Pass,
+    worker: u32,
+    mut gate: G,
+    jobs: &Jobs<'_>,
+) -> Worked<G>
+    requires turn { pass.turn ≡ turn.now.id }
+    requires idle { (pass.taken ≡ None) × (held_start pass.known ≡ None) }
+    requires worker { pass.known.worker ≡ worker }
+    requires reach { Reach jobs.now pass.known.plan }
+    ensures along { GoesAlong (terms_in jobs.now pass.known.plan) pass result.pass (G.tells gate) (G.tells result.gate) }
+    ensures ended { IsEnded result.pass }
+{
+    attend(rt, alloc, turn, &mut pass, worker, &mut gate, jobs);
+    Worked { pass, gate }
+}
+
+/// Takes part in the run with this pass and this gate.
+pub(crate) fn attend<R: Wait, G: Gate, S: Sink>(
+    rt: &R,
+    alloc: Global,
+    turn: &Turn<State<S>>,
+    pass: &mut Pass,
+    worker: u32,
+    gate: &mut G,
+    jobs: &Jobs<'_>,
+)
+    requires turn { pass.old.turn ≡ turn.now.id }
+    requires idle { (pass.old.taken ≡ None) × (held_start pass.old.known ≡ None) }
+    requires worker { pass.old.known.worker ≡ worker }
+    requires reach { Reach jobs.now pass.old.known.plan }
+    ensures along { GoesAlong (terms_in jobs.now pass.old.known.plan) pass.old pass.new (G.tells gate.old) (G.tells gate.new) }
+    ensures ended { IsEnded pass.new }
+{
+    for _ in rt.forever() {
+        if !go_on(rt, alloc, turn, pass, worker, gate, jobs) {
+            return;
+        }
+    }
+    unreachable!()
+}
+
+/// Does what the worker has to do next, and tells whether anything may be left to do.
+fn go_on<R: Wait, G: Gate, S: Sink>(
+    rt: &R,
+    alloc: Global,
+    turn: &Turn<State<S>>,
+    pass: &mut Pass,
+    worker: u32,
+    gate: &mut G,
+    jobs: &Jobs<'_>,
+) -> bool
+    requires turn { pass.old.turn ≡ turn.now.id }
+    requires idle { (pass.old.taken ≡ None) × (held_start pass.old.known ≡ None) }
+    requires worker { pass.old.known.worker ≡ worker }
+    requires reach { Reach jobs.now pass.old.known.plan }
+    ensures along { GoesAlong (terms_in jobs.now pass.old.known.plan) pass.old pass.new (G.tells gate.old) (G.tells gate.new) }
+    ensures ended { result ≡ false → IsEnded pass.new }
+{
+    let (next, lends) = begin(rt, turn, pass, worker);
+    match next {
+        Next::Start(ticket) => {
+            let seen = ask(alloc, &ticket, jobs, lends, gate);
+            end(rt, turn, pass, ticket, seen);
+            true
+        }
+        Next::Wait => {
+            turn.pause(rt, pass);
+            true
+        }
+        Next::Settled(_) | Next::NoMemory => true,
+        Next::Done | Next::Aborted => false,
+    }
+}
+
+/// Takes the turn, asks what the worker has to do next, and gives the turn back. It tells besides
+/// whether resources are lent.
+fn begin<R: Wait, S: Sink>(
+    rt: &R,
+    turn: &Turn<State<S>>,
+    pass: &mut Pass,
+    worker: u32,
+) -> (Next, bool)
+    requires turn { pass.old.turn ≡ turn.now.id }
+    requires idle { (pass.old.taken ≡ None) × (held_start pass.old.known ≡ None) }
+    requires worker { pass.old.known.worker ≡ worker }
+    ensures begins { AsksNext pass.old result.0 pass.new }
+    ensures lends { result.1 ≡ is_some pass.old.known.plan.resources }
+    ensures sound { IsSound pass.old.known.plan }
+{
+    let mut state = turn.take(rt, pass);
+    let next = state.next(worker);
+    let lends = state.core().plan().parts().resources.is_some();
+    turn.give(pass, state);
+    (next, lends)
+}
+
+/// Takes the turn, ends the attempt of a ticket, and gives the turn back.
+fn end<R: Wait, S: Sink>(rt: &R, turn: &Turn<State<S>>, pass: &mut Pass, ticket: Ticket, seen: Seen)
+    requires turn { pass.old.turn ≡ turn.now.id }
+    requires idle { pass.old.taken ≡ None }
+    requires holds { held_start pass.old.known ≡ Some (run_of ticket) }
+    requires sound { IsSound pass.old.known.plan }
+    ensures { EndsOwn pass.old ticket seen pass.new }
+{
+    let mut state = turn.take(rt, pass);
+    state.finish(ticket, seen);
+    turn.give(pass, state);
+}
