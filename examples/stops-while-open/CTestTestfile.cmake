@@ -1,0 +1,6 @@
+add_test(fails "sh" "-c" "sleep 0.2; exit 1")
+add_test(open_1 "sleep" "0.5")
+add_test(open_2 "sleep" "0.5")
+add_test(open_3 "sleep" "0.5")
+add_test(late_1 "true")
+add_test(late_2 "true")

@@ -1,0 +1,7 @@
+add_test(first "sh" "-c" "sleep 0.2; : >first")
+add_test(second "sh" "-c" "sleep 0.5; : >second")
+add_test(third "sh" "-c" "sleep 0.5; : >third")
+add_test(fourth "sh" "-c" ": >fourth")
+set_tests_properties(fourth PROPERTIES DEPENDS "first")
+add_test(fifth "sh" "-c" ": >fifth")
+set_tests_properties(fifth PROPERTIES DEPENDS "first;second;third")

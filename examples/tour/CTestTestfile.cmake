@@ -1,0 +1,13 @@
+# Tests with a fixture, patterns, a time limit and a skip code.
+add_test(prepare "sh" "-c" "sleep 0.1")
+set_tests_properties(prepare PROPERTIES FIXTURES_SETUP "base")
+add_test(reads "sh" "-c" "sleep 0.2; echo all read; exit 1")
+set_tests_properties(reads PROPERTIES FIXTURES_REQUIRED "base" PASS_REGULAR_EXPRESSION "all (was )?read")
+add_test(writes "sh" "-c" "sleep 0.4; echo error: no room")
+set_tests_properties(writes PROPERTIES FIXTURES_REQUIRED "base" FAIL_REGULAR_EXPRESSION "[Ee]rror")
+add_test(clears "true")
+set_tests_properties(clears PROPERTIES FIXTURES_CLEANUP "base")
+add_test(hangs "sleep" "30")
+set_tests_properties(hangs PROPERTIES TIMEOUT "0.8")
+add_test(skips "sh" "-c" "exit 77")
+set_tests_properties(skips PROPERTIES SKIP_RETURN_CODE "77" DEPENDS "hangs")
