@@ -11,6 +11,7 @@ use Rattle.ct_props.specs.declared.props.Props.{Props}
 use Rattle.ct_props.specs.Numbered.{at_number, is_among, is_in}
 use Rattle.ct_graph.specs.Before.{shares_name, comes_before, sets_up, before_of, setups_of}
 use Rattle.ct_graph.specs.ByName.{tests_of, is_found_in}
+use Rattle.ct_graph.specs.Found.{AreFound}
 use Rattle.ct_graph.specs.Index.{has_name, has_setup, has_required, IsIndex, IsIndexAt, Indexed, AddsTest, AreMembers, FindsBefore}
 use Rattle.ct_graph.specs.declared.index.Index.{Index}
 use Rattle.ct_graph.proofs.TestLemmas.{is_in-filter, same_increasing, all_in}
@@ -232,6 +233,36 @@ module _ (defs : List TestDef) (props : List Props) (members : List ℕ) (names 
       same_increasing tests (setups_of props members number) up
       (IsStrictlyIncreasing-filter (λ j. sets_up (at_number props j) (at_number props number)) members ascending)
       (λ n. are n ∙ sym (is_in-filter (λ j. sets_up (at_number props j) (at_number props number)) members n))
+
+  -- nothing is in order
+  nothing_up : IsStrictlyIncreasing []
+  nothing_up place less = absurd (let none : place + 1 < 0 = less in omega arith)
+
+  -- what is found in order for a test is what comes before it, and what sets it up
+  pub row_before : (tests : List ℕ) → later.disabled ≡ false → IsStrictlyIncreasing tests → FindsBefore names setups users later [] tests → tests ≡ before_of defs props members number
+  row_before tests enabled up finds = same_before tests up (is_before tests enabled finds)
+
+  pub row_setups : (tests : List ℕ) → later.disabled ≡ false → AreFound setups later.required tests → tests ≡ setups_of props members number
+  row_setups tests enabled found = same_setups tests found.ascending (is_setup tests enabled found.same)
+
+  -- a test that is disabled waits for nothing
+  pub no_row_before : later.disabled ≡ true → [] ≡ before_of defs props members number
+  no_row_before off = same_before [] nothing_up (none_before off)
+
+  pub no_row_setups : later.disabled ≡ true → [] ≡ setups_of props members number
+  no_row_setups off = same_setups [] nothing_up (no_setup off)
+
+-- what is found by the names, the required fixtures and the cleaned ones, in turn
+pub finds_before : (names setups users : List ℕ → List ℕ) (props : Props) (none named required used cleaned : List ℕ) (some more all : List ℕ) → none ≡ [] → ((n : ℕ) → is_in named n ≡ (is_in none n || is_found_in names props.depends n)) → ((n : ℕ) → is_in some n ≡ (is_in named n || is_in required n)) → ((n : ℕ) → is_in more n ≡ (is_in some n || is_in used n)) → ((n : ℕ) → is_in all n ≡ (is_in more n || is_in cleaned n))
+    → AreFound setups props.required required → AreFound users props.cleanup used → AreFound setups props.cleanup cleaned → FindsBefore names setups users props [] all
+finds_before names setups users props none named required used cleaned some more all empty one two three four sets uses cleans = λ n.
+    four n
+    ∙ ap (λ b. b || is_in cleaned n) (three n)
+    ∙ ap (λ b. (b || is_in used n) || is_in cleaned n) (two n)
+    ∙ ap (λ b. ((b || is_in required n) || is_in used n) || is_in cleaned n) (one n ∙ ap (λ ns. is_in ns n || is_found_in names props.depends n) empty)
+    ∙ ap (λ b. ((is_found_in names props.depends n || b) || is_in used n) || is_in cleaned n) (sets.same n)
+    ∙ ap (λ b. ((is_found_in names props.depends n || is_found_in setups props.required n) || b) || is_in cleaned n) (uses.same n)
+    ∙ ap (λ b. ((is_found_in names props.depends n || is_found_in setups props.required n) || is_found_in users props.cleanup n) || b) (cleans.same n)
 
 -- an index that has one member more
 pub adds_more : (defs : List TestDef) (props : List Props) (members : List ℕ) (at : ℕ) (old new : Index) → at < length members → IsIndexAt defs props members (take at members) old → AddsTest (get_or members at 0) old new → IsIndexAt defs props members (take (at + 1) members) new

@@ -1,8 +1,9 @@
 -- The links of the members are an order, and where there is an order there is no cycle.
-use Rattle.std.proofs.Common.{ℕ, ◌≡◌, ◌<◌, Bool, true, false, cond, ◌&&◌, nat_lt, List, [], ◌∷◌, map, Option, Some, None, Result, Ok, Err, OnOk, ◌≤◌, refl, sym, ap, ◌∙◌, subst, ⊎_elim, arith, eqb}
+use Rattle.std.proofs.Common.{ℕ, ◌≡◌, ◌+◌, ◌<◌, Bool, true, false, cond, ◌&&◌, nat_lt, List, [], ◌∷◌, length, take, get_or, set, map, Option, Some, None, Result, Ok, Err, OnOk, ◌≤◌, refl, sym, ap, ◌∙◌, subst, ⊎_elim, arith, eqb}
 use Rattle.std.specs.List.{list_all}
-use Rattle.std.proofs.lemmas.Bool.{true≢false, false≢true, eqb-true, and_parts, and_from, or_cases, or_right, ltb-true}
-use Rattle.std.proofs.lemmas.List.Folds.{list_all-map}
+use Rattle.std.proofs.lemmas.Bool.{true≢false, false≢true, eqb-true, and_parts, and_from, or_cases, or_parts, or_right, eqb-false, ltb-true}
+use Rattle.std.proofs.lemmas.List.{length-set, get_or-set_other}
+use Rattle.std.proofs.lemmas.List.Folds.{list_all-map, list_any_more}
 use Rattle.ct_base.specs.declared.defs.TestDef.{TestDef}
 use Rattle.ct_props.specs.declared.props.Props.{Props}
 use Rattle.ct_graph.specs.Before.{before_of, setups_of}
@@ -59,6 +60,18 @@ map_before before setups rows marks [] are = refl
 map_before before setups rows marks (m ∷ ms) are =
     ap (λ row. row ∷ map (λ (l : Links). l.before) (map (links_of setups rows marks) ms)) (are m (has_first m ms))
     ∙ ap (λ ns. before m ∷ ns) (map_before before setups rows marks ms (λ n is. are n (or_right (eqb m n) (is_in ms n) is)))
+
+-- links that are made of the same setups are the same
+same_links : (setups others : ℕ → List ℕ) (rows : List (List ℕ)) (marks : List Mark) (members : List ℕ) → ((n : ℕ) → is_in members n ≡ true → setups n ≡ others n) → map (links_of setups rows marks) members ≡ map (links_of others rows marks) members
+same_links setups others rows marks [] are = refl
+same_links setups others rows marks (m ∷ ms) are =
+    let link : List ℕ → Links = λ s. record { number = m; before = row_of rows m; setups = s; rank = rank_of (mark_of marks m) } in
+    ap (λ s. link s ∷ map (links_of setups rows marks) ms) (are m (has_first m ms))
+    ∙ ap (λ ls. link (others m) ∷ ls) (same_links setups others rows marks ms (λ n is. are n (or_right (eqb m n) (is_in ms n) is)))
+
+-- links that are made of the rows of setups
+pub links_of_rows : (setups : ℕ → List ℕ) (tests : ℕ) (members : List ℕ) (rows sets : List (List ℕ)) (marks : List Mark) → AreRows setups tests members sets → map (links_of (row_of sets) rows marks) members ≡ map (links_of setups rows marks) members
+links_of_rows setups tests members rows sets marks are = same_links (row_of sets) setups rows marks members (row_of-member setups tests members sets are)
 
 -- links that are made of rows and ranks of a walk are an order
 pub orders : (defs : List TestDef) (props : List Props) (tests : ℕ) (members : List ℕ) (rows : List (List ℕ)) (marks : List Mark) (links : List Links) → AreRows (before_of defs props members) tests members rows → AreRanked rows marks → are_taken marks members ≡ true → links ≡ map (links_of (setups_of props members) rows marks) members → IsOrder defs props members links
@@ -190,3 +203,18 @@ ends_rows most index NoMemory ends = tt
 pub answers_none : (most : ℕ) (defs : List TestDef) (props : List Props) (members : List ℕ) (answer : Result Ordered GraphFault) → IsAnswer most defs props members answer → OnOk answer (HasCycle (before_of defs props members) → ⊥)
 answers_none most defs props members (Ok ordered) is = no_cycle defs props members ordered.links is.1
 answers_none most defs props members (Err fault) is = tt
+
+-- the rows of the tests that are not yet looked at are as they were
+pub record AreLeft (tests : List ℕ) (before now : List (List ℕ)) : Type 0 where
+  pub count : length now ≡ length before
+  pub same : (number : ℕ) → is_in tests number ≡ false → row_of now number ≡ row_of before number
+
+-- one more test is looked at
+pub leaves_more : (members : List ℕ) (at d : ℕ) (before now : List (List ℕ)) (row : List ℕ) → at < length members → AreLeft (take at members) before now → AreLeft (take (at + 1) members) before (set now (get_or members at d) row)
+leaves_more members at d before now row within left = record {
+  count = length-set now (get_or members at d) row ∙ left.count;
+  same = λ other off.
+      let both = or_parts (is_in (take at members) other) (eqb (get_or members at d) other) (sym (list_any_more (λ m. eqb m other) members at d within) ∙ off) in
+      get_or-set_other now (get_or members at d) other row [] (λ same. eqb-false (get_or members at d) other both.1 (sym same))
+      ∙ left.same other both.0;
+}

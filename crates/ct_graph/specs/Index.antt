@@ -5,7 +5,9 @@ use Rattle.ct_base.specs.declared.defs.TestDef.{TestDef}
 use Rattle.ct_props.specs.declared.props.Props.{Props}
 use Rattle.ct_props.specs.Numbered.{at_number, is_among, is_in}
 use Rattle.ct_graph.specs.ByName.{tests_of, is_found_in}
+use Rattle.ct_graph.specs.Found.{IsEmpty, Knows}
 use Rattle.ct_graph.specs.declared.index.Index.{Index}
+use Rattle.ct_graph.specs.declared.index.Search.{Search}
 
 -- a test that is not disabled has this name
 abbrev pub has_name : List ℕ → Option TestDef → Option Props → Bool
@@ -58,3 +60,9 @@ pub record AddsTest (number : ℕ) (old new : Index) : Type 0 where
 -- the tests that come before one with these properties stand among those that were found
 abbrev pub FindsBefore : (List ℕ → List ℕ) → (List ℕ → List ℕ) → (List ℕ → List ℕ) → Props → List ℕ → List ℕ → Type 0
 FindsBefore names setups users props old new = (n : ℕ) → is_in new n ≡ (is_in old n || is_found_in names props.depends n || is_found_in setups props.required n || is_found_in users props.cleanup n || is_found_in setups props.cleanup n)
+
+-- a search that has found nothing yet, and knows what fixtures find in the index
+pub record IsReady (index : Index) (search : Search) : Type 0 where
+  pub empty : IsEmpty search.found
+  pub setups : Knows (tests_of index.setups) search.setups
+  pub users : Knows (tests_of index.users) search.users

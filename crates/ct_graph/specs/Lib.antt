@@ -3,6 +3,7 @@ pub mod Before
 pub mod Cycle
 pub mod Order
 pub mod ByName
+pub mod Found
 pub mod Index
 pub mod Walk
 pub mod Rows

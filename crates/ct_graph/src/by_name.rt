@@ -3,7 +3,10 @@ ghost use Rattle.std.specs.List.{list_any};
 ghost use Rattle.std.specs.List.Sorted.{IsStrictlyIncreasing};
 ghost use Rattle.ct_props.specs.Numbered.{is_among, is_in};
 ghost use Rattle.ct_graph.specs.ByName.{tests_of, is_found_in};
+ghost use Rattle.ct_graph.specs.Found.{AreFound, IsEmpty, IsMarked, Knows, bytes_of};
 
+use crate::found::Found;
+use crate::known::Known;
 use ct_base::{List, Name, NoMemory};
 use std::alloc::Global;
 use std::collections::BTreeMap;
@@ -63,18 +66,44 @@ impl<'a> ByName<'a> {
         Ok(())
     }
 
+    /// Finds the tests of some names, in order. What is known of the same names is not looked up.
+    pub(crate) fn find(
+        &self,
+        alloc: Global,
+        names: &'a [Name],
+        known: &mut Known<'a>,
+        found: &mut Found,
+    ) -> Result<List<u32>, NoMemory>
+        requires known { Knows (tests_of self.now) known.old }
+        requires empty { IsEmpty found.old }
+        ensures known { OnOk result (Knows (tests_of self.now) known.new) }
+        ensures empty { OnOk result (IsEmpty found.new) }
+        ensures found { IfOk result (λ tests. AreFound (tests_of self.now) names.now tests) }
+    {
+        let key = all_bytes(alloc, names)?;
+        if let Some(tests) = known.get(&key) {
+            return Ok(copied(alloc, tests)?);
+        }
+        self.find_all(alloc, names, found)?;
+        let tests = found.take(alloc)?;
+        known.keep(key, copied(alloc, &tests)?)?;
+        Ok(tests)
+    }
+
     /// Puts the tests of some names behind those that were found.
     pub(crate) fn find_all(
         &self,
         alloc: Global,
         names: &'a [Name],
-        found: &mut Vec<u32>,
+        found: &mut Found,
     ) -> Result<(), NoMemory>
-        ensures { OnOk result ((n : ℕ) → is_in found.new.items n ≡ (is_in found.old.items n || is_found_in (tests_of self.now) names.now n)) }
+        requires { IsMarked found.old }
+        ensures marked { OnOk result (IsMarked found.new) }
+        ensures same { OnOk result ((n : ℕ) → is_in found.new.tests.items n ≡ (is_in found.old.tests.items n || is_found_in (tests_of self.now) names.now n)) }
     {
         let sorted = each_once(alloc, names)?;
         for name in &sorted {
-            found.extend_from_slice(self.tests(name))?;
+            found.add_all(self.tests(name))?;
         }
         Ok(())
     }
@@ -89,14 +118,29 @@ fn push_once(tests: &mut Vec<u32>, test: u32) -> Result<(), NoMemory>
     Ok(())
 }
 
+/// Copies numbers of tests.
+fn copied(alloc: Global, tests: &List<u32>) -> Result<List<u32>, NoMemory>
+    ensures { IfOk result (λ copy. copy ≡ tests.now) }
+{
+    Ok(List::from_vec(Vec::from_slice(alloc, tests.as_slice())?))
+}
+
+/// Gives the bytes of each name.
+fn all_bytes(alloc: Global, names: &[Name]) -> Result<Vec<&[u8]>, NoMemory>
+    ensures { IfOk result (λ all. bytes_of all.items ≡ names.now) }
+{
+    let mut all = Vec::new(alloc);
+    for name in names {
+        all.push(name.bytes())?;
+    }
+    Ok(all)
+}
+
 /// Gives the names in order of bytes, a repeated one once.
 fn each_once(alloc: Global, names: &[Name]) -> Result<Vec<&[u8]>, NoMemory>
     ensures { IfOk result (λ sorted. (p : Bytes ℕ → Bool) → list_any (λ name. p name.now) sorted.items ≡ list_any p names.now) }
 {
-    let mut sorted = Vec::new(alloc);
-    for name in names {
-        sorted.push(name.bytes())?;
-    }
+    let mut sorted = all_bytes(alloc, names)?;
     sorted.sort_unstable();
     sorted.dedup();
     Ok(sorted)

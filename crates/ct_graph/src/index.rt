@@ -1,10 +1,13 @@
-ghost use Rattle.std.specs.Prelude.{◌≡◌, ℕ, ◌<◌, ◌≤◌, ◌||◌, [], All, IfOk, OnOk, length};
+ghost use Rattle.std.specs.Prelude.{◌≡◌, ℕ, ◌<◌, ◌≤◌, [], List as Bytes, IfOk, OnOk, length};
+ghost use Rattle.std.specs.List.Sorted.{IsStrictlyIncreasing};
 ghost use Rattle.ct_graph.specs.Before.{before_of, setups_of};
-ghost use Rattle.ct_props.specs.Numbered.{is_in};
 ghost use Rattle.ct_graph.specs.ByName.{tests_of};
-ghost use Rattle.ct_graph.specs.Index.{Indexed, IsIndexAt, AddsTest, FindsBefore, AreMembers};
+ghost use Rattle.ct_graph.specs.Found.{AreFound, IsEmpty, Knows};
+ghost use Rattle.ct_graph.specs.Index.{Indexed, IsIndexAt, IsReady, AddsTest, FindsBefore, AreMembers};
 
-use crate::by_name::{ByName, in_order};
+use crate::by_name::ByName;
+use crate::found::Found;
+use crate::known::Known;
 use ct_base::{List, NoMemory, TestDef};
 use ct_props::Props;
 use std::alloc::Global;
@@ -68,51 +71,98 @@ impl<'a> Index<'a> {
         Ok(())
     }
 
-    /// Finds the members that come before a test, in order.
-    pub(crate) fn before(&self, alloc: Global, number: u32) -> Result<List<u32>, NoMemory>
-        requires indexed { Indexed self.now }
-        requires above { 0 < number }
-        requires within { number ≤ length self.now.props.now }
-        ensures { IfOk result (λ tests. tests ≡ before_of self.now.defs.now self.now.props.now self.now.members.now number) }
-    {
-        let props = &self.props[number as usize - 1];
-        let mut found = Vec::new(alloc);
-        if !props.disabled {
-            self.find_before(alloc, props, &mut found)?;
-        }
-        Ok(in_order(found))
-    }
-
-    fn find_before(
+    /// Finds what a test waits for.
+    pub(crate) fn row(
         &self,
         alloc: Global,
-        props: &'a Props,
-        found: &mut Vec<u32>,
-    ) -> Result<(), NoMemory>
-        ensures { OnOk result (FindsBefore (tests_of self.now.names) (tests_of self.now.setups) (tests_of self.now.users) props.now found.old.items found.new.items) }
-    {
-        self.names.find_all(alloc, props.depends.as_slice(), found)?;
-        self.setups
-            .find_all(alloc, props.required.as_slice(), found)?;
-        self.users.find_all(alloc, props.cleanup.as_slice(), found)?;
-        self.setups
-            .find_all(alloc, props.cleanup.as_slice(), found)?;
-        Ok(())
-    }
-
-    /// Finds the members that set up a fixture which a test requires, in order.
-    pub(crate) fn setups(&self, alloc: Global, number: u32) -> Result<List<u32>, NoMemory>
+        number: u32,
+        search: &mut Search<'a>,
+    ) -> Result<Row, NoMemory>
         requires indexed { Indexed self.now }
         requires above { 0 < number }
         requires within { number ≤ length self.now.props.now }
-        ensures { IfOk result (λ tests. tests ≡ setups_of self.now.props.now self.now.members.now number) }
+        requires ready { IsReady self.now search.old }
+        ensures ready { OnOk result (IsReady self.now search.new) }
+        ensures before { IfOk result (λ row. row.before ≡ before_of self.now.defs.now self.now.props.now self.now.members.now number) }
+        ensures setups { IfOk result (λ row. row.setups ≡ setups_of self.now.props.now self.now.members.now number) }
     {
-        let props = &self.props[number as usize - 1];
-        let mut found = Vec::new(alloc);
-        if !props.disabled {
-            self.setups
-                .find_all(alloc, props.required.as_slice(), &mut found)?;
+        let later = &self.props[number as usize - 1];
+        if later.disabled {
+            return Ok(Row {
+                before: List::new(alloc),
+                setups: List::new(alloc),
+            });
         }
-        Ok(in_order(found))
+        let setups = self.setups.find(
+            alloc,
+            later.required.as_slice(),
+            &mut search.setups,
+            &mut search.found,
+        )?;
+        let before = self.before(alloc, later, setups.as_slice(), search)?;
+        Ok(Row { before, setups })
+    }
+
+    /// Finds the members that come before a test with these properties and these setups.
+    fn before(
+        &self,
+        alloc: Global,
+        later: &'a Props,
+        setups: &[u32],
+        search: &mut Search<'a>,
+    ) -> Result<List<u32>, NoMemory>
+        requires ready { IsReady self.now search.old }
+        requires setups { AreFound (tests_of self.now.setups) later.now.required setups.now }
+        ensures ready { OnOk result (IsReady self.now search.new) }
+        ensures ascending { IfOk result (λ tests. IsStrictlyIncreasing tests) }
+        ensures found { IfOk result (λ tests. FindsBefore (tests_of self.now.names) (tests_of self.now.setups) (tests_of self.now.users) later.now [] tests) }
+    {
+        let cleanup = later.cleanup.as_slice();
+        let users = self
+            .users
+            .find(alloc, cleanup, &mut search.users, &mut search.found)?;
+        let cleaned = self
+            .setups
+            .find(alloc, cleanup, &mut search.setups, &mut search.found)?;
+        self.names
+            .find_all(alloc, later.depends.as_slice(), &mut search.found)?;
+        search.found.add_all(setups)?;
+        search.found.add_all(users.as_slice())?;
+        search.found.add_all(cleaned.as_slice())?;
+        Ok(search.found.take(alloc)?)
+    }
+}
+
+/// What a test waits for.
+#[derive(Drop)]
+pub(crate) struct Row {
+    /// The members that come before it, in order.
+    pub before: List<u32>,
+    /// The members that set up a fixture which it requires, in order.
+    pub setups: List<u32>,
+}
+
+/// What a search keeps from test to test.
+#[derive(Drop)]
+pub(crate) struct Search<'a> {
+    found: Found,
+    /// What fixtures find among those that are set up.
+    setups: Known<'a>,
+    /// What fixtures find among those that are required.
+    users: Known<'a>,
+}
+
+impl<'a> Search<'a> {
+    /// Makes the search that has found nothing.
+    pub(crate) fn new(alloc: Global) -> Search<'a>
+        ensures empty { IsEmpty result.found }
+        ensures setups { (find : Bytes ℕ → Bytes ℕ) → Knows find result.setups }
+        ensures users { (find : Bytes ℕ → Bytes ℕ) → Knows find result.users }
+    {
+        Search {
+            found: Found::new(alloc),
+            setups: Known::new(alloc),
+            users: Known::new(alloc),
+        }
     }
 }

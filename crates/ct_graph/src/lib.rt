@@ -7,7 +7,9 @@
 
 mod by_name;
 mod fault;
+mod found;
 mod index;
+mod known;
 mod ordering;
 mod rows;
 mod walk;

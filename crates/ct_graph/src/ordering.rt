@@ -4,12 +4,12 @@ ghost use Rattle.ct_graph.specs.Before.{before_of};
 ghost use Rattle.ct_graph.specs.Cycle.{HasCycle};
 ghost use Rattle.ct_graph.specs.Order.{IsAnswer};
 ghost use Rattle.ct_graph.specs.Index.{Indexed};
-ghost use Rattle.ct_graph.specs.Walk.{are_taken};
-ghost use Rattle.ct_graph.specs.Rows.{links_of, setups_in};
+ghost use Rattle.ct_graph.specs.Walk.{are_taken, row_of};
+ghost use Rattle.ct_graph.specs.Rows.{links_of};
 
 use crate::GraphFault;
 use crate::index::Index;
-use crate::rows::rows;
+use crate::rows::{Graph, rows};
 use crate::walk::{Mark, marks};
 use ct_base::{List, NoMemory, TestDef};
 use ct_props::Props;
@@ -74,10 +74,10 @@ fn order_within(alloc: Global, index: &Index, most: u32) -> Result<Ordered, Grap
     requires few { length index.now.props.now < 2 ^ 32 - 1 }
     ensures { IsAnswer most index.now.defs.now index.now.props.now index.now.members.now result }
 {
-    let rows = rows(alloc, index, most)?;
-    let marks = marks(alloc, rows.as_slice(), index.members)?;
+    let graph = rows(alloc, index, most)?;
+    let marks = marks(alloc, graph.before.as_slice(), index.members)?;
     Ok(Ordered {
-        links: links_in_order(alloc, index, rows, &marks)?,
+        links: links_in_order(alloc, index, graph, &marks)?,
     })
 }
 
@@ -85,23 +85,27 @@ fn order_within(alloc: Global, index: &Index, most: u32) -> Result<Ordered, Grap
 fn links_in_order(
     alloc: Global,
     index: &Index,
-    rows: Vec<List<u32>>,
+    graph: Graph,
     marks: &[Mark],
 ) -> Result<List<Links>, NoMemory>
     requires indexed { Indexed index.now }
-    requires rows { All (λ number. number < length rows.items) index.now.members.now }
+    requires before { All (λ number. number < length graph.before.items) index.now.members.now }
+    requires setups { All (λ number. number < length graph.setups.items) index.now.members.now }
     requires marks { All (λ number. number < length marks.now) index.now.members.now }
     requires taken { are_taken marks.now index.now.members.now ≡ true }
-    ensures { IfOk result (λ links. links ≡ map (links_of (setups_in index.now) rows.items marks.now) index.now.members.now) }
+    ensures { IfOk result (λ links. links ≡ map (links_of (row_of graph.setups.items) graph.before.items marks.now) index.now.members.now) }
 {
-    let mut rows = rows;
+    let Graph {
+        mut before,
+        mut setups,
+    } = graph;
     let mut links = List::new(alloc);
     for number in index.members {
         let place = *number as usize;
         links.push(Links {
             number: *number,
-            before: mem::replace(&mut rows[place], List::new(alloc)),
-            setups: index.setups(alloc, *number)?,
+            before: mem::replace(&mut before[place], List::new(alloc)),
+            setups: mem::replace(&mut setups[place], List::new(alloc)),
             rank: marks[place].rank(),
         })?;
     }

@@ -1,34 +1,46 @@
 ghost use Rattle.std.specs.Prelude.{◌≡◌, ℕ, ◌<◌, ◌≤◌, ◌+◌, ◌^◌, [], All, IfOk, OnOk, IfErr, length, replicate};
 ghost use Rattle.ct_graph.specs.Index.{Indexed};
-ghost use Rattle.ct_graph.specs.Rows.{AreRows, EndsRows, before_in, edges_in};
+ghost use Rattle.ct_graph.specs.Rows.{AreRows, EndsRows, before_in, edges_in, setups_in};
 
 use crate::GraphFault;
-use crate::index::Index;
+use crate::index::{Index, Search};
 use ct_base::{List, NoMemory};
 use std::alloc::Global;
 
-/// Gives what comes before each member, where that is so many tests at most.
+/// What each member waits for.
 ///
-/// The place of a test is its number: place 0 is of no test. What is no member has nothing before
-/// it.
-pub(crate) fn rows(alloc: Global, index: &Index, most: u32) -> Result<Vec<List<u32>>, GraphFault>
+/// The place of a test is its number: place 0 is of no test. What is no member waits for nothing.
+#[derive(Drop)]
+pub(crate) struct Graph {
+    /// The members that come before each member, in order.
+    pub before: Vec<List<u32>>,
+    /// The setups of each member, in order.
+    pub setups: Vec<List<u32>>,
+}
+
+/// Finds what each member waits for, where so many tests at most come before the members.
+pub(crate) fn rows(alloc: Global, index: &Index, most: u32) -> Result<Graph, GraphFault>
     requires { Indexed index.now }
-    ensures rows { IfOk result (λ rows. AreRows (before_in index.now) (length index.now.props.now) index.now.members.now rows.items) }
+    ensures before { IfOk result (λ graph. AreRows (before_in index.now) (length index.now.props.now) index.now.members.now graph.before.items) }
+    ensures setups { IfOk result (λ graph. AreRows (setups_in index.now) (length index.now.props.now) index.now.members.now graph.setups.items) }
     ensures few { OnOk result (edges_in index.now ≤ most) }
     ensures err { IfErr result (EndsRows most index.now) }
 {
     let most = most as usize;
-    let mut rows = empty_rows(alloc, index.props.len())?;
+    let mut before = empty_rows(alloc, index.props.len())?;
+    let mut setups = empty_rows(alloc, index.props.len())?;
+    let mut search = Search::new(alloc);
     let mut edges = 0;
     for number in index.members {
-        let before = index.before(alloc, *number)?;
-        if before.len() > most - edges {
+        let row = index.row(alloc, *number, &mut search)?;
+        if row.before.len() > most - edges {
             return Err(GraphFault::TooManyEdges);
         }
-        edges += before.len();
-        rows[*number as usize] = before;
+        edges += row.before.len();
+        before[*number as usize] = row.before;
+        setups[*number as usize] = row.setups;
     }
-    Ok(rows)
+    Ok(Graph { before, setups })
 }
 
 /// Makes a row for each test, and one for place 0.
