@@ -1,8 +1,10 @@
 -- What holds of a run between its steps. This project's own.
-use Rattle.std.specs.Prelude.{ℕ, List, vec_capacity}
+use Rattle.std.specs.Prelude.{ℕ, ⊤, Bool, true, false, List, vec_capacity}
 use Rattle.ct_verdict.specs.declared.verdict.Verdict.{Verdict}
 use Rattle.ct_history.specs.declared.history.Entry.{Entry}
+use Rattle.ct_core.specs.declared.choice.Choice.TheVariants.{Wait}
 use Rattle.ct_core.specs.declared.run.Run.{Run}
+use Rattle.ct_core.specs.Choice.{IsChoice}
 use Rattle.ct_core.specs.Order.{FollowsQueue}
 use Rattle.ct_core.specs.Parts.{IsConcluding, IsKept}
 
@@ -18,6 +20,16 @@ IsKeptRun run = IsKept run.plan (entries_of run) (vec_capacity run.history.entri
 pub record IsOrderlyRun (run : Run) : Type 0 where
   pub kept : IsKeptRun run
   pub order : FollowsQueue run.plan (entries_of run)
+
+-- where an answer to wait is remembered, there is nothing to do but wait
+abbrev pub WaitsStill : Bool → Run → Type 0
+WaitsStill true run = IsChoice run.plan (entries_of run) Wait
+WaitsStill false run = ⊤
+
+-- what a core keeps: an orderly run, and an answer to wait as long as it holds
+pub record IsKeptCore (run : Run) (waits : Bool) : Type 0 where
+  pub orderly : IsOrderlyRun run
+  pub still : WaitsStill waits run
 
 -- its last entry made the test final with this verdict, and that alone is not noted yet
 abbrev pub IsConcludingRun : ℕ → Verdict → Run → Type 0

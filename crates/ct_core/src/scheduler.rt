@@ -34,17 +34,19 @@ pub enum Next {
 pub struct Core {
     run: Run,
     aborted: bool,
+    /// The last answer was `Wait`, and no attempt has ended since.
+    waits: bool,
 }
 
 impl Model for Core {
     ghost use Rattle.ct_core.specs.CoreValue.{CoreValue};
-    ghost use Rattle.ct_core.specs.Run.{IsOrderlyRun};
+    ghost use Rattle.ct_core.specs.Run.{IsKeptCore};
 
     ghost Value = { CoreValue };
 
     ghost view = { λ c. record { plan = c.run.plan; entries = c.run.history.entries.items; aborted = c.aborted } };
 
-    ghost invariant = { λ c. IsOrderlyRun c.run };
+    ghost invariant = { λ c. IsKeptCore c.run c.waits };
 }
 
 impl Core {
@@ -73,6 +75,7 @@ impl Core {
                     parts,
                 },
                 aborted: false,
+                waits: false,
             }),
             Err(NoMemory) => Err(plan),
         }
@@ -107,9 +110,9 @@ impl Core {
     ///
     /// The first that holds: the run was given up; every test is final; a test may be settled, and
     /// the least is; a test may start, and the first in the queue does; wait for an end. So some
-    /// attempt is open after `Wait`. Memory can be wanting where an entry is to be appended, and
-    /// while a placement is looked for: it never is in a run that was given up, or whose tests are
-    /// all final.
+    /// attempt is open after `Wait`, and until one ends `Wait` is answered at once. Memory can be
+    /// wanting where an entry is to be appended, and while a placement is looked for: it never is in
+    /// a run that was given up, or whose tests are all final.
     pub fn next(&mut self, worker: u32) -> Next
         requires { is_busy_in worker self.old.entries ≡ false }
         ensures { IsNext self.old worker result self.new }
@@ -117,12 +120,18 @@ impl Core {
         if self.aborted {
             return Next::Aborted;
         }
+        if self.waits {
+            return Next::Wait;
+        }
         let alloc = *self.run.history.entries.allocator();
         match self.run.choose(alloc) {
             Ok(Choice::Done) => Next::Done,
             Ok(Choice::Settle { test, cause }) => self.settle(test, cause),
             Ok(Choice::Start(start)) => self.start(start, worker),
-            Ok(Choice::Wait) => Next::Wait,
+            Ok(Choice::Wait) => {
+                self.waits = true;
+                Next::Wait
+            }
             Err(NoMemory) => Next::NoMemory,
         }
     }
@@ -142,6 +151,7 @@ impl Core {
             worker,
             placement: _,
         } = ticket;
+        self.waits = false;
         self.run.end(test, attempt, worker, seen)
     }
 
@@ -171,6 +181,7 @@ impl Core {
         requires startable { IsStartable self.old.plan self.old.entries start }
         ensures { IsNext self.old worker result self.new }
     {
+        self.waits = false;
         match self.run.start(&start, worker) {
             Ok(()) => {}
             Err(NoMemory) => return Next::NoMemory,
@@ -194,6 +205,7 @@ impl Core {
         requires least { IsLeastToSettle self.old.plan self.old.entries test cause }
         ensures { IsNext self.old 0 result self.new }
     {
+        self.waits = false;
         match self.run.settle(test, cause) {
             Ok(()) => Next::Settled(test),
             Err(NoMemory) => Next::NoMemory,

@@ -1,5 +1,7 @@
 //! What the driven tests have in common, and what sets each apart.
 
+ghost use Rattle.std.specs.Prelude.{◌≤◌};
+
 use ct_base::{Name, NoMemory, Pair};
 use ct_verdict::How;
 use std::alloc::Global;
@@ -23,6 +25,8 @@ pub enum Kind {
     Locked,
     /// Each needs all slots of the one card.
     Spent,
+    /// Each holds a lock of its own and one that all hold, and sixteen workers ask.
+    Crowd,
 }
 
 impl Kind {
@@ -36,7 +40,18 @@ impl Kind {
             "slots" => Some(Kind::Slots),
             "locked" => Some(Kind::Locked),
             "spent" => Some(Kind::Spent),
+            "crowd" => Some(Kind::Crowd),
             _ => None,
+        }
+    }
+
+    /// How many workers ask, and how many processors the tests that run at once take together at most.
+    pub fn level(self) -> u32
+        ensures { 1 ≤ result }
+    {
+        match self {
+            Kind::Crowd => 16,
+            _ => 4,
         }
     }
 
@@ -60,6 +75,7 @@ impl Kind {
             Kind::Slots => pair(alloc, "RESOURCE_GROUPS", "gpus:1"),
             Kind::Locked => pair(alloc, "RESOURCE_LOCK", "lock"),
             Kind::Spent => pair(alloc, "RESOURCE_GROUPS", "gpus:32"),
+            Kind::Crowd => crowded(alloc, place),
         }
     }
 }
@@ -89,6 +105,11 @@ fn fixed(alloc: Global, place: u32, count: u32) -> Result<Option<Pair>, NoMemory
         "FIXTURES_CLEANUP"
     };
     pair(alloc, key, "fixture")
+}
+
+fn crowded(alloc: Global, place: u32) -> Result<Option<Pair>, NoMemory> {
+    let locks = format!(in alloc; "lock{place};lock")?;
+    pair(alloc, "RESOURCE_LOCK", locks.as_str())
 }
 
 fn widths(place: u32) -> &'static str {

@@ -14,9 +14,6 @@ use ct_spec::{Spec, SpecFault};
 use ct_verdict::{Mode, Repeat};
 use std::alloc::Global;
 
-/// How many processors the tests that run at once take together at most.
-const LEVEL: u32 = 4;
-
 /// One card, with 32 slots.
 const CARD: &[u8] =
     b"{\"version\":{\"major\":1,\"minor\":0},\"local\":[{\"gpus\":[{\"id\":\"0\",\"slots\":32}]}]}";
@@ -32,17 +29,20 @@ struct Tests {
 pub fn plan_of(alloc: Global, kind: Kind, count: u32) -> anyhow::Result<Plan> {
     let tests = tests_of(alloc, kind, count).map_err(|_| anyhow!("a test has no properties"))?;
     let card = card(alloc, kind).map_err(|_| anyhow!("the card is not read"))?;
-    planned(alloc, &tests, card.as_ref()).map_err(|_| anyhow!("the tests have no plan"))
+    planned(alloc, &tests, card.as_ref(), kind.level()).map_err(|_| anyhow!(
+        "the tests have no plan"
+    ))
 }
 
 /// Plans a run of these tests, where the card is lent.
-fn planned(alloc: Global, tests: &Tests, card: Option<&Spec>) -> Result<Plan, PlanFault>
-    requires { HaveProps tests.now.defs tests.now.props }
+fn planned(alloc: Global, tests: &Tests, card: Option<&Spec>, level: u32) -> Result<Plan, PlanFault>
+    requires props { HaveProps tests.now.defs tests.now.props }
+    requires level { 1 ≤ level }
 {
     if tests.defs.len() >= 4_294_967_295 {
         return Err(PlanFault::NoMemory);
     }
-    let wanted = wanted(alloc)?;
+    let wanted = wanted(alloc, level)?;
     let costs = CostData::read(alloc, b"")?;
     plan(alloc, &tests.defs, &tests.props, &wanted, card, &costs)
 }
@@ -78,7 +78,8 @@ fn def_at(alloc: Global, kind: Kind, place: u32, count: u32) -> Result<TestDef, 
 }
 
 /// Every test is wanted, once.
-fn wanted(alloc: Global) -> Result<Wanted, NoMemory>
+fn wanted(alloc: Global, level: u32) -> Result<Wanted, NoMemory>
+    requires { 1 ≤ level }
     ensures level { IfOk result (λ wanted. 1 ≤ wanted.level) }
     ensures times { IfOk result (λ wanted. 1 ≤ wanted.repeat.times) }
 {
@@ -96,7 +97,7 @@ fn wanted(alloc: Global) -> Result<Wanted, NoMemory>
     Ok(Wanted {
         dir: Name::of(alloc, b".")?,
         choice,
-        level: LEVEL,
+        level,
         repeat: Repeat {
             mode: Mode::UntilFail,
             times: 1,

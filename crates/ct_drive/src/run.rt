@@ -1,6 +1,6 @@
-//! A run of the core alone: an attempt lasts until no other can start, and the oldest ends first.
+//! A run of the core alone: an attempt lasts until no worker finds more to do, and the oldest ends first.
 
-ghost use Rattle.std.specs.Prelude.{◌≡◌, ◌==◌, ◌<◌, IfOk, IfSome, false, length};
+ghost use Rattle.std.specs.Prelude.{◌≡◌, ◌==◌, ◌<◌, IfOk, length};
 ghost use Rattle.std.specs.List.{list_any};
 ghost use Rattle.ct_core.specs.Ticket.{worker_of};
 ghost use Rattle.ct_drive.specs.Held.{HoldsOpen, is_held_by};
@@ -25,7 +25,11 @@ pub struct Run {
 /// What a step leaves to do.
 #[derive(Drop)]
 enum Step {
+    /// There is more to do.
     More,
+    /// There is nothing to do before an attempt ends.
+    Waits,
+    /// Every test is final.
     Nothing,
     LacksMemory,
 }
@@ -65,7 +69,7 @@ impl Run {
     {
         for _ in 0..steps {
             match self.step() {
-                Step::More => {}
+                Step::More | Step::Waits => {}
                 Step::Nothing => return Ok(()),
                 Step::LacksMemory => return Err(NoMemory),
             }
@@ -73,23 +77,34 @@ impl Run {
         Ok(())
     }
 
-    /// Asks for a free worker what it has to do, and ends the oldest attempt where none is free.
+    /// Asks each free worker what it has to do, and ends the oldest attempt where all have to wait.
     fn step(&mut self) -> Step
         requires { HoldsOpen self.old }
         ensures { HoldsOpen self.new }
     {
-        match free_worker(self.tickets.as_slice(), self.level) {
-            Some(worker) => self.ask(worker),
-            None => self.end_oldest(),
+        let mut all_wait = true;
+        for worker in 0..self.level {
+            match self.ask(worker) {
+                Step::More => all_wait = false,
+                Step::Waits => {}
+                end => return end,
+            }
+        }
+        if all_wait {
+            self.end_oldest()
+        } else {
+            Step::More
         }
     }
 
-    /// Does what a worker has to do, and ends the oldest attempt where it has to wait.
+    /// Does what a worker has to do, where it is free.
     fn ask(&mut self, worker: u32) -> Step
-        requires held { HoldsOpen self.old }
-        requires free { is_held_by worker self.old.tickets.items ≡ false }
+        requires { HoldsOpen self.old }
         ensures { HoldsOpen self.new }
     {
+        if holds_one(self.tickets.as_slice(), worker) {
+            return Step::Waits;
+        }
         match self.tickets.reserve(1) {
             Ok(()) => {}
             Err(_) => return Step::LacksMemory,
@@ -101,7 +116,7 @@ impl Run {
                 Step::More
             }
             Next::Settled(_) => Step::More,
-            Next::Wait => self.end_oldest(),
+            Next::Wait => Step::Waits,
             Next::Done => Step::Nothing,
             Next::Aborted | Next::NoMemory => Step::LacksMemory,
         }
@@ -147,18 +162,6 @@ impl Run {
         tickets.destroy_empty();
         tally
     }
-}
-
-/// The first worker below the level that holds none of the tickets.
-fn free_worker(tickets: &[Ticket], level: u32) -> Option<u32>
-    ensures { IfSome result (λ worker. is_held_by worker tickets.now ≡ false) }
-{
-    for worker in 0..level {
-        if !holds_one(tickets, worker) {
-            return Some(worker);
-        }
-    }
-    None
 }
 
 fn holds_one(tickets: &[Ticket], worker: u32) -> bool

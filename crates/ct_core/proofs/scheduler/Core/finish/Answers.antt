@@ -5,4 +5,7 @@ use Rattle.ct_core.proofs.scheduler.Core.finish.Goals as goal
 pub invariant_of-self : goal.invariant_of-self
 invariant_of-self c =
     let ticket = c.args.ticket in
-    orderly_due c.self.inside.run c.end.new.self c.end.ensures.kept c.end.ensures.plan (End ticket.test ticket.attempt ticket.worker c.args.seen) c.self.invariant tt c.end.ensures.ended
+    record {
+      orderly = orderly_due c.self.inside.run c.end.new.self c.end.ensures.kept c.end.ensures.plan (End ticket.test ticket.attempt ticket.worker c.args.seen) c.self.invariant.orderly tt c.end.ensures.ended;
+      still = tt;
+    }

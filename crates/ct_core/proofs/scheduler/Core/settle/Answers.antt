@@ -11,7 +11,11 @@ pub invariant_of-self : goal.invariant_of-self
 invariant_of-self c =
     let old = c.self.inside.run in
     let least = subst (λ (v : CoreValue). IsLeastToSettle v.plan v.entries c.args.test c.args.cause) (sym c.self.view_is) c.requires.least in
-    elim c.match-settle.branch [
-      | in-Ok w ↦ orderly_due old c.settle.new.self c.settle.ensures.kept c.settle.ensures.plan (Settle c.args.test c.args.cause) c.self.invariant least w.in-Ok.ensures.settled
-      | in-Err w ↦ orderly old c.settle.new.self c.settle.ensures.kept c.settle.ensures.plan (entries_of old) w.in-Err.ensures.unsettled c.self.invariant.order
-    ]
+    record {
+      orderly =
+          elim c.match-settle.branch [
+            | in-Ok w ↦ orderly_due old c.settle.new.self c.settle.ensures.kept c.settle.ensures.plan (Settle c.args.test c.args.cause) c.self.invariant.orderly least w.in-Ok.ensures.settled
+            | in-Err w ↦ orderly old c.settle.new.self c.settle.ensures.kept c.settle.ensures.plan (entries_of old) w.in-Err.ensures.unsettled c.self.invariant.orderly.order
+          ];
+      still = tt;
+    }

@@ -14,7 +14,10 @@ invariant_of-self-2 c =
     let start = c.args.start in
     let unsettled = subst (λ (v : CoreValue). NoneSettles v.plan v.entries) (sym c.self.view_is) c.requires.unsettled in
     let startable = subst (λ (v : CoreValue). IsStartable v.plan v.entries start) (sym c.self.view_is) c.requires.startable in
-    orderly_with c.self.inside.run c.start.new.self c.start.ensures.kept c.start.ensures.plan (Start start.test start.attempt c.args.worker start.placement) c.self.invariant (unsettled, startable.first) c.in-Ok.ensures.started
+    record {
+      orderly = orderly_with c.self.inside.run c.start.new.self c.start.ensures.kept c.start.ensures.plan (Start start.test start.attempt c.args.worker start.placement) c.self.invariant.orderly (unsettled, startable.first) c.in-Ok.ensures.started;
+      still = tt;
+    }
 
 pub returns-in-Err : goal.returns-in-Err
 returns-in-Err c =
