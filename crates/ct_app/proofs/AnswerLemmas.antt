@@ -1,14 +1,15 @@
 -- The answer of a run, once its end is told.
-use Rattle.std.proofs.Common.{◌≡◌, sym, subst, ℕ, List, [], refl, inl, inr}
+use Rattle.std.proofs.Common.{◌≡◌, sym, subst, ℕ, List, [], ◌∷◌, refl, inl, inr}
 use Rattle.std.specs.Prelude.{Option, Some, None, IsSomeAnd, Result, Ok, Err}
 use Rattle.ct_base.specs.declared.defs.Pair.{Pair}
 use Rattle.ct_base.specs.declared.sink.SinkFault.TheVariants as Sinks
-use Rattle.ct_base.specs.Outside.{FilesTell, Puts, SinkTell}
+use Rattle.ct_base.specs.Outside.{FilesTell, SinkTell}
 use Rattle.ct_history.specs.declared.plan.PlanParts.{PlanParts}
 use Rattle.ct_history.specs.declared.history.Entry.{Entry}
 use Rattle.ct_core.specs.Gate.{GateTell}
 use Rattle.ct_args.specs.declared.invocation.Invocation.{Invocation}
 use Rattle.ct_plan.specs.Source.{Source}
+use Rattle.ct_report.specs.PutLines.{PutsLines}
 use Rattle.ct_app.specs.declared.outcome.Outcome.{Outcome}
 use Rattle.ct_app.specs.declared.outcome.Outcome.TheVariants.{Completed, Listed, Usage, Refused, FilesFault, OutputFault, Memory}
 use Rattle.ct_app.specs.declared.outcome.Refusal.{Refusal}
@@ -29,9 +30,9 @@ run_none None history P never some = some
 run_none (Some p) None P never some = some
 run_none (Some p) (Some es) P never some = never p es some
 
-pub tried : (text : List ℕ) (before now : SinkTell) → PutsOrFails text before now → Tries text before now
-tried text before now (inl put) = (Ok tt, put)
-tried text before now (inr put) = (Err Sinks.Failed, put)
+pub tried : (line : List ℕ) (before now : SinkTell) → PutsOrFails line before now → Tries line before now
+tried line before now (inl put) = (Ok tt, put)
+tried line before now (inr put) = (Err Sinks.Failed, put)
 
 -- a call before its end is told, and behind that
 module _ (words : List (List ℕ)) (env : List Pair) (files files_now : FilesTell) (gates gates_now : List GateTell) (sink mid now : SinkTell) (plan : Option PlanParts) (history : Option (List Entry)) (names : List (List ℕ)) where
@@ -58,9 +59,9 @@ module _ (words : List (List ℕ)) (env : List Pair) (files files_now : FilesTel
       subst (λ (n : ℕ). AnswersRun (sides words env files files_now gates gates_now sink now plan history) outcome n) (sym status_is) (subst (λ (x : Outcome). AnswersRun (sides words env files files_now gates gates_now sink now plan history) x (fault_status x)) (sym is) answer)
 
   -- an outcome whose line is put behind nothing
-  line_told : (line : List ℕ) (o outcome : Outcome) (status : ℕ) → line ≡ fault_line names o → mid ≡ sink → Told names o outcome mid now → status ≡ fault_status outcome → (PutsOrFails line sink now → AnswersRun (sides words env files files_now gates gates_now sink now plan history) o (fault_status o)) → (Puts line sink now (Err Sinks.NoMemory) → IsShort (sides words env files files_now gates gates_now sink now plan history) o) → AnswersRun (sides words env files files_now gates gates_now sink now plan history) outcome status
+  line_told : (line : List ℕ) (o outcome : Outcome) (status : ℕ) → line ≡ fault_line names o → mid ≡ sink → Told names o outcome mid now → status ≡ fault_status outcome → (PutsOrFails line sink now → AnswersRun (sides words env files files_now gates gates_now sink now plan history) o (fault_status o)) → (PutsLines (line ∷ []) sink now (Err Sinks.NoMemory) → IsShort (sides words env files files_now gates gates_now sink now plan history) o) → AnswersRun (sides words env files files_now gates gates_now sink now plan history) outcome status
   line_told line o outcome status line_is unput (inl (is, puts)) status_is answers short = at o outcome status is status_is (answers (subst (λ (l : List ℕ). PutsOrFails l sink now) (sym line_is) (subst (λ (t : SinkTell). PutsOrFails (fault_line names o) t now) unput puts)))
-  line_told line o outcome status line_is unput (inr (is, puts)) status_is answers short = at Memory outcome status is status_is ((o, inl (short (subst (λ (l : List ℕ). Puts l sink now (Err Sinks.NoMemory)) (sym line_is) (subst (λ (t : SinkTell). Puts (fault_line names o) t now (Err Sinks.NoMemory)) unput puts)))), refl)
+  line_told line o outcome status line_is unput (inr (is, puts)) status_is answers short = at Memory outcome status is status_is ((o, inl (short (subst (λ (l : List ℕ). PutsLines (l ∷ []) sink now (Err Sinks.NoMemory)) (sym line_is) (subst (λ (t : SinkTell). PutsLines (fault_line names o ∷ []) t now (Err Sinks.NoMemory)) unput puts)))), refl)
 
   memory_tried : (outcome : Outcome) → Told names Memory outcome mid now → (outcome ≡ Memory) × Tries (fault_line [] Memory) mid now
   memory_tried outcome (inl (is, puts)) = (is, tried (fault_line [] Memory) mid now puts)

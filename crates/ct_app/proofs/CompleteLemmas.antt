@@ -127,7 +127,7 @@ module _ (s : Sides) (can : IsListable s) where
   list_by (Usage word kind) status answer calm = absurd (usage_never word kind answer.0)
   list_by (Refused refusal) status answer calm = absurd (unreadable_never refusal answer.0)
   list_by (FilesFault path) status answer calm = absurd (read_fault_never calm path answer.0)
-  list_by OutputFault status answer calm = absurd (calm.sink (answer.0.holds.cause.failed refl))
+  list_by OutputFault status answer calm = absurd (calm.sink (answer.0.holds.bytes.cause.failed refl))
   list_by Memory status answer calm = inr refl
 
 -- a run that can be made
@@ -210,7 +210,7 @@ module _ (s : Sides) (can : IsRunnable s) where
   run_by (Refused refusal) status answer calm = absurd (refusal_never refusal answer.0.names answer.0.refused)
   run_by (FilesFault path) status answer calm = absurd (files_fault_never calm path status answer)
   run_by OutputFault status answer calm =
-      absurd (ran_never (λ i p es. IsCutOff p es s.sink_before s.sink_now × FilesStay s.files_before s.files_now) (λ i p es was. calm.sink (was.0.put.cause.failed refl)) answer.0)
+      absurd (ran_never (λ i p es. IsCutOff p es s.sink_before s.sink_now × FilesStay s.files_before s.files_now) (λ i p es was. calm.sink (was.0.put.bytes.cause.failed refl)) answer.0)
   run_by Memory status answer calm = inr refl
 
 -- a list that can be made is put

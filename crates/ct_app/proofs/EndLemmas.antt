@@ -3,7 +3,7 @@ use Rattle.std.proofs.Common.{◌≡◌, sym, subst, ℕ, ◌+◌, List, [], ◌
 use Rattle.std.specs.Prelude.{Result, Ok, Err, IfErr}
 use Rattle.ct_base.specs.declared.sink.SinkFault.{SinkFault}
 use Rattle.ct_base.specs.declared.sink.SinkFault.TheVariants as Sinks
-use Rattle.ct_base.specs.Outside.{Puts, SinkTell}
+use Rattle.ct_base.specs.Outside.{SinkTell}
 use Rattle.ct_history.specs.declared.plan.PlanParts.{PlanParts}
 use Rattle.ct_history.specs.declared.history.Entry.{Entry}
 use Rattle.ct_history.proofs.LegalLemmas.{legal-nil, legal_allowed}
@@ -12,8 +12,9 @@ use Rattle.ct_core.specs.CoreValue.{CoreValue}
 use Rattle.ct_core.specs.Gate.{GateTell}
 use Rattle.ct_core.specs.Order.{FollowsQueue}
 use Rattle.ct_core.proofs.OrderLemmas.{follows-nil}
-use Rattle.ct_report.specs.Report.{report_text}
-use Rattle.ct_report.proofs.PutLemmas.{puts_none}
+use Rattle.ct_report.specs.PutLines.{PutsLines}
+use Rattle.ct_report.specs.Report.{report_lines}
+use Rattle.ct_report.proofs.PutLemmas.{lines_none}
 use Rattle.ct_worker.specs.Gates.{AreAsked, Terms}
 use Rattle.ct_worker.proofs.GateLemmas.{asked_none}
 use Rattle.ct_app.specs.declared.outcome.Outcome.{Outcome}
@@ -22,7 +23,7 @@ use Rattle.ct_app.specs.Run.{HasRun, RunEnds}
 use Rattle.ct_app.specs.Stops.{StopsAt, StopsSo}
 
 -- complete, or with a fault of the sink
-ends_as : (plan : PlanParts) (es : List Entry) (sink now : SinkTell) (ran : Result (Unit {0}) SinkFault) → Puts (report_text plan es) sink now ran → RunEnds plan es ran → IfErr ran (λ fault. StopsAt fault plan es sink now) → PlanEnds plan es sink now (ended_as ran)
+ends_as : (plan : PlanParts) (es : List Entry) (sink now : SinkTell) (ran : Result (Unit {0}) SinkFault) → PutsLines (report_lines plan es) sink now ran → RunEnds plan es ran → IfErr ran (λ fault. StopsAt fault plan es sink now) → PlanEnds plan es sink now (ended_as ran)
 ends_as plan es sink now (Ok tt) put ends at = record { complete = ends.0; memory = ends.1; put = put }
 ends_as plan es sink now (Err Sinks.Failed) put ends at = record { put = put; at = at }
 ends_as plan es sink now (Err Sinks.NoMemory) put ends at = record { put = put; at = at }
@@ -38,7 +39,7 @@ core_order core p es plan_is entries_are order = subst (λ (q : PlanParts). Foll
 pub unordered : (p : PlanParts) (es : List Entry) → es ≡ [] → FollowsQueue p es
 unordered p es none = subst (λ (xs : List Entry). FollowsQueue p xs) (sym none) (follows-nil p)
 
-pub core_ends : (sink now : SinkTell) (core : CoreValue) (ran : Result (Unit {0}) SinkFault) (p : PlanParts) (es : List Entry) (ended : Result (Unit {0}) Outcome) → p ≡ core.plan → es ≡ core.entries → Puts (report_text core.plan core.entries) sink now ran → RunEnds core.plan core.entries ran → IfErr ran (λ fault. StopsAt fault core.plan core.entries sink now) → ended ≡ ended_as ran → PlanEnds p es sink now ended
+pub core_ends : (sink now : SinkTell) (core : CoreValue) (ran : Result (Unit {0}) SinkFault) (p : PlanParts) (es : List Entry) (ended : Result (Unit {0}) Outcome) → p ≡ core.plan → es ≡ core.entries → PutsLines (report_lines core.plan core.entries) sink now ran → RunEnds core.plan core.entries ran → IfErr ran (λ fault. StopsAt fault core.plan core.entries sink now) → ended ≡ ended_as ran → PlanEnds p es sink now ended
 core_ends sink now core ran p es ended plan_is entries_are put ends at is =
     subst (λ (q : PlanParts). PlanEnds q es sink now ended) (sym plan_is)
     (subst (λ (xs : List Entry). PlanEnds core.plan xs sink now ended) (sym entries_are)
@@ -61,4 +62,4 @@ unrun terms gates p es none =
     })
 
 pub unopened_ends : (sink : SinkTell) (p : PlanParts) (es : List Entry) → es ≡ [] → StopsSo Sinks.NoMemory p es sink sink
-unopened_ends sink p es none = record { put = puts_none sink (report_text p es); at = inl none }
+unopened_ends sink p es none = record { put = lines_none sink (report_lines p es); at = inl none }

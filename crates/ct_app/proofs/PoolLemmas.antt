@@ -1,9 +1,8 @@
 -- What the run of a plan by a pool of workers says, and what it put.
-use Rattle.std.proofs.Common.{◌≡◌, ◌∙◌, sym, ap, subst, true, ℕ, min, List, drop, length, inl, inr}
+use Rattle.std.proofs.Common.{◌≡◌, ◌∙◌, sym, ap, subst, true, ℕ, min, List, [], ◌∷◌, drop, length, inl, inr}
 use Rattle.std.specs.Prelude.{Option, None, Result, Ok, Err, IfErr}
 use Rattle.ct_base.specs.declared.sink.SinkFault.{SinkFault}
-use Rattle.ct_base.specs.declared.sink.SinkFault.TheVariants as Sinks
-use Rattle.ct_base.specs.Outside.{Adds, AddsPrefix, Becomes, HasCause, Puts, SinkTell}
+use Rattle.ct_base.specs.Outside.{SinkTell}
 use Rattle.ct_history.specs.declared.board.Base.{Base}
 use Rattle.ct_history.specs.declared.plan.PlanParts.{PlanParts}
 use Rattle.ct_history.specs.declared.history.Entry.{Entry}
@@ -12,7 +11,8 @@ use Rattle.ct_history.proofs.WithinLemmas.{stays_within}
 use Rattle.ct_core.specs.CoreValue.{CoreValue}
 use Rattle.ct_core.specs.Gate.{GateTell}
 use Rattle.ct_history.specs.Verdicts.{are_all_final}
-use Rattle.ct_report.specs.Report.{header_line, summary_lines, test_lines, text_of}
+use Rattle.ct_report.specs.PutLines.{PutsLines}
+use Rattle.ct_report.specs.Report.{header_line, summary_lines, test_lines}
 use Rattle.ct_worker.specs.Gates.{Terms, are_below}
 use Rattle.ct_worker.specs.Halted.{IsHalted}
 use Rattle.ct_worker.specs.Pool.{IsPooled}
@@ -22,35 +22,12 @@ use Rattle.ct_app.specs.Run.{HasRun, RestStays, lines_of_run}
 use Rattle.ct_app.specs.Stops.{StopsAt, StopsBehind}
 use Rattle.ct_app.proofs.ReportLemmas.{lines_fail, summary_puts}
 
--- what a put says goes by what the sink told of its bytes and faults before
-puts_from : (text : List ℕ) (old other new : SinkTell) (result : Result (Unit {0}) SinkFault) → (let b : Base = record { written = other.written; faults = other.faults } in b) ≡ record { written = old.written; faults = old.faults } → Puts text other new result → Puts text old new result
-puts_from text old other new (Ok tt) same put = record {
-  ok = subst (λ (w : Option (List ℕ)). Becomes w new.written (Adds text)) (ap (λ (b : Base). b.written) same) put.ok;
-  err = tt;
-  cause = subst (λ (n : ℕ). HasCause {T = Unit {0}} Sinks.Failed n new.faults (Ok tt)) (ap (λ (b : Base). b.faults) same) put.cause;
-}
-puts_from text old other new (Err fault) same put = record {
-  ok = tt;
-  err = subst (λ (w : Option (List ℕ)). Becomes w new.written (AddsPrefix text)) (ap (λ (b : Base). b.written) same) put.err;
-  cause = subst (λ (n : ℕ). HasCause {T = Unit {0}} Sinks.Failed n new.faults (Err fault)) (ap (λ (b : Base). b.faults) same) put.cause;
-}
-
--- so does what is said of a halt
-halted_from : (fault : SinkFault) (plan : PlanParts) (entries : List Entry) (old other new : SinkTell) → (let b : Base = record { written = other.written; faults = other.faults } in b) ≡ record { written = old.written; faults = old.faults } → IsHalted fault plan entries other new → IsHalted fault plan entries old new
-halted_from fault plan entries old other new same was = record {
-  front = was.front;
-  last = was.last;
-  behind = was.behind;
-  only = was.only;
-  is = was.is;
-  middle = was.middle;
-  put = puts_from (text_of (test_lines plan was.front)) old other was.middle (Ok tt) same was.put;
-  cut = was.cut;
-  tried = was.tried;
-}
+-- what a sink told when a state was opened is its base
+abbrev told_at : Base → SinkTell
+told_at base = record { written = base.written; pieces = base.pieces; faults = base.faults }
 
 -- the header, and what stopped behind it
-pub header_stops : (plan : PlanParts) (entries : List Entry) (old middle new : SinkTell) (ended : Result (Unit {0}) SinkFault) → Puts (header_line plan) old middle (Ok tt) → IfErr ended (λ fault. StopsBehind fault plan entries middle new) → IfErr ended (λ fault. StopsAt fault plan entries old new)
+pub header_stops : (plan : PlanParts) (entries : List Entry) (old middle new : SinkTell) (ended : Result (Unit {0}) SinkFault) → PutsLines (header_line plan ∷ []) old middle (Ok tt) → IfErr ended (λ fault. StopsBehind fault plan entries middle new) → IfErr ended (λ fault. StopsAt fault plan entries old new)
 header_stops plan entries old middle new (Ok done) header stops = tt
 header_stops plan entries old middle new (Err fault) header stops = inr (record { middle = middle; header = header; stops = stops })
 
@@ -69,44 +46,56 @@ module _ (terms : Terms) (count : ℕ) (start core : CoreValue) (sink : SinkTell
     asked = pooled.asked;
   })
 
+  -- the state was opened with the sink as it was at first
+  opened_is : new.opened ≡ sink
+  opened_is = ap told_at (pooled.base ∙ ap base_of opened)
+
   -- the lines of the tests stand behind what the sink told at first
-  lines_put : (now : SinkTell) (result : Result (Unit {0}) SinkFault) → now ≡ new.sink → Puts (text_of (test_lines new.plan new.entries)) new.opened new.sink result → Puts (text_of (test_lines core.plan core.entries)) sink now result
+  lines_put : (now : SinkTell) (result : Result (Unit {0}) SinkFault) → now ≡ new.sink → PutsLines (test_lines new.plan new.entries) new.opened new.sink result → PutsLines (test_lines core.plan core.entries) sink now result
   lines_put now result same put =
-      subst (λ (c : CoreValue). Puts (text_of (test_lines c.plan c.entries)) sink now result) (sym is)
-      (subst (λ (t : SinkTell). Puts (text_of (test_lines new.plan new.entries)) sink t result) (sym same)
-      (puts_from (text_of (test_lines new.plan new.entries)) sink new.opened new.sink result (pooled.base ∙ ap base_of opened) put))
+      subst (λ (c : CoreValue). PutsLines (test_lines c.plan c.entries) sink now result) (sym is)
+      (subst (λ (t : SinkTell). PutsLines (test_lines new.plan new.entries) sink t result) (sym same)
+      (subst (λ (t : SinkTell). PutsLines (test_lines new.plan new.entries) t new.sink result) opened_is put))
 
-  -- no halt is set: each test is final, and the summary stands behind the lines, or a beginning of it
-  pub summary_behind : (halt : Option Halt) → halt ≡ new.halt → halt ≡ None → Puts (text_of (test_lines new.plan new.entries)) new.opened new.sink (put_of new.halt) → (mid after : SinkTell) (result : Result (Unit {0}) SinkFault) → mid ≡ new.sink → Puts (text_of (summary_lines core.plan core.entries)) mid after result → Puts (text_of (lines_of_run core.plan core.entries)) sink after result
-  summary_behind halt is_halt none put mid after result same summary =
-      let going : new.halt ≡ None = sym is_halt ∙ none in
-      let whole = subst (λ (h : Option Halt). Puts (text_of (test_lines new.plan new.entries)) new.opened new.sink (put_of h)) going put in
-      let final = ap (λ (c : CoreValue). are_all_final c.plan c.entries) is ∙ pooled.ended going in
-      summary_puts core.plan core.entries sink mid after result final (lines_put mid (Ok tt) same whole) summary
+  module _ (halt : Option Halt) (is_halt : halt ≡ new.halt) where
+    -- no halt is set: each test is final, and all their lines were put
+    module _ (none : halt ≡ None) (mid after : SinkTell) (result : Result (Unit {0}) SinkFault) (same : mid ≡ new.sink) (summary : PutsLines (summary_lines core.plan core.entries) mid after result) where
+      going : new.halt ≡ None
+      going = sym is_halt ∙ none
 
-  -- a halt is set: no more than a beginning of the lines was put
-  pub given_up_behind : (halt : Option Halt) → halt ≡ new.halt → (fault : SinkFault) → put_of halt ≡ Err fault → Puts (text_of (test_lines new.plan new.entries)) new.opened new.sink (put_of new.halt) → (now : SinkTell) → now ≡ new.sink → Puts (text_of (lines_of_run core.plan core.entries)) sink now (Err fault)
-  given_up_behind halt is_halt fault gave put now same =
-      let cut = subst (λ (r : Result (Unit {0}) SinkFault). Puts (text_of (test_lines new.plan new.entries)) new.opened new.sink r) (ap (λ (h : Option Halt). put_of h) (sym is_halt) ∙ gave) put in
-      lines_fail core.plan core.entries sink now fault (lines_put now (Err fault) same cut)
+      final : are_all_final core.plan core.entries ≡ true
+      final = ap (λ (c : CoreValue). are_all_final c.plan c.entries) is ∙ pooled.ended going
 
-  -- no halt is set: where the summary could not be put the run stopped there
-  pub summary_stops : (halt : Option Halt) → halt ≡ new.halt → halt ≡ None → Puts (text_of (test_lines new.plan new.entries)) new.opened new.sink (put_of new.halt) → (mid after : SinkTell) (result : Result (Unit {0}) SinkFault) → mid ≡ new.sink → Puts (text_of (summary_lines core.plan core.entries)) mid after result → IfErr result (λ fault. StopsBehind fault core.plan core.entries sink after)
-  summary_stops halt is_halt none put mid after (Ok done) same summary = tt
-  summary_stops halt is_halt none put mid after (Err fault) same summary =
-      let going : new.halt ≡ None = sym is_halt ∙ none in
-      let whole = subst (λ (h : Option Halt). Puts (text_of (test_lines new.plan new.entries)) new.opened new.sink (put_of h)) going put in
-      inr (record {
-        final = ap (λ (c : CoreValue). are_all_final c.plan c.entries) is ∙ pooled.ended going;
-        middle = mid;
-        lines = lines_put mid (Ok tt) same whole;
-        cut = summary;
-      })
+      whole : PutsLines (test_lines core.plan core.entries) sink mid (Ok tt)
+      whole = lines_put mid (Ok tt) same (subst (λ (h : Option Halt). PutsLines (test_lines new.plan new.entries) new.opened new.sink (put_of h)) going pooled.put)
 
-  -- a halt is set: the run stopped where it came
-  pub given_up_stops : (halt : Option Halt) → halt ≡ new.halt → (fault : SinkFault) → put_of halt ≡ Err fault → IfErr (put_of new.halt) (λ f. IsHalted f new.plan new.entries new.opened new.sink) → (now : SinkTell) → now ≡ new.sink → StopsBehind fault core.plan core.entries sink now
-  given_up_stops halt is_halt fault gave stops now same =
-      let was : IsHalted fault new.plan new.entries new.opened new.sink = subst (λ (r : Result (Unit {0}) SinkFault). IfErr r (λ f. IsHalted f new.plan new.entries new.opened new.sink)) (ap (λ (h : Option Halt). put_of h) (sym is_halt) ∙ gave) stops in
-      inl (subst (λ (c : CoreValue). IsHalted fault c.plan c.entries sink now) (sym is)
-      (subst (λ (t : SinkTell). IsHalted fault new.plan new.entries sink t) (sym same)
-      (halted_from fault new.plan new.entries sink new.opened new.sink (pooled.base ∙ ap base_of opened) was)))
+      -- the summary stands behind the lines, or a beginning of it
+      pub summary_behind : PutsLines (lines_of_run core.plan core.entries) sink after result
+      summary_behind = summary_puts core.plan core.entries sink mid after result final whole summary
+
+      -- where the summary could not be put the run stopped there
+      pub summary_stops : IfErr result (λ fault. StopsBehind fault core.plan core.entries sink after)
+      summary_stops = by result summary
+        where
+          by : (r : Result (Unit {0}) SinkFault) → PutsLines (summary_lines core.plan core.entries) mid after r → IfErr r (λ fault. StopsBehind fault core.plan core.entries sink after)
+          by (Ok done) put = tt
+          by (Err fault) put = inr (record { final = final; middle = mid; lines = whole; cut = put })
+
+    -- a halt is set
+    module _ (fault : SinkFault) (gave : put_of halt ≡ Err fault) (now : SinkTell) (same : now ≡ new.sink) where
+      ended_so : put_of new.halt ≡ Err fault
+      ended_so = ap (λ (h : Option Halt). put_of h) (sym is_halt) ∙ gave
+
+      -- no more than a beginning of the lines was put
+      pub given_up_behind : PutsLines (lines_of_run core.plan core.entries) sink now (Err fault)
+      given_up_behind =
+          let cut = subst (λ (r : Result (Unit {0}) SinkFault). PutsLines (test_lines new.plan new.entries) new.opened new.sink r) ended_so pooled.put in
+          lines_fail core.plan core.entries sink now fault (lines_put now (Err fault) same cut)
+
+      -- the run stopped where it came
+      pub given_up_stops : StopsBehind fault core.plan core.entries sink now
+      given_up_stops =
+          let was : IsHalted fault new.plan new.entries new.opened new.sink = subst (λ (r : Result (Unit {0}) SinkFault). IfErr r (λ f. IsHalted f new.plan new.entries new.opened new.sink)) ended_so pooled.halted in
+          inl (subst (λ (c : CoreValue). IsHalted fault c.plan c.entries sink now) (sym is)
+          (subst (λ (t : SinkTell). IsHalted fault new.plan new.entries sink t) (sym same)
+          (subst (λ (t : SinkTell). IsHalted fault new.plan new.entries t new.sink) opened_is was)))

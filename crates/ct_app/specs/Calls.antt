@@ -1,14 +1,15 @@
 -- What every call has, and what keeps one from what its words ask for. This project's own.
-use Rattle.std.specs.Prelude.{◌≡◌, ◌⊎◌, ℕ, List, [], Option, None, Result, Ok, Err}
+use Rattle.std.specs.Prelude.{◌≡◌, ◌⊎◌, ℕ, List, [], ◌∷◌, Option, None, Result, Ok, Err}
 use Rattle.ct_base.specs.declared.defs.Pair.{Pair}
 use Rattle.ct_base.specs.declared.defs.TestDef.{TestDef}
 use Rattle.ct_base.specs.declared.sink.SinkFault.{SinkFault}
 use Rattle.ct_base.specs.declared.sink.SinkFault.TheVariants as Sinks
-use Rattle.ct_base.specs.Outside.{FilesTell, Puts, SameHeld, SinkTell}
+use Rattle.ct_base.specs.Outside.{FilesTell, SameHeld, SinkTell}
 use Rattle.ct_props.specs.declared.props.Props.{Props}
 use Rattle.ct_history.specs.declared.plan.PlanParts.{PlanParts}
 use Rattle.ct_history.specs.declared.history.Entry.{Entry}
 use Rattle.ct_core.specs.Gate.{GateTell}
+use Rattle.ct_report.specs.PutLines.{PutsLines}
 use Rattle.ct_args.specs.declared.usage.UsageKind.{UsageKind}
 use Rattle.ct_args.specs.declared.usage.UsageFault.TheVariants.{At}
 use Rattle.ct_args.specs.declared.invocation.Invocation.{Invocation}
@@ -49,13 +50,13 @@ sides words env files_before files_now gates_before gates_now sink_before sink_n
 abbrev pub list_sides : List (List ℕ) → FilesTell → FilesTell → SinkTell → SinkTell → Sides
 list_sides words files_before files_now sink_before sink_now = sides words [] files_before files_now [] [] sink_before sink_now None None
 
--- the whole text was put and no put failed, or one failed and a beginning of it was written
+-- a line was put whole by one put, or the put failed and a beginning of it was written
 abbrev pub PutsOrFails : List ℕ → SinkTell → SinkTell → Type 0
-PutsOrFails text before now = Puts text before now (Ok tt) ⊎ Puts text before now (Err Sinks.Failed)
+PutsOrFails line before now = PutsLines (line ∷ []) before now (Ok tt) ⊎ PutsLines (line ∷ []) before now (Err Sinks.Failed)
 
--- a text was put: the whole of it, or a beginning where a put failed or memory was wanting
+-- a line was put: the whole of it by one put, or a beginning where the put failed or memory was wanting
 abbrev pub Tries : List ℕ → SinkTell → SinkTell → Type 0
-Tries text before now = (result : Result (Unit {0}) SinkFault) × Puts text before now result
+Tries line before now = (result : Result (Unit {0}) SinkFault) × PutsLines (line ∷ []) before now result
 
 -- nothing was run: there is no plan and no history, and no gate was asked
 pub record IsUnrun (s : Sides) : Type 0 where

@@ -1,10 +1,10 @@
 -- How a call ended, before its outcome is told. This project's own.
-use Rattle.std.specs.Prelude.{◌≡◌, ◌⊎◌, ℕ, ◌-◌, ◌^◌, ◌<◌, Bool, List, [], length, Option, Result, Ok, Err, IfSome}
+use Rattle.std.specs.Prelude.{◌≡◌, ◌⊎◌, ℕ, ◌-◌, ◌^◌, ◌<◌, Bool, List, [], ◌∷◌, length, Option, Result, Ok, Err, IfSome}
 use Rattle.ct_base.specs.declared.defs.Resource.{Resource}
 use Rattle.ct_base.specs.declared.defs.TestDef.{TestDef}
 use Rattle.ct_base.specs.declared.sink.SinkFault.{SinkFault}
 use Rattle.ct_base.specs.declared.sink.SinkFault.TheVariants as Sinks
-use Rattle.ct_base.specs.Outside.{FilesTell, Puts, SameHeld, SinkTell}
+use Rattle.ct_base.specs.Outside.{FilesTell, SameHeld, SinkTell}
 use Rattle.ct_history.specs.declared.plan.PlanParts.{PlanParts}
 use Rattle.ct_history.specs.declared.history.Entry.{Entry}
 use Rattle.ct_history.specs.declared.history.History.{History}
@@ -12,6 +12,7 @@ use Rattle.ct_cost.specs.declared.cost_data.CostData.{CostData}
 use Rattle.ct_args.specs.declared.invocation.Invocation.{Invocation}
 use Rattle.ct_plan.specs.declared.fault.PlanFault.{PlanFault}
 use Rattle.ct_plan.specs.declared.fault.PlanFault.TheVariants as Plans
+use Rattle.ct_report.specs.PutLines.{PutsLines}
 use Rattle.ct_app.specs.declared.outcome.Outcome.{Outcome}
 use Rattle.ct_app.specs.declared.outcome.Outcome.TheVariants.{Completed, Listed, Usage, Refused, FilesFault, OutputFault, Memory}
 use Rattle.ct_app.specs.declared.outcome.Refusal.{Refusal}
@@ -128,7 +129,7 @@ EndsUnrun s names (Err Memory) = IsUnrun s × FilesStay s.files_before s.files_n
 abbrev pub Ends : Sides → List (List ℕ) → Result ℕ Outcome → Type 0
 Ends s names ended = HasRunWith s (λ invocation plan entries. RunLeaves s invocation plan entries ended) ⊎ (EndsUnrun s names ended × (s.sink_now ≡ s.sink_before))
 
--- so did one for an invocation, whatever words asked for that
+-- how a run for an invocation ended, whatever words asked for that
 abbrev pub EndsFor : Invocation → (List (List ℕ) → Sides) → List (List ℕ) → Result ℕ Outcome → Type 0
 EndsFor invocation sides_of names ended = (words : List (List ℕ)) → AskFor words invocation → Ends (sides_of words) names ended
 
@@ -140,14 +141,14 @@ listed_as (Err fault) = outcome_of_sink fault
 -- how a list ended before its outcome is told
 abbrev pub ListEnds : Sides → Outcome → Type 0
 ListEnds s Completed = ⊥
-ListEnds s Listed = HasList s (λ text. Puts text s.sink_before s.sink_now (Ok tt))
+ListEnds s Listed = HasList s (λ lines. PutsLines lines s.sink_before s.sink_now (Ok tt))
 ListEnds s (Usage word kind) = IsUsage s word kind × (s.sink_now ≡ s.sink_before)
 ListEnds s (Refused refusal) = IsUnreadable s refusal × (s.sink_now ≡ s.sink_before)
 ListEnds s (FilesFault path) = IsReadFault s path × (s.sink_now ≡ s.sink_before)
-ListEnds s OutputFault = HasList s (λ text. Puts text s.sink_before s.sink_now (Err Sinks.Failed))
-ListEnds s Memory = IsUnrun s × FilesStay s.files_before s.files_now × ((s.sink_now ≡ s.sink_before) ⊎ HasList s (λ text. Puts text s.sink_before s.sink_now (Err Sinks.NoMemory)))
+ListEnds s OutputFault = HasList s (λ lines. PutsLines lines s.sink_before s.sink_now (Err Sinks.Failed))
+ListEnds s Memory = IsUnrun s × FilesStay s.files_before s.files_now × ((s.sink_now ≡ s.sink_before) ⊎ HasList s (λ lines. PutsLines lines s.sink_before s.sink_now (Err Sinks.NoMemory)))
 
--- so did one for an invocation, whatever words asked for that
+-- how a list for an invocation ended, whatever words asked for that
 abbrev pub ListEndsFor : Invocation → (List (List ℕ) → Sides) → Outcome → Type 0
 ListEndsFor invocation sides_of outcome = (words : List (List ℕ)) → AskFor words invocation → ListEnds (sides_of words) outcome
 
@@ -158,7 +159,7 @@ EndsList s names (Err outcome) = ListEnds s outcome × (names ≡ [])
 
 -- the line of an outcome was put, or memory was wanting for it and that is told in its place
 abbrev pub Told : List (List ℕ) → Outcome → Outcome → SinkTell → SinkTell → Type 0
-Told names outcome told before now = ((told ≡ outcome) × PutsOrFails (fault_line names outcome) before now) ⊎ ((told ≡ Memory) × Puts (fault_line names outcome) before now (Err Sinks.NoMemory))
+Told names outcome told before now = ((told ≡ outcome) × PutsOrFails (fault_line names outcome) before now) ⊎ ((told ≡ Memory) × PutsLines (fault_line names outcome ∷ []) before now (Err Sinks.NoMemory))
 
 -- what becomes of an outcome: where the sink has failed, or a list was put, nothing more is
 abbrev pub Tells : List (List ℕ) → Outcome → Outcome → SinkTell → SinkTell → Type 0

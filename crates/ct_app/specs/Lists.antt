@@ -1,9 +1,8 @@
 -- The lists of the tests and of the labels that a call is asked for, and what each outcome of a list says.
 -- Source: CMake manual, ctest(1), --show-only, --print-labels. That a list refuses no cycle is this project's choice.
-use Rattle.std.specs.Prelude.{◌≡◌, ◌⊎◌, ℕ, List, [], flat_map, filter_map, Option, Some, None, Ok, Err, if◌then◌else◌}
+use Rattle.std.specs.Prelude.{◌≡◌, ◌⊎◌, ℕ, List, [], ◌∷◌, flat_map, filter_map, Option, Some, None, Ok, Err, if◌then◌else◌}
 use Rattle.ct_base.specs.declared.defs.TestDef.{TestDef}
 use Rattle.ct_base.specs.declared.sink.SinkFault.TheVariants as Sinks
-use Rattle.ct_base.specs.Outside.{Puts}
 use Rattle.ct_props.specs.declared.props.Props.{Props}
 use Rattle.ct_props.specs.Numbered.{at_number}
 use Rattle.ct_args.specs.declared.invocation.Task.{Task}
@@ -11,7 +10,7 @@ use Rattle.ct_args.specs.declared.invocation.Task.TheVariants.{Run, ListTests, L
 use Rattle.ct_args.specs.declared.invocation.Invocation.{Invocation}
 use Rattle.ct_plan.specs.Source.{members_in}
 use Rattle.ct_report.specs.Lists.{Listed as Line, label_list, test_list}
-use Rattle.ct_report.specs.Report.{text_of}
+use Rattle.ct_report.specs.PutLines.{PutsLines}
 use Rattle.ct_app.specs.declared.outcome.Outcome.{Outcome}
 use Rattle.ct_app.specs.declared.outcome.Outcome.TheVariants.{Completed, Listed, Usage, Refused, FilesFault, OutputFault, Memory}
 use Rattle.ct_app.specs.Calls.{IsReadFault, IsUnreadable, IsUnrun, IsUsage, PutsOrFails, Sides, ThenLine, Tries}
@@ -44,12 +43,12 @@ list_lines Run dir defs props members = test_list dir (listed_tests defs props m
 list_lines ListTests dir defs props members = test_list dir (listed_tests defs props members)
 list_lines ListLabels dir defs props members = label_list (labels_among props members)
 
--- the list that an invocation asks for, of the members among these tests
-abbrev pub list_text : Invocation → List TestDef → List Props → List ℕ
-list_text invocation defs props = text_of (list_lines invocation.task invocation.wanted.dir defs props (members_in invocation.wanted.choice defs props))
+-- the lines of the list that an invocation asks for, of the members among these tests
+abbrev pub asked_lines : Invocation → List TestDef → List Props → List (List ℕ)
+asked_lines invocation defs props = list_lines invocation.task invocation.wanted.dir defs props (members_in invocation.wanted.choice defs props)
 
--- the words were read, and the tests that they ask for, and this holds of the list of them; nothing was run
-pub record HasList (s : Sides) (P : List ℕ → Type 0) : Type 0 where
+-- the words were read, and the tests that they ask for, and this holds of the lines of the list of them; nothing was run
+pub record HasList (s : Sides) (P : List (List ℕ) → Type 0) : Type 0 where
   pub invocation : Invocation
   pub words : AskFor s.words invocation
   pub defs : List TestDef
@@ -57,24 +56,24 @@ pub record HasList (s : Sides) (P : List ℕ → Type 0) : Type 0 where
   pub read : AreRead s.files_before.held invocation defs props
   pub files : FilesStay s.files_before s.files_now
   pub unrun : IsUnrun s
-  pub holds : P (list_text invocation defs props)
+  pub holds : P (asked_lines invocation defs props)
 
 -- memory was wanting for a list: for the line of this outcome, or for anything before it, behind a beginning of the list
 abbrev pub IsShortList : Sides → Outcome → Type 0
 IsShortList s Completed = ⊥
 IsShortList s Listed = ⊥
-IsShortList s (Usage word kind) = IsUsage s word kind × Puts (fault_line [] (Usage word kind)) s.sink_before s.sink_now (Err Sinks.NoMemory)
-IsShortList s (Refused refusal) = IsUnreadable s refusal × Puts (fault_line [] (Refused refusal)) s.sink_before s.sink_now (Err Sinks.NoMemory)
-IsShortList s (FilesFault path) = IsReadFault s path × Puts (fault_line [] (FilesFault path)) s.sink_before s.sink_now (Err Sinks.NoMemory)
+IsShortList s (Usage word kind) = IsUsage s word kind × PutsLines (fault_line [] (Usage word kind) ∷ []) s.sink_before s.sink_now (Err Sinks.NoMemory)
+IsShortList s (Refused refusal) = IsUnreadable s refusal × PutsLines (fault_line [] (Refused refusal) ∷ []) s.sink_before s.sink_now (Err Sinks.NoMemory)
+IsShortList s (FilesFault path) = IsReadFault s path × PutsLines (fault_line [] (FilesFault path) ∷ []) s.sink_before s.sink_now (Err Sinks.NoMemory)
 IsShortList s OutputFault = ⊥
-IsShortList s Memory = IsUnrun s × FilesStay s.files_before s.files_now × (Tries (fault_line [] Memory) s.sink_before s.sink_now ⊎ HasList s (λ text. ThenLine (λ middle. Puts text s.sink_before middle (Err Sinks.NoMemory)) (λ middle. Tries (fault_line [] Memory) middle s.sink_now)))
+IsShortList s Memory = IsUnrun s × FilesStay s.files_before s.files_now × (Tries (fault_line [] Memory) s.sink_before s.sink_now ⊎ HasList s (λ lines. ThenLine (λ middle. PutsLines lines s.sink_before middle (Err Sinks.NoMemory)) (λ middle. Tries (fault_line [] Memory) middle s.sink_now)))
 
 -- what each outcome of a list says; want of memory alone is free. What the files hold stays, and no plan is made or refused
 abbrev pub AnswersList : Sides → Outcome → ℕ → Type 0
 AnswersList s Completed status = ⊥
-AnswersList s Listed status = HasList s (λ text. Puts text s.sink_before s.sink_now (Ok tt)) × (status ≡ 0)
+AnswersList s Listed status = HasList s (λ lines. PutsLines lines s.sink_before s.sink_now (Ok tt)) × (status ≡ 0)
 AnswersList s (Usage word kind) status = IsUsage s word kind × PutsOrFails (fault_line [] (Usage word kind)) s.sink_before s.sink_now × (status ≡ 1)
 AnswersList s (Refused refusal) status = IsUnreadable s refusal × PutsOrFails (fault_line [] (Refused refusal)) s.sink_before s.sink_now × (status ≡ 2)
 AnswersList s (FilesFault path) status = IsReadFault s path × PutsOrFails (fault_line [] (FilesFault path)) s.sink_before s.sink_now × (status ≡ 3)
-AnswersList s OutputFault status = HasList s (λ text. Puts text s.sink_before s.sink_now (Err Sinks.Failed)) × (status ≡ 4)
+AnswersList s OutputFault status = HasList s (λ lines. PutsLines lines s.sink_before s.sink_now (Err Sinks.Failed)) × (status ≡ 4)
 AnswersList s Memory status = ((outcome : Outcome) × IsShortList s outcome) × (status ≡ 5)

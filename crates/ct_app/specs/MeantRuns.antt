@@ -19,10 +19,10 @@ pub record RanAsMeant (s : Sides) (status : ℕ) (plan : PlanParts) (entries : L
   pub completed : IsCompleted s status invocation plan entries
   pub meant : (world : List Told) → AllTell world s.gates_before → ComesAsMeant invocation.empty_is_error plan (seen_in source.props world) entries status
 
--- plan and history are there, of such a run
+-- plan and history are there, of a run that came as is meant
 abbrev pub HasRunAsMeant : Sides → ℕ → Type 0
 HasRunAsMeant s status = IsSomeAnd s.plan (λ plan. IsSomeAnd s.history (λ entries. RanAsMeant s status plan entries))
 
--- a call that answers Completed had such a run
+-- a call that answers Completed had a run that came as is meant
 abbrev pub AnswersAsMeant : Sides → Outcome → ℕ → Type 0
 AnswersAsMeant s outcome status = outcome ≡ Completed → HasRunAsMeant s status

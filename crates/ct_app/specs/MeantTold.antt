@@ -34,8 +34,8 @@ is_meant_failed empty_is_error plan seen = if length plan.tests == 0 then empty_
 abbrev pub meant_status : Bool → PlanParts → (ℕ → ℕ → Seen) → ℕ
 meant_status empty_is_error plan seen = if is_meant_failed empty_is_error plan seen then 8 else 0
 
--- the verdicts of a history are the meant ones, and so is the status; without --stop-on-failure the texts are those of each such
--- history
+-- the verdicts of a history are the meant ones, and so is the status; without --stop-on-failure the texts are those of every
+-- complete history of the plan in which the same is seen
 pub record ComesAsMeant (empty_is_error : Bool) (plan : PlanParts) (seen : ℕ → ℕ → Seen) (entries : List Entry) (status : ℕ) : Type 0 where
   pub verdicts : AreMeant plan seen entries
   pub is : status ≡ meant_status empty_is_error plan seen

@@ -1,14 +1,15 @@
 -- How the tests of a plan ran, and how that ended. This project's own.
-use Rattle.std.specs.Prelude.{◌≡◌, ℕ, min, ⊤, Bool, true, false, List, [], ◌++◌, drop, length, Option, Some, None, Result, Ok, Err, ◌==◌, if◌then◌else◌}
+use Rattle.std.specs.Prelude.{◌≡◌, ℕ, min, ⊤, Bool, true, false, List, [], ◌∷◌, ◌++◌, drop, length, Option, Some, None, Result, Ok, Err, ◌==◌, if◌then◌else◌}
 use Rattle.ct_base.specs.declared.sink.SinkFault.{SinkFault}
-use Rattle.ct_base.specs.Outside.{Puts, SinkTell}
+use Rattle.ct_base.specs.Outside.{SinkTell}
 use Rattle.ct_history.specs.declared.plan.PlanParts.{PlanParts}
 use Rattle.ct_history.specs.declared.history.Entry.{Entry}
 use Rattle.ct_history.specs.History.{open_starts}
 use Rattle.ct_history.specs.Legal.{IsComplete, StaysWithin, is_legal}
 use Rattle.ct_history.specs.Verdicts.{are_all_final}
 use Rattle.ct_core.specs.Gate.{GateTell}
-use Rattle.ct_report.specs.Report.{header_line, report_text, summary_lines, test_lines}
+use Rattle.ct_report.specs.PutLines.{PutsLines}
+use Rattle.ct_report.specs.Report.{header_line, report_lines, summary_lines, test_lines}
 use Rattle.ct_worker.specs.Gates.{AreAsked, Terms, are_below, had_memory}
 
 -- the tests of a plan ran as far as the history goes: it is legal and leaves nothing open, at no moment was more given than is
@@ -29,17 +30,18 @@ RunEnds plan entries (Err fault) = ⊤
 abbrev pub lines_of_run : PlanParts → List Entry → List (List ℕ)
 lines_of_run plan entries = test_lines plan entries ++ (if are_all_final plan entries then summary_lines plan entries else [])
 
--- the report was begun: the header was put, and for a plan without tests all that there is to report; or some beginning was
+-- the report was begun: the header was put, and for a plan without tests all that there is to report; or some beginning was. Each
+-- line is one put
 abbrev pub Begins : PlanParts → SinkTell → SinkTell → Result Bool SinkFault → Type 0
-Begins plan before now (Ok true) = Puts (header_line plan) before now (Ok tt) × ((length plan.tests == 0) ≡ false)
-Begins plan before now (Ok false) = ((entries : List Entry) → Puts (report_text plan entries) before now (Ok tt)) × ((length plan.tests == 0) ≡ true)
-Begins plan before now (Err fault) = (entries : List Entry) → Puts (report_text plan entries) before now (Err fault)
+Begins plan before now (Ok true) = PutsLines (header_line plan ∷ []) before now (Ok tt) × ((length plan.tests == 0) ≡ false)
+Begins plan before now (Ok false) = ((entries : List Entry) → PutsLines (report_lines plan entries) before now (Ok tt)) × ((length plan.tests == 0) ≡ true)
+Begins plan before now (Err fault) = (entries : List Entry) → PutsLines (report_lines plan entries) before now (Err fault)
 
 -- the gates behind those of a plan's workers came back as they were
 abbrev pub RestStays : {G : Type 0} → PlanParts → List G → List G → Type 0
 RestStays plan before now = drop (min plan.level (length before)) now ≡ drop (min plan.level (length before)) before
 
--- so did all gates where there is no plan
+-- the gates behind the workers' came back as they were, and all gates where there is no plan
 abbrev pub OthersStay : {G : Type 0} → Option PlanParts → List G → List G → Type 0
 OthersStay None before now = now ≡ before
 OthersStay (Some plan) before now = RestStays plan before now

@@ -1,8 +1,8 @@
 -- What each outcome of a run says: all that was read, run, asked, written. This project's own.
-use Rattle.std.specs.Prelude.{◌≡◌, ◌⊎◌, ℕ, ◌≤◌, min, true, List, [], length, Ok, Err, IsSomeAnd}
+use Rattle.std.specs.Prelude.{◌≡◌, ◌⊎◌, ℕ, ◌≤◌, min, true, List, [], ◌∷◌, length, Ok, Err, IsSomeAnd}
 use Rattle.ct_base.specs.declared.defs.Pair.{Pair}
 use Rattle.ct_base.specs.declared.sink.SinkFault.TheVariants as Sinks
-use Rattle.ct_base.specs.Outside.{Puts, SinkTell}
+use Rattle.ct_base.specs.Outside.{SinkTell}
 use Rattle.ct_history.specs.declared.plan.PlanParts.{PlanParts}
 use Rattle.ct_history.specs.declared.history.Entry.{Entry}
 use Rattle.ct_history.specs.History.{open_starts}
@@ -12,7 +12,8 @@ use Rattle.ct_core.specs.Order.{FollowsQueue}
 use Rattle.ct_args.specs.declared.invocation.Invocation.{Invocation}
 use Rattle.ct_plan.specs.PlanOf.{IsPlanOf}
 use Rattle.ct_plan.specs.Source.{Source, edge_count}
-use Rattle.ct_report.specs.Report.{report_text}
+use Rattle.ct_report.specs.PutLines.{PutsLines}
+use Rattle.ct_report.specs.Report.{report_lines}
 use Rattle.ct_app.specs.declared.outcome.Refusal.{Refusal}
 use Rattle.ct_app.specs.declared.outcome.Outcome.{Outcome}
 use Rattle.ct_app.specs.declared.outcome.Outcome.TheVariants.{Completed, Listed, Usage, Refused, FilesFault, OutputFault, Memory}
@@ -50,15 +51,15 @@ pub record RanWith (s : Sides) (P : Invocation → PlanParts → List Entry → 
   pub run : IsRun s invocation source plan entries
   pub holds : P invocation plan entries
 
--- plan and history are there, of such a run
+-- plan and history are there, of a run of the tests that were read, of which this holds
 abbrev pub HasRunWith : Sides → (Invocation → PlanParts → List Entry → Type 0) → Type 0
 HasRunWith s P = IsSomeAnd s.plan (λ plan. IsSomeAnd s.history (λ entries. RanWith s P plan entries))
 
--- each test is final, no attempt wanted memory, and the whole report was put
+-- each test is final, no attempt wanted memory, and the whole report was put, line by line
 pub record IsReported (plan : PlanParts) (entries : List Entry) (before now : SinkTell) : Type 0 where
   pub complete : IsComplete plan entries
   pub memory : had_memory entries ≡ true
-  pub put : Puts (report_text plan entries) before now (Ok tt)
+  pub put : PutsLines (report_lines plan entries) before now (Ok tt)
 
 -- the sink failed at the report, and the run stopped there
 abbrev pub IsCutOff : PlanParts → List Entry → SinkTell → SinkTell → Type 0
@@ -105,9 +106,9 @@ IsCutShort s plan entries middle = (IsGivenUp plan entries s.sink_before middle 
 abbrev pub IsShort : Sides → Outcome → Type 0
 IsShort s Completed = ⊥
 IsShort s Listed = ⊥
-IsShort s (Usage word kind) = IsUsage s word kind × Puts (fault_line [] (Usage word kind)) s.sink_before s.sink_now (Err Sinks.NoMemory)
-IsShort s (Refused refusal) = TellsRefusal s refusal (λ line. Puts line s.sink_before s.sink_now (Err Sinks.NoMemory))
-IsShort s (FilesFault path) = IsReadFault s path × Puts (fault_line [] (FilesFault path)) s.sink_before s.sink_now (Err Sinks.NoMemory)
+IsShort s (Usage word kind) = IsUsage s word kind × PutsLines (fault_line [] (Usage word kind) ∷ []) s.sink_before s.sink_now (Err Sinks.NoMemory)
+IsShort s (Refused refusal) = TellsRefusal s refusal (λ line. PutsLines (line ∷ []) s.sink_before s.sink_now (Err Sinks.NoMemory))
+IsShort s (FilesFault path) = IsReadFault s path × PutsLines (fault_line [] (FilesFault path) ∷ []) s.sink_before s.sink_now (Err Sinks.NoMemory)
 IsShort s OutputFault = ⊥
 IsShort s Memory = IsUnrun s × FilesStay s.files_before s.files_now × Tries (fault_line [] Memory) s.sink_before s.sink_now
 
@@ -117,7 +118,7 @@ IsShortRun s Completed plan entries = ⊥
 IsShortRun s Listed plan entries = ⊥
 IsShortRun s (Usage word kind) plan entries = ⊥
 IsShortRun s (Refused refusal) plan entries = ⊥
-IsShortRun s (FilesFault path) plan entries = IsWriteFault s path plan entries × ThenLine (IsReported plan entries s.sink_before) (λ middle. Puts (fault_line [] (FilesFault path)) middle s.sink_now (Err Sinks.NoMemory))
+IsShortRun s (FilesFault path) plan entries = IsWriteFault s path plan entries × ThenLine (IsReported plan entries s.sink_before) (λ middle. PutsLines (fault_line [] (FilesFault path) ∷ []) middle s.sink_now (Err Sinks.NoMemory))
 IsShortRun s OutputFault plan entries = ⊥
 IsShortRun s Memory plan entries = ThenLine (IsCutShort s plan entries) (λ middle. Tries (fault_line [] Memory) middle s.sink_now)
 

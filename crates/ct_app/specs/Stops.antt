@@ -1,19 +1,20 @@
 -- Where a run stopped that did not come to its end. This project's own.
-use Rattle.std.specs.Prelude.{◌≡◌, ◌⊎◌, true, List, [], Ok, Err}
+use Rattle.std.specs.Prelude.{◌≡◌, ◌⊎◌, true, List, [], ◌∷◌, Ok, Err}
 use Rattle.ct_base.specs.declared.sink.SinkFault.{SinkFault}
-use Rattle.ct_base.specs.Outside.{Puts, SinkTell}
+use Rattle.ct_base.specs.Outside.{SinkTell}
 use Rattle.ct_history.specs.declared.plan.PlanParts.{PlanParts}
 use Rattle.ct_history.specs.declared.history.Entry.{Entry}
 use Rattle.ct_history.specs.Verdicts.{are_all_final}
-use Rattle.ct_report.specs.Report.{header_line, report_text, summary_lines, test_lines, text_of}
+use Rattle.ct_report.specs.PutLines.{PutsLines}
+use Rattle.ct_report.specs.Report.{header_line, report_lines, summary_lines, test_lines}
 use Rattle.ct_worker.specs.Halted.{IsHalted}
 
 -- each test is final and their lines were put, and then a beginning of the summary
 pub record StopsAtSummary (fault : SinkFault) (plan : PlanParts) (entries : List Entry) (before now : SinkTell) : Type 0 where
   pub final : are_all_final plan entries ≡ true
   pub middle : SinkTell
-  pub lines : Puts (text_of (test_lines plan entries)) before middle (Ok tt)
-  pub cut : Puts (text_of (summary_lines plan entries)) middle now (Err fault)
+  pub lines : PutsLines (test_lines plan entries) before middle (Ok tt)
+  pub cut : PutsLines (summary_lines plan entries) middle now (Err fault)
 
 -- the run was given up among its tests, or stopped at its summary
 abbrev pub StopsBehind : SinkFault → PlanParts → List Entry → SinkTell → SinkTell → Type 0
@@ -22,7 +23,7 @@ StopsBehind fault plan entries before now = IsHalted fault plan entries before n
 -- the header was put, and then the run stopped
 pub record StopsInRun (fault : SinkFault) (plan : PlanParts) (entries : List Entry) (before now : SinkTell) : Type 0 where
   pub middle : SinkTell
-  pub header : Puts (header_line plan) before middle (Ok tt)
+  pub header : PutsLines (header_line plan ∷ []) before middle (Ok tt)
   pub stops : StopsBehind fault plan entries middle now
 
 -- nothing had happened yet, or the run stopped behind its header
@@ -31,5 +32,5 @@ StopsAt fault plan entries before now = (entries ≡ []) ⊎ StopsInRun fault pl
 
 -- no more than a beginning of the report was put, and the run stopped where that ends
 pub record StopsSo (fault : SinkFault) (plan : PlanParts) (entries : List Entry) (before now : SinkTell) : Type 0 where
-  pub put : Puts (report_text plan entries) before now (Err fault)
+  pub put : PutsLines (report_lines plan entries) before now (Err fault)
   pub at : StopsAt fault plan entries before now

@@ -1,7 +1,7 @@
-ghost use Rattle.std.specs.Prelude.{◌≡◌, ◌++◌, codes, decimal, IfOk, OnOk};
+ghost use Rattle.std.specs.Prelude.{◌≡◌, ◌∷◌, ◌++◌, [], codes, decimal, IfOk, OnOk};
 ghost use Rattle.ct_app.specs.Ends.{Tells, TellsEnd};
 ghost use Rattle.ct_app.specs.Outcome.{arrows_to, cycle_text, fault_line, fault_status, kind_text, outcome_text, prop_text, refusal_text, spec_fault_text, spec_text, usage_text};
-ghost use Rattle.ct_base.specs.Outside.{Puts};
+ghost use Rattle.ct_report.specs.PutLines.{PutsLines};
 
 use crate::{Outcome, Refusal, SpecFault, SpecRefusal, UsageKind};
 use ct_base::{Blob, Name, NoMemory, Sink, SinkFault};
@@ -74,14 +74,14 @@ fn status(outcome: &Outcome) -> u8
     }
 }
 
-/// Puts the line of an outcome.
+/// Puts the line of an outcome by one put.
 fn put_fault<S: Sink>(
     alloc: Global,
     sink: &mut S,
     names: &[Name],
     outcome: &Outcome,
 ) -> Result<(), SinkFault>
-    ensures { Puts (fault_line names.now outcome.now) (S.tells sink.old) (S.tells sink.new) result }
+    ensures { PutsLines (fault_line names.now outcome.now ∷ []) (S.tells sink.old) (S.tells sink.new) result }
 {
     let line = fault_line(alloc, names, outcome)?;
     sink.put(line.bytes())?;

@@ -1,12 +1,11 @@
 ghost use Rattle.std.specs.Prelude.{◌≡◌, ◌++◌, ◌<◌, ◌-◌, ◌^◌, IfOk, OnOk, length};
-ghost use Rattle.ct_base.specs.Outside.{Puts};
 ghost use Rattle.ct_props.specs.Numbered.{at_number as stands_at};
 ghost use Rattle.ct_plan.specs.Source.{HaveProps};
 ghost use Rattle.ct_report.specs.Lists.{test_list as list_of_tests, label_list as list_of_labels};
-ghost use Rattle.ct_report.specs.Report.{text_of};
+ghost use Rattle.ct_report.specs.PutLines.{PutsLines};
 ghost use Rattle.ct_app.specs.Calls.{list_sides};
 ghost use Rattle.ct_app.specs.Ends.{ListEndsFor, listed_as};
-ghost use Rattle.ct_app.specs.Lists.{labels_among, labels_there, list_lines, list_text, listed_tests, listed_there};
+ghost use Rattle.ct_app.specs.Lists.{asked_lines, labels_among, labels_there, list_lines, listed_tests, listed_there};
 
 use crate::Outcome;
 use crate::props::{Tests, at_number};
@@ -56,7 +55,7 @@ fn put_list<S: Sink>(
 ) -> Result<(), SinkFault>
     requires together { HaveProps tests.now.defs tests.now.props }
     requires few { length tests.now.defs < 2 ^ 32 - 1 }
-    ensures { Puts (list_text invocation.now tests.now.defs tests.now.props) (S.tells sink.old) (S.tells sink.new) result }
+    ensures { PutsLines (asked_lines invocation.now tests.now.defs tests.now.props) (S.tells sink.old) (S.tells sink.new) result }
 {
     let wanted = &invocation.wanted;
     let members = members(alloc, &tests.defs, &tests.props, &wanted.choice)?;
@@ -80,7 +79,7 @@ fn put_members<S: Sink>(
     tests: &Tests,
     members: &[u32],
 ) -> Result<(), SinkFault>
-    ensures { Puts (text_of (list_lines task dir.now tests.now.defs tests.now.props members.now)) (S.tells sink.old) (S.tells sink.new) result }
+    ensures { PutsLines (list_lines task dir.now tests.now.defs tests.now.props members.now) (S.tells sink.old) (S.tells sink.new) result }
 {
     match task {
         Task::Run | Task::ListTests => put_tests(alloc, sink, dir, tests, members),
@@ -95,7 +94,7 @@ fn put_tests<S: Sink>(
     tests: &Tests,
     members: &[u32],
 ) -> Result<(), SinkFault>
-    ensures { Puts (text_of (list_of_tests dir.now (listed_tests tests.now.defs tests.now.props members.now))) (S.tells sink.old) (S.tells sink.new) result }
+    ensures { PutsLines (list_of_tests dir.now (listed_tests tests.now.defs tests.now.props members.now)) (S.tells sink.old) (S.tells sink.new) result }
 {
     let entries = listed_entries(alloc, tests, members)?;
     test_list(alloc, sink, dir, entries.as_slice())?;
@@ -125,7 +124,7 @@ fn put_labels<S: Sink>(
     props: &[Props],
     members: &[u32],
 ) -> Result<(), SinkFault>
-    ensures { Puts (text_of (list_of_labels (labels_among props.now members.now))) (S.tells sink.old) (S.tells sink.new) result }
+    ensures { PutsLines (list_of_labels (labels_among props.now members.now)) (S.tells sink.old) (S.tells sink.new) result }
 {
     let labels = labels_of(alloc, props, members)?;
     label_list(alloc, sink, &labels)?;

@@ -1,9 +1,9 @@
 ghost use Rattle.std.specs.Prelude.{◌≡◌, ◌<◌, ◌≤◌, min, [], IfErr, Err, Some, false, true, map, vec_len};
 ghost use Rattle.ct_app.specs.Run.{Begins, HasRun, RestStays, RunEnds, lines_of_run};
 ghost use Rattle.ct_app.specs.Stops.{StopsAt, StopsBehind};
-ghost use Rattle.ct_base.specs.Outside.{Puts};
 ghost use Rattle.ct_history.specs.Verdicts.{are_all_final};
-ghost use Rattle.ct_report.specs.Report.{report_text, summary_lines, text_of};
+ghost use Rattle.ct_report.specs.PutLines.{PutsLines};
+ghost use Rattle.ct_report.specs.Report.{report_lines, summary_lines};
 ghost use Rattle.ct_worker.specs.State.{put_of};
 ghost use Rattle.ct_worker.specs.Work.{Reach, terms_in};
 
@@ -42,7 +42,7 @@ pub(crate) fn run<R: Threads + Wait + Sync, G: Gate + Send, S: Sink + Send>(
     ensures plan { result.core.plan ≡ core.plan }
     ensures ran { HasRun (terms_in jobs.now core.plan) (map G.tells gates.items) (map G.tells result.gates.items) result.core.plan result.core.entries }
     ensures all { vec_len result.gates ≡ vec_len gates }
-    ensures puts { Puts (report_text result.core.plan result.core.entries) (S.tells sink) (S.tells result.sink) result.ended }
+    ensures puts { PutsLines (report_lines result.core.plan result.core.entries) (S.tells sink) (S.tells result.sink) result.ended }
     ensures ends { RunEnds result.core.plan result.core.entries result.ended }
     ensures stops { IfErr result.ended (λ fault. StopsAt fault result.core.plan result.core.entries (S.tells sink) (S.tells result.sink)) }
     ensures others { RestStays result.core.plan gates.items result.gates.items }
@@ -92,7 +92,7 @@ fn run_tests<R: Threads + Wait + Sync, G: Gate + Send, S: Sink + Send>(
     ensures plan { result.core.plan ≡ core.plan }
     ensures ran { HasRun (terms_in jobs.now core.plan) (map G.tells gates.items) (map G.tells result.gates.items) result.core.plan result.core.entries }
     ensures all { vec_len result.gates ≡ vec_len gates }
-    ensures puts { Puts (text_of (lines_of_run result.core.plan result.core.entries)) (S.tells sink) (S.tells result.sink) result.ended }
+    ensures puts { PutsLines (lines_of_run result.core.plan result.core.entries) (S.tells sink) (S.tells result.sink) result.ended }
     ensures ends { RunEnds result.core.plan result.core.entries result.ended }
     ensures stops { IfErr result.ended (λ fault. StopsBehind fault result.core.plan result.core.entries (S.tells sink) (S.tells result.sink)) }
     ensures others { RestStays result.core.plan gates.items result.gates.items }
@@ -133,7 +133,7 @@ fn fault_of(halt: Halt) -> SinkFault
 /// Puts the summary of a run in which each test is final.
 fn put_summary<S: Sink>(alloc: Global, core: &Core, sink: &mut S) -> Result<(), SinkFault>
     requires ended { are_all_final core.now.plan core.now.entries ≡ true }
-    ensures { Puts (text_of (summary_lines core.now.plan core.now.entries)) (S.tells sink.old) (S.tells sink.new) result }
+    ensures { PutsLines (summary_lines core.now.plan core.now.entries) (S.tells sink.old) (S.tells sink.new) result }
 {
     summary(alloc, sink, core.plan(), core.history())?;
     Ok(())

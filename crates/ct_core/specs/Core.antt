@@ -74,4 +74,4 @@ IsNext old worker NoMemory new = LacksMemory old new
 
 -- a core has no sink: nothing was told as written, and no fault was counted
 abbrev pub no_base : Base
-no_base = record { written = None; faults = 0 }
+no_base = record { written = None; pieces = None; faults = 0 }

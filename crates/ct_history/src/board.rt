@@ -10,6 +10,8 @@ use ct_base::Blob;
 pub struct Base {
     /// The bytes written so far, where the sink tells them.
     pub written: Option<Blob>,
+    /// The pieces that were taken whole so far, put by put, where the sink tells them.
+    pub pieces: Option<ct_base::List<Blob>>,
     /// The faults so far.
     pub faults: u64,
 }

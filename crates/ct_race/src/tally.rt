@@ -39,7 +39,7 @@ impl Board for Tally {
 
     ghost history = { λ tally. tally.history.entries.items };
 
-    ghost base = { λ _. record { written = None; faults = 0 } };
+    ghost base = { λ _. record { written = None; pieces = None; faults = 0 } };
 
     ghost halted = { λ _. false };
 

@@ -6,7 +6,8 @@ use Rattle.ct_base.specs.declared.sink.SinkFault.{SinkFault}
 use Rattle.ct_base.specs.declared.sink.SinkFault.TheVariants as Sinks
 use Rattle.ct_base.specs.Outside.{Puts, PutsEach, SinkTell}
 use Rattle.ct_report.specs.Lists.{Listed, test_entry}
-use Rattle.ct_report.proofs.PutLemmas.{PutsLines, lines_as, lines_more, lines_stop, lines_then, one_line}
+use Rattle.ct_report.specs.PutLines.{PutsLines}
+use Rattle.ct_report.proofs.PutLemmas.{lines_as, lines_more, lines_stop, lines_then, one_line}
 
 entries-split : (tests : List Listed) (at : ℕ) → map test_entry tests ≡ map test_entry (take at tests) ++ map test_entry (drop at tests)
 entries-split tests at = ap (map test_entry) (sym (take-append-drop at tests)) ∙ map-append test_entry (take at tests) (drop at tests)

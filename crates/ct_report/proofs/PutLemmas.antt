@@ -6,6 +6,7 @@ use Rattle.std.proofs.lemmas.Grind.{flat_map-append}
 use Rattle.ct_base.specs.declared.sink.SinkFault.{SinkFault}
 use Rattle.ct_base.specs.declared.sink.SinkFault.TheVariants as Sinks
 use Rattle.ct_base.specs.Outside.{Adds, AddsPrefix, Becomes, HasCause, Puts, PutsEach, SinkTell}
+use Rattle.ct_report.specs.PutLines.{PutsLines}
 use Rattle.ct_report.specs.Report.{text_of}
 
 -- a piece and then one more are both in a row
@@ -147,11 +148,6 @@ puts_stop old new a b put = record {
 pub puts_same : (old new : SinkTell) (a b : List ℕ) (result : Result (Unit {0}) SinkFault) → a ≡ b → Puts a old new result → Puts b old new result
 puts_same old new a b result is put = subst (λ (t : List ℕ). Puts t old new result) is put
 
--- what a call says of lines that it puts
-pub record PutsLines (lines : List (List ℕ)) (old new : SinkTell) (result : Result (Unit {0}) SinkFault) : Type 0 where
-  pub text : Puts (text_of lines) old new result
-  pub each : PutsEach lines old new result
-
 text_of-both : (front back : List (List ℕ)) → text_of (front ++ back) ≡ text_of front ++ text_of back
 text_of-both front back = flat_map-append (λ (line : List ℕ). line) front back
 
@@ -161,33 +157,37 @@ lines_as {old = old} {new = new} {result = result} is put = subst (λ (ls : List
 
 -- one line is one put
 pub one_line : (old new : SinkTell) (piece : List ℕ) (result : Result (Unit {0}) SinkFault) → Puts piece old new result → PutsEach (piece ∷ []) old new result → PutsLines (piece ∷ []) old new result
-one_line old new piece result put each = record { text = puts_same old new piece (piece ++ []) result (sym (append-nil piece)) put; each = each }
+one_line old new piece result put each = record { bytes = puts_same old new piece (piece ++ []) result (sym (append-nil piece)) put; each = each }
 
 -- lines and then more lines
 pub lines_then : (old mid new : SinkTell) (a b : List (List ℕ)) (result : Result (Unit {0}) SinkFault) → PutsLines a old mid (Ok tt) → PutsLines b mid new result → PutsLines (a ++ b) old new result
 lines_then old mid new a b (Ok tt) first second = record {
-  text = puts_same old new (text_of a ++ text_of b) (text_of (a ++ b)) (Ok tt) (sym (text_of-both a b)) (puts_then old mid new (text_of a) (text_of b) (Ok tt) first.text second.text);
+  bytes = puts_same old new (text_of a ++ text_of b) (text_of (a ++ b)) (Ok tt) (sym (text_of-both a b)) (puts_then old mid new (text_of a) (text_of b) (Ok tt) first.bytes second.bytes);
   each = record { ok = adds_then_adds old.pieces mid.pieces new.pieces a b first.each.ok second.each.ok; err = tt };
 }
 lines_then old mid new a b (Err fault) first second = record {
-  text = puts_same old new (text_of a ++ text_of b) (text_of (a ++ b)) (Err fault) (sym (text_of-both a b)) (puts_then old mid new (text_of a) (text_of b) (Err fault) first.text second.text);
+  bytes = puts_same old new (text_of a ++ text_of b) (text_of (a ++ b)) (Err fault) (sym (text_of-both a b)) (puts_then old mid new (text_of a) (text_of b) (Err fault) first.bytes second.bytes);
   each = record { ok = tt; err = adds_then_prefix old.pieces mid.pieces new.pieces a b first.each.ok second.each.err };
 }
 
 -- lines that were not put whole are no whole ones with more behind them
 pub lines_more : (old new : SinkTell) (a b : List (List ℕ)) (fault : SinkFault) → PutsLines a old new (Err fault) → PutsLines (a ++ b) old new (Err fault)
 lines_more old new a b fault put = record {
-  text = puts_same old new (text_of a ++ text_of b) (text_of (a ++ b)) (Err fault) (sym (text_of-both a b)) (puts_more old new (text_of a) (text_of b) fault put.text);
+  bytes = puts_same old new (text_of a ++ text_of b) (text_of (a ++ b)) (Err fault) (sym (text_of-both a b)) (puts_more old new (text_of a) (text_of b) fault put.bytes);
   each = record { ok = tt; err = prefix_of_more old.pieces new.pieces a b put.each.err };
 }
 
 -- memory was wanting behind whole lines
 pub lines_stop : (old new : SinkTell) (a b : List (List ℕ)) → PutsLines a old new (Ok tt) → PutsLines (a ++ b) old new (Err Sinks.NoMemory)
 lines_stop old new a b put = record {
-  text = puts_same old new (text_of a ++ text_of b) (text_of (a ++ b)) (Err Sinks.NoMemory) (sym (text_of-both a b)) (puts_stop old new (text_of a) (text_of b) put.text);
+  bytes = puts_same old new (text_of a ++ text_of b) (text_of (a ++ b)) (Err Sinks.NoMemory) (sym (text_of-both a b)) (puts_stop old new (text_of a) (text_of b) put.bytes);
   each = record { ok = tt; err = prefix_of_adds old.pieces new.pieces a b put.each.ok };
 }
 
+-- no line was put since memory was wanting
+pub lines_none : (sink : SinkTell) (lines : List (List ℕ)) → PutsLines lines sink sink (Err Sinks.NoMemory)
+lines_none sink lines = record { bytes = puts_none sink (text_of lines); each = each_none sink lines }
+
 -- no line was put
 pub lines_nothing : (sink : SinkTell) → PutsLines [] sink sink (Ok tt)
-lines_nothing sink = record { text = puts_nothing sink; each = record { ok = adds_none sink.pieces; err = tt } }
+lines_nothing sink = record { bytes = puts_nothing sink; each = record { ok = adds_none sink.pieces; err = tt } }

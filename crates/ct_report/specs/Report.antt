@@ -237,7 +237,3 @@ body_lines plan entries (t ∷ ts) = test_lines plan entries ++ (if are_all_fina
 -- the report of a history
 abbrev pub report_lines : PlanParts → List Entry → List (List ℕ)
 report_lines plan entries = header_line plan ∷ body_lines plan entries plan.tests
-
--- the bytes of that report
-abbrev pub report_text : PlanParts → List Entry → List ℕ
-report_text plan entries = text_of (report_lines plan entries)

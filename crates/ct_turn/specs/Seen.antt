@@ -36,7 +36,7 @@ no_plan = record { dir = []; tests = []; queue = []; resources = None; level = 0
 
 -- what is known in a place from which the seat was taken away
 abbrev pub nobody : Known
-nobody = record (opener no_plan (record { written = None; faults = 0 })) { is_out = false }
+nobody = record (opener no_plan (record { written = None; pieces = None; faults = 0 })) { is_out = false }
 
 -- the worker has then seen this moment
 abbrev pub has_seen : Known → Moment → Known

@@ -1,17 +1,17 @@
 -- The line that a test brings, where it is final.
-use Rattle.std.proofs.Common.{◌≡◌, ◌∙◌, sym, true, false, ℕ, List, [], length, refl}
+use Rattle.std.proofs.Common.{◌≡◌, ◌∙◌, sym, true, false, ℕ, List, [], ◌∷◌, length, refl}
 use Rattle.std.specs.Prelude.{Option, Some, None, is_none, is_some, Result, Ok, cond}
-use Rattle.std.proofs.lemmas.List.{append-nil}
 use Rattle.ct_base.specs.declared.sink.SinkFault.{SinkFault}
-use Rattle.ct_base.specs.Outside.{Puts, SinkTell}
+use Rattle.ct_base.specs.Outside.{Puts, PutsEach, SinkTell}
 use Rattle.ct_verdict.specs.declared.verdict.Verdict.{Verdict}
 use Rattle.ct_history.specs.declared.plan.PlanTest.{PlanTest}
 use Rattle.ct_history.specs.declared.plan.PlanParts.{PlanParts}
 use Rattle.ct_history.specs.declared.history.Entry.{Entry}
 use Rattle.ct_history.specs.Plan.{test_at}
 use Rattle.ct_history.specs.Verdicts.{verdict_at, verdict_in, verdict_of_test}
-use Rattle.ct_report.specs.Report.{line_with, lines_of_test, lines_with, test_line, text_of, verdict_line}
-use Rattle.ct_report.proofs.PutLemmas.{puts_nothing, puts_same}
+use Rattle.ct_report.specs.PutLines.{PutsLines}
+use Rattle.ct_report.specs.Report.{line_with, lines_of_test, lines_with, test_line}
+use Rattle.ct_report.proofs.PutLemmas.{lines_as, lines_nothing, one_line as one_put}
 
 module _ (plan : PlanParts) (es : List Entry) (place n : ℕ) where
   -- one where the test has its verdict, and else none
@@ -35,25 +35,25 @@ module _ (plan : PlanParts) (es : List Entry) (place n : ℕ) where
       by (Some v) is = refl
 
   -- a test without a verdict brings no line
-  pub no_line_puts : (sink : SinkTell) → is_none (verdict_of_test plan es n) ≡ true → Puts (text_of (lines_of_test plan es place (Some n))) sink sink (Ok tt)
-  no_line_puts sink none = puts_same sink sink [] _ (Ok tt) (sym (by_test (test_at plan.tests n) none)) (puts_nothing sink)
+  pub no_line_puts : (sink : SinkTell) → is_none (verdict_of_test plan es n) ≡ true → PutsLines (lines_of_test plan es place (Some n)) sink sink (Ok tt)
+  no_line_puts sink none = lines_as (sym (by_test (test_at plan.tests n) none)) (lines_nothing sink)
     where
-      by_verdict : (t : PlanTest) (v : Option Verdict) → is_none v ≡ true → text_of (lines_with plan es place (Some t) v) ≡ []
+      by_verdict : (t : PlanTest) (v : Option Verdict) → is_none v ≡ true → lines_with plan es place (Some t) v ≡ []
       by_verdict t None is = refl
       by_verdict t (Some v) is = cc
 
-      by_test : (o : Option PlanTest) → is_none (verdict_at plan es o) ≡ true → text_of (lines_with plan es place o (verdict_at plan es o)) ≡ []
+      by_test : (o : Option PlanTest) → is_none (verdict_at plan es o) ≡ true → lines_with plan es place o (verdict_at plan es o) ≡ []
       by_test None is = refl
       by_test (Some t) is = by_verdict t (verdict_in plan.repeat t es) is
 
   -- one with a verdict brings its line
-  pub one_line_puts : (old new : SinkTell) (result : Result (Unit {0}) SinkFault) → is_none (verdict_of_test plan es n) ≡ false → Puts (test_line plan es place (test_at plan.tests n)) old new result → Puts (text_of (lines_of_test plan es place (Some n))) old new result
-  one_line_puts old new result some put = puts_same old new _ _ result (by_test (test_at plan.tests n) some) put
+  pub one_line_puts : (old new : SinkTell) (result : Result (Unit {0}) SinkFault) → is_none (verdict_of_test plan es n) ≡ false → Puts (test_line plan es place (test_at plan.tests n)) old new result → PutsEach (test_line plan es place (test_at plan.tests n) ∷ []) old new result → PutsLines (lines_of_test plan es place (Some n)) old new result
+  one_line_puts old new result some put each = lines_as (by_test (test_at plan.tests n) some) (one_put old new (test_line plan es place (test_at plan.tests n)) result put each)
     where
-      by_verdict : (t : PlanTest) (v : Option Verdict) → is_none v ≡ false → line_with plan es place t v ≡ text_of (lines_with plan es place (Some t) v)
+      by_verdict : (t : PlanTest) (v : Option Verdict) → is_none v ≡ false → line_with plan es place t v ∷ [] ≡ lines_with plan es place (Some t) v
       by_verdict t None is = cc
-      by_verdict t (Some v) is = sym (append-nil (verdict_line plan es place t v))
+      by_verdict t (Some v) is = refl
 
-      by_test : (o : Option PlanTest) → is_none (verdict_at plan es o) ≡ false → test_line plan es place o ≡ text_of (lines_with plan es place o (verdict_at plan es o))
+      by_test : (o : Option PlanTest) → is_none (verdict_at plan es o) ≡ false → test_line plan es place o ∷ [] ≡ lines_with plan es place o (verdict_at plan es o)
       by_test None is = cc
       by_test (Some t) is = by_verdict t (verdict_in plan.repeat t es) is

@@ -1,6 +1,6 @@
 -- What a run by several workers comes to, by what each of them saw and by what was left when their passes were joined.
 use Rattle.std.proofs.Common.{◌≡◌, ◌∙◌, sym, ap, subst, refl, ℕ, suc, ◌+◌, ◌<◌, ◌≤◌, true, false, List, [], ◌∷◌, ◌++◌, length, arith, append_assoc, length-append, inl, inr}
-use Rattle.std.specs.Prelude.{⊤, Contains, Option, Some, None, is_some, All, map, ◌==◌, ◌||◌, nat_lt}
+use Rattle.std.specs.Prelude.{⊤, Contains, IfErr, Option, Some, None, is_some, All, map, ◌==◌, ◌||◌, nat_lt}
 use Rattle.std.specs.List.{list_all, list_any}
 use Rattle.std.proofs.Math.ListN.{take}
 use Rattle.std.proofs.lemmas.Bool.{and_parts, and_from, cases_Bool}
@@ -29,11 +29,14 @@ use Rattle.ct_turn.specs.Pass.{PassValue}
 use Rattle.ct_turn.specs.Seen.{Closes, GoesOn, Sight, is_by, is_noted, moment, note_of, with_joined}
 use Rattle.ct_turn.specs.Turn.{TurnValue}
 use Rattle.ct_turn.proofs.StartLemmas.{or_from}
+use Rattle.ct_report.specs.PutLines.{PutsLines}
+use Rattle.ct_report.specs.Report.{test_lines}
 use Rattle.ct_worker.specs.declared.jobs.Jobs.{Jobs}
 use Rattle.ct_worker.specs.Crew.{IsIdle, all_joined}
 use Rattle.ct_worker.specs.Gates.{AreAsked, IsAsked, Terms, are_below, is_below}
+use Rattle.ct_worker.specs.Halted.{IsHalted}
 use Rattle.ct_worker.specs.Pool.{IsPooled}
-use Rattle.ct_worker.specs.State.{StateValue, base_of, first_halt, given_up}
+use Rattle.ct_worker.specs.State.{StateValue, base_of, first_halt, given_up, put_of}
 use Rattle.ct_worker.specs.declared.state.Halt.{Halt}
 use Rattle.ct_worker.specs.declared.state.Halt.TheVariants.{Memory}
 use Rattle.ct_worker.specs.Work.{terms_in}
@@ -230,7 +233,8 @@ module _ (jobs : Jobs) (turn : TurnValue) (plan : PlanParts) (base : Base) (coun
         omega (arith, noted, none, made, size)
 
     module _ (old new : StateValue) (workers : ℕ) (rest : List GateTell) (many : workers ≡ count + 1) (planned : old.plan ≡ plan) (based : base_of old ≡ base)
-        (sound : IsSound plan) (own : GoesOn first.known.worker first.known.seen.entries now.known.seen.entries) (closes : Closes now.known (shown new)) where
+        (sound : IsSound plan) (own : GoesOn first.known.worker first.known.seen.entries now.known.seen.entries) (closes : Closes now.known (shown new))
+        (put : PutsLines (test_lines new.plan new.entries) new.opened new.sink (put_of new.halt)) (stops : IfErr (put_of new.halt) (λ fault. IsHalted fault new.plan new.entries new.opened new.sink)) where
       abbrev keeper : Known
       keeper = all_joined first.known others
 
@@ -279,11 +283,14 @@ module _ (jobs : Jobs) (turn : TurnValue) (plan : PlanParts) (base : Base) (coun
         workers = below_all workers new.entries none_behind;
         ended = λ none. subst (λ (p : PlanParts). are_all_final p new.entries ≡ true) (sym new_plan) (ended none);
         asked = asked_all (terms_in jobs plan) turn 0 (first ∷ others) befores nows rest new.entries parts.all goes (λ v behind. none_behind v (omega (arith, behind, many, parts.size)));
+        put = put;
+        halted = stops;
       }
 
 -- a run that was given up before anything had started
-pub unpooled_is : (terms : Terms) (workers : ℕ) (old new : StateValue) (tells : List GateTell) → old.entries ≡ [] → old.halt ≡ None → new ≡ given_up Memory old → IsPooled terms workers old new tells tells
-unpooled_is terms workers old new tells fresh going is =
+pub unpooled_is : (terms : Terms) (workers : ℕ) (old new : StateValue) (tells : List GateTell) → old.entries ≡ [] → old.halt ≡ None → new ≡ given_up Memory old
+    → PutsLines (test_lines new.plan new.entries) new.opened new.sink (put_of new.halt) → IfErr (put_of new.halt) (λ fault. IsHalted fault new.plan new.entries new.opened new.sink) → IsPooled terms workers old new tells tells
+unpooled_is terms workers old new tells fresh going is put stops =
     let none : new.entries ≡ [] = ap (λ (s : StateValue). s.entries) is ∙ fresh in
     record {
       plan = ap (λ (s : StateValue). s.plan) is;
@@ -293,6 +300,8 @@ unpooled_is terms workers old new tells fresh going is =
       workers = ap (are_below workers) none;
       ended = λ no. absurd (some_is_none (sym (ap (λ (s : StateValue). s.halt) is ∙ ap (λ (h : Option Halt). first_halt h (Some Memory)) going) ∙ no));
       asked = asked_rest terms 0 tells new.entries (λ v behind. ap (list_any (is_by v)) none);
+      put = put;
+      halted = stops;
     }
   where
     some_is_none : Some Memory ≡ None → ⊥

@@ -5,17 +5,18 @@ use Rattle.std.proofs.lemmas.List.{append-nil}
 use Rattle.std.proofs.lemmas.List.Folds.{list_all-append}
 use Rattle.ct_base.specs.declared.sink.SinkFault.{SinkFault}
 use Rattle.ct_base.specs.declared.sink.SinkFault.TheVariants as Sinks
-use Rattle.ct_base.specs.Outside.{Puts, SinkTell}
+use Rattle.ct_base.specs.Outside.{SinkTell}
 use Rattle.ct_history.specs.declared.plan.PlanParts.{PlanParts}
 use Rattle.ct_history.specs.declared.history.Entry.{Entry}
 use Rattle.ct_history.specs.declared.history.Entry.TheVariants.{Stop}
 use Rattle.ct_core.specs.Core.{with_due_stop, with_final}
 use Rattle.ct_core.specs.CoreValue.{CoreValue}
 use Rattle.ct_report.specs.declared.run_lines.TestLines.{TestLines}
-use Rattle.ct_report.specs.Report.{finished_by, lines_of_test, test_lines, text_of}
+use Rattle.ct_report.specs.PutLines.{PutsLines}
+use Rattle.ct_report.specs.Report.{finished_by, lines_of_test, test_lines}
 use Rattle.ct_report.specs.RunLines.{KnowsLines}
-use Rattle.ct_report.proofs.LineLemmas.{test_lines-snoc, text_of-append}
-use Rattle.ct_report.proofs.PutLemmas.{puts_more, puts_none, puts_same, puts_stop, puts_then}
+use Rattle.ct_report.proofs.LineLemmas.{test_lines-snoc}
+use Rattle.ct_report.proofs.PutLemmas.{lines_as, lines_more, lines_none, lines_stop, lines_then}
 use Rattle.ct_report.proofs.RunLineLemmas.{knows_more}
 use Rattle.ct_worker.specs.declared.state.Halt.{Halt}
 use Rattle.ct_worker.specs.declared.state.Halt.TheVariants as Halts
@@ -53,9 +54,6 @@ module _ (plan : PlanParts) (es : List Entry) (e : Entry) where
       test_lines_due plan (es ++ e ∷ []) ∙ test_lines-snoc plan es e
       ∙ ap (λ (ls : List (List ℕ)). test_lines plan es ++ ls) (sym (lines_due plan (es ++ e ∷ []) (length (test_lines plan es) + 1) (finished_by e)))
 
-  pub text_grows : text_of (test_lines plan now) ≡ text_of (test_lines plan es) ++ text_of brought
-  text_grows = ap text_of lines_grow ∙ text_of-append (test_lines plan es) brought
-
   pub memory_stays : had_memory es ≡ true → lacks_memory e ≡ false → had_memory now ≡ true
   memory_stays had has =
       let both = list_all-append (λ (x : Entry). not (lacks_memory x)) es (e ∷ []) ∙ ap (λ (b : Bool). b && (not (lacks_memory e) && true)) had ∙ ap (λ (b : Bool). not b && true) has in
@@ -69,15 +67,15 @@ module _ (plan : PlanParts) (es : List Entry) (e : Entry) where
 
   module _ (opened sink : SinkTell) where
     -- its line was put behind the others, or not
-    pub line_then : (new : SinkTell) (result : Result (Unit {0}) SinkFault) → Puts (text_of (test_lines plan es)) opened sink (Ok tt) → Puts (text_of brought) sink new result → Puts (text_of (test_lines plan now)) opened new result
-    line_then new result put line = puts_same opened new _ _ result (sym text_grows) (puts_then opened sink new (text_of (test_lines plan es)) (text_of brought) result put line)
+    pub line_then : (new : SinkTell) (result : Result (Unit {0}) SinkFault) → PutsLines (test_lines plan es) opened sink (Ok tt) → PutsLines brought sink new result → PutsLines (test_lines plan now) opened new result
+    line_then new result put line = lines_as (sym lines_grow) (lines_then opened sink new (test_lines plan es) brought result put line)
 
     -- its line was not tried, for want of memory
-    pub line_stops : Puts (text_of (test_lines plan es)) opened sink (Ok tt) → Puts (text_of (test_lines plan now)) opened sink (Err Sinks.NoMemory)
-    line_stops put = puts_same opened sink _ _ (Err Sinks.NoMemory) (sym text_grows) (puts_stop opened sink (text_of (test_lines plan es)) (text_of brought) put)
+    pub line_stops : PutsLines (test_lines plan es) opened sink (Ok tt) → PutsLines (test_lines plan now) opened sink (Err Sinks.NoMemory)
+    line_stops put = lines_as (sym lines_grow) (lines_stop opened sink (test_lines plan es) brought put)
 
     -- its line could not be put: the run stops here
-    pub stops_here : (new : SinkTell) (fault : SinkFault) → Puts (text_of (test_lines plan es)) opened sink (Ok tt) → Puts (text_of brought) sink new (Err fault) → (fault ≡ Sinks.Failed → length brought ≡ 1) → IsHalted fault plan now opened new
+    pub stops_here : (new : SinkTell) (fault : SinkFault) → PutsLines (test_lines plan es) opened sink (Ok tt) → PutsLines brought sink new (Err fault) → (fault ≡ Sinks.Failed → length brought ≡ 1) → IsHalted fault plan now opened new
     stops_here new fault put line tried = record { front = es; last = Some e; behind = []; only = refl; is = refl; middle = sink; put = put; cut = line; tried = tried }
 
     -- it ends an attempt behind a halt
@@ -95,8 +93,8 @@ module _ (plan : PlanParts) (es : List Entry) (e : Entry) where
     }
 
     -- its line was not tried, since the run was given up before
-    pub line_fails : (fault : SinkFault) → Puts (text_of (test_lines plan es)) opened sink (Err fault) → Puts (text_of (test_lines plan now)) opened sink (Err fault)
-    line_fails fault put = puts_same opened sink _ _ (Err fault) (sym text_grows) (puts_more opened sink (text_of (test_lines plan es)) (text_of brought) fault put)
+    pub line_fails : (fault : SinkFault) → PutsLines (test_lines plan es) opened sink (Err fault) → PutsLines (test_lines plan now) opened sink (Err fault)
+    line_fails fault put = lines_as (sym lines_grow) (lines_more opened sink (test_lines plan es) brought fault put)
 
 -- a start brings no line
 module _ (plan : PlanParts) (es : List Entry) (e : Entry) (starts : finished_by e ≡ None) where
@@ -128,14 +126,14 @@ module _ (core now : CoreValue) (e : Entry) (halt : Option Halt) (known : Option
   now_plan : now.plan ≡ core.plan
   now_plan = ap (λ (c : CoreValue). c.plan) grew
 
-  text_is : text_of (test_lines core.plan (with_due_stop core.plan (core.entries ++ e ∷ []))) ≡ text_of (test_lines now.plan now.entries)
-  text_is = ap (λ (c : CoreValue). text_of (test_lines c.plan c.entries)) (sym grew)
+  lines_are : test_lines core.plan (with_due_stop core.plan (core.entries ++ e ∷ [])) ≡ test_lines now.plan now.entries
+  lines_are = ap (λ (c : CoreValue). test_lines c.plan c.entries) (sym grew)
 
   -- the run was given up before: no line is tried
   pub kept_given_up : ends_attempt e ≡ true → is_some halt ≡ true → IsKeptState now halt known count opened sink
   kept_given_up end some = record {
     aborted = aborted_now;
-    put = puts_same opened sink _ _ (put_of halt) text_is (by halt some kept.put);
+    put = lines_as lines_are (by halt some kept.put);
     knows = knows_now;
     goes_on = λ none. absurd (let is : is_some halt ≡ false = ap (λ (o : Option Halt). is_some o) none in let no : true ≡ false = sym some ∙ is in cc);
     stops = subst (λ (c : CoreValue). IfErr (put_of halt) (λ fault. IsHalted fault c.plan c.entries opened sink)) (sym grew) (still (put_of halt) kept.stops);
@@ -145,7 +143,7 @@ module _ (core now : CoreValue) (e : Entry) (halt : Option Halt) (known : Option
       still (Ok done) was = tt
       still (Err fault) was = stops_before core.plan core.entries e opened sink fault end was
 
-      by : (o : Option Halt) → is_some o ≡ true → Puts (text_of (test_lines core.plan core.entries)) opened sink (put_of o) → Puts (text_of (test_lines core.plan (with_due_stop core.plan (core.entries ++ e ∷ [])))) opened sink (put_of o)
+      by : (o : Option Halt) → is_some o ≡ true → PutsLines (test_lines core.plan core.entries) opened sink (put_of o) → PutsLines (test_lines core.plan (with_due_stop core.plan (core.entries ++ e ∷ []))) opened sink (put_of o)
       by None is put = cc
       by (Some Halts.Output) is put = line_fails core.plan core.entries e opened sink Sinks.Failed put
       by (Some Halts.Memory) is put = line_fails core.plan core.entries e opened sink Sinks.NoMemory put
@@ -155,8 +153,8 @@ module _ (core now : CoreValue) (e : Entry) (halt : Option Halt) (known : Option
     going : IsGoing core count
     going = kept.goes_on none
 
-    put_before : Puts (text_of (test_lines core.plan core.entries)) opened sink (Ok tt)
-    put_before = subst (λ (o : Option Halt). Puts (text_of (test_lines core.plan core.entries)) opened sink (put_of o)) none kept.put
+    put_before : PutsLines (test_lines core.plan core.entries) opened sink (Ok tt)
+    put_before = subst (λ (o : Option Halt). PutsLines (test_lines core.plan core.entries) opened sink (put_of o)) none kept.put
 
     heeded_aborted : (put : Result (Unit {0}) SinkFault) → after ≡ record now { aborted = now.aborted || is_some (halt_of put) } → halted ≡ first_halt halt (halt_of put) → after.aborted ≡ is_some halted
     heeded_aborted put heeded is =
@@ -166,19 +164,19 @@ module _ (core now : CoreValue) (e : Entry) (halt : Option Halt) (known : Option
     halted_is : (put : Result (Unit {0}) SinkFault) → halted ≡ first_halt halt (halt_of put) → halted ≡ halt_of put
     halted_is put is = is ∙ ap (λ (o : Option Halt). first_halt o (halt_of put)) none
 
-    text_after : (put : Result (Unit {0}) SinkFault) → after ≡ record now { aborted = now.aborted || is_some (halt_of put) } → text_of (test_lines core.plan (with_due_stop core.plan (core.entries ++ e ∷ []))) ≡ text_of (test_lines after.plan after.entries)
-    text_after put heeded = text_is ∙ ap (λ (c : CoreValue). text_of (test_lines c.plan c.entries)) (sym heeded)
+    lines_after : (put : Result (Unit {0}) SinkFault) → after ≡ record now { aborted = now.aborted || is_some (halt_of put) } → test_lines core.plan (with_due_stop core.plan (core.entries ++ e ∷ [])) ≡ test_lines after.plan after.entries
+    lines_after put heeded = lines_are ∙ ap (λ (c : CoreValue). test_lines c.plan c.entries) (sym heeded)
 
     -- where the run was given up it stops here
     stops_after : (put : Result (Unit {0}) SinkFault) (new : SinkTell) → after ≡ record now { aborted = now.aborted || is_some (halt_of put) } → halted ≡ first_halt halt (halt_of put)
-        → Puts (text_of (brought core.plan core.entries e)) sink new put → (put ≡ Err Sinks.Failed → length (brought core.plan core.entries e) ≡ 1)
+        → PutsLines (brought core.plan core.entries e) sink new put → (put ≡ Err Sinks.Failed → length (brought core.plan core.entries e) ≡ 1)
         → IfErr (put_of halted) (λ fault. IsHalted fault after.plan after.entries opened new)
     stops_after put new heeded is line tried =
         subst (λ (r : Result (Unit {0}) SinkFault). IfErr r (λ fault. IsHalted fault after.plan after.entries opened new)) (sym (ap (λ (o : Option Halt). put_of o) (halted_is put is) ∙ put_of_halt put))
         (subst (λ (c : CoreValue). IfErr put (λ fault. IsHalted fault c.plan c.entries opened new)) (sym heeded)
         (subst (λ (c : CoreValue). IfErr put (λ fault. IsHalted fault c.plan c.entries opened new)) (sym grew) (here put line tried)))
       where
-        here : (r : Result (Unit {0}) SinkFault) → Puts (text_of (brought core.plan core.entries e)) sink new r → (r ≡ Err Sinks.Failed → length (brought core.plan core.entries e) ≡ 1)
+        here : (r : Result (Unit {0}) SinkFault) → PutsLines (brought core.plan core.entries e) sink new r → (r ≡ Err Sinks.Failed → length (brought core.plan core.entries e) ≡ 1)
             → IfErr r (λ fault. IsHalted fault core.plan (with_due_stop core.plan (core.entries ++ e ∷ [])) opened new)
         here (Ok done) cut one = tt
         here (Err fault) cut one = stops_here core.plan core.entries e opened sink new fault put_before cut (λ is_failed. one (ap (λ (f : SinkFault). Err f) is_failed))
@@ -187,17 +185,17 @@ module _ (core now : CoreValue) (e : Entry) (halt : Option Halt) (known : Option
     pub kept_lacking : after ≡ record now { aborted = now.aborted || true } → halted ≡ first_halt halt (Some Halts.Memory) → IsKeptState after halted known count opened sink
     kept_lacking heeded is = record {
       aborted = heeded_aborted (Err Sinks.NoMemory) heeded is;
-      put = puts_same opened sink _ _ (put_of halted) (text_after (Err Sinks.NoMemory) heeded) (subst (λ (o : Option Halt). Puts (text_of (test_lines core.plan (with_due_stop core.plan (core.entries ++ e ∷ [])))) opened sink (put_of o)) (sym (halted_is (Err Sinks.NoMemory) is)) (line_stops core.plan core.entries e opened sink put_before));
+      put = lines_as (lines_after (Err Sinks.NoMemory) heeded) (subst (λ (o : Option Halt). PutsLines (test_lines core.plan (with_due_stop core.plan (core.entries ++ e ∷ []))) opened sink (put_of o)) (sym (halted_is (Err Sinks.NoMemory) is)) (line_stops core.plan core.entries e opened sink put_before));
       knows = subst (λ (c : CoreValue). KnowsSome c known) (sym heeded) knows_now;
       goes_on = λ goes. absurd (none_is_some Halts.Memory (sym (halted_is (Err Sinks.NoMemory) is) ∙ goes));
-      stops = stops_after (Err Sinks.NoMemory) sink heeded is (puts_none sink (text_of (brought core.plan core.entries e))) (λ failed. absurd (no_failed failed));
+      stops = stops_after (Err Sinks.NoMemory) sink heeded is (lines_none sink (brought core.plan core.entries e)) (λ failed. absurd (no_failed failed));
     }
       where
         no_failed : (let r : Result (Unit {0}) SinkFault = Err Sinks.NoMemory in r) ≡ Err Sinks.Failed → ⊥
         no_failed failed = cc
 
     -- its test may have become final, and its line was put, or could not be
-    module _ (test : ℕ) (of : finished_by e ≡ Some test) (put : Result (Unit {0}) SinkFault) (new : SinkTell) (more : Option TestLines) (lines : ℕ) (says : Puts (text_of (lines_of_test now.plan now.entries (count + 1) (Some test))) sink new put) (heeded : after ≡ record now { aborted = now.aborted || is_some (halt_of put) }) (is : halted ≡ first_halt halt (halt_of put)) where
+    module _ (test : ℕ) (of : finished_by e ≡ Some test) (put : Result (Unit {0}) SinkFault) (new : SinkTell) (more : Option TestLines) (lines : ℕ) (says : PutsLines (lines_of_test now.plan now.entries (count + 1) (Some test)) sink new put) (heeded : after ≡ record now { aborted = now.aborted || is_some (halt_of put) }) (is : halted ≡ first_halt halt (halt_of put)) where
       line_is : lines_of_test now.plan now.entries (count + 1) (Some test) ≡ brought core.plan core.entries e
       line_is =
           ap (λ (p : PlanParts). lines_of_test p now.entries (count + 1) (Some test)) now_plan
@@ -205,13 +203,13 @@ module _ (core now : CoreValue) (e : Entry) (halt : Option Halt) (known : Option
           ∙ ap (λ (n : ℕ). lines_of_test core.plan (with_due_stop core.plan (core.entries ++ e ∷ [])) (n + 1) (Some test)) going.counted
           ∙ ap (λ (o : Option ℕ). lines_of_test core.plan (with_due_stop core.plan (core.entries ++ e ∷ [])) (length (test_lines core.plan core.entries) + 1) o) (sym of)
 
-      line_put : Puts (text_of (brought core.plan core.entries e)) sink new put
-      line_put = subst (λ (ls : List (List ℕ)). Puts (text_of ls) sink new put) line_is says
+      line_put : PutsLines (brought core.plan core.entries e) sink new put
+      line_put = subst (λ (ls : List (List ℕ)). PutsLines ls sink new put) line_is says
 
-      put_after : Puts (text_of (test_lines after.plan after.entries)) opened new (put_of halted)
+      put_after : PutsLines (test_lines after.plan after.entries) opened new (put_of halted)
       put_after =
-          puts_same opened new _ _ (put_of halted) (text_after put heeded)
-          (subst (λ (r : Result (Unit {0}) SinkFault). Puts (text_of (test_lines core.plan (with_due_stop core.plan (core.entries ++ e ∷ [])))) opened new r) (sym (ap (λ (o : Option Halt). put_of o) (halted_is put is) ∙ put_of_halt put)) (line_then core.plan core.entries e opened sink new put put_before line_put))
+          lines_as (lines_after put heeded)
+          (subst (λ (r : Result (Unit {0}) SinkFault). PutsLines (test_lines core.plan (with_due_stop core.plan (core.entries ++ e ∷ []))) opened new r) (sym (ap (λ (o : Option Halt). put_of o) (halted_is put is) ∙ put_of_halt put)) (line_then core.plan core.entries e opened sink new put put_before line_put))
 
       goes : (r : Result (Unit {0}) SinkFault) → lacks_memory e ≡ false → OnOk r (lines ≡ count + length (lines_of_test now.plan now.entries (count + 1) (Some test))) → halt_of r ≡ None → IsGoing now lines
       goes (Ok done) has counted unhalted = record {
@@ -240,7 +238,7 @@ module _ (core now : CoreValue) (e : Entry) (halt : Option Halt) (known : Option
       pub puts_line : PutsLine test now.entries (seen_as core halt opened sink) (seen_as after halted opened new)
       puts_line = record {
         result = put;
-        put = subst (λ (ls : List (List ℕ)). Puts (text_of ls) sink new put) same says;
+        put = subst (λ (ls : List (List ℕ)). PutsLines ls sink new put) same says;
         is = ap (λ (c : CoreValue). seen_as c halted opened new) heeded ∙ ap (λ (h : Option Halt). seen_as now h opened new) (halted_is put is) ∙ ap (λ (p : PlanParts). record { plan = p; entries = now.entries; halt = halt_of put; opened = opened; sink = new }) now_plan;
       }
         where

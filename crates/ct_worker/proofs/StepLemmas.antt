@@ -5,7 +5,7 @@ use Rattle.std.proofs.lemmas.List.{append-nil}
 use Rattle.std.proofs.lemmas.List.Folds.{list_all-append}
 use Rattle.ct_base.specs.declared.sink.SinkFault.{SinkFault}
 use Rattle.ct_base.specs.declared.sink.SinkFault.TheVariants as Sinks
-use Rattle.ct_base.specs.Outside.{Puts, SinkTell}
+use Rattle.ct_base.specs.Outside.{SinkTell}
 use Rattle.ct_verdict.specs.declared.attempt.Seen.{Seen}
 use Rattle.ct_history.specs.declared.history.Entry.{Entry}
 use Rattle.ct_history.specs.declared.history.Entry.TheVariants as Is
@@ -17,8 +17,9 @@ use Rattle.ct_core.specs.CoreValue.{CoreValue}
 use Rattle.ct_core.specs.Gate.{is_no_memory}
 use Rattle.ct_core.specs.Ticket.{end_of, start_of, test_of}
 use Rattle.ct_report.specs.declared.run_lines.TestLines.{TestLines}
-use Rattle.ct_report.specs.Report.{test_lines, text_of}
-use Rattle.ct_report.proofs.PutLemmas.{puts_none, puts_same, puts_stop}
+use Rattle.ct_report.specs.PutLines.{PutsLines}
+use Rattle.ct_report.specs.Report.{test_lines}
+use Rattle.ct_report.proofs.PutLemmas.{lines_as, lines_none, lines_stop}
 use Rattle.ct_report.proofs.RunLineLemmas.{knows_more}
 use Rattle.ct_worker.specs.declared.lines.Lines.{Lines}
 use Rattle.ct_worker.specs.declared.state.Halt.{Halt}
@@ -116,7 +117,7 @@ module _ {S : Type 0} (tells : S → SinkTell) (core now : CoreValue) (halt : Op
       let lines : test_lines now.plan now.entries ≡ test_lines core.plan core.entries = ap (λ (c : CoreValue). test_lines c.plan c.entries) step.appended ∙ lines_same core.plan core.entries (start_of ticket) refl in
       record {
         aborted = ap (λ (c : CoreValue). c.aborted) step.appended ∙ kept.aborted;
-        put = puts_same opened (tells old.sink) _ _ (put_of halt) (ap text_of (sym lines)) kept.put;
+        put = lines_as (sym lines) kept.put;
         knows = started_knows ticket step;
         goes_on = λ none. let going = kept.goes_on none in record {
           memory = ap (λ (c : CoreValue). had_memory c.entries) step.appended ∙ list_all-append (λ (x : Entry). not (lacks_memory x)) core.entries (start_of ticket ∷ []) ∙ ap (λ (b : Bool). b && (true && true)) going.memory;
@@ -135,13 +136,13 @@ module _ {S : Type 0} (tells : S → SinkTell) (core now : CoreValue) (halt : Op
   pub kept_short : IsKeptState (record core { aborted = true }) (first_halt halt (Some Halts.Memory)) old.known old.count opened (tells old.sink)
   kept_short = by halt kept.put kept.stops
     where
-      by : (o : Option Halt) → Puts (text_of (test_lines core.plan core.entries)) opened (tells old.sink) (put_of o) → IfErr (put_of o) (λ fault. IsHalted fault core.plan core.entries opened (tells old.sink)) → IsKeptState (record core { aborted = true }) (first_halt o (Some Halts.Memory)) old.known old.count opened (tells old.sink)
+      by : (o : Option Halt) → PutsLines (test_lines core.plan core.entries) opened (tells old.sink) (put_of o) → IfErr (put_of o) (λ fault. IsHalted fault core.plan core.entries opened (tells old.sink)) → IsKeptState (record core { aborted = true }) (first_halt o (Some Halts.Memory)) old.known old.count opened (tells old.sink)
       by None put stops = record {
         aborted = refl;
-        put = puts_same opened (tells old.sink) _ _ (Err Sinks.NoMemory) (append-nil (text_of (test_lines core.plan core.entries))) (puts_stop opened (tells old.sink) (text_of (test_lines core.plan core.entries)) [] put);
+        put = lines_as (append-nil (test_lines core.plan core.entries)) (lines_stop opened (tells old.sink) (test_lines core.plan core.entries) [] put);
         knows = knows_aborted old.known kept.knows;
         goes_on = λ none. cc;
-        stops = record { front = core.entries; last = None; behind = []; only = refl; is = refl; middle = tells old.sink; put = put; cut = puts_none (tells old.sink) []; tried = λ failed. absurd (never_failed failed) };
+        stops = record { front = core.entries; last = None; behind = []; only = refl; is = refl; middle = tells old.sink; put = put; cut = lines_none (tells old.sink) []; tried = λ failed. absurd (never_failed failed) };
       }
       by (Some h) put stops = record { aborted = refl; put = put; knows = knows_aborted old.known kept.knows; goes_on = λ none. cc; stops = stops }
 

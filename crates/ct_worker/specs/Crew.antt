@@ -43,7 +43,7 @@ pub record TookPart (jobs : Jobs) (old new : PassValue) (gate_before gate_now : 
   pub along : GoesAlong (terms_in jobs old.known.plan) old new gate_before gate_now
   pub ended : IsEnded new
 
--- each worker did, with the pass and the gate of its place
+-- each worker took part until nothing was left to do, with the pass and the gate of its place
 abbrev pub AllTookPart : Jobs → List PassValue → List PassValue → List GateTell → List GateTell → Type 0
 AllTookPart jobs [] [] [] [] = ⊤
 AllTookPart jobs [] [] [] (now ∷ nows) = ⊥

@@ -155,7 +155,7 @@ SawTold props world worker (End t a w seen) = w ≡ worker → is_no_memory seen
 SawTold props world worker (Settle t cause) = ⊤
 SawTold props world worker Stop = ⊤
 
--- each End of the worker did
+-- each End of the worker saw what the world tells of its attempt, unless memory was wanting
 abbrev pub SawAllTold : List Props → List Told → ℕ → List Entry → Type 0
 SawAllTold props world worker [] = ⊤
 SawAllTold props world worker (entry ∷ entries) = SawTold props world worker entry × SawAllTold props world worker entries
@@ -178,7 +178,7 @@ is_unsure worker (End t a w seen) = w == worker && (is_not_started seen.how || i
 is_unsure worker (Settle t cause) = false
 is_unsure worker Stop = false
 
--- how many attempts of the worker are such ones
+-- how many attempts of the worker could not be started, or wanted memory to tell
 abbrev pub unsure_count : ℕ → List Entry → ℕ
 unsure_count worker entries = count_by (is_unsure worker) entries
 

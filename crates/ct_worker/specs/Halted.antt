@@ -3,12 +3,13 @@ use Rattle.std.specs.Prelude.{◌≡◌, ℕ, ◌+◌, Bool, true, false, List, 
 use Rattle.std.specs.List.{list_all}
 use Rattle.ct_base.specs.declared.sink.SinkFault.{SinkFault}
 use Rattle.ct_base.specs.declared.sink.SinkFault.TheVariants as Sinks
-use Rattle.ct_base.specs.Outside.{Puts, SinkTell}
+use Rattle.ct_base.specs.Outside.{SinkTell}
 use Rattle.ct_history.specs.declared.plan.PlanParts.{PlanParts}
 use Rattle.ct_history.specs.declared.history.Entry.{Entry}
 use Rattle.ct_history.specs.declared.history.Entry.TheVariants.{Start, End, Settle, Stop}
 use Rattle.ct_core.specs.Core.{with_due_stop}
-use Rattle.ct_report.specs.Report.{finished_by, lines_of_test, test_lines, text_of}
+use Rattle.ct_report.specs.PutLines.{PutsLines}
+use Rattle.ct_report.specs.Report.{finished_by, lines_of_test, test_lines}
 
 -- the entry ends an attempt
 abbrev pub ends_attempt : Entry → Bool
@@ -41,6 +42,6 @@ pub record IsHalted (fault : SinkFault) (plan : PlanParts) (entries : List Entry
   pub only : list_all ends_attempt behind ≡ true
   pub is : entries ≡ added_behind plan (with_last plan front last) behind
   pub middle : SinkTell
-  pub put : Puts (text_of (test_lines plan front)) opened middle (Ok tt)
-  pub cut : Puts (text_of (last_lines plan front last)) middle sink (Err fault)
+  pub put : PutsLines (test_lines plan front) opened middle (Ok tt)
+  pub cut : PutsLines (last_lines plan front last) middle sink (Err fault)
   pub tried : fault ≡ Sinks.Failed → length (last_lines plan front last) ≡ 1

@@ -1,9 +1,10 @@
 -- What holds of the state of a run between its calls. This project's own.
 use Rattle.std.specs.Prelude.{◌≡◌, ℕ, true, length, Option, None, is_some, IfSome, IfErr}
-use Rattle.ct_base.specs.Outside.{Puts, SinkTell}
+use Rattle.ct_base.specs.Outside.{SinkTell}
 use Rattle.ct_core.specs.CoreValue.{CoreValue}
 use Rattle.ct_report.specs.declared.run_lines.TestLines.{TestLines}
-use Rattle.ct_report.specs.Report.{test_lines, text_of}
+use Rattle.ct_report.specs.PutLines.{PutsLines}
+use Rattle.ct_report.specs.Report.{test_lines}
 use Rattle.ct_report.specs.RunLines.{KnowsLines}
 use Rattle.ct_worker.specs.declared.state.Halt.{Halt}
 use Rattle.ct_worker.specs.Gates.{had_memory}
@@ -23,7 +24,7 @@ pub record IsGoing (core : CoreValue) (count : ℕ) : Type 0 where
 -- and else those in front of the halt
 pub record IsKeptState (core : CoreValue) (halt : Option Halt) (lines : Option TestLines) (count : ℕ) (opened sink : SinkTell) : Type 0 where
   pub aborted : core.aborted ≡ is_some halt
-  pub put : Puts (text_of (test_lines core.plan core.entries)) opened sink (put_of halt)
+  pub put : PutsLines (test_lines core.plan core.entries) opened sink (put_of halt)
   pub knows : KnowsSome core lines
   pub goes_on : halt ≡ None → IsGoing core count
   pub stops : IfErr (put_of halt) (λ fault. IsHalted fault core.plan core.entries opened sink)

@@ -2,17 +2,18 @@
 use Rattle.std.specs.Prelude.{◌≡◌, ℕ, ◌+◌, Bool, true, false, length, Some, Result, Ok, Err, OnOk}
 use Rattle.ct_base.specs.declared.sink.SinkFault.{SinkFault}
 use Rattle.ct_base.specs.declared.sink.SinkFault.TheVariants as Sinks
-use Rattle.ct_base.specs.Outside.{Puts, SinkTell}
+use Rattle.ct_base.specs.Outside.{SinkTell}
 use Rattle.ct_core.specs.declared.scheduler.Next.{Next}
 use Rattle.ct_core.specs.declared.scheduler.Next.TheVariants.{Start, Settled, Wait, Done, Aborted, NoMemory}
 use Rattle.ct_core.specs.CoreValue.{CoreValue}
-use Rattle.ct_report.specs.Report.{lines_of_test, text_of}
+use Rattle.ct_report.specs.PutLines.{PutsLines}
+use Rattle.ct_report.specs.Report.{lines_of_test}
 use Rattle.ct_worker.specs.declared.lines.Lines.{Lines}
 use Rattle.ct_worker.specs.Kept.{KnowsSome}
 
 -- the line of a test was put as the next one, where the test is final, or could not be; the sink fails at a line alone
 pub record PutsNext {S : Type 0} (tells : S → SinkTell) (test : ℕ) (core : CoreValue) (old new : Lines S) (result : Result (Unit {0}) SinkFault) : Type 0 where
-  pub puts : Puts (text_of (lines_of_test core.plan core.entries (old.count + 1) (Some test))) (tells old.sink) (tells new.sink) result
+  pub puts : PutsLines (lines_of_test core.plan core.entries (old.count + 1) (Some test)) (tells old.sink) (tells new.sink) result
   pub count : OnOk result (new.count ≡ old.count + length (lines_of_test core.plan core.entries (old.count + 1) (Some test)))
   pub knows : KnowsSome core new.known
   pub tried : result ≡ Err Sinks.Failed → length (lines_of_test core.plan core.entries (old.count + 1) (Some test)) ≡ 1

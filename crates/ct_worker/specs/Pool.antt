@@ -1,15 +1,18 @@
 -- What a run by several workers comes to. This project's own.
-use Rattle.std.specs.Prelude.{◌≡◌, ℕ, true, List, [], None}
+use Rattle.std.specs.Prelude.{◌≡◌, ℕ, true, List, [], None, IfErr}
 use Rattle.ct_history.specs.History.{open_starts}
 use Rattle.ct_history.specs.Legal.{is_legal}
 use Rattle.ct_history.specs.Verdicts.{are_all_final}
 use Rattle.ct_core.specs.Gate.{GateTell}
+use Rattle.ct_report.specs.PutLines.{PutsLines}
+use Rattle.ct_report.specs.Report.{test_lines}
 use Rattle.ct_worker.specs.Gates.{AreAsked, Terms, are_below}
-use Rattle.ct_worker.specs.State.{StateValue, base_of}
+use Rattle.ct_worker.specs.Halted.{IsHalted}
+use Rattle.ct_worker.specs.State.{StateValue, base_of, put_of}
 
 -- so many workers ran the tests of a plan as far as the history goes: it is legal and leaves nothing open, each Start and End is of
 -- one of them, every test is final where the run was not given up, and each gate was asked for the attempts of the worker of its
--- place
+-- place. Since the state was opened the sink took the lines of the tests, and where the run was given up those in front of the halt
 pub record IsPooled (terms : Terms) (count : ℕ) (old new : StateValue) (gates_before gates_now : List GateTell) : Type 0 where
   pub plan : new.plan ≡ old.plan
   pub base : base_of new ≡ base_of old
@@ -18,3 +21,5 @@ pub record IsPooled (terms : Terms) (count : ℕ) (old new : StateValue) (gates_
   pub workers : are_below count new.entries ≡ true
   pub ended : new.halt ≡ None → are_all_final new.plan new.entries ≡ true
   pub asked : AreAsked terms 0 gates_before gates_now new.entries
+  pub put : PutsLines (test_lines new.plan new.entries) new.opened new.sink (put_of new.halt)
+  pub halted : IfErr (put_of new.halt) (λ fault. IsHalted fault new.plan new.entries new.opened new.sink)

@@ -2,7 +2,7 @@
 use Rattle.std.specs.Prelude.{◌≡◌, ℕ, ◌+◌, Bool, true, false, List, ◌∷◌, ◌++◌, [], length, Option, Some, None, is_some, Result, Ok, Err}
 use Rattle.ct_base.specs.declared.sink.SinkFault.{SinkFault}
 use Rattle.ct_base.specs.declared.sink.SinkFault.TheVariants as Sinks
-use Rattle.ct_base.specs.Outside.{Puts, SinkTell}
+use Rattle.ct_base.specs.Outside.{SinkTell}
 use Rattle.ct_verdict.specs.declared.attempt.Seen.{Seen}
 use Rattle.ct_history.specs.declared.plan.PlanParts.{PlanParts}
 use Rattle.ct_history.specs.declared.board.Base.{Base}
@@ -14,7 +14,8 @@ use Rattle.ct_core.specs.Core.{IsNext, with_due_stop}
 use Rattle.ct_core.specs.CoreValue.{CoreValue}
 use Rattle.ct_core.specs.Gate.{is_no_memory}
 use Rattle.ct_core.specs.Ticket.{end_of, test_of}
-use Rattle.ct_report.specs.Report.{lines_of_test, test_lines, text_of}
+use Rattle.ct_report.specs.PutLines.{PutsLines}
+use Rattle.ct_report.specs.Report.{lines_of_test, test_lines}
 use Rattle.ct_worker.specs.declared.state.Halt.{Halt}
 use Rattle.ct_worker.specs.declared.state.Halt.TheVariants.{Output, Memory}
 
@@ -35,9 +36,9 @@ opened_with core sink = record { plan = core.plan; entries = core.entries; halt 
 abbrev pub core_of : StateValue → CoreValue
 core_of s = record { plan = s.plan; entries = s.entries; aborted = is_some s.halt }
 
--- the bytes and the faults that the sink told when the state was opened
+-- the bytes, the pieces and the faults that the sink told when the state was opened
 abbrev pub base_of : StateValue → Base
-base_of s = record { written = s.opened.written; faults = s.opened.faults }
+base_of s = record { written = s.opened.written; pieces = s.opened.pieces; faults = s.opened.faults }
 
 -- the first of two causes, where one stands
 abbrev pub first_halt : Option Halt → Option Halt → Option Halt
@@ -64,7 +65,7 @@ put_of (Some Memory) = Err Sinks.NoMemory
 -- be the run was given up
 pub record PutsLine (test : ℕ) (entries : List Entry) (old new : StateValue) : Type 0 where
   pub result : Result (Unit {0}) SinkFault
-  pub put : Puts (text_of (lines_of_test old.plan entries (length (test_lines old.plan old.entries) + 1) (Some test))) old.sink new.sink result
+  pub put : PutsLines (lines_of_test old.plan entries (length (test_lines old.plan old.entries) + 1) (Some test)) old.sink new.sink result
   pub is : new ≡ record old { entries = entries; sink = new.sink; halt = halt_of result }
 
 -- what becomes of a state by an answer of its core, which has these entries now

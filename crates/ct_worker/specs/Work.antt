@@ -28,13 +28,13 @@ pub record Reach (jobs : Jobs) (plan : PlanParts) : Type 0 where
 abbrev pub terms_in : Jobs → PlanParts → Terms
 terms_in jobs plan = terms_of jobs (is_some plan.resources)
 
--- the history went on, and the worker's gate was asked for what the worker did meanwhile
+-- the history went on, and the worker's gate was asked for the attempts that the worker started meanwhile
 pub record AsksSince (terms : Terms) (worker : ℕ) (gate_before gate_now : GateTell) (before now : List Entry) : Type 0 where
   pub more : List Entry
   pub is : now ≡ before ++ more
   pub asked : IsAsked terms worker gate_before gate_now more
 
--- the pass is as it was but for what it has seen, and holds no start; the worker's gate was asked for what the worker did
+-- the pass is as it was but for what it has seen, and holds no start; the worker's gate was asked for what it started
 pub record GoesAlong (terms : Terms) (old new : PassValue) (gate_before gate_now : GateTell) : Type 0 where
   pub pass : new ≡ record old { known = has_seen old.known new.known.seen }
   pub idle : held_start new.known ≡ None

@@ -1,12 +1,15 @@
-ghost use Rattle.std.specs.Prelude.{◌≡◌, ◌+◌, ◌<◌, ◌≤◌, ◌^◌, [], All, None, drop, length, map, vec_capacity, vec_len};
+ghost use Rattle.std.specs.Prelude.{◌≡◌, ◌+◌, ◌<◌, ◌≤◌, ◌^◌, [], All, IfErr, None, drop, length, map, vec_capacity, vec_len};
 ghost use Rattle.std.specs.Thread.{IsSync};
 ghost use denote.Param.Send.{IsSend};
 ghost use Rattle.ct_history.specs.Plan.{IsSound};
+ghost use Rattle.ct_report.specs.PutLines.{PutsLines};
+ghost use Rattle.ct_report.specs.Report.{test_lines};
 ghost use Rattle.ct_turn.specs.Seen.{GoesOn, held_start};
 ghost use Rattle.ct_worker.specs.Crew.{AllTookPart, AreReady, HasSplit, IsIdle, all_joined};
 ghost use Rattle.ct_worker.specs.declared.state.Halt.TheVariants.{Memory};
+ghost use Rattle.ct_worker.specs.Halted.{IsHalted};
 ghost use Rattle.ct_worker.specs.Pool.{IsPooled};
-ghost use Rattle.ct_worker.specs.State.{given_up};
+ghost use Rattle.ct_worker.specs.State.{given_up, put_of};
 ghost use Rattle.ct_worker.specs.Work.{Reach, terms_in};
 
 use crate::worker::attend;
@@ -57,10 +60,9 @@ pub fn pool<R: Threads + Wait + Sync, G: Gate + Send, S: Sink + Send>(
             crew(rt, alloc, &turn, jobs, 0, passes.as_mut_slice(), working);
             let mut first = passes.remove(0);
             join_all(&turn, &mut first, passes);
-            Pooled {
-                state: turn.close(first),
-                gates,
-            }
+            let state = turn.close(first);
+            state.hand_out_lines();
+            Pooled { state, gates }
         }
         Err(OpenRefused { state }) => unpooled(state, gates),
     }
@@ -70,8 +72,13 @@ pub fn pool<R: Threads + Wait + Sync, G: Gate + Send, S: Sink + Send>(
 fn unpooled<G, S: Sink>(mut state: State<S>, gates: Vec<G>) -> Pooled<G, S>
     ensures state { result.state ≡ given_up Memory state }
     ensures gates { result.gates ≡ gates }
+    ensures put { PutsLines (test_lines result.state.plan result.state.entries)
+        result.state.opened result.state.sink (put_of result.state.halt) }
+    ensures halted { IfErr (put_of result.state.halt)
+        (λ fault. IsHalted fault result.state.plan result.state.entries result.state.opened result.state.sink) }
 {
     state.give_up_for_memory();
+    state.hand_out_lines();
     Pooled { state, gates }
 }
 

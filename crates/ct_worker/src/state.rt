@@ -50,10 +50,10 @@ impl<S: Sink> Model for State<S> {
 }
 
 impl<S: Sink> State<S> {
-    ghost use Rattle.ct_base.specs.Outside.{Puts};
     ghost use Rattle.ct_core.specs.Ticket.{holds_ticket};
     ghost use Rattle.ct_history.specs.History.{is_busy_in};
-    ghost use Rattle.ct_report.specs.Report.{test_lines, text_of};
+    ghost use Rattle.ct_report.specs.PutLines.{PutsLines};
+    ghost use Rattle.ct_report.specs.Report.{test_lines};
     ghost use Rattle.ct_worker.specs.declared.state.Halt.TheVariants.{Memory};
     ghost use Rattle.ct_worker.specs.Gates.{had_memory};
     ghost use Rattle.ct_worker.specs.Halted.{IsHalted};
@@ -111,6 +111,15 @@ impl<S: Sink> State<S> {
         give_up(Halt::Memory, &mut self.core, &mut self.halt);
     }
 
+    /// Does nothing: contracts learn here what the sink took of the lines of the run.
+    pub(crate) fn hand_out_lines(&self)
+        ensures put { PutsLines (test_lines self.now.plan self.now.entries) self.now.opened self.now.sink (put_of self.now.halt) }
+        ensures halted { IfErr (put_of self.now.halt)
+            (λ fault. IsHalted fault self.now.plan self.now.entries self.now.opened self.now.sink) }
+    {
+        let _ = &self.halt;
+    }
+
     /// Why the run was given up, if it was.
     pub fn halt(&self) -> Option<Halt>
         ensures { result ≡ self.now.halt }
@@ -133,7 +142,7 @@ impl<S: Sink> State<S> {
     pub fn into_parts(self) -> (Core, S)
         ensures core { result.0 ≡ core_of self }
         ensures sink { S.tells result.1 ≡ self.sink }
-        ensures put { Puts (text_of (test_lines self.plan self.entries)) self.opened self.sink (put_of self.halt) }
+        ensures put { PutsLines (test_lines self.plan self.entries) self.opened self.sink (put_of self.halt) }
         ensures halted { IfErr (put_of self.halt) (λ fault. IsHalted fault self.plan self.entries self.opened self.sink) }
         ensures memory { self.halt ≡ None → had_memory self.entries ≡ true }
     {

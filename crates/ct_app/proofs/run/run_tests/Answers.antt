@@ -2,9 +2,8 @@ use Rattle.std.proofs.Common.{◌≡◌, ◌∙◌, sym, ap, subst, ℕ, min, le
 use Rattle.std.specs.Prelude.{Result, Err, IfErr, vec_len}
 use Rattle.std.proofs.lemmas.List.{length-map}
 use Rattle.ct_base.specs.declared.sink.SinkFault.{SinkFault}
-use Rattle.ct_base.specs.Outside.{Puts}
 use Rattle.ct_core.specs.CoreValue.{CoreValue}
-use Rattle.ct_report.specs.Report.{text_of}
+use Rattle.ct_report.specs.PutLines.{PutsLines}
 use Rattle.ct_worker.specs.State.{StateValue, put_of}
 use Rattle.ct_worker.specs.Work.{terms_in}
 use Rattle.ct_app.specs.Run.{HasRun, lines_of_run}
@@ -32,14 +31,14 @@ returns-clause-puts g c =
     elim c.match-halt.branch [
       | in-None w ↦
           let puts = summary_behind terms c.worker_count-workers.result c.args.core core (g.S.Sink.tells c.args.sink) c.open.result c.pool-state.result.state gates gates_now c.open.ensures c.pool-state.ensures.pooled c.into_parts-core.ensures.core
-          c.halt-halt.result c.halt-halt.ensures w.in-None.is c.into_parts-core.ensures.put (g.S.Sink.tells c.into_parts-core.result.1) (g.S.Sink.tells w.put_summary-ended.new.sink) w.put_summary-ended.result c.into_parts-core.ensures.sink w.put_summary-ended.ensures in
-          subst (λ (r : Result (Unit {0}) SinkFault). Puts (text_of (lines_of_run core.plan core.entries)) (g.S.Sink.tells c.args.sink) (g.S.Sink.tells c.match-halt.sink) r) (sym w.ended-is)
-          (subst (λ (s : g.row.S.Denot). Puts (text_of (lines_of_run core.plan core.entries)) (g.S.Sink.tells c.args.sink) (g.S.Sink.tells s) w.put_summary-ended.result) (sym w.sink-is) puts)
+          c.halt-halt.result c.halt-halt.ensures w.in-None.is (g.S.Sink.tells c.into_parts-core.result.1) (g.S.Sink.tells w.put_summary-ended.new.sink) w.put_summary-ended.result c.into_parts-core.ensures.sink w.put_summary-ended.ensures in
+          subst (λ (r : Result (Unit {0}) SinkFault). PutsLines (lines_of_run core.plan core.entries) (g.S.Sink.tells c.args.sink) (g.S.Sink.tells c.match-halt.sink) r) (sym w.ended-is)
+          (subst (λ (s : g.row.S.Denot). PutsLines (lines_of_run core.plan core.entries) (g.S.Sink.tells c.args.sink) (g.S.Sink.tells s) w.put_summary-ended.result) (sym w.sink-is) puts)
       | in-Some w ↦
           let puts = given_up_behind terms c.worker_count-workers.result c.args.core core (g.S.Sink.tells c.args.sink) c.open.result c.pool-state.result.state gates gates_now c.open.ensures c.pool-state.ensures.pooled c.into_parts-core.ensures.core
-          c.halt-halt.result c.halt-halt.ensures w.fault_of.result (ap put_of w.in-Some.is ∙ w.fault_of.ensures) c.into_parts-core.ensures.put (g.S.Sink.tells c.into_parts-core.result.1) c.into_parts-core.ensures.sink in
-          subst (λ (r : Result (Unit {0}) SinkFault). Puts (text_of (lines_of_run core.plan core.entries)) (g.S.Sink.tells c.args.sink) (g.S.Sink.tells c.match-halt.sink) r) (sym w.ended-is)
-          (subst (λ (s : g.row.S.Denot). Puts (text_of (lines_of_run core.plan core.entries)) (g.S.Sink.tells c.args.sink) (g.S.Sink.tells s) (Err w.fault_of.result)) (sym w.sink-is) puts)
+          c.halt-halt.result c.halt-halt.ensures w.fault_of.result (ap put_of w.in-Some.is ∙ w.fault_of.ensures) (g.S.Sink.tells c.into_parts-core.result.1) c.into_parts-core.ensures.sink in
+          subst (λ (r : Result (Unit {0}) SinkFault). PutsLines (lines_of_run core.plan core.entries) (g.S.Sink.tells c.args.sink) (g.S.Sink.tells c.match-halt.sink) r) (sym w.ended-is)
+          (subst (λ (s : g.row.S.Denot). PutsLines (lines_of_run core.plan core.entries) (g.S.Sink.tells c.args.sink) (g.S.Sink.tells s) (Err w.fault_of.result)) (sym w.sink-is) puts)
     ]
 
 pub returns-clause-stops : goal.returns-clause-stops
@@ -51,12 +50,12 @@ returns-clause-stops g c =
     elim c.match-halt.branch [
       | in-None w ↦
           let stops = summary_stops terms c.worker_count-workers.result c.args.core core (g.S.Sink.tells c.args.sink) c.open.result c.pool-state.result.state gates gates_now c.open.ensures c.pool-state.ensures.pooled c.into_parts-core.ensures.core
-          c.halt-halt.result c.halt-halt.ensures w.in-None.is c.into_parts-core.ensures.put (g.S.Sink.tells c.into_parts-core.result.1) (g.S.Sink.tells w.put_summary-ended.new.sink) w.put_summary-ended.result c.into_parts-core.ensures.sink w.put_summary-ended.ensures in
+          c.halt-halt.result c.halt-halt.ensures w.in-None.is (g.S.Sink.tells c.into_parts-core.result.1) (g.S.Sink.tells w.put_summary-ended.new.sink) w.put_summary-ended.result c.into_parts-core.ensures.sink w.put_summary-ended.ensures in
           subst (λ (r : Result (Unit {0}) SinkFault). IfErr r (λ fault. StopsBehind fault core.plan core.entries (g.S.Sink.tells c.args.sink) (g.S.Sink.tells c.match-halt.sink))) (sym w.ended-is)
           (subst (λ (s : g.row.S.Denot). IfErr w.put_summary-ended.result (λ fault. StopsBehind fault core.plan core.entries (g.S.Sink.tells c.args.sink) (g.S.Sink.tells s))) (sym w.sink-is) stops)
       | in-Some w ↦
           let stops = given_up_stops terms c.worker_count-workers.result c.args.core core (g.S.Sink.tells c.args.sink) c.open.result c.pool-state.result.state gates gates_now c.open.ensures c.pool-state.ensures.pooled c.into_parts-core.ensures.core
-          c.halt-halt.result c.halt-halt.ensures w.fault_of.result (ap put_of w.in-Some.is ∙ w.fault_of.ensures) c.into_parts-core.ensures.halted (g.S.Sink.tells c.into_parts-core.result.1) c.into_parts-core.ensures.sink in
+          c.halt-halt.result c.halt-halt.ensures w.fault_of.result (ap put_of w.in-Some.is ∙ w.fault_of.ensures) (g.S.Sink.tells c.into_parts-core.result.1) c.into_parts-core.ensures.sink in
           subst (λ (r : Result (Unit {0}) SinkFault). IfErr r (λ fault. StopsBehind fault core.plan core.entries (g.S.Sink.tells c.args.sink) (g.S.Sink.tells c.match-halt.sink))) (sym w.ended-is)
           (subst (λ (s : g.row.S.Denot). StopsBehind w.fault_of.result core.plan core.entries (g.S.Sink.tells c.args.sink) (g.S.Sink.tells s)) (sym w.sink-is) stops)
     ]

@@ -8,7 +8,7 @@ use Rattle.ct_report.proofs.lists.put_tests.Goals as goal
 pub returns-in_err-line-clause-text : goal.returns-in_err-line-clause-text
 returns-in_err-line-clause-text g c =
     let gave : c.from_residual.result ≡ Err Sinks.NoMemory = search rules in
-    rw gave ((entries-stop c.args.tests.now c.loop-test.test-index (g.S.Sink.tells c.args.sink.now) (g.S.Sink.tells c.loop-test.sink) c.loop-test.invariant).text)
+    rw gave ((entries-stop c.args.tests.now c.loop-test.test-index (g.S.Sink.tells c.args.sink.now) (g.S.Sink.tells c.loop-test.sink) c.loop-test.invariant).bytes)
 
 pub returns-in_err-line-clause-each : goal.returns-in_err-line-clause-each
 returns-in_err-line-clause-each g c =
@@ -25,7 +25,7 @@ returns-in_err-put-clause-text g c =
     let gave : c.from_residual-in_err-put.result ≡ Err fault = search rules in
     let put = subst (λ (t : List ℕ). Puts t mid new (Err fault)) named c.in_err-put.ensures.puts in
     let each = subst (λ (t : List ℕ). PutsEach (t ∷ []) mid new (Err fault)) named c.in_err-put.ensures.each in
-    rw gave ((entry-fails c.args.tests.now c.loop-test.test-index c.test-item.result c.loop-test-test.true c.test-item.is old mid new c.loop-test.invariant fault put each).text)
+    rw gave ((entry-fails c.args.tests.now c.loop-test.test-index c.test-item.result c.loop-test-test.true c.test-item.is old mid new c.loop-test.invariant fault put each).bytes)
 
 pub returns-in_err-put-clause-each : goal.returns-in_err-put-clause-each
 returns-in_err-put-clause-each g c =

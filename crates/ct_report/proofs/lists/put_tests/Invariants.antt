@@ -1,6 +1,6 @@
 use Rattle.std.proofs.Common.{map, take, Ok}
 use Rattle.ct_report.specs.Lists.{test_entry}
-use Rattle.ct_report.proofs.PutLemmas.{PutsLines}
+use Rattle.ct_report.specs.PutLines.{PutsLines}
 use Rattle.ct_report.proofs.lists.put_tests.Given as goal
 
 abbrev pub invariant-loop-test : goal.invariant-loop-test

@@ -16,7 +16,7 @@ returns-in_default-clause-pooled g c =
     let terms = terms_in c.args.jobs.now c.args.state.plan in
     subst (λ (ts : List GateTell). IsPooled terms c.args.workers c.args.state c.unpooled.result.state (map g.G.Gate.tells c.args.gates.items) ts)
     (sym (ap (λ (v : Vec g.row.G.Denot Global). map g.G.Gate.tells v.items) c.unpooled.ensures.gates))
-    (unpooled_is terms c.args.workers c.args.state c.unpooled.result.state (map g.G.Gate.tells c.args.gates.items) c.requires.fresh.0 c.requires.fresh.1 c.unpooled.ensures.state)
+    (unpooled_is terms c.args.workers c.args.state c.unpooled.result.state (map g.G.Gate.tells c.args.gates.items) c.requires.fresh.0 c.requires.fresh.1 c.unpooled.ensures.state c.unpooled.ensures.put c.unpooled.ensures.halted)
 
 pub returns-in-Err-clause-pooled : goal.returns-in-Err-clause-pooled
 returns-in-Err-clause-pooled g c =
@@ -24,7 +24,7 @@ returns-in-Err-clause-pooled g c =
     subst (λ (ts : List GateTell). IsPooled terms c.args.workers c.args.state c.unpooled-in-Err.result.state (map g.G.Gate.tells c.args.gates.items) ts)
     (sym (ap (λ (v : Vec g.row.G.Denot Global). map g.G.Gate.tells v.items) c.unpooled-in-Err.ensures.gates))
     (unpooled_is terms c.args.workers c.args.state c.unpooled-in-Err.result.state (map g.G.Gate.tells c.args.gates.items) c.requires.fresh.0 c.requires.fresh.1
-    (c.unpooled-in-Err.ensures.state ∙ ap (given_up Memory) c.in-Err.ensures.err))
+    (c.unpooled-in-Err.ensures.state ∙ ap (given_up Memory) c.in-Err.ensures.err) c.unpooled-in-Err.ensures.put c.unpooled-in-Err.ensures.halted)
 
 pub crew-requires-clause-ready : goal.crew-requires-clause-ready
 crew-requires-clause-ready g c κs within =
@@ -52,8 +52,8 @@ join_all-requires g c =
       others = others_idle jobs turn plan base count first first others befores nows parts;
     }
 
-pub close-requires : goal.close-requires
-close-requires g c =
+pub close-state-requires : goal.close-state-requires
+close-state-requires g c =
     let jobs = c.args.jobs.now in
     let turn = c.in-Ok-open.turn in
     let plan = c.args.state.plan in
@@ -96,8 +96,8 @@ returns-in-Ok-open-clause-pooled g c =
     let some = c.requires.some in
     let many : c.args.workers ≡ c.args.workers - 1 + 1 = omega (arith, some) in
     let kept : length c.crew.new.gates ≡ length front = c.crew.auto.gates in
-    pooled_in g.G.Gate.tells (terms_in jobs plan) c.args.workers c.args.state c.close.result c.args.gates.items front back c.crew.new.gates
+    pooled_in g.G.Gate.tells (terms_in jobs plan) c.args.workers c.args.state c.close-state.result c.args.gates.items front back c.crew.new.gates
     (drop (length (c.crew.new.gates ++ back)) c.args.gates.items) c.args.gates.len
     (sym c.deref_mut.ensures.value ∙ c.split_at_mut-working.ensures.value) c.args.gates.ok.0 kept
-    (is_pooled jobs turn plan base count first now others befores nows parts c.join_all.ensures.known c.args.state c.close.result c.args.workers (map g.G.Gate.tells back) many refl refl
-    c.hand_out_sound.ensures c.join_all.ensures.own c.close.ensures)
+    (is_pooled jobs turn plan base count first now others befores nows parts c.join_all.ensures.known c.args.state c.close-state.result c.args.workers (map g.G.Gate.tells back) many refl refl
+    c.hand_out_sound.ensures c.join_all.ensures.own c.close-state.ensures c.hand_out_lines.ensures.put c.hand_out_lines.ensures.halted)
