@@ -1,7 +1,7 @@
-//! The tests of the core: where needs are placed, and how a plan is run.
+//! The tests of the core: where needs are placed, which tests are ready, and how a plan is run.
 //!
 //! Hands up: nothing. A crate with tests of its own is proved twice, so they stand here.
-//! Stands on: ct_alloc, ct_history, ct_core, ct_samples and what is below them.
+//! Stands on: ct_alloc, ct_history, ct_queue, ct_core, ct_samples and what is below them.
 //! Read first: `workers.rt` drives the core for the others.
 #![tactic(auto)]
 
@@ -15,6 +15,8 @@ mod core_runs;
 mod dice;
 #[cfg(test)]
 mod drawn_runs;
+#[cfg(test)]
+mod queue;
 #[cfg(test)]
 mod slots;
 #[cfg(test)]

@@ -9,7 +9,7 @@ use std::io;
 
 /// Why a program was not run to its end.
 #[derive(Clone, Copy, Debug, PartialEq, Eq)]
-pub(crate) enum StartFault {
+pub enum StartFault {
     /// It could not be started, or not be waited for.
     Failed,
     /// Memory was wanting.

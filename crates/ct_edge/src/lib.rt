@@ -1,14 +1,13 @@
 //! The machine as a run sees it: its files, its output, and the programs of tests.
 //!
-//! Hands up: `RealFiles`, `RealSink` and `ProcessGate`, forms of `Files`, `Sink` and `Gate`.
+//! Hands up: `RealFiles`, `RealSink` and `ProcessGate`, forms of `Files`, `Sink` and `Gate`; and those of their parts that
+//! are tested without the machine, `read_up_to`, `read_both` and `first_missing`.
 //! Stands on: ct_base, ct_verdict, ct_core; for the wait on pipes, libc and os of the kit.
 //! Read first: `real_files.rt`, `real_sink.rt` and `process_gate.rt`; then the parts of the gate:
 //! `required.rt`, `command.rt`, `watch.rt`, `pipe.rt`.
 #![tactic(auto)]
 
 mod command;
-#[cfg(test)]
-mod doubles;
 mod fault;
 mod limit;
 mod pipe;
@@ -16,12 +15,15 @@ mod process_gate;
 mod real_files;
 mod real_sink;
 mod required;
-#[cfg(test)]
-mod rows;
 mod text;
 mod transfer;
 mod watch;
 
+pub use fault::StartFault;
+pub use limit::Limit;
+pub use pipe::read_both;
 pub use process_gate::ProcessGate;
 pub use real_files::RealFiles;
 pub use real_sink::RealSink;
+pub use required::first_missing;
+pub use transfer::read_up_to;

@@ -35,8 +35,15 @@ impl ProcessGate {
         ProcessGate { rt, faults: 0 }
     }
 
+    /// How many starts and waits failed.
+    pub fn faults(&self) -> u64
+        ensures { result ≡ self.now.faults }
+    {
+        self.faults
+    }
+
     /// Runs the program, and takes the time that this took; 0 where the clock failed.
-    fn attempt<E: Ear>(&mut self, alloc: Global, request: &Request, ear: &mut E) -> Ended
+    pub fn attempt<E: Ear>(&mut self, alloc: Global, request: &Request, ear: &mut E) -> Ended
         ensures cause { HasStartCause self.old.faults self.new.faults result.how }
         ensures unlimited { result.how ≡ Ends.TimedOut → IsSome request.now.limit }
     {
@@ -101,6 +108,3 @@ fn run_program<E: Ear>(
     let child = command_of(alloc, request, beside)?.spawn(&rt)?;
     attend(&rt, alloc, &limit, &mut Running::of(child)?, ear)
 }
-
-#[cfg(test)]
-mod tests;

@@ -31,6 +31,13 @@ impl<R> RealFiles<R> {
         RealFiles { rt, faults: 0 }
     }
 
+    /// How many calls failed.
+    pub fn faults(&self) -> u64
+        ensures { result ≡ self.now.faults }
+    {
+        self.faults
+    }
+
     /// Counts a call that failed.
     fn count<T>(&mut self, outcome: Result<T, FilesFault>) -> Result<T, FilesFault>
         ensures same { result ≡ outcome }
@@ -121,87 +128,5 @@ fn present<T>(found: io::Result<T>) -> Result<Option<T>, FilesFault>
         Err(e) if e.kind() == ErrorKind::NotFound => Ok(None),
         Err(e) if e.kind() == ErrorKind::NotADirectory => Ok(None),
         Err(_) => Err(FilesFault::Failed),
-    }
-}
-
-#[cfg(test)]
-mod tests {
-    use super::*;
-    use std::test::Fail;
-
-    /// How many bytes of a file of `hello` are wanted and one more, and what is read.
-    const READS: [(u64, &str); 5] = [
-        (5, "hello"),
-        (4, "hello"),
-        (3, "hell"),
-        (0, "h"),
-        (u64::MAX, "hello"),
-    ];
-
-    /// Nothing is at these paths: the last two lie below what is no folder.
-    const ABSENT: [&[u8]; 4] = [
-        b"absent",
-        b"/no/such/file",
-        b"/dev/null/a",
-        b"/bin/sh/below/it",
-    ];
-
-    const UNREADABLE: [&[u8]; 3] = [b"/", b"\xff", b"a\0b"];
-
-    const UNWRITABLE: [&[u8]; 5] = [b"/", b"\xff", b"a\0b", b"/dev/full", b"/dev/null/a"];
-
-    #[test]
-    fn reads_back_what_it_wrote(rt: HostRuntime) -> Result<(), Fail> {
-        let mut files = RealFiles::new(&rt);
-        let path = Name::of(rt.alloc(), b"made/for/it/file")?;
-        assert!(rt; !files.exists(rt.alloc(), &path)?);
-        files.write(rt.alloc(), &path, b"something longer")?;
-        files.write(rt.alloc(), &path, b"hello")?;
-        for (most, want) in READS {
-            let got = files.read(rt.alloc(), &path, most)?;
-            let is_read = got.is_some_and(|bytes| bytes.bytes() == want.as_bytes());
-            assert!(rt; is_read, "at {most}");
-        }
-        assert!(rt; files.exists(rt.alloc(), &path)?);
-        assert_eq!(rt; files.faults, 0);
-        Ok(())
-    }
-
-    #[test]
-    fn finds_nothing_where_nothing_is(rt: HostRuntime) -> Result<(), Fail> {
-        let mut files = RealFiles::new(&rt);
-        for path in ABSENT {
-            let path = Name::of(rt.alloc(), path)?;
-            assert!(rt; !files.exists(rt.alloc(), &path)?, "at {path:?}");
-            assert!(rt; files.read(rt.alloc(), &path, 9)?.is_none(), "at {path:?}");
-        }
-        assert_eq!(rt; files.faults, 0);
-        Ok(())
-    }
-
-    #[test]
-    fn counts_the_reads_and_looks_that_fail(rt: HostRuntime) -> Result<(), Fail> {
-        let mut files = RealFiles::new(&rt);
-        for path in UNREADABLE {
-            let path = Name::of(rt.alloc(), path)?;
-            assert!(rt; files.read(rt.alloc(), &path, 9).is_err(), "at {path:?}");
-        }
-        assert_eq!(rt; files.faults, 3);
-        let path = Name::of(rt.alloc(), b"a\0b")?;
-        assert!(rt; files.exists(rt.alloc(), &path).is_err());
-        assert_eq!(rt; files.faults, 4);
-        Ok(())
-    }
-
-    #[test]
-    fn counts_the_writes_that_fail(rt: HostRuntime) -> Result<(), Fail> {
-        let mut files = RealFiles::new(&rt);
-        for path in UNWRITABLE {
-            let path = Name::of(rt.alloc(), path)?;
-            let wrote = files.write(rt.alloc(), &path, b"x");
-            assert!(rt; wrote.is_err(), "at {path:?}");
-        }
-        assert_eq!(rt; files.faults, 5);
-        Ok(())
     }
 }

@@ -27,6 +27,20 @@ impl<W> RealSink<W> {
         RealSink { writer, faults: 0 }
     }
 
+    /// The writer, with what was put so far.
+    pub fn writer(&self) -> &W
+        ensures { result.now ≡ self.now.writer }
+    {
+        &self.writer
+    }
+
+    /// How many puts failed.
+    pub fn faults(&self) -> u64
+        ensures { result ≡ self.now.faults }
+    {
+        self.faults
+    }
+
     /// Answers a put, and counts it where it failed.
     fn count(&mut self, outcome: io::Result<()>) -> Result<(), SinkFault>
         ensures ok { OnOk outcome (OnOk result (self.new ≡ self.old)) }
@@ -48,40 +62,5 @@ impl<W: Write> Sink for RealSink<W> {
     fn put(&mut self, piece: &[u8]) -> Result<(), SinkFault> {
         let outcome = write_whole(&mut self.writer, piece);
         self.count(outcome)
-    }
-}
-
-#[cfg(test)]
-mod tests {
-    use super::*;
-    use crate::doubles::Sip;
-    use ct_base::Blob;
-
-    /// How many bytes an output takes, whether it fails behind them; what it takes of `hello`, and
-    /// how many puts failed.
-    const PUTS: [(usize, bool, &str, u64); 5] = [
-        (9, true, "hello", 0),
-        (5, false, "hello", 0),
-        (3, false, "hel", 1),
-        (3, true, "hel", 1),
-        (0, true, "", 1),
-    ];
-
-    #[test]
-    fn writes_on_after_a_short_write_and_counts_each_fault(rt: HostRuntime) {
-        for (good, fails, taken, faults) in PUTS {
-            let mut sink = RealSink::new(Sip {
-                taken: Blob::new(rt.alloc()),
-                good,
-                fails,
-            });
-            let is_put = sink.put(b"hello").is_ok();
-            assert_eq!(rt; is_put, faults == 0, "{good}, {fails}");
-            assert_eq!(rt; sink.faults, faults, "{good}, {fails}");
-            assert!(rt;
-                sink.writer.taken.bytes() == taken.as_bytes(),
-                "{good}, {fails}"
-            );
-        }
     }
 }

@@ -62,37 +62,3 @@ pub fn write_whole<W: Write>(writer: &mut W, piece: &[u8]) -> io::Result<()>
     }
     Err(io::Error::from(ErrorKind::WriteZero))
 }
-
-#[cfg(test)]
-mod tests {
-    use super::*;
-    use crate::doubles::Drip;
-
-    /// How many bytes of `hello` can be read, how many are wanted and one more, and what is read,
-    /// where the source does not fail.
-    const READS: [(usize, u64, Option<&str>); 5] = [
-        (9, 9, Some("hello")),
-        (9, 3, Some("hell")),
-        (4, 3, Some("hell")),
-        (4, 9, None),
-        (0, 9, None),
-    ];
-
-    #[test]
-    fn reads_on_after_a_short_read_and_fails_in_mid_stream(rt: HostRuntime) {
-        for (good, most, want) in READS {
-            let mut source = Drip {
-                left: b"hello",
-                good,
-                dries: false,
-                ready: -1,
-            };
-            let is_read = match (read_up_to(rt.alloc(), &mut source, most), want) {
-                (Ok(got), Some(want)) => got.bytes() == want.as_bytes(),
-                (Err(fault), None) => fault == FilesFault::Failed,
-                _ => false,
-            };
-            assert!(rt; is_read, "{good} bytes, {most} wanted");
-        }
-    }
-}

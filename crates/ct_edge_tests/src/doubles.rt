@@ -8,12 +8,12 @@ use std::os::fd::{AsRawFd, RawFd};
 /// A source that gives one byte at a time, and fails once it gave so many.
 #[derive(Drop)]
 pub(crate) struct Drip {
-    pub left: &'static [u8],
-    pub good: usize,
+    pub(crate) left: &'static [u8],
+    pub(crate) good: u64,
     /// Whether it is never ready where it has run dry.
-    pub dries: bool,
+    pub(crate) dries: bool,
     /// A descriptor that is always ready.
-    pub ready: RawFd,
+    pub(crate) ready: RawFd,
 }
 
 impl Read for Drip {
@@ -47,9 +47,9 @@ impl AsRawFd for Drip {
 /// An output that takes one byte at a time, and once it took so many fails, or takes nothing.
 #[derive(Drop)]
 pub(crate) struct Sip {
-    pub taken: Blob,
-    pub good: usize,
-    pub fails: bool,
+    pub(crate) taken: Blob,
+    pub(crate) good: u64,
+    pub(crate) fails: bool,
 }
 
 impl Write for Sip {
