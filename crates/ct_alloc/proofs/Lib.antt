@@ -4,4 +4,5 @@ pub mod TwinLemmas
 pub mod RoomLemmas
 pub mod PickLemmas
 pub mod SpreadLemmas
+pub mod ByKindLemmas
 pub mod PlaceLemmas

@@ -162,7 +162,7 @@ abbrev pub index_of : ℕ → List ℕ → ℕ
 index_of n [] = 0
 index_of n (first ∷ rest) = cond (first == n) 0 (suc (index_of n rest))
 
-index-at : (n : ℕ) (cards : List ℕ) → index_of n cards < length cards → get_or cards (index_of n cards) 0 ≡ n
+pub index-at : (n : ℕ) (cards : List ℕ) → index_of n cards < length cards → get_or cards (index_of n cards) 0 ≡ n
 index-at n [] inside = absurd (omega arith)
 index-at n (first ∷ rest) inside = by_test (index-at n rest) (first == n) refl inside
   where
@@ -201,7 +201,7 @@ card-own kind place (r ∷ rs) i inside = by_test (card-own kind (place + 1) rs)
         rw t (again i below)
 
 -- a resource of the kind is a card, and a card is a resource of the kind
-card-there : (kind : List ℕ) (first : ℕ) (resources : List Resource) (at place : ℕ) → place ≡ first + at → is_of_kind kind (slice_get resources at) ≡ true → index_of place (cards_from first kind resources) < length (cards_from first kind resources)
+pub card-there : (kind : List ℕ) (first : ℕ) (resources : List Resource) (at place : ℕ) → place ≡ first + at → is_of_kind kind (slice_get resources at) ≡ true → index_of place (cards_from first kind resources) < length (cards_from first kind resources)
 card-there kind first [] at place is of = cc
 card-there kind first (r ∷ rs) zero place is of =
     let same : place ≡ first = omega arith in
@@ -219,7 +219,7 @@ later : (kind : List ℕ) (first : ℕ) (r : Resource) (rs : List Resource) → 
 later kind first r rs f i zero inside is = absurd (omega (arith, above kind (first + 1) rs i inside))
 later kind first r rs f i (suc at) inside is = f i at inside (omega (arith, is))
 
-card-kind : (kind : List ℕ) (first : ℕ) (resources : List Resource) (i at : ℕ) → i < length (cards_from first kind resources) → get_or (cards_from first kind resources) i 0 ≡ first + at → is_of_kind kind (slice_get resources at) ≡ true
+pub card-kind : (kind : List ℕ) (first : ℕ) (resources : List Resource) (i at : ℕ) → i < length (cards_from first kind resources) → get_or (cards_from first kind resources) i 0 ≡ first + at → is_of_kind kind (slice_get resources at) ≡ true
 card-kind kind first [] i at inside is = absurd (omega arith)
 card-kind kind first (r ∷ rs) i at inside is = by_test (later kind first r rs (card-kind kind (first + 1) rs)) (bytes_eq r.kind kind) refl i at inside is
   where

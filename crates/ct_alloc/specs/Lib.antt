@@ -3,3 +3,4 @@ pub mod Placement
 pub mod Free
 pub mod Packing
 pub mod Spread
+pub mod ByKind

@@ -5,6 +5,7 @@ ghost use Rattle.ct_alloc.specs.Placement.{fits_beside, meets, slots_at};
 ghost use Rattle.ct_alloc.specs.Free.{IsFitting, NoneFits, are_there, free_at, slot_counts, used_at};
 ghost use Rattle.ct_alloc.specs.Spread.{HasRoom, IsSpread, NoneSpread, asks_kind, asks_other, cards_from, is_of_kind, interleaved, sizes_of};
 
+use crate::by_kind::{ByKind, by_kind_of, places_at};
 use crate::pack::pack;
 use crate::placement::{Pick, Placement};
 use ct_base::{List, Name, Need, NoMemory, Resource};
@@ -18,16 +19,18 @@ use std::marker::Model;
 pub struct Free {
     resources: List<Resource>,
     used: Vec<u32>,
+    by_kind: ByKind,
 }
 
 impl Model for Free {
     ghost use Rattle.ct_alloc.specs.Free.{FreeValue, IsWithinSlots};
+    ghost use Rattle.ct_alloc.specs.ByKind.{AreByKind};
 
     ghost Value = { FreeValue };
 
     ghost view = { λ f. record { resources = f.resources; used = f.used.items } };
 
-    ghost invariant = { λ f. IsWithinSlots f.resources f.used.items };
+    ghost invariant = { λ f. IsWithinSlots f.resources f.used.items × AreByKind f.resources f.by_kind };
 }
 
 impl Free {
@@ -37,9 +40,11 @@ impl Free {
         ensures whole { IfOk result (λ free. free.resources ≡ resources.now) }
         ensures unused { IfOk result (λ free. (place : ℕ) → used_at free place ≡ 0) }
     {
+        let by_kind = by_kind_of(alloc, resources.as_slice())?;
         Ok(Free {
             resources: copied(alloc, resources)?,
             used: vec![in alloc; 0; resources.len()]?,
+            by_kind,
         })
     }
 
@@ -88,11 +93,11 @@ impl Free {
         if let [need] = needs {
             return self.spread_one(alloc, need);
         }
-        let cards = cards(alloc, kind, self.resources.as_slice())?;
-        let mut free = self.free_of(alloc, cards.as_slice())?;
+        let cards = self.cards(kind);
+        let mut free = self.free_of(alloc, cards)?;
         let sizes = sizes_of(alloc, needs)?;
         match pack(alloc, free.as_mut_slice(), sizes.as_slice())? {
-            Some(found) => Ok(Some(places_of(alloc, cards.as_slice(), found.as_slice())?)),
+            Some(found) => Ok(Some(places_of(alloc, cards, found.as_slice())?)),
             None => Ok(None),
         }
     }
@@ -111,12 +116,20 @@ impl Free {
     fn first_with_room(&self, need: &Need) -> Option<usize>
         ensures { MatchOption result ((place : ℕ) → place < length self.now.resources → HasRoom self.now need.now place → ⊥) (λ place. HasRoom self.now need.now place) }
     {
-        for (place, resource) in self.resources.as_slice().iter().enumerate() {
-            if resource.kind.is(&need.kind) && need.slots <= self.free_at(place) {
-                return Some(place);
+        let cards = self.cards(&need.kind);
+        for place in cards {
+            if need.slots <= self.free_at(*place) {
+                return Some(*place);
             }
         }
         None
+    }
+
+    /// Lends the places of the resources of a kind, in order.
+    fn cards(&self, kind: &Name) -> &[usize]
+        ensures { result.now ≡ cards_from 0 kind.now self.now.resources }
+    {
+        places_at(&self.by_kind, kind)
     }
 
     /// Lists what is free of the resources at some places.
@@ -263,19 +276,6 @@ fn sizes_of(alloc: Global, needs: &[&Need]) -> Result<Vec<u32>, NoMemory>
         sizes.push(need.slots)?;
     }
     Ok(sizes)
-}
-
-/// Lists the places of the resources of a kind.
-fn cards(alloc: Global, kind: &Name, resources: &[Resource]) -> Result<Vec<usize>, NoMemory>
-    ensures { IfOk result (λ cards. cards.items ≡ cards_from 0 kind.now resources.now) }
-{
-    let mut cards = Vec::new(alloc);
-    for (place, resource) in resources.iter().enumerate() {
-        if resource.kind.is(kind) {
-            cards.push(place)?;
-        }
-    }
-    Ok(cards)
 }
 
 /// Names the places of cards that are counted within their kind.

@@ -1,11 +1,12 @@
 //! Placements of a test's needs on the machine's resources.
 //!
 //! Hands up: `Free`, which places needs beside what is used, and `Placement`, which a start carries, with its `Pick`s.
-//! Stands on: ct_base.
+//! Stands on: ct_base and `indexmap`.
 //! Read first: `specs/Placement.antt`, `specs/Free.antt`, then `free.rt`.
 #![tactic(auto)]
 
 mod bound;
+mod by_kind;
 mod free;
 mod pack;
 mod placement;

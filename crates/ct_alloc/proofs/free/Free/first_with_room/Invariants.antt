@@ -1,6 +1,7 @@
-use Rattle.std.proofs.Common.{◌<◌, ℕ}
-use Rattle.ct_alloc.specs.Spread.{HasRoom}
+use Rattle.std.proofs.Common.{◌≡◌, drop}
+use Rattle.std.specs.List.{list_any}
+use Rattle.ct_alloc.proofs.ByKindLemmas.{has_slots}
 use Rattle.ct_alloc.proofs.free.Free.first_with_room.Given as goal
 
 abbrev pub invariant-loop-place : goal.invariant-loop-place
-invariant-loop-place l = (place : ℕ) → place < l.place → HasRoom l.self l.need place → ⊥
+invariant-loop-place l = list_any (has_slots l.self l.need) (drop l.place-index l.cards) ≡ list_any (has_slots l.self l.need) l.cards

@@ -12,13 +12,13 @@ fits-of free picks asked within same there test is =
 
 pub returns : goal.returns
 returns c =
-    let within : IsWithinSlots c.args.self.now.resources c.args.self.now.used = subst (λ (f : FreeValue). IsWithinSlots f.resources f.used) c.self.view_is c.self.invariant in
+    let within : IsWithinSlots c.args.self.now.resources c.args.self.now.used = subst (λ (f : FreeValue). IsWithinSlots f.resources f.used) c.self.view_is c.self.invariant.0 in
     fits-of c.args.self.now c.as_slice-picks.result.now c.args.placement.now.picks within c.as_slice-picks.ensures c.requires.there true
     (all-passed (have_room c.args.self.now.resources c.args.self.now.used c.as_slice-picks.result.now) c.as_slice-picks.result.now c.loop-pick.pick-index c.loop-pick-test.false c.loop-pick.invariant)
 
 pub returns-then-not-has_room : goal.returns-then-not-has_room
 returns-then-not-has_room c =
-    let within : IsWithinSlots c.args.self.now.resources c.args.self.now.used = subst (λ (f : FreeValue). IsWithinSlots f.resources f.used) c.self.view_is c.self.invariant in
+    let within : IsWithinSlots c.args.self.now.resources c.args.self.now.used = subst (λ (f : FreeValue). IsWithinSlots f.resources f.used) c.self.view_is c.self.invariant.0 in
     let not : have_room c.args.self.now.resources c.args.self.now.used c.as_slice-picks.result.now c.pick-item.result ≡ false = search rules in
     fits-of c.args.self.now c.as_slice-picks.result.now c.args.placement.now.picks within c.as_slice-picks.ensures c.requires.there false
     (sym (all-not (have_room c.args.self.now.resources c.args.self.now.used c.as_slice-picks.result.now) c.as_slice-picks.result.now c.loop-pick.pick-index c.pick-item.result c.loop-pick-test.true c.pick-item.is not))

@@ -31,7 +31,7 @@ loop-at-preserved c =
 
 pub returns : goal.returns
 returns c =
-    let within : IsWithinSlots c.args.self.now.resources c.args.self.now.used = subst (λ (f : FreeValue). IsWithinSlots f.resources f.used) c.self.view_is c.self.invariant in
+    let within : IsWithinSlots c.args.self.now.resources c.args.self.now.used = subst (λ (f : FreeValue). IsWithinSlots f.resources f.used) c.self.view_is c.self.invariant.0 in
     let over : length c.args.needs.now ≤ c.loop-at.at = omega (arith, ap (λ (ns : List Need). length ns) c.as_slice-need-items.ensures) in
     let all = placed-all c.args.self.now.resources c.args.needs.now c.args.places.now c.loop-at.picks c.loop-at.at over c.requires.spread.kinds c.loop-at.invariant in
     record { fits = fitting-spread c.args.self.now c.args.needs.now c.args.places.now c.loop-at.picks within c.requires.spread all.0 all.1 }
