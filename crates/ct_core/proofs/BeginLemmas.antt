@@ -86,14 +86,14 @@ settles_at_first plan t linked =
     by_parts false false c f same = refl
 
 module _ (plan : PlanParts) (sound : IsSound plan) where
-  count_first : (lines : List ℕ) (n : ℕ) → StandsIn plan.queue n → count_of (none_out plan.queue (first_counts plan) lines) n ≡ count_before (test_at plan.tests n)
-  count_first lines n stands =
+  count_first : (lines bunches : List ℕ) (n : ℕ) → StandsIn plan.queue n → count_of (none_out plan.queue (first_counts plan) lines bunches) n ≡ count_before (test_at plan.tests n)
+  count_first lines bunches n stands =
       get_or-map (λ (k : ℕ). count_before (test_at plan.tests k)) plan.queue (place_of plan.queue n) 0 0 stands
       ∙ ap (λ (k : ℕ). count_before (test_at plan.tests k)) (test_at_place plan.queue n stands)
 
   -- the tests of the queue begin with as many predecessors as they have, and none of them is out
-  pub begins_queued : (lines : List ℕ) → AreLinesOf plan lines → IsQueued plan [] [] (none_out plan.queue (first_counts plan) lines)
-  begins_queued lines are = record {
+  pub begins_queued : (lines bunches : List ℕ) → AreLinesOf plan lines → IsQueued plan [] [] (none_out plan.queue (first_counts plan) lines bunches)
+  begins_queued lines bunches are = record {
     order = refl;
     counted = length-map plan.queue (λ (k : ℕ). count_before (test_at plan.tests k));
     said = length-replicate (length plan.queue) false;
@@ -102,7 +102,7 @@ module _ (plan : PlanParts) (sound : IsSound plan) where
         let t = at.test in
         let linked = all_found (has_sound_links plan.tests) (λ (x : PlanTest). x.number == n) plan.tests t sound.links at.found in
         let here : length t.before ≡ open_before plan [] t + 0 = omega (arith, open_first plan t linked) in
-        count_first lines n stands ∙ subst (λ (o : Option PlanTest). count_before o ≡ open_before_at plan [] o + 0) (sym at.found) here;
+        count_first lines bunches n stands ∙ subst (λ (o : Option PlanTest). count_before o ≡ open_before_at plan [] o + 0) (sym at.found) here;
     outs = λ n stands.
         let at = queued_enabled plan sound n stands in
         let t = at.test in

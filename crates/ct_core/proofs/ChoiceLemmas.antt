@@ -1,11 +1,11 @@
 -- What is kept beside the history says of the choice: which test is settled, and which starts.
-use Rattle.std.proofs.Common.{◌≡◌, ◌≢◌, ◌∙◌, sym, ap, subst, Bool, true, false, ℕ, ◌+◌, ◌-◌, ◌<◌, ◌≤◌, ◌^◌, List, [], ◌∷◌, ◌++◌, length, refl, arith, inl, inr, get_or, suc, take, drop}
+use Rattle.std.proofs.Common.{◌≡◌, ◌≢◌, ◌∙◌, sym, ap, subst, Bool, true, false, ℕ, ◌-◌, ◌<◌, ◌≤◌, ◌^◌, List, [], ◌∷◌, ◌++◌, length, refl, arith, inl, inr, get_or, suc, take, drop}
 use Rattle.std.specs.Prelude.{Result, Ok, Err, IfErr, Option, Some, None, ◌==◌, ◌&&◌, ◌||◌, not, is_some, nat_le, option_and_then, slice_get, if◌then◌else◌, MatchOption}
 use Rattle.std.proofs.Math.Path.{fun_ext}
 use Rattle.std.proofs.lemmas.Bool.{and_from, and_parts, cases_Bool, false_from_ne_true, leb-true, ne_eqb}
 use Rattle.std.proofs.Math.Seq.{split_at}
-use Rattle.std.proofs.lemmas.List.{length-map, take_more}
-use Rattle.std.proofs.lemmas.List.Elements.{All-contains, All-push}
+use Rattle.std.proofs.lemmas.List.{length-map}
+use Rattle.std.proofs.lemmas.List.Elements.{All-contains}
 use Rattle.std.proofs.lemmas.Option.{none-some, same_Some, slice_get_read}
 use Rattle.ct_alloc.specs.declared.placement.Placement.{Placement}
 use Rattle.ct_alloc.specs.Free.{FreeValue, NoneFits, used_at}
@@ -106,12 +106,10 @@ module _ (plan : PlanParts) (es : List Entry) where
   first_found i n None lt is none some of = absurd (true_is_false (sym some))
   first_found i n (Some start) lt is none some of = first_starts i n start lt is none of
 
-  -- one test more of the queue may not start
-  pub none_more : (i n : ℕ) (found : Option Startable) → i < length plan.queue → n ≡ get_or plan.queue i 0 → NoneStarts plan es (take i plan.queue) → is_some found ≡ false → MatchOption found (CanStart plan es n → ⊥) (λ s. IsStartOf plan es n s) → NoneStarts plan es (take (i + 1) plan.queue)
-  none_more i n (Some start) lt is none unfound of = absurd (true_is_false unfound)
-  none_more i n None lt is none unfound of =
-      subst (λ (ns : List ℕ). NoneStarts plan es ns) (sym (take_more plan.queue i 0 lt ∙ ap (λ (m : ℕ). take i plan.queue ++ m ∷ []) (sym is)))
-      (All-push (λ m. CanStart plan es m → ⊥) (take i plan.queue) n none of)
+  -- and where none was found it can't start
+  pub first_unable : (n m : ℕ) (found : Option Startable) → n ≡ m → is_some found ≡ false → MatchOption found (CanStart plan es n → ⊥) (λ s. IsStartOf plan es n s) → CanStart plan es m → ⊥
+  first_unable n m (Some start) same unfound of = absurd (true_is_false unfound)
+  first_unable n m None same unfound of = subst (λ (k : ℕ). CanStart plan es k → ⊥) same of
 
 -- where all waits for an end, something is open
 pub stuck_busy : (plan : PlanParts) (es : List Entry) → IsSound plan → IsStuck plan es → is_idle es ≡ false
@@ -189,26 +187,26 @@ due_may plan es n t due found =
     ∙ ap (λ (b : Bool). b && is_ready plan u es && has_room plan u es) due.pending
     ∙ ap (λ (b : Bool). b && has_room plan u es) due.ready)
 
--- a test that is due, as it is found at its place: where it may start, and how many of its attempts have ended
-pub record IsDueAt (plan : PlanParts) (es : List Entry) (parts : Parts) (number place : ℕ) (t : PlanTest) : Type 0 where
+-- a test that is due, as it is found at its place: where it may start
+pub record IsDueAt (plan : PlanParts) (es : List Entry) (parts : Parts) (number : ℕ) (t : PlanTest) : Type 0 where
   pub found : test_at plan.tests number ≡ Some t
   pub room : may_start_if_placed plan t es ≡ has_room_beside plan.level parts.in_use t
-  pub stands : (s : State) → s ≡ get_or parts.states.items place s → s ≡ Pending (length (attempts_of t.number t.rules es))
 
-pub due_at : (plan : PlanParts) (es : List Entry) (parts : Parts) (n place : ℕ) (t : PlanTest) (tests : List PlanTest) → AreTold plan es parts → IsDue plan es n → tests ≡ plan.tests → IsPlaceOf tests n place → t ≡ get_or tests place t → IsDueAt plan es parts n place t
+pub due_at : (plan : PlanParts) (es : List Entry) (parts : Parts) (n place : ℕ) (t : PlanTest) (tests : List PlanTest) → AreTold plan es parts → IsDue plan es n → tests ≡ plan.tests → IsPlaceOf tests n place → t ≡ get_or tests place t → IsDueAt plan es parts n t
 due_at plan es parts n place t tests told due same at is =
     let here : IsPlaceOf plan.tests n place = subst (λ (ts : List PlanTest). IsPlaceOf ts n place) same at in
     let there : slice_get plan.tests place ≡ Some t = slice_get_read plan.tests (length plan.tests) place t refl here.within (is ∙ ap (λ (ts : List PlanTest). get_or ts place t) same) in
     let found : test_at plan.tests n ≡ Some t = sym here.there ∙ there in
-    let this : due.test ≡ t = same_Some due.test t (sym due.planned ∙ found) in
-    let pending : is_pending plan t es ≡ true = subst (λ (v : PlanTest). is_pending plan v es ≡ true) this due.pending in
     record {
       found = found;
       room = due_may plan es n t due found ∙ sym (room_beside plan es parts.in_use t told.in_use);
-      stands = λ s read.
-          same_Some s (Pending (length (attempts_of t.number t.rules es)))
-          (sym (state_there plan es parts n place s told here read) ∙ pending_at plan es n place t here found pending);
     }
+
+-- and how it stands there: so many of its attempts have ended
+pub due_stands : (plan : PlanParts) (es : List Entry) (parts : Parts) (n place : ℕ) (s : State) → AreTold plan es parts → (due : IsDue plan es n) → IsPlaceOf plan.tests n place → s ≡ get_or parts.states.items place s → s ≡ Pending (length (attempts_of due.test.number due.test.rules es))
+due_stands plan es parts n place s told due here read =
+    same_Some s (Pending (length (attempts_of due.test.number due.test.rules es)))
+    (sym (state_there plan es parts n place s told here read) ∙ pending_at plan es n place due.test here due.planned due.pending)
 
 pub attempts_stand : (s : State) (k most : ℕ) → s ≡ Pending k → s ≡ Pending most → k ≡ most
 attempts_stand s k most is stands = let same : Pending k ≡ Pending most = sym is ∙ stands in (cc)

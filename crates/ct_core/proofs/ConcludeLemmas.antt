@@ -100,14 +100,18 @@ module _ (plan : PlanParts) (es : List Entry) (room n : ℕ) (v : Verdict) (part
     reserved = c.reserved;
     told = record { sound = c.told.sound; states = c.told.states; in_use = c.told.in_use; stopped = c.told.stopped; followers = c.told.followers };
     unfinished = let u = c.unfinished in omega (arith, u);
-    queued = record { ready = λ going. absurd (true_is_false (sym stop ∙ going)); settleable = c.stopped stop };
+    queued = record {
+      ready = λ going. absurd (true_is_false (sym stop ∙ going));
+      bunches = λ going. absurd (true_is_false (sym stop ∙ going));
+      settleable = c.stopped stop;
+    };
   }
 
   -- the tests that wait for it are those at its place
   pub followers_here : (place : ℕ) → IsPlaceOf plan.tests n place → followers_at parts place ≡ followers_of plan.tests n → has_stop es ≡ false → AreQueued plan es (followers_at parts place) (counted parts)
   followers_here place at same going =
       let q = c.waiting going in
-      subst (λ (left : List ℕ). AreQueued plan es left (counted parts)) (sym same) (record { ready = q.ready; settleable = q.settleable })
+      subst (λ (left : List ℕ). AreQueued plan es left (counted parts)) (sym same) (record { ready = q.ready; bunches = q.bunches; settleable = q.settleable })
 
   -- without a Stop, once all that wait for it are noted
   pub kept_lowered : has_stop es ≡ false → is_stop_due plan es ≡ false → (new : Parts) → IsLowered (counted parts) new → AreQueued plan es [] new → IsKept plan es room new
@@ -156,6 +160,7 @@ module _ (plan : PlanParts) (es : List Entry) (room n : ℕ) (v : Verdict) (part
         omega (arith, u, same, less);
     queued = record {
       ready = λ goes_on. absurd (true_is_false (sym (stop_added es) ∙ goes_on));
+      bunches = λ goes_on. absurd (true_is_false (sym (stop_added es) ∙ goes_on));
       settleable = stop_settleable plan es new.settleable
           (let have = (c.waiting going).settleable.room in let same = halted.room in omega (arith, have, same))
           marked;

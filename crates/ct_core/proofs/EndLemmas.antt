@@ -28,6 +28,7 @@ use Rattle.ct_core.specs.Places.{stop_places}
 use Rattle.ct_core.specs.Standing.{IsPlaceOf, count_unfinished, state_of, states_of, verdict_of_state}
 use Rattle.ct_core.specs.Waiting.{AreSettleable, IsQueued, followers_of}
 use Rattle.ct_core.specs.Parts.{AreTold, HasRoom, IsConcluding, IsKept}
+use Rattle.ct_core.proofs.KeyLemmas.{bunches_stay}
 use Rattle.ct_core.proofs.DueLemmas.{end_due}
 use Rattle.ct_core.proofs.KeptLemmas.{end_allowed, stop_stays}
 use Rattle.ct_core.proofs.InUseLemmas.{give_possible, given}
@@ -40,6 +41,7 @@ use Rattle.ct_core.proofs.WaitingLemmas.{again_queued, again_settleable, again_s
 pub record IsClosed (place : ℕ) (t : PlanTest) (placement : Option Placement) (state : State) (old new : Parts) : Type 0 where
   pub states : new.states.items ≡ slice_set old.states.items place state
   pub in_use : Gives t placement old.in_use new.in_use
+  pub keys : new.keys.items ≡ old.keys.items
   pub followers : new.followers.items ≡ old.followers.items
   pub stopped : new.stopped ≡ old.stopped
   pub unfinished : new.unfinished ≡ old.unfinished
@@ -190,6 +192,9 @@ module _ (plan : PlanParts) (es : List Entry) (room : ℕ) (parts : Parts) (kept
         ready = λ going.
             let on : has_stop es ≡ false = sym stops ∙ going in
             subst (λ (r : ReadyValue). IsQueued plan more [] r) (sym (ready (kept.told.stopped ∙ on))) (again_queued plan kept.told.sound es n t found a w s so_far holds no_verdict parts.ready (kept.queued.ready on));
+        bunches = λ going.
+            let on : has_stop es ≡ false = sym stops ∙ going in
+            bunches_stay plan parts new closed.keys (ap (λ (r : ReadyValue). r.bunches) (ready (kept.told.stopped ∙ on))) (kept.queued.bunches on);
         settleable = by_stop parts.stopped refl;
       };
     }
@@ -236,6 +241,7 @@ module _ (plan : PlanParts) (es : List Entry) (room : ℕ) (parts : Parts) (kept
           let on : has_stop es ≡ false = sym stops ∙ going in
           record {
             ready = λ _. subst (λ (r : ReadyValue). IsQueued plan more (followers_of plan.tests n) r) (sym ready) (over_queued plan kept.told.sound es n t found a w s so_far holds verdict final parts.ready (kept.queued.ready on));
+            bunches = λ _. bunches_stay plan parts new closed.keys (ap (λ (r : ReadyValue). r.bunches) ready) (kept.queued.bunches on);
             settleable = subst (λ (m : List Bool). AreSettleable plan more (followers_of plan.tests n) m) (sym marks) (over_settleable plan kept.told.sound es n t found a w s so_far holds verdict final parts.settleable on kept.queued.settleable);
           };
       stopped = λ stop. subst (λ (m : List Bool). AreSettleable plan more [] m) (sym marks) (over_stopped plan kept.told.sound es n t found a w s so_far holds verdict final parts.settleable (sym stops ∙ stop) kept.queued.settleable);

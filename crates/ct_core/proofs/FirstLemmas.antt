@@ -15,6 +15,7 @@ use Rattle.ct_queue.specs.Ready.{ReadyValue, none_out}
 use Rattle.ct_core.specs.declared.state.State.{State}
 use Rattle.ct_core.specs.declared.parts.Parts.{Parts}
 use Rattle.ct_core.specs.Begin.{first_counts, first_state, settles_first}
+use Rattle.ct_core.specs.Bunches.{AreBunchesOf}
 use Rattle.ct_core.specs.InUse.{IsInUse}
 use Rattle.ct_core.specs.Lines.{AreLinesOf}
 use Rattle.ct_core.specs.Parts.{IsKept}
@@ -96,13 +97,13 @@ settleable_all tests marks end all marked place =
     ]
 
 -- tests that wait for as many as they have predecessors are those that wait before any entry
-pub queued_first : (plan : PlanParts) → IsSound plan → (counts lines : List ℕ) (ready : ReadyValue) → counts ≡ first_counts plan → AreLinesOf plan lines → ready ≡ none_out plan.queue counts lines → IsQueued plan [] [] ready
-queued_first plan sound counts lines ready counted are is =
-    subst (λ (r : ReadyValue). IsQueued plan [] [] r) (sym (is ∙ ap (λ (ns : List ℕ). none_out plan.queue ns lines) counted)) (begins_queued plan sound lines are)
+pub queued_first : (plan : PlanParts) → IsSound plan → (counts lines bunches : List ℕ) (ready : ReadyValue) → counts ≡ first_counts plan → AreLinesOf plan lines → ready ≡ none_out plan.queue counts lines bunches → IsQueued plan [] [] ready
+queued_first plan sound counts lines bunches ready counted are is =
+    subst (λ (r : ReadyValue). IsQueued plan [] [] r) (sym (is ∙ ap (λ (ns : List ℕ). none_out plan.queue ns lines bunches) counted)) (begins_queued plan sound lines bunches are)
 
 -- what the parts say one by one, they say together
-pub begun : (plan : PlanParts) (parts : Parts) → IsSound plan → parts.states.items ≡ map first_state plan.tests → parts.unfinished ≡ length plan.queue → IsInUse plan [] parts.in_use → parts.followers.items ≡ map (λ (t : PlanTest). followers_of plan.tests t.number) plan.tests → IsQueued plan [] [] parts.ready → AreSettleable plan [] [] parts.settleable → parts.stopped ≡ false → IsKept plan [] 0 parts
-begun plan parts sound states unfinished in_use followers ready settleable stopped = record {
+pub begun : (plan : PlanParts) (parts : Parts) → IsSound plan → parts.states.items ≡ map first_state plan.tests → parts.unfinished ≡ length plan.queue → IsInUse plan [] parts.in_use → parts.followers.items ≡ map (λ (t : PlanTest). followers_of plan.tests t.number) plan.tests → IsQueued plan [] [] parts.ready → AreBunchesOf plan parts.keys.items parts.ready.bunches → AreSettleable plan [] [] parts.settleable → parts.stopped ≡ false → IsKept plan [] 0 parts
+begun plan parts sound states unfinished in_use followers ready bunches settleable stopped = record {
   legal = legal-nil plan;
   reserved = λ some. absurd (omega (arith, some, in_use.opens));
   told = record {
@@ -113,5 +114,5 @@ begun plan parts sound states unfinished in_use followers ready settleable stopp
     followers = followers;
   };
   unfinished = unfinished ∙ unfinished_first plan sound ∙ ap (λ (ss : List State). count_unfinished ss) (sym (states ∙ first_states_of plan));
-  queued = record { ready = λ on. ready; settleable = settleable };
+  queued = record { ready = λ on. ready; bunches = λ on. bunches; settleable = settleable };
 }

@@ -21,6 +21,8 @@ pub mod PickLemmas
 pub mod BeginLemmas
 pub mod ChoiceLemmas
 pub mod LineLemmas
+pub mod BunchLemmas
+pub mod KeyLemmas
 pub mod FirstLemmas
 pub mod StopLemmas
 pub mod CallerLemmas

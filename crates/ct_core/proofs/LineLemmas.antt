@@ -1,11 +1,11 @@
--- Tests that ask for the same: where one that is due can't start, none of them can. So a look at the heads of the lines
--- finds the first test that may.
+-- Tests that ask for the same: where one that is due can't start, none of them can. So where no head of a line can start, no
+-- test can.
 use Rattle.std.proofs.Common.{◌≡◌, ◌∙◌, sym, ap, subst, Bool, true, false, not, ◌&&◌, ◌||◌, ℕ, ◌+◌, ◌<◌, List, [], ◌∷◌, ◌++◌, length, map, take, get_or, nat_le, arith, inl, inr}
 use Rattle.std.specs.Prelude.{Option, Some, None, option_map, option_and_then}
 use Rattle.std.specs.List.{list_any}
 use Rattle.std.proofs.Math.Path.{fun_ext}
 use Rattle.std.proofs.lemmas.Bool.{and_from, cases_Bool}
-use Rattle.std.proofs.lemmas.List.{get_or-map, length-map, map-append, map_more, get_or_default, take_more_same}
+use Rattle.std.proofs.lemmas.List.{get_or-map, length-map, map-append, map_more, take_more_same}
 use Rattle.std.proofs.lemmas.Option.{same_Some, slice_get-get_or}
 use Rattle.ct_history.specs.declared.plan.PlanTest.{PlanTest}
 use Rattle.ct_history.specs.declared.plan.PlanParts.{PlanParts}
@@ -14,12 +14,12 @@ use Rattle.ct_history.specs.Plan.{IsSound, test_at}
 use Rattle.ct_history.specs.History.{Running, has_stop, open_starts, used_processors, used_slots}
 use Rattle.ct_history.specs.Rules.{CanStart, exclude, has_processors, has_room, is_excluded, is_pending, is_placed, is_ready, is_serial, locks_of, may_start_at, shares_name}
 use Rattle.ct_queue.specs.Lines.{AreNumbered}
-use Rattle.ct_queue.specs.Ready.{ReadyValue, IsHead, IsLeastHeadBehind, NoHeadBehind, is_member}
+use Rattle.ct_queue.specs.Ready.{ReadyValue, IsHead, is_member}
 use Rattle.ct_queue.proofs.CallerLemmas.{HasHead, head_of_line}
 use Rattle.ct_core.specs.Lines.{AreLinesOf, AskAlike, Demand, demand_at, demand_of, demand_of_test}
-use Rattle.ct_core.specs.Choice.{NoneSettles, NoneStarts}
+use Rattle.ct_core.specs.Choice.{NoneSettles}
 use Rattle.ct_core.specs.Waiting.{IsDue, IsQueued}
-use Rattle.ct_core.proofs.PickLemmas.{behind_or_before, each_before, found_parts, member_may, no_member, none_before, places_to}
+use Rattle.ct_core.proofs.PickLemmas.{found_parts, member_may, no_member}
 use Rattle.ct_core.proofs.ChoiceLemmas.{next_due}
 
 same_exclude : (t u : PlanTest) (o : Option PlanTest) → t.locks ≡ u.locks → t.serial ≡ u.serial → exclude (Some t) o ≡ exclude (Some u) o
@@ -71,7 +71,7 @@ module _ (plan : PlanParts) (es : List Entry) where
   none_alike n m due alike none can = none (due_starts n m due alike can)
 
 module _ (plan : PlanParts) where
-  demand_there : (place : ℕ) → place < length plan.queue → demand_at plan place ≡ demand_of_test plan (get_or plan.queue place 0)
+  pub demand_there : (place : ℕ) → place < length plan.queue → demand_at plan place ≡ demand_of_test plan (get_or plan.queue place 0)
   demand_there place within =
       ap (λ (o : Option ℕ). option_and_then (demand_of_test plan) o) (slice_get-get_or plan.queue place 0 within)
 
@@ -98,6 +98,10 @@ module _ (plan : PlanParts) (lines : List ℕ) (are : AreLinesOf plan lines) whe
       ∙ ap (λ (ds : List (Option Demand)). get_or ds place None) are.alike
       ∙ get_or-map (demand_of_test plan) plan.queue place 0 None within
 
+  -- at the place of its line, and at its own, the same is asked for
+  pub line_demand : (place : ℕ) → place < length plan.queue → demand_at plan (get_or lines place 0) ≡ demand_at plan place
+  line_demand place within = line_alike place within ∙ sym (demand_there plan place within)
+
   -- the tests of one line ask for the same
   pub one_line : (place other : ℕ) → place < length plan.queue → other < length plan.queue → get_or lines place 0 ≡ get_or lines other 0 → demand_of_test plan (get_or plan.queue place 0) ≡ demand_of_test plan (get_or plan.queue other 0)
   one_line place other within inside same =
@@ -119,7 +123,7 @@ module _ (plan : PlanParts) (sound : IsSound plan) (es : List Entry) (r : ReadyV
       none_alike plan es (get_or plan.queue head.at 0) (get_or plan.queue place 0) due (one_line plan r.lines q.lines head.at place inside within head.same) none
 
   -- where no head before an end can start, no test there can
-  none_headed : (end : ℕ) → ((place : ℕ) → place < end → place < length plan.queue → IsHead r place → CanStart plan es (get_or plan.queue place 0) → ⊥) → (place : ℕ) → place < end → place < length plan.queue → CanStart plan es (get_or plan.queue place 0) → ⊥
+  pub none_headed : (end : ℕ) → ((place : ℕ) → place < end → place < length plan.queue → IsHead r place → CanStart plan es (get_or plan.queue place 0) → ⊥) → (place : ℕ) → place < end → place < length plan.queue → CanStart plan es (get_or plan.queue place 0) → ⊥
   none_headed end none place before within = elim (cases_Bool (is_member r place)) [
     | inl member ↦
         let head = head_of_line r place member in
@@ -127,20 +131,3 @@ module _ (plan : PlanParts) (sound : IsSound plan) (es : List Entry) (r : ReadyV
         behind_head place within head (none head.at (omega (arith, upto, before)) (omega (arith, upto, within)) head.head)
     | inr bare ↦ no_member plan sound es r q place within bare
   ]
-
-  module _ (given : Option ℕ) (none : NoneStarts plan es (take (places_to given) plan.queue)) where
-    -- no test in front of the next head may start
-    pub walk_to : (found : ℕ) → IsLeastHeadBehind r given found → NoneStarts plan es (take found plan.queue)
-    walk_to found next = none_before plan es found (none_headed found (λ place before inside head. elim (behind_or_before given place) [
-      | inl earlier ↦ each_before plan es (places_to given) none place earlier inside
-      | inr behind ↦ absurd (next.least place behind before head)
-    ]))
-
-    -- and none at all where there is no further head
-    pub walk_ends : NoHeadBehind r given → NoneStarts plan es plan.queue
-    walk_ends bare = λ place d inside.
-        subst (λ (n : ℕ). CanStart plan es n → ⊥) (get_or_default plan.queue place 0 d inside)
-        (none_headed (length plan.queue) (λ other before within head. elim (behind_or_before given other) [
-          | inl earlier ↦ each_before plan es (places_to given) none other earlier within
-          | inr behind ↦ absurd (bare other behind head)
-        ]) place inside inside)

@@ -14,7 +14,9 @@ use Rattle.ct_queue.specs.Ready.{ReadyValue, StandsIn, count_of, is_ready, lower
 use Rattle.ct_core.specs.declared.parts.Parts.{Parts}
 use Rattle.ct_core.specs.Standing.{IsPlaceOf}
 use Rattle.ct_core.specs.Waiting.{AreSettleable, IsQueued, cause_then, followers_of}
+use Rattle.ct_core.specs.Bunches.{AreBunchesOf}
 use Rattle.ct_core.specs.Parts.{AreQueued, AreTold, followers_at}
+use Rattle.ct_core.proofs.KeyLemmas.{bunches_stay}
 use Rattle.ct_core.proofs.AllowedLemmas.{number_at}
 use Rattle.ct_core.proofs.EnabledLemmas.{IsEnabled, queued_enabled}
 use Rattle.ct_core.proofs.LowerLemmas.{IsLowered, follower_lowerable, follower_lowered, follower_lowers, follower_stands, marks_settled, marks_unsettled, marks_waiting}
@@ -106,9 +108,12 @@ module _ (plan : PlanParts) (sound : IsSound plan) (es : List Entry) (going : ha
   lower : IsQueued plan es rest (lowered parts.ready x)
   lower = follower_lowers plan sound es wait.number at x rest next parts.ready ready
 
-  module _ (new : Parts) (now : new.ready ≡ lowered parts.ready x) where
+  module _ (new : Parts) (now : new.ready ≡ lowered parts.ready x) (keys : new.keys.items ≡ parts.keys.items) where
     queue : has_stop es ≡ false → IsQueued plan es rest new.ready
     queue goes_on = subst (λ (r : ReadyValue). IsQueued plan es rest r) (sym now) lower
+
+    bunched : has_stop es ≡ false → AreBunchesOf plan new.keys.items new.ready.bunches
+    bunched goes_on = bunches_stay plan parts new keys (ap (λ (r : ReadyValue). r.bunches) now) (queued.bunches goes_on)
 
     pub waits_on : is_ready (lowered parts.ready x) x ≡ false → new.settleable ≡ parts.settleable → AreQueued plan es rest new
     waits_on not_ready same =
@@ -117,6 +122,7 @@ module _ (plan : PlanParts) (sound : IsSound plan) (es : List Entry) (going : ha
         let low = follower_lowered plan sound es wait.number at x rest next parts.ready ready follower.test at_place.0 going follower.found at_place.1 in
         record {
           ready = queue;
+          bunches = bunched;
           settleable = subst (λ (m : List Bool). AreSettleable plan es rest m) (sym same) (marks_waiting plan sound es x rest follower.test at_place.0 (lowered parts.ready x) low parts.settleable marks not_ready);
         }
 
@@ -127,6 +133,7 @@ module _ (plan : PlanParts) (sound : IsSound plan) (es : List Entry) (going : ha
       pub settles_not : is_ready (lowered parts.ready x) x ≡ true → is_some (cause_then plan es t) ≡ false → new.settleable ≡ parts.settleable → AreQueued plan es rest new
       settles_not is_now none same = record {
         ready = queue;
+        bunches = bunched;
         settleable = subst (λ (m : List Bool). AreSettleable plan es rest m) (sym same) (marks_unsettled plan sound es x rest t here (lowered parts.ready x) low parts.settleable marks is_now (no_cause (cause_then plan es t) none));
       }
         where
@@ -141,5 +148,6 @@ module _ (plan : PlanParts) (sound : IsSound plan) (es : List Entry) (going : ha
           by_cause None is none = cc
           by_cause (Some c) is has = record {
             ready = queue;
+            bunches = bunched;
             settleable = subst (λ (m : List Bool). AreSettleable plan es rest m) (sym same) (marks_settled plan sound es x rest t here (lowered parts.ready x) low parts.settleable marks c is_now is);
           }

@@ -1,10 +1,9 @@
 -- What the marks and the set of ready tests say of the choice: which test is settled, and which may start.
-use Rattle.std.proofs.Common.{◌≡◌, ◌∙◌, sym, ap, subst, Bool, true, false, not, ◌&&◌, ◌||◌, ◌⊎◌, ◌==◌, if◌then◌else◌, ℕ, ◌+◌, ◌<◌, ◌≤◌, List, [], ◌∷◌, length, take, get_or, slice_get, is_some, is_none, ltb, nat_le, refl, arith, inl, inr}
+use Rattle.std.proofs.Common.{◌≡◌, ◌∙◌, sym, ap, subst, Bool, true, false, not, ◌&&◌, ◌||◌, ◌==◌, if◌then◌else◌, ℕ, ◌+◌, ◌<◌, ◌≤◌, List, [], ◌∷◌, length, take, get_or, slice_get, is_some, is_none, ltb, nat_le, refl, arith, inl, inr}
 use Rattle.std.specs.Prelude.{Option, Some, None}
 use Rattle.std.specs.List.{list_any}
 use Rattle.std.proofs.lemmas.Bool.{true≢false, and_from, and_parts, cases_Bool, cases_lt, leb-true, ltb-true, or_right}
 use Rattle.std.proofs.lemmas.List.{get_or_default, get_or-take, length-take}
-use Rattle.std.proofs.lemmas.List.Elements.{All-more}
 use Rattle.std.proofs.lemmas.Option.{none-some, same_Some, slice_get_within}
 use Rattle.ct_alloc.specs.declared.placement.Placement.{Placement}
 use Rattle.ct_verdict.specs.declared.verdict.Cause.{Cause}
@@ -17,7 +16,7 @@ use Rattle.ct_history.specs.History.{Running, has_stop, open_starts, used_proces
 use Rattle.ct_history.specs.Rules.{CanStart, cause_behind, exclude, first_unpassed, follows_finals, has_room, is_pending, is_ready, is_serial, locks_of, may_start_at, may_start_if_placed, settle_cause, settle_cause_at, shares_name}
 use Rattle.ct_history.proofs.MayLemmas.{MayStart, may_start-parts}
 use Rattle.ct_history.proofs.ProgressLemmas.{all_found}
-use Rattle.ct_queue.specs.Ready.{ReadyValue, IsBehind, count_at, is_member, is_out_at, place_of}
+use Rattle.ct_queue.specs.Ready.{ReadyValue, count_at, is_member, is_out_at, place_of}
 use Rattle.ct_queue.specs.Marks.{is_marked, IsLeastWithin, NoneWithin}
 use Rattle.ct_core.specs.Choice.{IsLeastToSettle, NoneSettles, NoneStarts}
 use Rattle.ct_core.specs.Waiting.{AreSettleable, IsQueued, cause_then, settles_but}
@@ -149,7 +148,7 @@ module _ (plan : PlanParts) (sound : IsSound plan) (es : List Entry) (r : ReadyV
       let at : place_of r.order n ≡ place = ap (λ (o : List ℕ). place_of o n) q.order ∙ place_there plan sound place within in
       ap (λ (p : ℕ). is_member r p) (sym at) ∙ ready_says plan es [] r n t q (stands_there plan sound place within) refl found
 
-  member_within : (place : ℕ) → is_member r place ≡ true → place < length plan.queue
+  pub member_within : (place : ℕ) → is_member r place ≡ true → place < length plan.queue
   member_within place member =
       let two = and_parts (ltb place (length r.order) && count_at r place == 0) (not (is_out_at r place)) member in
       let one = and_parts (ltb place (length r.order)) (count_at r place == 0) two.0 in
@@ -211,13 +210,6 @@ abbrev pub places_to : Option ℕ → ℕ
 places_to None = 0
 places_to (Some given) = given + 1
 
-pub behind_or_before : (given : Option ℕ) (place : ℕ) → (place < places_to given) ⊎ IsBehind given place
-behind_or_before None place = inr tt
-behind_or_before (Some given) place = elim (cases_lt place (given + 1)) [
-  | inl before ↦ inl before
-  | inr behind ↦ inr (omega (arith, behind))
-]
-
 module _ (plan : PlanParts) (es : List Entry) where
   -- tests of the queue in front of a place, one by one and all together
   pub none_before : (k : ℕ) → ((place : ℕ) → place < k → place < length plan.queue → CanStart plan es (get_or plan.queue place 0) → ⊥) → NoneStarts plan es (take k plan.queue)
@@ -227,20 +219,6 @@ module _ (plan : PlanParts) (es : List Entry) where
       let inside : place < length plan.queue = omega (arith, within, len) in
       let same : get_or (take k plan.queue) place d ≡ get_or plan.queue place 0 = get_or-take k plan.queue place d before ∙ get_or_default plan.queue place d 0 inside in
       subst (λ (n : ℕ). CanStart plan es n → ⊥) (sym same) (none place before inside)
-
-  pub each_before : (k : ℕ) → NoneStarts plan es (take k plan.queue) → (place : ℕ) → place < k → place < length plan.queue → CanStart plan es (get_or plan.queue place 0) → ⊥
-  each_before k none place before inside =
-      let len = length-take k plan.queue in
-      let within : place < length (take k plan.queue) = omega (arith, before, inside, len) in
-      subst (λ (n : ℕ). CanStart plan es n → ⊥) (get_or-take k plan.queue place 0 before) (none place 0 within)
-
-  -- no test is skipped in front of the first
-  pub walk_begins : NoneStarts plan es (take (places_to None) plan.queue)
-  walk_begins = λ place d within. absurd (omega (arith, within))
-
-  -- one test more that can't start
-  pub walk_on : (found : ℕ) → found < length plan.queue → NoneStarts plan es (take found plan.queue) → (CanStart plan es (get_or plan.queue found 0) → ⊥) → NoneStarts plan es (take (places_to (Some found)) plan.queue)
-  walk_on found within none this = All-more (λ n. CanStart plan es n → ⊥) plan.queue found 0 within none this
 
 -- where one test passes and each that does passes another, one passes the other
 any_wider : {A : Type 0} (p q : A → Bool) → ((x : A) → p x ≡ true → q x ≡ true) → (xs : List A) → list_any p xs ≡ true → list_any q xs ≡ true

@@ -23,6 +23,7 @@ use Rattle.ct_core.specs.Places.{stop_places}
 use Rattle.ct_core.specs.Standing.{IsPlaceOf, count_unfinished}
 use Rattle.ct_core.specs.Waiting.{AreSettleable, IsQueued, followers_of}
 use Rattle.ct_core.specs.Parts.{IsConcluding, IsKept, IsSettled}
+use Rattle.ct_core.proofs.KeyLemmas.{bunches_stay}
 use Rattle.ct_core.proofs.DueLemmas.{settle_due}
 use Rattle.ct_core.proofs.KeptLemmas.{one_place_most, settle_allowed, stop_stays}
 use Rattle.ct_core.proofs.OpenStartLemmas.{opens_settle}
@@ -105,6 +106,7 @@ module _ (plan : PlanParts) (es : List Entry) (room : ℕ) (parts : Parts) (kept
         let runs : parts.stopped ≡ false = kept.told.stopped ∙ on in
         record {
           ready = λ _. subst (λ (r : ReadyValue). IsQueued plan more (followers_of plan.tests n) r) (sym (set.ready runs)) (settle_queued plan kept.told.sound es n one.test one.found c one.has parts.ready (kept.queued.ready on));
+          bunches = λ _. bunches_stay plan parts new set.keys (ap (λ (r : ReadyValue). r.bunches) (set.ready runs)) (kept.queued.bunches on);
           settleable = subst (λ (m : List Bool). AreSettleable plan more (followers_of plan.tests n) m) (sym set.settleable) (settle_settleable plan kept.told.sound es n one.test one.found c one.has parts.settleable place on at kept.queued.settleable);
         };
     stopped = λ stop.

@@ -23,6 +23,7 @@ use Rattle.ct_core.specs.Places.{stop_places}
 use Rattle.ct_core.specs.Standing.{IsPlaceOf, count_unfinished, state_of}
 use Rattle.ct_core.specs.Waiting.{AreSettleable, IsQueued}
 use Rattle.ct_core.specs.Parts.{IsKept}
+use Rattle.ct_core.proofs.KeyLemmas.{bunches_stay}
 use Rattle.ct_core.proofs.KeptLemmas.{one_place_most, start_allowed, stop_stays}
 use Rattle.ct_core.proofs.InUseLemmas.{take_possible, taken}
 use Rattle.ct_core.proofs.OpenStartLemmas.{start_opens}
@@ -36,6 +37,7 @@ pub record IsBegun (place number ended : ℕ) (t : PlanTest) (placement : Option
   pub in_use : Takes t placement old.in_use new.in_use
   pub ready : new.ready ≡ with_out old.ready number true
   pub settleable : new.settleable ≡ old.settleable
+  pub keys : new.keys.items ≡ old.keys.items
   pub followers : new.followers.items ≡ old.followers.items
   pub stopped : new.stopped ≡ old.stopped
   pub unfinished : new.unfinished ≡ old.unfinished
@@ -136,6 +138,7 @@ module _ (plan : PlanParts) (es : List Entry) (room : ℕ) (parts : Parts) (kept
         omega (arith, equal, now, as_before, before);
     queued = record {
       ready = λ _. subst (λ (r : ReadyValue). IsQueued plan more [] r) (sym begun.ready) (start_queued plan kept.told.sound es n t found start.attempt w p may parts.ready (kept.queued.ready going));
+      bunches = λ _. bunches_stay plan parts new begun.keys (ap (λ (r : ReadyValue). r.bunches) begun.ready) (kept.queued.bunches going);
       settleable = subst (λ (m : List Bool). AreSettleable plan more [] m) (sym begun.settleable) (start_settleable plan kept.told.sound es n t found start.attempt w p may parts.settleable kept.queued.settleable);
     };
   }

@@ -12,6 +12,7 @@ pub mod Waiting
 pub mod Begin
 pub mod Locks
 pub mod InUse
+pub mod Bunches
 pub mod Places
 pub mod Parts
 pub mod Run

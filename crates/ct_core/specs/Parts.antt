@@ -16,6 +16,7 @@ use Rattle.ct_history.specs.History.{has_stop, open_starts}
 use Rattle.ct_history.specs.Legal.{is_allowed_so_far, is_legal, is_stop_due}
 use Rattle.ct_history.specs.Verdicts.{verdict_of_test}
 use Rattle.ct_core.specs.declared.parts.Parts.{Parts}
+use Rattle.ct_core.specs.Bunches.{AreBunchesOf}
 use Rattle.ct_core.specs.Places.{stop_places}
 use Rattle.ct_core.specs.InUse.{IsInUse}
 use Rattle.ct_core.specs.Standing.{count_unfinished, is_pending_state, states_of}
@@ -39,9 +40,11 @@ pub record AreTold (plan : PlanParts) (entries : List Entry) (parts : Parts) : T
   pub stopped : parts.stopped ≡ has_stop entries
   pub followers : parts.followers.items ≡ map (λ (t : PlanTest). followers_of plan.tests t.number) plan.tests
 
--- the tests that are ready, and those that may be settled, are as the history says, but for those of `left`
+-- the tests that are ready, and those that may be settled, are as the history says, but for those of `left`; those of one
+-- bunch wait for one lock, or ask for the same
 pub record AreQueued (plan : PlanParts) (entries : List Entry) (left : List ℕ) (parts : Parts) : Type 0 where
   pub ready : has_stop entries ≡ false → IsQueued plan entries left parts.ready
+  pub bunches : has_stop entries ≡ false → AreBunchesOf plan parts.keys.items parts.ready.bunches
   pub settleable : AreSettleable plan entries left parts.settleable
 
 -- while something is open there is room for each end and a Stop, so that an end takes no memory
@@ -78,6 +81,7 @@ pub record IsLowered (old new : Parts) : Type 0 where
   pub states : new.states.items ≡ old.states.items
   pub unfinished : new.unfinished ≡ old.unfinished
   pub in_use : new.in_use ≡ old.in_use
+  pub keys : new.keys.items ≡ old.keys.items
   pub followers : new.followers.items ≡ old.followers.items
   pub stopped : new.stopped ≡ old.stopped
 
@@ -86,6 +90,7 @@ pub record GoesOn (place number attempts : ℕ) (old new : Parts) : Type 0 where
   pub states : new.states.items ≡ slice_set old.states.items place (Pending attempts)
   pub unfinished : new.unfinished ≡ old.unfinished
   pub in_use : new.in_use ≡ old.in_use
+  pub keys : new.keys.items ≡ old.keys.items
   pub followers : new.followers.items ≡ old.followers.items
   pub stopped : new.stopped ≡ old.stopped
   pub ready : old.stopped ≡ false → new.ready ≡ with_out old.ready number false
@@ -96,6 +101,7 @@ pub record IsSettled (place number : ℕ) (cause : Cause) (old new : Parts) : Ty
   pub states : new.states.items ≡ slice_set old.states.items place (Final (NotRun cause))
   pub unfinished : new.unfinished ≡ old.unfinished
   pub in_use : new.in_use ≡ old.in_use
+  pub keys : new.keys.items ≡ old.keys.items
   pub followers : new.followers.items ≡ old.followers.items
   pub stopped : new.stopped ≡ old.stopped
   pub ready : old.stopped ≡ false → new.ready ≡ with_out old.ready number true
@@ -106,6 +112,7 @@ pub record IsStoppedTo (places : ℕ) (old new : Parts) : Type 0 where
   pub states : new.states.items ≡ old.states.items
   pub unfinished : new.unfinished ≡ old.unfinished
   pub in_use : new.in_use ≡ old.in_use
+  pub keys : new.keys.items ≡ old.keys.items
   pub followers : new.followers.items ≡ old.followers.items
   pub stopped : new.stopped ≡ true
   pub room : length new.settleable ≡ length old.settleable

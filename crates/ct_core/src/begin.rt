@@ -1,10 +1,12 @@
 ghost use Rattle.std.specs.Prelude.{◌≡◌, ℕ, ◌-◌, ◌<◌, ◌≤◌, ◌^◌, Some, [], IfOk, length, map, slice_get};
 ghost use Rattle.ct_core.specs.Begin.{count_before, first_counts, first_state, settles_first};
+ghost use Rattle.ct_core.specs.Bunches.{AreBunchesOf};
 ghost use Rattle.ct_core.specs.Parts.{IsKept};
 ghost use Rattle.ct_core.specs.Waiting.{AreSettleable, IsQueued};
 ghost use Rattle.ct_history.specs.Plan.{IsAscendingFrom, IsSound, test_at};
 ghost use Rattle.ct_queue.specs.Marks.{is_marked};
 
+use crate::bunches::{bunches_of, keys_of};
 use crate::followers::followers;
 use crate::in_use::nothing;
 use crate::lines::lines_of;
@@ -27,12 +29,14 @@ impl Parts {
         if tests.len() >= u32::MAX as usize {
             return Err(NoMemory);
         }
+        let keys = keys_of(alloc, plan)?;
         Ok(Parts {
             states: first_states(alloc, tests)?,
             unfinished: plan.queue.len(),
             in_use: nothing(alloc, plan)?,
             followers: followers(alloc, tests)?,
-            ready: first_ready(alloc, plan)?,
+            ready: first_ready(alloc, plan, keys.as_slice())?,
+            keys,
             settleable: first_settleable(alloc, plan)?,
             stopped: false,
         })
@@ -60,15 +64,18 @@ fn first_state(test: &PlanTest) -> State
     }
 }
 
-/// Has each test of the queue wait for its predecessors, in line with those that ask for the same.
-fn first_ready(alloc: Global, plan: &PlanParts) -> Result<Ready, NoMemory>
+/// Has each test of the queue wait for its predecessors, in line with those that ask for the same, and in one bunch with
+/// those that wait for the same lock.
+fn first_ready(alloc: Global, plan: &PlanParts, keys: &[Option<u32>]) -> Result<Ready, NoMemory>
     requires sound { IsSound plan.now }
     requires few { length plan.now.tests < 2 ^ 32 - 1 }
-    ensures { IfOk result (λ ready. IsQueued plan.now [] [] ready) }
+    ensures queued { IfOk result (λ ready. IsQueued plan.now [] [] ready) }
+    ensures bunches { IfOk result (λ ready. AreBunchesOf plan.now keys.now ready.bunches) }
 {
     let counts = first_counts(alloc, plan)?;
     let lines = lines_of(alloc, plan)?;
-    Ok(Ready::in_lines(alloc, &plan.queue, &counts, &lines)?)
+    let bunches = bunches_of(alloc, plan, keys, &lines)?;
+    Ok(Ready::in_lines(alloc, &plan.queue, &counts, &lines, &bunches)?)
 }
 
 fn first_counts(alloc: Global, plan: &PlanParts) -> Result<List<u32>, NoMemory>

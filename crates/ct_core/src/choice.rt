@@ -1,14 +1,19 @@
-ghost use Rattle.std.specs.Prelude.{◌≡◌, find, not, true, IfErr, IfOk, MatchOption, Some, if◌then◌else◌};
-ghost use Rattle.ct_core.specs.Choice.{IsChoice, IsLeastToSettle, IsStartOf, IsStartable, NoneSettles, NoneStarts, SomeIsToPlace, TakesMemory, may_start_if_placed_at};
+ghost use Rattle.std.specs.Prelude.{◌≡◌, ◌↔◌, ◌<◌, find, length, not, slice_index, true, false, IfErr, IfOk, IsTrue, MatchOption, None, Some, if◌then◌else◌};
+ghost use Rattle.ct_core.specs.Bunches.{IsBefore, IsFirstOfBunch, IsNewBunchTo, NoNewBunchTo, NoneOfBunch, has_room_at, is_free_lock, key_at, test_in_queue};
+ghost use Rattle.ct_core.specs.Choice.{IsChoice, IsLeastToSettle, IsStartOf, IsStartable, NoneSettles, NoneStarts, SomeIsToPlace, TakesMemory, attempt_after, may_start_if_placed_at};
+ghost use Rattle.ct_core.specs.Locks.{is_held};
 ghost use Rattle.ct_core.specs.Parts.{AreTold};
 ghost use Rattle.ct_core.specs.Run.{IsKeptRun, entries_of};
 ghost use Rattle.ct_core.specs.Waiting.{IsDue, cause_then};
 ghost use Rattle.ct_history.specs.History.{has_stop};
 ghost use Rattle.ct_history.specs.Plan.{IsSound, test_at};
-ghost use Rattle.ct_history.specs.Rules.{CanStart, is_passed_verdict};
+ghost use Rattle.ct_history.specs.Rules.{CanStart, is_passed_verdict, may_start_at};
 ghost use Rattle.ct_history.specs.Verdicts.{verdict_of_test};
+ghost use Rattle.ct_queue.specs.Ready.{IsHead};
 ghost use Rattle.ct_verdict.specs.declared.verdict.Cause.TheVariants.{Stopped};
 
+use crate::bunches::key_at;
+use crate::lines::test_in;
 use crate::places::{expect_place, place_of};
 use crate::run::Run;
 use crate::slots::{Place, place_for};
@@ -125,7 +130,8 @@ impl Run {
 
     /// Finds the first test of the queue that may start, with its placement.
     ///
-    /// It tries the first ready test of each line alone: where that one can't start, no other of its line can.
+    /// It tries the first ready test of each line alone: where that one can't start, no other of its line can. And of a
+    /// bunch, whose tests wait for one lock, it tries the first of the first line alone as long as that lock is held.
     fn first_to_start(&self, alloc: Global) -> Result<Option<Startable>, NoMemory>
         requires kept { IsKeptRun self.now }
         requires unsettled { NoneSettles self.now.plan (entries_of self.now) }
@@ -139,14 +145,31 @@ impl Run {
         }
         let queue = plan.queue.as_slice();
         let mut behind = None;
-        while let Some(place) = self.parts.ready.head_after(behind) {
-            let found = self.next_start(alloc, queue[place as usize])?;
+        let mut best = None;
+        while let Some(first) = self.next_bunch(behind, best) {
+            let found = self.next_start(alloc, queue[first as usize])?;
             if found.is_some() {
                 return Ok(found);
             }
-            behind = Some(place);
+            best = self.first_of_bunch(first, best).or(best);
+            behind = Some(first);
         }
-        Ok(None)
+        match best {
+            Some(place) => Ok(Some(self.start_unplaced(queue[place as usize]))),
+            None => Ok(None),
+        }
+    }
+
+    /// Finds the first head of a new bunch behind a place and in front of an end.
+    fn next_bunch(&self, behind: Option<u32>, end: Option<u32>) -> Option<u32>
+        ensures { MatchOption result (NoNewBunchTo self.now.parts.ready behind end) (λ first. IsNewBunchTo self.now.parts.ready behind end first) }
+    {
+        let first = self.parts.ready.new_bunch_after(behind)?;
+        if is_before(first, end) {
+            Some(first)
+        } else {
+            None
+        }
     }
 
     /// Finds the next attempt of a test that is ready, and its placement, where it may start with some.
@@ -158,23 +181,110 @@ impl Run {
         ensures err { IfErr result (λ _. may_start_if_placed_at self.now.plan (entries_of self.now) (test_at self.now.plan.tests number) ≡ true) }
     {
         let plan = self.plan.parts();
-        let _times = plan.repeat.times;
         let tests = plan.tests.as_slice();
         let place = expect_place(tests, number);
         let test = &tests[place];
         if !self.parts.in_use.has_room(plan.level, test) {
             return Ok(None);
         }
-        let State::Pending(attempts) = self.parts.states[place] else {
-            unreachable!();
-        };
         match place_for(alloc, self.parts.in_use.free.as_ref(), &test.needs)? {
             Place::Here(placement) => Ok(Some(Startable {
                 test: number,
-                attempt: attempts + 1,
+                attempt: self.next_attempt(number),
                 placement,
             })),
             Place::Nowhere => Ok(None),
         }
+    }
+
+    /// Counts the next attempt of a test that may start wherever its needs are met.
+    fn next_attempt(&self, number: u32) -> u32
+        requires kept { IsKeptRun self.now }
+        requires due { IsDue self.now.plan (entries_of self.now) number }
+        requires may { may_start_if_placed_at self.now.plan (entries_of self.now) (test_at self.now.plan.tests number) ≡ true }
+        ensures { result ≡ attempt_after (entries_of self.now) (test_at self.now.plan.tests number) }
+    {
+        let plan = self.plan.parts();
+        let _times = plan.repeat.times;
+        let place = expect_place(plan.tests.as_slice(), number);
+        match self.parts.states[place] {
+            State::Pending(attempts) => attempts + 1,
+            _ => unreachable!(),
+        }
+    }
+
+    /// Gives the next attempt of a test that may start without a placement.
+    fn start_unplaced(&self, number: u32) -> Startable
+        requires kept { IsKeptRun self.now }
+        requires due { IsDue self.now.plan (entries_of self.now) number }
+        requires may { may_start_at self.now.plan (entries_of self.now) None (test_at self.now.plan.tests number) ≡ true }
+        ensures { IsStartOf self.now.plan (entries_of self.now) number result }
+    {
+        Startable {
+            test: number,
+            attempt: self.next_attempt(number),
+            placement: None,
+        }
+    }
+
+    /// Finds, behind the first head of a bunch, which can't start, and in front of an end, the first one that may start.
+    ///
+    /// Where the lock of the bunch is held, none may; nor where it has none, since its tests then ask for the same.
+    fn first_of_bunch(&self, first: u32, end: Option<u32>) -> Option<u32>
+        requires kept { IsKeptRun self.now }
+        requires goes_on { has_stop (entries_of self.now) ≡ false }
+        requires unsettled { NoneSettles self.now.plan (entries_of self.now) }
+        requires head { IsHead self.now.parts.ready first }
+        requires unable { CanStart self.now.plan (entries_of self.now) (slice_index self.now.plan.queue first) → ⊥ }
+        ensures { MatchOption result (NoneOfBunch self.now.plan (entries_of self.now) self.now.parts.ready first end)
+            (λ found. IsFirstOfBunch self.now.plan (entries_of self.now) self.now.parts.ready first end found) }
+    {
+        if !self.is_open(first) {
+            return None;
+        }
+        let mut place = first;
+        while let Some(head) = self.parts.ready.next_head(place) {
+            if !is_before(head, end) {
+                return None;
+            }
+            if self.has_room(head) {
+                return Some(head);
+            }
+            place = head;
+        }
+        None
+    }
+
+    /// Tells whether the bunch of the test at a place of the queue waits for a lock that is not held.
+    fn is_open(&self, place: u32) -> bool
+        requires { IsKeptRun self.now }
+        ensures { result ≡ is_free_lock (is_held self.now.parts.in_use.locks) (key_at self.now.plan self.now.parts.keys.items place) }
+    {
+        match key_at(self.plan.parts(), self.parts.keys.as_slice(), place) {
+            Some(lock) => !self.parts.in_use.locks.is_held(lock),
+            None => false,
+        }
+    }
+
+    /// Tells whether there is room for the test at a place of the queue beside what is in use.
+    fn has_room(&self, place: u32) -> bool
+        requires { place < length self.now.plan.queue }
+        ensures { result ≡ has_room_at self.now.plan self.now.parts.in_use (test_in_queue self.now.plan place) }
+    {
+        let plan = self.plan.parts();
+        match test_in(plan, place) {
+            Some(test) => self.parts.in_use.has_room(plan.level, test),
+            None => false,
+        }
+    }
+}
+
+/// Tells whether a place stands in front of an end, if one is given.
+fn is_before(place: u32, end: Option<u32>) -> bool
+    ensures { IsTrue result ↔ IsBefore end place }
+{
+    match end {
+        Some(end) => place < end,
+        None => true,
     }
 }

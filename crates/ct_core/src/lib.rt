@@ -7,6 +7,7 @@
 #![tactic(auto)]
 
 mod begin;
+mod bunches;
 mod choice;
 mod followers;
 mod gate;

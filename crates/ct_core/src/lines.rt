@@ -64,7 +64,7 @@ fn is_line_for(plan: &PlanParts, line: u32, test: &PlanTest) -> bool
 }
 
 /// Looks up the test at a place of the queue.
-fn test_in(plan: &PlanParts, place: u32) -> Option<&PlanTest>
+pub(crate) fn test_in(plan: &PlanParts, place: u32) -> Option<&PlanTest>
     requires { IsAscendingFrom 1 (map (λ t. t.number) plan.now.tests) }
     ensures { option_copied result ≡ option_and_then (test_at plan.now.tests) (slice_get plan.now.queue place) }
 {

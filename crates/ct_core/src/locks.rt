@@ -38,7 +38,8 @@ impl Locks {
         names.iter().any(|name| self.is_held(name))
     }
 
-    fn is_held(&self, name: &Name) -> bool
+    /// Tells whether this lock is held.
+    pub(crate) fn is_held(&self, name: &Name) -> bool
         ensures { result ≡ is_held self.now name.now }
     {
         match self.held.get(name.bytes()) {

@@ -19,6 +19,8 @@ pub(crate) struct Parts {
     pub(crate) in_use: InUse,
     /// The tests that wait for each test, by its place in the plan.
     pub(crate) followers: Vec<List<u32>>,
+    /// By place in the queue, which of a test's locks it waits for together with others: a position in its list.
+    pub(crate) keys: Vec<Option<u32>>,
     /// The tests that are ready to start, as long as no Stop stands.
     pub(crate) ready: Ready,
     /// The places of the tests that may be settled.

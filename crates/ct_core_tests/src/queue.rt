@@ -1,4 +1,4 @@
-//! The ready tests of a run, as the core looks for them: behind each place, and at the head of each line.
+//! The ready tests of a run, as the core looks for them: behind each place, by bunches, and by the lines of a bunch.
 
 use ct_base::List;
 use ct_queue::Ready;
@@ -18,11 +18,11 @@ fn find_as_told(rt: &impl Abort, ready: &Ready, row: &str) {
     }
 }
 
-/// Compares the least place of a head behind each place, or from the `front`, with what a row says.
-fn find_heads_as_told(rt: &impl Abort, ready: &Ready, row: &str) {
+/// Compares the first head of a new bunch behind each place, or from the `front`, with what a row says.
+fn find_bunches_as_told(rt: &impl Abort, ready: &Ready, row: &str) {
     for cell in row.split(", ") {
         let (behind, found) = cell.split_once(" finds ").unwrap_or((cell, ""));
-        assert!(rt; ready.head_after(place(behind)) == place(found), "{row}");
+        assert!(rt; ready.new_bunch_after(place(behind)) == place(found), "{row}");
     }
 }
 
@@ -48,17 +48,21 @@ fn finds_the_first_ready_test_behind_a_place(rt: HostRuntime) -> Result<(), Fail
 }
 
 #[test]
-fn finds_the_first_ready_test_of_each_line(rt: HostRuntime) -> Result<(), Fail> {
+fn finds_the_first_ready_test_of_each_bunch_and_of_its_lines(rt: HostRuntime) -> Result<(), Fail> {
     let alloc = rt.alloc();
-    let order = List::from_vec([4, 3, 2, 1].to_vec(alloc)?);
-    let counts = List::from_vec([0, 0, 0, 0].to_vec(alloc)?);
-    let lines = List::from_vec([0, 1, 0, 1].to_vec(alloc)?);
-    let mut ready = Ready::in_lines(alloc, &order, &counts, &lines)?;
-    find_heads_as_told(&rt, &ready, "front finds 0, 0 finds 1, 1 finds none");
-    ready.out(4);
-    find_heads_as_told(&rt, &ready, "front finds 1, 1 finds 2, 2 finds none");
+    let order = List::from_vec([5, 4, 3, 2, 1].to_vec(alloc)?);
+    let counts = List::from_vec([0, 0, 0, 0, 0].to_vec(alloc)?);
+    let lines = List::from_vec([0, 1, 2, 3, 2].to_vec(alloc)?);
+    let bunches = List::from_vec([0, 1, 0, 1, 0].to_vec(alloc)?);
+    let mut ready = Ready::in_lines(alloc, &order, &counts, &lines, &bunches)?;
+    find_bunches_as_told(&rt, &ready, "front finds 0, 0 finds 1, 1 finds none");
+    assert!(rt; ready.next_head(0) == Some(2) && ready.next_head(2) == None);
+    assert!(rt; ready.next_head(1) == Some(3) && ready.next_head(3) == None);
+    ready.out(5);
+    find_bunches_as_told(&rt, &ready, "front finds 1, 1 finds 2, 2 finds none");
     ready.out(3);
-    ready.back(4);
-    find_heads_as_told(&rt, &ready, "front finds 0, 0 finds 3, 3 finds none");
+    ready.back(5);
+    find_bunches_as_told(&rt, &ready, "front finds 0, 0 finds 1, 1 finds none");
+    assert!(rt; ready.next_head(0) == Some(4) && ready.next_head(4) == None);
     Ok(())
 }

@@ -3,7 +3,8 @@ use Rattle.std.proofs.Common.{ℕ, ◌≡◌, ◌-◌, ◌<◌, ◌≤◌, zero,
 use Rattle.std.proofs.lemmas.Bool.{cases_Bool, cases_eq, eqb-true, eq-eqb, ne_eqb}
 use Rattle.std.proofs.lemmas.List.{get_or-set_same, get_or-set_other}
 use Rattle.std.proofs.lemmas.List.Sums.{passes_at_first, position_or_len_is}
-use Rattle.ct_queue.specs.Ready.{ReadyValue, NamesOnce, StandsIn, place_of, count_at, is_out_at, is_member, count_of, is_out, is_ready, lowered, with_out, IsHead}
+use Rattle.ct_queue.specs.Ready.{ReadyValue, NamesOnce, StandsIn, place_of, count_at, is_out_at, is_member, count_of, is_out, is_ready, lowered, with_out}
+use Rattle.ct_queue.specs.Lines.{IsHeadOf}
 
 -- at the place of a test stands the test
 pub test_at_place : (order : List ℕ) (test : ℕ) → StandsIn order test → get_or order (place_of order test) 0 ≡ test
@@ -41,33 +42,41 @@ with_out_others ready test other is stands there apart =
     with_out_elsewhere ready test (place_of ready.order other) is (λ same. apart (places_apart ready.order other test there stands same))
 
 -- a member has a head of its line, at its own place or before it
-pub record HasHead (ready : ReadyValue) (place : ℕ) : Type 0 where
+pub record HasHeadOf (lines : List ℕ) (is_in : ℕ → Bool) (place : ℕ) : Type 0 where
   pub at : ℕ
   pub upto : at ≤ place
-  pub same : get_or ready.lines at 0 ≡ get_or ready.lines place 0
-  pub head : IsHead ready at
+  pub same : get_or lines at 0 ≡ get_or lines place 0
+  pub head : IsHeadOf lines is_in at
 
-first_of_line : (ready : ReadyValue) (place end : ℕ) → end ≤ place → HasHead ready place ⊎ ((other : ℕ) → other < end → get_or ready.lines other 0 ≡ get_or ready.lines place 0 → is_member ready other ≡ false)
-first_of_line ready place zero upto = inr (λ other before. absurd (omega arith))
-first_of_line ready place (suc end) upto =
-    ⊎_elim inl
-    (λ none.
-    ⊎_elim
-    (λ (is : is_member ready end ≡ true).
-    ⊎_elim
-    (λ (same : get_or ready.lines end 0 ≡ get_or ready.lines place 0).
-    inl (record { at = end; upto = omega arith; same = same; head = record { member = is; first = λ other before alike. none other before (alike ∙ same) } }))
-    (λ (apart : get_or ready.lines end 0 ≡ get_or ready.lines place 0 → ⊥).
-    inr (λ other before alike. ⊎_elim (λ (e : other ≡ end). absurd (apart (ap (λ (p : ℕ). get_or ready.lines p 0) (sym e) ∙ alike))) (λ (ne : other ≡ end → ⊥). none other (omega (arith, ne)) alike) (cases_eq other end)))
-    (cases_eq (get_or ready.lines end 0) (get_or ready.lines place 0)))
-    (λ (no : is_member ready end ≡ false).
-    inr (λ other before alike. ⊎_elim (λ (e : other ≡ end). ap (λ (p : ℕ). is_member ready p) e ∙ no) (λ (ne : other ≡ end → ⊥). none other (omega (arith, ne)) alike) (cases_eq other end)))
-    (cases_Bool (is_member ready end)))
-    (first_of_line ready place end (omega arith))
+-- a ready test has one
+abbrev pub HasHead : ReadyValue → ℕ → Type 0
+HasHead ready place = HasHeadOf ready.lines (is_member ready) place
+
+module _ (lines : List ℕ) (is_in : ℕ → Bool) (place : ℕ) where
+  first_of_line : (end : ℕ) → end ≤ place → HasHeadOf lines is_in place ⊎ ((other : ℕ) → other < end → get_or lines other 0 ≡ get_or lines place 0 → is_in other ≡ false)
+  first_of_line zero upto = inr (λ other before. absurd (omega arith))
+  first_of_line (suc end) upto =
+      ⊎_elim inl
+      (λ none.
+      ⊎_elim
+      (λ (is : is_in end ≡ true).
+      ⊎_elim
+      (λ (same : get_or lines end 0 ≡ get_or lines place 0).
+      inl (record { at = end; upto = omega arith; same = same; head = record { member = is; first = λ other before alike. none other before (alike ∙ same) } }))
+      (λ (apart : get_or lines end 0 ≡ get_or lines place 0 → ⊥).
+      inr (λ other before alike. ⊎_elim (λ (e : other ≡ end). absurd (apart (ap (λ (p : ℕ). get_or lines p 0) (sym e) ∙ alike))) (λ (ne : other ≡ end → ⊥). none other (omega (arith, ne)) alike) (cases_eq other end)))
+      (cases_eq (get_or lines end 0) (get_or lines place 0)))
+      (λ (no : is_in end ≡ false).
+      inr (λ other before alike. ⊎_elim (λ (e : other ≡ end). ap is_in e ∙ no) (λ (ne : other ≡ end → ⊥). none other (omega (arith, ne)) alike) (cases_eq other end)))
+      (cases_Bool (is_in end)))
+      (first_of_line end (omega arith))
+
+  pub head_of : is_in place ≡ true → HasHeadOf lines is_in place
+  head_of is =
+      ⊎_elim (λ found. found) (λ none. record { at = place; upto = omega arith; same = refl; head = record { member = is; first = none } }) (first_of_line place (omega arith))
 
 pub head_of_line : (ready : ReadyValue) (place : ℕ) → is_member ready place ≡ true → HasHead ready place
-head_of_line ready place is =
-    ⊎_elim (λ found. found) (λ none. record { at = place; upto = omega arith; same = refl; head = record { member = is; first = none } }) (first_of_line ready place place (omega arith))
+head_of_line ready place is = head_of ready.lines (is_member ready) place is
 
 -- the changed test itself: its count is one less, or it is out as was said
 pub count_lowered : (ready : ReadyValue) (test : ℕ) → place_of ready.order test < length ready.counts → count_of (lowered ready test) test ≡ count_of ready test - 1

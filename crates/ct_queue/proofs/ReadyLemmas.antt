@@ -7,9 +7,9 @@ use Rattle.std.proofs.lemmas.Bool.{cases_eq, cases_lt, lt-ltb, le-ltb, ltb-true,
 use Rattle.std.proofs.lemmas.List.{length-set, length-map, map-set, get_or_past, get_or-set_other, get_or-replicate, length-replicate, set-get_or}
 use Rattle.std.proofs.lemmas.List.FromFn.{get_or-range_with_len, length-range_with_len}
 use Rattle.std.proofs.lemmas.Grind.{get_or-set_at}
-use Rattle.ct_queue.specs.Ready.{ReadyValue, NamesOnce, StandsIn, place_of, count_at, is_out_at, is_member, none_out, lowered, with_out, IsBehind, NoneBehind, IsLeastBehind, IsHead, NoHeadBehind, IsLeastHeadBehind}
-use Rattle.ct_queue.specs.Marks.{is_marked, NoneWithin, IsLeastWithin}
-use Rattle.ct_queue.specs.Lines.{AreNumbered, LinesValue, own_lines, IsHeadIn, IsLeastHeadFrom, NoHeadFrom, with_member}
+use Rattle.ct_queue.specs.Ready.{ReadyValue, NamesOnce, StandsIn, place_of, count_at, is_out_at, is_member, none_out, lowered, with_out, IsBehind, NoneBehind, IsLeastBehind, IsHead, IsOfSeenBunch, NoNewBunch, IsOfNewBunch, NoHeadBehind, IsNextHead}
+use Rattle.ct_queue.specs.Marks.{is_marked}
+use Rattle.ct_queue.specs.Lines.{AreNumbered, BunchedValue, own_lines, lines_in, IsHeadIn, IsOfBunchBefore, IsOfNewBunchFrom, NoNewBunchFrom, IsNextHeadOfBunch, NoHeadOfBunchBehind, with_bunched}
 use Rattle.ct_queue.specs.Kept.{AreFound, AreMarkedAtZero, IsReadySet, waiting, ready_of, standing_at, with_standing}
 use Rattle.ct_queue.specs.declared.ready.Standing.{Standing}
 use Rattle.ct_queue.proofs.CallerLemmas.{test_at_place}
@@ -20,9 +20,9 @@ count_in s = s.count
 abbrev out_in : Standing → Bool
 out_in s = s.is_out
 
--- tests in an order, with their counts, with which of them are out, and in lines
-abbrev tests_of : List ℕ → List ℕ → List Bool → List ℕ → ReadyValue
-tests_of order counts outs lines = record { order = order; counts = counts; outs = outs; lines = lines }
+-- tests in an order, with their counts, with which of them are out, in lines and in bunches
+abbrev tests_of : List ℕ → List ℕ → List Bool → List ℕ → List ℕ → ReadyValue
+tests_of order counts outs lines bunches = record { order = order; counts = counts; outs = outs; lines = lines; bunches = bunches }
 
 -- a test is found by its number
 pub found_at : (places : tree.BTreeMap ℕ ℕ) (order : List ℕ) (test : ℕ) → AreFound places order → StandsIn order test → tree.get nat_cmp places test ≡ Some (place_of order test)
@@ -51,59 +51,58 @@ same_member : (here there : Bool) (count other : ℕ) (is was : Bool) → here �
 same_member here there count other is was e f g =
     ap (λ (b : Bool). b && eqb count 0 && not is) e ∙ ap (λ (n : ℕ). there && eqb n 0 && not is) f ∙ ap (λ (b : Bool). there && eqb other 0 && not b) g
 
--- the test at a place stands so from now on, and is marked if it is a member
-module _ (order : List ℕ) (places : tree.BTreeMap ℕ ℕ) (standings : List Standing) (marks : List Bool) (lines : LinesValue) (place : ℕ) (s : Standing) (mark : Bool) (kept : IsReadySet order places standings marks lines) (within : place < length order) (is : mark ≡ (eqb s.count 0 && not s.is_out)) where
-  marked_here : (ms : List Bool) → place < length ms → (q : ℕ) → q ≡ place → is_marked (set ms place mark) q ≡ is_member (ready_of order (set standings place s) lines.lines) q
-  marked_here ms room q same =
+-- the test at a place stands so from now on, and a member stands there if it is one
+module _ (order : List ℕ) (places : tree.BTreeMap ℕ ℕ) (standings : List Standing) (lines : BunchedValue) (place : ℕ) (s : Standing) (mark : Bool) (kept : IsReadySet order places standings lines) (within : place < length order) (is : mark ≡ (eqb s.count 0 && not s.is_out)) where
+  marked_here : (q : ℕ) → q ≡ place → is_marked (set lines.members place mark) q ≡ is_member (ready_of order (set standings place s) lines.lines lines.bunches) q
+  marked_here q same =
       let counts : place < length (map count_in standings) = omega (arith, length-map standings count_in, kept.stand) in
       let outs : place < length (map out_in standings) = omega (arith, length-map standings out_in, kept.stand) in
       let inner : q < length order = omega arith in
-      get_or-set_at ms place q mark false same room ∙ is
+      get_or-set_at lines.members place q mark false same (omega (arith, kept.seated)) ∙ is
       ∙ sym (same_member (ltb q (length order)) true (get_or (map count_in (set standings place s)) q 0) s.count (get_or (map out_in (set standings place s)) q false) s.is_out
       (lt-ltb q (length order) inner)
       (ap (λ (l : List ℕ). get_or l q 0) (map-set count_in standings place s) ∙ get_or-set_at (map count_in standings) place q s.count 0 same counts)
       (ap (λ (l : List Bool). get_or l q false) (map-set out_in standings place s) ∙ get_or-set_at (map out_in standings) place q s.is_out false same outs))
 
-  marked_there : (ms : List Bool) → ((q : ℕ) → is_marked ms q ≡ is_member (ready_of order standings lines.lines) q) → (q : ℕ) → (q ≡ place → ⊥) → is_marked (set ms place mark) q ≡ is_member (ready_of order (set standings place s) lines.lines) q
-  marked_there ms marked q other =
-      get_or-set_other ms place q mark false other ∙ marked q
+  marked_there : (q : ℕ) → (q ≡ place → ⊥) → is_marked (set lines.members place mark) q ≡ is_member (ready_of order (set standings place s) lines.lines lines.bunches) q
+  marked_there q other =
+      get_or-set_other lines.members place q mark false other ∙ kept.in_lines q
       ∙ sym (same_member (ltb q (length order)) (ltb q (length order)) (get_or (map count_in (set standings place s)) q 0) (get_or (map count_in standings) q 0) (get_or (map out_in (set standings place s)) q false) (get_or (map out_in standings) q false)
       refl
       (ap (λ (l : List ℕ). get_or l q 0) (map-set count_in standings place s) ∙ get_or-set_other (map count_in standings) place q s.count 0 other)
       (ap (λ (l : List Bool). get_or l q false) (map-set out_in standings place s) ∙ get_or-set_other (map out_in standings) place q s.is_out false other))
 
-  pub kept_set : IsReadySet order places (set standings place s) (set marks place mark) (with_member lines place mark)
+  pub kept_set : IsReadySet order places (set standings place s) (with_bunched lines place mark)
   kept_set = record {
     few = kept.few;
     found = kept.found;
     stand = length-set standings place s ∙ kept.stand;
-    room = subst (λ (n : ℕ). length order ≤ n) (sym (length-set marks place mark)) kept.room;
-    marked = λ q. ⊎_elim (marked_here marks (omega (arith, kept.room)) q) (marked_there marks kept.marked q) (cases_eq q place);
     lined = kept.lined;
+    bunched = kept.bunched;
     seated = length-set lines.members place mark ∙ kept.seated;
-    in_lines = λ q. ⊎_elim (marked_here lines.members (omega (arith, kept.seated)) q) (marked_there lines.members kept.in_lines q) (cases_eq q place);
+    in_lines = λ q. ⊎_elim (marked_here q) (marked_there q) (cases_eq q place);
   }
 
-pub ready_set : (order : List ℕ) (standings : List Standing) (lines : List ℕ) (place : ℕ) (s : Standing) → ready_of order (set standings place s) lines ≡ with_standing (ready_of order standings lines) place s
-ready_set order standings lines place s =
-    ap (λ (cs : List ℕ). tests_of order cs (map out_in (set standings place s)) lines) (map-set count_in standings place s)
-    ∙ ap (λ (os : List Bool). tests_of order (set (map count_in standings) place s.count) os lines) (map-set out_in standings place s)
+pub ready_set : (order : List ℕ) (standings : List Standing) (lines bunches : List ℕ) (place : ℕ) (s : Standing) → ready_of order (set standings place s) lines bunches ≡ with_standing (ready_of order standings lines bunches) place s
+ready_set order standings lines bunches place s =
+    ap (λ (cs : List ℕ). tests_of order cs (map out_in (set standings place s)) lines bunches) (map-set count_in standings place s)
+    ∙ ap (λ (os : List Bool). tests_of order (set (map count_in standings) place s.count) os lines bunches) (map-set out_in standings place s)
 
 pub lowered_by : (old new : ReadyValue) (test place : ℕ) (s t : Standing) → place ≡ place_of old.order test → s ≡ standing_at old place → t.count ≡ s.count - 1 → t.is_out ≡ s.is_out → new ≡ with_standing old place t → new ≡ lowered old test
 lowered_by old new test place s t here is count out now =
     now
-    ∙ ap (λ (n : ℕ). tests_of old.order (set old.counts place n) (set old.outs place t.is_out) old.lines) (count ∙ ap (λ (n : ℕ). n - 1) (ap count_in is))
-    ∙ ap (λ (b : Bool). tests_of old.order (set old.counts place (count_at old place - 1)) (set old.outs place b) old.lines) (out ∙ ap out_in is)
-    ∙ ap (λ (os : List Bool). tests_of old.order (set old.counts place (count_at old place - 1)) os old.lines) (set-get_or old.outs place false)
-    ∙ ap (λ (p : ℕ). tests_of old.order (set old.counts p (count_at old p - 1)) old.outs old.lines) here
+    ∙ ap (λ (n : ℕ). tests_of old.order (set old.counts place n) (set old.outs place t.is_out) old.lines old.bunches) (count ∙ ap (λ (n : ℕ). n - 1) (ap count_in is))
+    ∙ ap (λ (b : Bool). tests_of old.order (set old.counts place (count_at old place - 1)) (set old.outs place b) old.lines old.bunches) (out ∙ ap out_in is)
+    ∙ ap (λ (os : List Bool). tests_of old.order (set old.counts place (count_at old place - 1)) os old.lines old.bunches) (set-get_or old.outs place false)
+    ∙ ap (λ (p : ℕ). tests_of old.order (set old.counts p (count_at old p - 1)) old.outs old.lines old.bunches) here
 
 pub with_out_by : (old new : ReadyValue) (test place : ℕ) (s t : Standing) (b : Bool) → place ≡ place_of old.order test → s ≡ standing_at old place → t.count ≡ s.count → t.is_out ≡ b → new ≡ with_standing old place t → new ≡ with_out old test b
 with_out_by old new test place s t b here is count out now =
     now
-    ∙ ap (λ (n : ℕ). tests_of old.order (set old.counts place n) (set old.outs place t.is_out) old.lines) (count ∙ ap count_in is)
-    ∙ ap (λ (cs : List ℕ). tests_of old.order cs (set old.outs place t.is_out) old.lines) (set-get_or old.counts place 0)
-    ∙ ap (λ (o : Bool). tests_of old.order old.counts (set old.outs place o) old.lines) out
-    ∙ ap (λ (p : ℕ). tests_of old.order old.counts (set old.outs p b) old.lines) here
+    ∙ ap (λ (n : ℕ). tests_of old.order (set old.counts place n) (set old.outs place t.is_out) old.lines old.bunches) (count ∙ ap count_in is)
+    ∙ ap (λ (cs : List ℕ). tests_of old.order cs (set old.outs place t.is_out) old.lines old.bunches) (set-get_or old.counts place 0)
+    ∙ ap (λ (o : Bool). tests_of old.order old.counts (set old.outs place o) old.lines old.bunches) out
+    ∙ ap (λ (p : ℕ). tests_of old.order old.counts (set old.outs p b) old.lines old.bunches) here
 
 counts_waiting : (counts : List ℕ) → map count_in (map waiting counts) ≡ counts
 counts_waiting [] = refl
@@ -113,10 +112,10 @@ outs_waiting : (counts : List ℕ) → map out_in (map waiting counts) ≡ repli
 outs_waiting [] = refl
 outs_waiting (n ∷ counts) = ap (λ (bs : List Bool). false ∷ bs) (outs_waiting counts)
 
-pub ready_new : (order counts lines : List ℕ) → length counts ≡ length order → ready_of order (map waiting counts) lines ≡ none_out order counts lines
-ready_new order counts lines one =
-    ap (λ (cs : List ℕ). tests_of order cs (map out_in (map waiting counts)) lines) (counts_waiting counts)
-    ∙ ap (λ (os : List Bool). tests_of order counts os lines) (outs_waiting counts ∙ ap (λ (n : ℕ). replicate n false) one)
+pub ready_new : (order counts lines bunches : List ℕ) → length counts ≡ length order → ready_of order (map waiting counts) lines bunches ≡ none_out order counts lines bunches
+ready_new order counts lines bunches one =
+    ap (λ (cs : List ℕ). tests_of order cs (map out_in (map waiting counts)) lines bunches) (counts_waiting counts)
+    ∙ ap (λ (os : List Bool). tests_of order counts os lines bunches) (outs_waiting counts ∙ ap (λ (n : ℕ). replicate n false) one)
 
 get_or_replicate : (n k : ℕ) → get_or (replicate n false) k false ≡ false
 get_or_replicate n k =
@@ -126,8 +125,8 @@ get_or_replicate n k =
     (cases_lt k n)
 
 -- marks at the tests whose count is 0 stand at the members, as long as none is out
-marked_new : (order counts lines : List ℕ) (marks : List Bool) → length counts ≡ length order → AreMarkedAtZero counts marks → (place : ℕ) → is_marked marks place ≡ is_member (ready_of order (map waiting counts) lines) place
-marked_new order counts lines marks one marked q =
+marked_new : (order counts lines bunches : List ℕ) (marks : List Bool) → length counts ≡ length order → AreMarkedAtZero counts marks → (place : ℕ) → is_marked marks place ≡ is_member (ready_of order (map waiting counts) lines bunches) place
+marked_new order counts lines bunches marks one marked q =
     let out : get_or (map out_in (map waiting counts)) q false ≡ false = ap (λ (l : List Bool). get_or l q false) (outs_waiting counts) ∙ get_or_replicate (length counts) q in
     marked q ∙ and_true (ltb q (length counts) && eqb (get_or counts q 0) 0)
     ∙ sym (same_member (ltb q (length order)) (ltb q (length counts)) (get_or (map count_in (map waiting counts)) q 0) (get_or counts q 0) (get_or (map out_in (map waiting counts)) q false) false
@@ -139,16 +138,15 @@ marked_new order counts lines marks one marked q =
     and_true true = refl
     and_true false = refl
 
-pub kept_new : (order counts : List ℕ) (places : tree.BTreeMap ℕ ℕ) (marks : List Bool) (lines : LinesValue) → length order < 2 ^ 32 - 1 → AreFound places order → length counts ≡ length order → length counts ≤ length marks → AreMarkedAtZero counts marks → length lines.lines ≡ length order → length lines.members ≡ length order → AreMarkedAtZero counts lines.members → IsReadySet order places (map waiting counts) marks lines
-kept_new order counts places marks lines few found one room marked lined seated in_lines = record {
+pub kept_new : (order counts : List ℕ) (places : tree.BTreeMap ℕ ℕ) (lines : BunchedValue) → length order < 2 ^ 32 - 1 → AreFound places order → length counts ≡ length order → length lines.lines ≡ length order → length lines.bunches ≡ length order → length lines.members ≡ length order → AreMarkedAtZero counts lines.members → IsReadySet order places (map waiting counts) lines
+kept_new order counts places lines few found one lined bunched seated in_lines = record {
   few = few;
   found = found;
   stand = length-map counts waiting ∙ one;
-  room = subst (λ (n : ℕ). n ≤ length marks) one room;
-  marked = marked_new order counts lines.lines marks one marked;
   lined = lined;
+  bunched = bunched;
   seated = seated;
-  in_lines = marked_new order counts lines.lines lines.members one in_lines;
+  in_lines = marked_new order counts lines.lines lines.bunches lines.members one in_lines;
 }
 
 -- places that are each a line of its own have numbers below their number
@@ -165,53 +163,74 @@ member_within ready place is =
     let second = and_parts (ltb place (length ready.order)) (eqb (count_at ready place) 0) first.0 in
     ltb-true place (length ready.order) second.0
 
-module _ (order : List ℕ) (places : tree.BTreeMap ℕ ℕ) (standings : List Standing) (marks : List Bool) (lines : LinesValue) (kept : IsReadySet order places standings marks lines) (given : Option ℕ) (from : ℕ) where
-  pub none_behind : ((place : ℕ) → IsBehind given place → from ≤ place) → NoneWithin marks from 0 (length marks) → NoneBehind (ready_of order standings lines.lines) given
-  none_behind reaches none place behind =
-      sym (kept.marked place)
-      ∙ ⊎_elim (λ (inner : place < length marks). none place (reaches place behind) (omega arith) inner) (λ beyond. get_or_past marks place false beyond) (cases_lt place (length marks))
+-- past the end of the order no member stands
+member_past : (ready : ReadyValue) (place : ℕ) → length ready.order ≤ place → is_member ready place ≡ false
+member_past ready place past =
+    ap (λ (b : Bool). b && eqb (count_at ready place) 0 && not (is_out_at ready place)) (le-ltb place (length ready.order) past)
 
-  pub least_behind : (found : ℕ) → ((place : ℕ) → IsBehind given place → from ≤ place) → ((place : ℕ) → from ≤ place → IsBehind given place) → IsLeastWithin marks from 0 (length marks) found → IsLeastBehind (ready_of order standings lines.lines) given found
-  least_behind found reaches begins least = record {
-    behind = begins found least.from_there;
-    member = sym (kept.marked found) ∙ least.marked;
-    least = λ place behind before. sym (kept.marked place) ∙ least.least place (reaches place behind) (omega arith) before;
+-- a look at each place behind the given one: none of those before an end is a member
+module _ (ready : ReadyValue) (given : Option ℕ) (from : ℕ) (reaches : (place : ℕ) → IsBehind given place → from ≤ place) (begins : (place : ℕ) → from ≤ place → IsBehind given place) where
+  pub none_behind : (end : ℕ) → length ready.order ≤ end → ((place : ℕ) → from ≤ place → place < end → is_member ready place ≡ false) → NoneBehind ready given
+  none_behind end all none place behind =
+      ⊎_elim (λ (inner : place < end). none place (reaches place behind) inner) (λ (past : end ≤ place). member_past ready place (omega (arith, all, past))) (cases_lt place end)
+
+  pub least_behind : (found : ℕ) → from ≤ found → is_member ready found ≡ true → ((place : ℕ) → from ≤ place → place < found → is_member ready place ≡ false) → IsLeastBehind ready given found
+  least_behind found there is none = record {
+    behind = begins found there;
+    member = is;
+    least = λ place behind before. none place (reaches place behind) before;
   }
 
-  pub found_fits : (found : ℕ) → IsLeastWithin marks from 0 (length marks) found → found < 2 ^ 32
-  found_fits found least =
-      let few = kept.few in
-      let within = member_within (ready_of order standings lines.lines) found (sym (kept.marked found) ∙ least.marked) in
-      omega arith
-
+module _ (order : List ℕ) (places : tree.BTreeMap ℕ ℕ) (standings : List Standing) (lines : BunchedValue) (kept : IsReadySet order places standings lines) where
   -- a head of the tests is a head of their lines, and the other way round
-  head_here : (place : ℕ) → IsHeadIn lines place → IsHead (ready_of order standings lines.lines) place
+  head_here : (place : ℕ) → IsHeadIn (lines_in lines) place → IsHead (ready_of order standings lines.lines lines.bunches) place
   head_here place head = record {
     member = sym (kept.in_lines place) ∙ head.member;
     first = λ other before same. sym (kept.in_lines other) ∙ head.first other before same;
   }
 
-  head_there : (place : ℕ) → IsHead (ready_of order standings lines.lines) place → IsHeadIn lines place
+  head_there : (place : ℕ) → IsHead (ready_of order standings lines.lines lines.bunches) place → IsHeadIn (lines_in lines) place
   head_there place head = record {
     member = kept.in_lines place ∙ head.member;
     first = λ other before same. kept.in_lines other ∙ head.first other before same;
   }
 
-  pub no_head_behind : ((place : ℕ) → IsBehind given place → from ≤ place) → NoHeadFrom lines from → NoHeadBehind (ready_of order standings lines.lines) given
-  no_head_behind reaches none place behind head = none place (reaches place behind) (head_there place head)
+  pub head_fits : (found : ℕ) → IsHeadIn (lines_in lines) found → found < 2 ^ 32
+  head_fits found head =
+      let few = kept.few in
+      let within = member_within (ready_of order standings lines.lines lines.bunches) found (sym (kept.in_lines found) ∙ head.member) in
+      omega arith
 
-  pub least_head_behind : (found : ℕ) → ((place : ℕ) → IsBehind given place → from ≤ place) → ((place : ℕ) → from ≤ place → IsBehind given place) → IsLeastHeadFrom lines from found → IsLeastHeadBehind (ready_of order standings lines.lines) given found
-  least_head_behind found reaches begins least = record {
-    behind = begins found least.from_there;
-    head = head_here found least.head;
-    least = λ place behind before head. least.least place (reaches place behind) before (head_there place head);
+  pub no_head_behind : (place : ℕ) → NoHeadOfBunchBehind lines place → NoHeadBehind (ready_of order standings lines.lines lines.bunches) place
+  no_head_behind place none other behind same head = none other behind same (head_there other head)
+
+  pub next_head_behind : (place found : ℕ) → IsNextHeadOfBunch lines place found → IsNextHead (ready_of order standings lines.lines lines.bunches) place found
+  next_head_behind place found next = record {
+    behind = next.behind;
+    of_bunch = next.of_bunch;
+    head = head_here found next.head;
+    least = λ other behind before same head. next.least other behind before same (head_there other head);
   }
 
-  pub head_fits : (found : ℕ) → IsLeastHeadFrom lines from found → found < 2 ^ 32
-  head_fits found least =
-      let few = kept.few in
-      let within = member_within (ready_of order standings lines.lines) found (sym (kept.in_lines found) ∙ least.head.member) in
-      omega arith
+  module _ (given : Option ℕ) (from : ℕ) (reaches : (place : ℕ) → IsBehind given place → from ≤ place) (begins : (place : ℕ) → from ≤ place → IsBehind given place) where
+    seen_here : (place : ℕ) → IsOfBunchBefore lines.bunches (IsHeadIn (lines_in lines)) from place → IsOfSeenBunch (ready_of order standings lines.lines lines.bunches) given place
+    seen_here place known = record {
+      at = known.at;
+      seen = λ behind. let before = known.before in let upto = reaches known.at behind in absurd (omega arith);
+      upto = known.upto;
+      same = known.same;
+      head = head_here known.at known.head;
+    }
+
+    pub no_new_bunch : NoNewBunchFrom lines from → NoNewBunch (ready_of order standings lines.lines lines.bunches) given
+    no_new_bunch none place head = seen_here place (none place (head_there place head))
+
+    pub of_new_bunch : (found : ℕ) → IsOfNewBunchFrom lines from found → IsOfNewBunch (ready_of order standings lines.lines lines.bunches) given found
+    of_new_bunch found new = record {
+      behind = begins found new.from_there;
+      head = head_here found new.head;
+      earlier = λ place before head. seen_here place (new.earlier place before (head_there place head));
+    }
 
 -- the marks say of the places up to one which of them have the count 0
 abbrev pub AreMarkedTo : List ℕ → List Bool → ℕ → Type 0

@@ -6,7 +6,7 @@ use Rattle.std.proofs.lemmas.Grind.{get_or-set_at}
 use Rattle.std.proofs.lemmas.List.{ext_get_or, get_or_default, get_or_past, get_or-map, get_or-replicate, get_or-set_other, length-map, length-replicate, length-set, take-take}
 use Rattle.std.proofs.lemmas.List.Sums.{count_by-le-length, count_by_more_no, count_by_more_yes, sum_by-cons, sum_by-take-le}
 use Rattle.ct_queue.specs.Marks.{is_marked, NoneWithin, IsLeastWithin}
-use Rattle.ct_queue.specs.Lines.{AreNumbered, IsHeadOfLine, LinesValue, NoneOfLine, none_in, with_member}
+use Rattle.ct_queue.specs.Lines.{AreNumbered, IsHeadOfLine, IsNextOfLine, LinesValue, NoneOfLine, NoneOfLineBehind, none_in, with_member}
 use Rattle.ct_queue.specs.Spots.{AreOnSpots, AreSpots, IsSpot, IsTable, first_spot, lines_value, size_of, spot_of}
 
 abbrev members_in : List ℕ → List Bool → LinesValue
@@ -211,6 +211,85 @@ module _ (lines firsts spots places : List ℕ) (marks : List Bool) (kept : AreO
           (cases_lt (get_or spots place 0) spot))
           (λ past. member_past place past)
           (cases_lt place (length lines))
+
+  -- what the first mark behind the spot of a place says of its line
+  module _ (place : ℕ) (within : place < length lines) where
+    spot_behind : (other : ℕ) → place < other → other < length lines → get_or lines other 0 ≡ get_or lines place 0 → get_or spots place 0 + 1 ≤ get_or spots other 0
+    spot_behind other behind there same =
+        let rises = spot_rises lines place other behind there (sym same) in
+        let one = kept.all.stand.reads place within in
+        let two = kept.all.stand.reads other there in
+        omega arith
+
+    pub none_behind_place : NoneWithin marks (get_or spots place 0 + 1) 0 (length marks) → NoneOfLineBehind (lines_value lines spots marks) place
+    none_behind_place none other behind same =
+        ⊎_elim
+        (λ (there : other < length lines).
+        let below = spot_there other there in
+        let room = kept.room in
+        member_at other there ∙ none (get_or spots other 0) (spot_behind other behind there same) (omega arith) (omega arith))
+        (λ past. member_past other past)
+        (cases_lt other (length lines))
+
+    module _ (spot : ℕ) (least : IsLeastWithin marks (get_or spots place 0 + 1) 0 (length marks) spot) where
+      pub next_has : IsSpot lines spots places spot
+      next_has = kept.marked spot least.marked
+
+      place_behind : get_or lines (get_or places spot 0) 0 ≡ get_or lines place 0 → place < get_or places spot 0
+      place_behind is =
+          let has = next_has in
+          let from = least.from_there in
+          let back = has.back in
+          ⊎_elim
+          (λ (less : get_or places spot 0 < place).
+          let rises = spot_rises lines (get_or places spot 0) place less within is in
+          let one = kept.all.stand.reads place within in
+          let two = kept.all.stand.reads (get_or places spot 0) has.within in
+          absurd (omega arith))
+          (λ (upto : place ≤ get_or places spot 0).
+          ⊎_elim
+          (λ (same : get_or places spot 0 ≡ place).
+          let alike : get_or spots (get_or places spot 0) 0 ≡ get_or spots place 0 = ap (λ (p : ℕ). get_or spots p 0) same in
+          absurd (omega arith))
+          (λ (apart : get_or places spot 0 ≡ place → ⊥). omega (arith, apart))
+          (cases_eq (get_or places spot 0) place))
+          (cases_lt (get_or places spot 0) place)
+
+      pub next_found : get_or lines (get_or places spot 0) 0 ≡ get_or lines place 0 → IsNextOfLine (lines_value lines spots marks) place (get_or places spot 0)
+      next_found is =
+          let has = next_has in
+          record {
+            within = has.within;
+            behind = place_behind is;
+            of_line = is;
+            member = member_at (get_or places spot 0) has.within ∙ ap (is_marked marks) has.back ∙ least.marked;
+            least = λ other behind before same.
+                let there : other < length lines = omega (arith, has.within) in
+                let less = spot_rises lines other (get_or places spot 0) before has.within (same ∙ sym is) in
+                let one = kept.all.stand.reads other there in
+                let two = kept.all.stand.reads (get_or places spot 0) has.within in
+                let back = has.back in
+                member_at other there ∙ least.least (get_or spots other 0) (spot_behind other behind there same) (omega arith) (omega arith);
+          }
+
+      pub none_next : (get_or lines (get_or places spot 0) 0 ≡ get_or lines place 0 → ⊥) → NoneOfLineBehind (lines_value lines spots marks) place
+      none_next apart other behind same =
+          let has = next_has in
+          ⊎_elim
+          (λ (there : other < length lines).
+          ⊎_elim
+          (λ (before : get_or spots other 0 < spot). member_at other there ∙ least.least (get_or spots other 0) (spot_behind other behind there same) (omega arith) before)
+          (λ (after : spot ≤ get_or spots other 0).
+          let first = ap (λ (l : ℕ). first_spot lines l) same in
+          let one = kept.all.stand.reads other there in
+          let two = kept.all.stand.reads (get_or places spot 0) has.within in
+          let here = kept.all.stand.reads place within in
+          let back = has.back in
+          let from = least.from_there in
+          absurd (apart (spot_between lines other (get_or places spot 0) there has.within (omega arith) (omega arith) ∙ same)))
+          (cases_lt (get_or spots other 0) spot))
+          (λ past. member_past other past)
+          (cases_lt other (length lines))
 
   -- and after one change
   module _ (place : ℕ) (within : place < length lines) (mark : Bool) where

@@ -1,11 +1,11 @@
--- What a set of ready tests keeps beside its tests: the place of each test by its number, marks at its
--- members, and their lines.
-use Rattle.std.specs.Prelude.{◌≡◌, ℕ, ◌-◌, ◌<◌, ◌≤◌, ◌^◌, Bool, false, ◌&&◌, ◌==◌, nat_lt, List, length, map, slice_index, slice_set, Some}
+-- What a set of ready tests keeps beside its tests: the place of each test by its number, and its members in their
+-- lines and bunches. This project's own.
+use Rattle.std.specs.Prelude.{◌≡◌, ℕ, ◌-◌, ◌<◌, ◌^◌, Bool, false, ◌&&◌, ◌==◌, nat_lt, List, length, map, slice_index, slice_set, Some}
 use Rattle.std.specs.BTreeMap as tree
 use Rattle.std.specs.Ordering.{nat_cmp}
 use Rattle.ct_queue.specs.Ready.{ReadyValue, count_at, is_out_at, is_member}
 use Rattle.ct_queue.specs.Marks.{is_marked}
-use Rattle.ct_queue.specs.Lines.{LinesValue}
+use Rattle.ct_queue.specs.Lines.{BunchedValue}
 use Rattle.ct_queue.specs.declared.ready.Standing.{Standing}
 
 -- each test of the order is found by its number
@@ -16,10 +16,10 @@ AreFound places order = (place : ℕ) → place < length order → tree.get nat_
 abbrev pub AreMarkedAtZero : List ℕ → List Bool → Type 0
 AreMarkedAtZero counts marks = (place : ℕ) → is_marked marks place ≡ (nat_lt place (length counts) && (slice_index counts place == 0))
 
--- the tests of an order in lines, as these standings say
-abbrev pub ready_of : List ℕ → List Standing → List ℕ → ReadyValue
-ready_of order standings lines =
-    record { order = order; counts = map (λ (s : Standing). s.count) standings; outs = map (λ (s : Standing). s.is_out) standings; lines = lines }
+-- the tests of an order in lines and bunches, as these standings say
+abbrev pub ready_of : List ℕ → List Standing → List ℕ → List ℕ → ReadyValue
+ready_of order standings lines bunches =
+    record { order = order; counts = map (λ (s : Standing). s.count) standings; outs = map (λ (s : Standing). s.is_out) standings; lines = lines; bunches = bunches }
 
 -- a test with this count, which is not out
 abbrev pub waiting : ℕ → Standing
@@ -32,15 +32,14 @@ standing_at ready place = record { count = count_at ready place; is_out = is_out
 -- the same but for the test at a place, which stands so
 abbrev pub with_standing : ReadyValue → ℕ → Standing → ReadyValue
 with_standing ready place s =
-    record { order = ready.order; counts = slice_set ready.counts place s.count; outs = slice_set ready.outs place s.is_out; lines = ready.lines }
+    record { order = ready.order; counts = slice_set ready.counts place s.count; outs = slice_set ready.outs place s.is_out; lines = ready.lines; bunches = ready.bunches }
 
--- what holds of each set of ready tests: all tests are found, and those marked are its members, in their lines too
-pub record IsReadySet (order : List ℕ) (places : tree.BTreeMap ℕ ℕ) (standings : List Standing) (marks : List Bool) (lines : LinesValue) : Type 0 where
+-- what holds of each set of ready tests: all tests are found, and its members stand in their lines and bunches
+pub record IsReadySet (order : List ℕ) (places : tree.BTreeMap ℕ ℕ) (standings : List Standing) (lines : BunchedValue) : Type 0 where
   pub few : length order < 2 ^ 32 - 1
   pub found : AreFound places order
   pub stand : length standings ≡ length order
-  pub room : length order ≤ length marks
-  pub marked : (place : ℕ) → is_marked marks place ≡ is_member (ready_of order standings lines.lines) place
   pub lined : length lines.lines ≡ length order
+  pub bunched : length lines.bunches ≡ length order
   pub seated : length lines.members ≡ length order
-  pub in_lines : (place : ℕ) → is_marked lines.members place ≡ is_member (ready_of order standings lines.lines) place
+  pub in_lines : (place : ℕ) → is_marked lines.members place ≡ is_member (ready_of order standings lines.lines lines.bunches) place

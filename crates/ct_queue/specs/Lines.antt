@@ -1,4 +1,5 @@
--- Places in lines: which of them have a member, and the head of each line, its first member. This project's own.
+-- Places in lines: which of them have a member, and the head of each line, its first member; and lines in bunches.
+-- This project's own.
 use Rattle.std.specs.Prelude.{◌≡◌, ℕ, ◌<◌, ◌≤◌, Bool, true, false, List, length, replicate, slice_index, slice_set}
 use Rattle.std.specs.List.{range_with_len}
 use Rattle.ct_queue.specs.Marks.{is_marked}
@@ -52,3 +53,62 @@ pub record IsHeadOfLine (value : LinesValue) (line place : ℕ) : Type 0 where
   pub within : place < length value.lines
   pub of_line : slice_index value.lines place ≡ line
   pub head : IsHeadIn value place
+
+-- no member of the line of a place stands behind it
+abbrev pub NoneOfLineBehind : LinesValue → ℕ → Type 0
+NoneOfLineBehind value place = (other : ℕ) → place < other → slice_index value.lines other ≡ slice_index value.lines place → is_marked value.members other ≡ false
+
+-- the next member of the line of a place, behind it
+pub record IsNextOfLine (value : LinesValue) (place found : ℕ) : Type 0 where
+  pub within : found < length value.lines
+  pub behind : place < found
+  pub of_line : slice_index value.lines found ≡ slice_index value.lines place
+  pub member : is_marked value.members found ≡ true
+  pub least : (other : ℕ) → place < other → other < found → slice_index value.lines other ≡ slice_index value.lines place → is_marked value.members other ≡ false
+
+-- the line and the bunch of each place, and whether a member stands there
+pub record BunchedValue : Type 0 where
+  pub lines : List ℕ
+  pub bunches : List ℕ
+  pub members : List Bool
+
+-- the same without the bunches
+abbrev pub lines_in : BunchedValue → LinesValue
+lines_in value = record { lines = value.lines; members = value.members }
+
+-- no member stands in these lines and bunches
+abbrev pub none_bunched : List ℕ → List ℕ → BunchedValue
+none_bunched lines bunches = record { lines = lines; bunches = bunches; members = replicate (length lines) false }
+
+-- the same but for whether a member stands at one place
+abbrev pub with_bunched : BunchedValue → ℕ → Bool → BunchedValue
+with_bunched value place member = record { lines = value.lines; bunches = value.bunches; members = slice_set value.members place member }
+
+-- of the bunch of a place a head stands before `from`, and no further on than the place
+pub record IsOfBunchBefore (bunches : List ℕ) (IsHead : ℕ → Type 0) (from place : ℕ) : Type 0 where
+  pub at : ℕ
+  pub before : at < from
+  pub upto : at ≤ place
+  pub same : slice_index bunches at ≡ slice_index bunches place
+  pub head : IsHead at
+
+-- of the bunch of each head a head stands before `from`
+abbrev pub NoNewBunchFrom : BunchedValue → ℕ → Type 0
+NoNewBunchFrom value from = (place : ℕ) → IsHeadIn (lines_in value) place → IsOfBunchBefore value.bunches (IsHeadIn (lines_in value)) from place
+
+-- a head from one place on; of the bunch of each head in front of it a head stands before that place
+pub record IsOfNewBunchFrom (value : BunchedValue) (from found : ℕ) : Type 0 where
+  pub from_there : from ≤ found
+  pub head : IsHeadIn (lines_in value) found
+  pub earlier : (place : ℕ) → place < found → IsHeadIn (lines_in value) place → IsOfBunchBefore value.bunches (IsHeadIn (lines_in value)) from place
+
+-- no head of the bunch of a place stands behind it
+abbrev pub NoHeadOfBunchBehind : BunchedValue → ℕ → Type 0
+NoHeadOfBunchBehind value place = (other : ℕ) → place < other → slice_index value.bunches other ≡ slice_index value.bunches place → IsHeadIn (lines_in value) other → ⊥
+
+-- the next head of the bunch of a place, behind it
+pub record IsNextHeadOfBunch (value : BunchedValue) (place found : ℕ) : Type 0 where
+  pub behind : place < found
+  pub of_bunch : slice_index value.bunches found ≡ slice_index value.bunches place
+  pub head : IsHeadIn (lines_in value) found
+  pub least : (other : ℕ) → place < other → other < found → slice_index value.bunches other ≡ slice_index value.bunches place → IsHeadIn (lines_in value) other → ⊥

@@ -1,16 +1,17 @@
 -- The tests of a run in the order of their cost, and which of them are ready.
 -- Source: CMake manual, ctest(1), -j; cmake-properties(7), COST. The set of ready tests is this project's own.
-use Rattle.std.specs.Prelude.{◌≡◌, ◌≢◌, ℕ, ◌-◌, ◌<◌, ⊤, Bool, true, false, not, ◌&&◌, ◌==◌, List, length, replicate, slice_set, slice_index_or, AllPairs, Option, Some, None, nat_lt}
+use Rattle.std.specs.Prelude.{◌≡◌, ◌≢◌, ℕ, ◌-◌, ◌<◌, ◌≤◌, ⊤, Bool, true, false, not, ◌&&◌, ◌==◌, List, length, replicate, slice_set, slice_index, slice_index_or, AllPairs, Option, Some, None, nat_lt}
 use Rattle.std.specs.List.{position_or_len}
 use Rattle.ct_queue.specs.Lines.{IsHeadOf}
 
 -- tests in an order and, by the place of a test there, how many of its predecessors are open, whether it is out, and
--- the line that it stands in
+-- the line and the bunch that it stands in
 pub record ReadyValue : Type 0 where
   pub order : List ℕ
   pub counts : List ℕ
   pub outs : List Bool
   pub lines : List ℕ
+  pub bunches : List ℕ
 
 -- the order names each test once
 abbrev pub NamesOnce : List ℕ → Type 0
@@ -48,19 +49,20 @@ is_out ready test = is_out_at ready (place_of ready.order test)
 abbrev pub is_ready : ReadyValue → ℕ → Bool
 is_ready ready test = is_member ready (place_of ready.order test)
 
--- the tests in this order with these counts and in these lines, and none of them is out
-abbrev pub none_out : List ℕ → List ℕ → List ℕ → ReadyValue
-none_out order counts lines = record { order = order; counts = counts; outs = replicate (length order) false; lines = lines }
+-- the tests in this order with these counts, in these lines and bunches, and none of them is out
+abbrev pub none_out : List ℕ → List ℕ → List ℕ → List ℕ → ReadyValue
+none_out order counts lines bunches =
+    record { order = order; counts = counts; outs = replicate (length order) false; lines = lines; bunches = bunches }
 
 -- the same but for one predecessor of a test, which is open no longer
 abbrev pub lowered : ReadyValue → ℕ → ReadyValue
 lowered ready test =
-    record { order = ready.order; counts = slice_set ready.counts (place_of ready.order test) (count_of ready test - 1); outs = ready.outs; lines = ready.lines }
+    record { order = ready.order; counts = slice_set ready.counts (place_of ready.order test) (count_of ready test - 1); outs = ready.outs; lines = ready.lines; bunches = ready.bunches }
 
 -- the same but for whether one test is out
 abbrev pub with_out : ReadyValue → ℕ → Bool → ReadyValue
 with_out ready test is =
-    record { order = ready.order; counts = ready.counts; outs = slice_set ready.outs (place_of ready.order test) is; lines = ready.lines }
+    record { order = ready.order; counts = ready.counts; outs = slice_set ready.outs (place_of ready.order test) is; lines = ready.lines; bunches = ready.bunches }
 
 -- the place stands behind a given one; where none is given, each place does
 abbrev pub IsBehind : Option ℕ → ℕ → Type 0
@@ -81,12 +83,31 @@ pub record IsLeastBehind (ready : ReadyValue) (given : Option ℕ) (found : ℕ)
 abbrev pub IsHead : ReadyValue → ℕ → Type 0
 IsHead ready place = IsHeadOf ready.lines (is_member ready) place
 
--- no head stands behind the given place
-abbrev pub NoHeadBehind : ReadyValue → Option ℕ → Type 0
-NoHeadBehind ready given = (place : ℕ) → IsBehind given place → IsHead ready place → ⊥
+-- of the bunch of a place a head stands at a place that is not behind the given one, and no further on than its own
+pub record IsOfSeenBunch (ready : ReadyValue) (given : Option ℕ) (place : ℕ) : Type 0 where
+  pub at : ℕ
+  pub seen : IsBehind given at → ⊥
+  pub upto : at ≤ place
+  pub same : slice_index ready.bunches at ≡ slice_index ready.bunches place
+  pub head : IsHead ready at
 
--- the least place behind a given one at which a head stands
-pub record IsLeastHeadBehind (ready : ReadyValue) (given : Option ℕ) (found : ℕ) : Type 0 where
+-- each head is of a seen bunch
+abbrev pub NoNewBunch : ReadyValue → Option ℕ → Type 0
+NoNewBunch ready given = (place : ℕ) → IsHead ready place → IsOfSeenBunch ready given place
+
+-- a head behind the given place, and each head in front of it is of a seen bunch
+pub record IsOfNewBunch (ready : ReadyValue) (given : Option ℕ) (found : ℕ) : Type 0 where
   pub behind : IsBehind given found
   pub head : IsHead ready found
-  pub least : (place : ℕ) → IsBehind given place → place < found → IsHead ready place → ⊥
+  pub earlier : (place : ℕ) → place < found → IsHead ready place → IsOfSeenBunch ready given place
+
+-- no head of the bunch of a place stands behind it
+abbrev pub NoHeadBehind : ReadyValue → ℕ → Type 0
+NoHeadBehind ready place = (other : ℕ) → place < other → slice_index ready.bunches other ≡ slice_index ready.bunches place → IsHead ready other → ⊥
+
+-- the next head of the bunch of a place, behind it
+pub record IsNextHead (ready : ReadyValue) (place found : ℕ) : Type 0 where
+  pub behind : place < found
+  pub of_bunch : slice_index ready.bunches found ≡ slice_index ready.bunches place
+  pub head : IsHead ready found
+  pub least : (other : ℕ) → place < other → other < found → slice_index ready.bunches other ≡ slice_index ready.bunches place → IsHead ready other → ⊥

@@ -53,3 +53,8 @@ pub record AreHeads (value : LinesValue) (heads : List Bool) : Type 0 where
   pub room : length value.lines ≤ length heads
   pub marked : (place : ℕ) → is_marked heads place ≡ true → IsHeadIn value place
   pub all : (place : ℕ) → IsHeadIn value place → is_marked heads place ≡ true
+
+-- the members of bunches are the heads of lines
+pub record AreHeadsInBunches (value heads : LinesValue) : Type 0 where
+  pub bunched : length heads.lines ≡ length value.lines
+  pub marked : AreHeads value heads.members

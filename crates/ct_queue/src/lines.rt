@@ -1,75 +1,87 @@
 ghost use Rattle.std.specs.Prelude.{◌≡◌, ℕ, ◌-◌, ◌<◌, ◌^◌, Bool, IfOk, IfSome, MatchOption, length};
-ghost use Rattle.ct_queue.specs.Lines.{AreNumbered, IsLeastHeadFrom, NoHeadFrom, none_in, with_member};
+ghost use Rattle.ct_queue.specs.Lines.{AreNumbered, IsNextHeadOfBunch, IsOfNewBunchFrom, NoHeadOfBunchBehind, NoNewBunchFrom, none_bunched, with_bunched};
 ghost use Rattle.ct_queue.specs.Marks.{with_mark};
 
-use crate::marks::Marks;
+use crate::bunches::Bunches;
 use crate::members::Members;
 use ct_base::NoMemory;
 use std::alloc::Global;
 use std::marker::Model;
 
-/// Which places of lines have a member, with a search for heads: members that are the first of their line.
+/// Which places of lines have a member, with a search for heads, members that are the first of their line: through the
+/// bunches that lines stand in, and through the lines of one bunch.
 ///
 /// Each call but `new` takes no memory, and costs a few logarithms of the number of places.
 #[derive(Drop)]
 pub(crate) struct Lines {
     members: Members,
-    // By place, whether a head stands there.
-    heads: Marks,
+    // By bunch, the heads of lines.
+    heads: Bunches,
 }
 
 impl Model for Lines {
-    ghost use Rattle.ct_queue.specs.Lines.{LinesValue};
+    ghost use Rattle.ct_queue.specs.Lines.{BunchedValue};
 
-    ghost Value = { LinesValue };
+    ghost Value = { BunchedValue };
 
-    ghost use Rattle.ct_queue.specs.Spots.{AreHeads};
+    ghost use Rattle.ct_queue.specs.Spots.{AreHeadsInBunches};
 
-    ghost view = { λ l. l.members };
+    ghost view = { λ l. record { lines = l.members.lines; bunches = l.heads.lines; members = l.members.members } };
 
-    ghost invariant = { λ l. AreHeads l.members l.heads };
+    ghost invariant = { λ l. AreHeadsInBunches l.members l.heads };
 }
 
 impl Lines {
-    /// Takes the line of each place. No member stands at any.
-    pub fn new(alloc: Global, lines: &[u32]) -> Result<Lines, NoMemory>
+    /// Takes the line and the bunch of each place. No member stands at any.
+    pub fn new(alloc: Global, lines: &[u32], bunches: &[u32]) -> Result<Lines, NoMemory>
         requires few { length lines.now < 2 ^ 32 - 1 }
         requires numbered { AreNumbered lines.now }
-        ensures { IfOk result (λ value. value ≡ none_in lines.now) }
+        requires bunched { length bunches.now ≡ length lines.now }
+        requires bunches { AreNumbered bunches.now }
+        ensures { IfOk result (λ value. value ≡ none_bunched lines.now bunches.now) }
     {
         Ok(Lines {
             members: Members::new(alloc, lines)?,
-            heads: Marks::new(alloc, lines.len())?,
+            heads: Bunches::new(alloc, bunches)?,
         })
     }
 
     /// Has a member stand at a place, or none.
     pub fn set(&mut self, place: usize, member: bool)
         requires { place < length self.old.lines }
-        ensures { self.new ≡ with_member self.old place member }
+        ensures { self.new ≡ with_bunched self.old place member }
     {
         let line = self.members.line(place);
         let before = self.members.first_of(line);
-        mark_there(&mut self.heads, before, false);
+        stand_there(&mut self.heads, before, false);
         self.members.set(place, member);
         let after = self.members.first_of(line);
-        mark_there(&mut self.heads, after, true);
+        stand_there(&mut self.heads, after, true);
     }
 
-    /// Finds the least place from one on at which a head stands.
-    pub fn first_head_from(&self, from: usize) -> Option<usize>
-        ensures { MatchOption result (NoHeadFrom self.now from) (IsLeastHeadFrom self.now from) }
+    /// Finds the least place from one on at which the first head of its bunch stands.
+    pub fn new_bunch_from(&self, from: usize) -> Option<usize>
+        ensures { MatchOption result (NoNewBunchFrom self.now from) (IsOfNewBunchFrom self.now from) }
     {
-        self.heads.first_from(from)
+        self.heads.first_head_from(from)
+    }
+
+    /// Finds the next head of the bunch of a place, behind it.
+    pub fn next_head(&self, place: usize) -> Option<usize>
+        requires { place < length self.now.bunches }
+        ensures { MatchOption result (NoHeadOfBunchBehind self.now place) (IsNextHeadOfBunch self.now place) }
+    {
+        self.heads.next_of(place)
     }
 }
 
-/// Marks a place if one is given, or takes its mark away.
-fn mark_there(marks: &mut Marks, place: Option<usize>, mark: bool)
-    requires { IfSome place (λ at. at < length marks.old) }
-    ensures { marks.new ≡ with_mark marks.old place mark }
+/// Has a head stand at a place if one is given, or none.
+fn stand_there(heads: &mut Bunches, place: Option<usize>, head: bool)
+    requires { IfSome place (λ at. at < length heads.old.lines) }
+    ensures bunches { heads.new.lines ≡ heads.old.lines }
+    ensures heads { heads.new.members ≡ with_mark heads.old.members place head }
 {
     if let Some(at) = place {
-        marks.set(at, mark);
+        heads.set(at, head);
     }
 }

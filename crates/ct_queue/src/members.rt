@@ -1,5 +1,5 @@
 ghost use Rattle.std.specs.Prelude.{◌≡◌, ◌≢◌, ℕ, ◌-◌, ◌<◌, ◌^◌, AllPairs, IfOk, MatchOption, length, slice_index};
-ghost use Rattle.ct_queue.specs.Lines.{AreNumbered, IsHeadOfLine, NoneOfLine, none_in, with_member};
+ghost use Rattle.ct_queue.specs.Lines.{AreNumbered, IsHeadOfLine, IsNextOfLine, NoneOfLine, NoneOfLineBehind, none_in, with_member};
 ghost use Rattle.ct_queue.specs.Spots.{AreFoundBySpot, IsTable, first_spot, size_of, spot_of};
 
 use crate::marks::Marks;
@@ -72,6 +72,20 @@ impl Members {
         let place = self.places[spot] as usize;
         if self.lines[place] as usize == line {
             Some(place)
+        } else {
+            None
+        }
+    }
+
+    /// Finds the next member of the line of a place, behind it.
+    pub fn next_of(&self, place: usize) -> Option<usize>
+        requires { place < length self.now.lines }
+        ensures { MatchOption result (NoneOfLineBehind self.now place) (IsNextOfLine self.now place) }
+    {
+        let spot = self.marks.first_from(self.spots[place] as usize + 1)?;
+        let next = self.places[spot] as usize;
+        if self.lines[next] == self.lines[place] {
+            Some(next)
         } else {
             None
         }

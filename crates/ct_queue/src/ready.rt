@@ -1,10 +1,9 @@
 ghost use Rattle.std.specs.Prelude.{◌≡◌, ℕ, ◌-◌, ◌<◌, ◌≤◌, ◌^◌, ◌&&◌, ◌==◌, not, true, false, IfOk, MatchOption, length, map, slice_index, nat_lt};
-ghost use Rattle.ct_queue.specs.Ready.{IsBehind, IsLeastBehind, IsLeastHeadBehind, NamesOnce, NoHeadBehind, NoneBehind, StandsIn, count_of, is_out, is_ready, lowered, none_out, place_of, with_out};
+ghost use Rattle.ct_queue.specs.Ready.{IsBehind, IsLeastBehind, IsNextHead, IsOfNewBunch, NamesOnce, NoHeadBehind, NoNewBunch, NoneBehind, StandsIn, count_of, is_out, is_ready, lowered, none_out, place_of, with_out};
 ghost use Rattle.ct_queue.specs.Lines.{AreNumbered, own_lines};
 ghost use Rattle.ct_queue.specs.Kept.{AreFound, AreMarkedAtZero, waiting, standing_at, with_standing};
 
 use crate::lines::Lines;
-use crate::marks::Marks;
 use ct_base::{List, NoMemory};
 use std::alloc::Global;
 use std::collections::BTreeMap;
@@ -37,7 +36,6 @@ pub struct Ready {
     order: Snapshot<List<u32>>,
     places: BTreeMap<u32, u32>,
     standings: Vec<Standing>,
-    marks: Marks,
     lines: Lines,
 }
 
@@ -48,45 +46,52 @@ impl Model for Ready {
 
     ghost use Rattle.ct_queue.specs.Kept.{IsReadySet, ready_of};
 
-    ghost view = { λ r. ready_of r.order.value r.standings.items r.lines.lines };
+    ghost view = { λ r. ready_of r.order.value r.standings.items r.lines.lines r.lines.bunches };
 
-    ghost invariant = { λ r. IsReadySet r.order.value r.places r.standings.items r.marks r.lines };
+    ghost invariant = { λ r. IsReadySet r.order.value r.places r.standings.items r.lines };
 }
 
 impl Ready {
     /// Takes the tests in their order, with how many predecessors of each are open, at the place of the test.
-    /// None of them is out, and each is a line of its own.
+    /// None of them is out, and each is a line and a bunch of its own.
     pub fn new(alloc: Global, order: &List<u32>, counts: &List<u32>) -> Result<Ready, NoMemory>
         requires few { length order.now < 2 ^ 32 - 1 }
         requires once { NamesOnce order.now }
         requires counted { length counts.now ≡ length order.now }
-        ensures { IfOk result (λ ready. ready ≡ none_out order.now counts.now (own_lines (length order.now))) }
+        ensures { IfOk result (λ ready. ready ≡ none_out order.now counts.now (own_lines (length order.now)) (own_lines (length order.now))) }
     {
         let lines = own_lines(alloc, order.len() as u32)?;
-        Ready::in_lines(alloc, order, counts, &lines)
+        Ready::in_lines(alloc, order, counts, &lines, &lines)
     }
 
-    /// Takes the tests in their order, with how many predecessors of each are open and the line that it stands in, at
-    /// the place of the test. None of them is out.
+    /// Takes the tests in their order, with how many predecessors of each are open, and the line and the bunch that it
+    /// stands in, at the place of the test. None of them is out.
     pub fn in_lines(
         alloc: Global,
         order: &List<u32>,
         counts: &List<u32>,
         lines: &List<u32>,
+        bunches: &List<u32>,
     ) -> Result<Ready, NoMemory>
         requires few { length order.now < 2 ^ 32 - 1 }
         requires once { NamesOnce order.now }
         requires counted { length counts.now ≡ length order.now }
         requires lined { length lines.now ≡ length order.now }
         requires numbered { AreNumbered lines.now }
-        ensures { IfOk result (λ ready. ready ≡ none_out order.now counts.now lines.now) }
+        requires bunched { length bunches.now ≡ length order.now }
+        requires bunches { AreNumbered bunches.now }
+        ensures { IfOk result (λ ready. ready ≡ none_out order.now counts.now lines.now bunches.now) }
     {
         Ok(Ready {
             order: Snapshot::of(order),
             places: places(alloc, order.as_slice())?,
             standings: standings(alloc, counts.as_slice())?,
-            marks: marks(alloc, counts.as_slice())?,
-            lines: lines_at_zero(alloc, lines.as_slice(), counts.as_slice())?,
+            lines: lines_at_zero(
+                alloc,
+                lines.as_slice(),
+                bunches.as_slice(),
+                counts.as_slice(),
+            )?,
         })
     }
 
@@ -135,27 +140,47 @@ impl Ready {
         self.standing(place).is_ready()
     }
 
-    /// Finds the least place behind a given one, or from the front, at which a member stands.
+    /// Finds the least place behind a given one, or from the front, at which a member stands, by a look at each.
     pub fn after(&self, place: Option<u32>) -> Option<u32>
         ensures { MatchOption result (NoneBehind self.now place) (IsLeastBehind self.now place) }
     {
+        for at in first_behind(place)..self.len() {
+            if self.standing(at).is_ready() {
+                return Some(at as u32);
+            }
+        }
+        None
+    }
+
+    /// Finds the least place behind a given one, or from the front, at which the first head of its bunch stands. A head
+    /// is a member with no member of its line before it.
+    pub fn new_bunch_after(&self, place: Option<u32>) -> Option<u32>
+        ensures { MatchOption result (NoNewBunch self.now place) (IsOfNewBunch self.now place) }
+    {
         let from = first_behind(place);
-        match self.marks.first_from(from) {
-            Some(found) => Some(found as u32),
+        match self.lines.new_bunch_from(from) {
+            Some(head) => Some(head as u32),
             None => None,
         }
     }
 
-    /// Finds the least place behind a given one, or from the front, at which a head stands: a member with no member
-    /// of its line before it.
-    pub fn head_after(&self, place: Option<u32>) -> Option<u32>
-        ensures { MatchOption result (NoHeadBehind self.now place) (IsLeastHeadBehind self.now place) }
+    /// Finds the next head of the bunch of a place, behind it.
+    pub fn next_head(&self, place: u32) -> Option<u32>
+        requires { place < length self.now.order }
+        ensures { MatchOption result (NoHeadBehind self.now place) (IsNextHead self.now place) }
     {
-        let from = first_behind(place);
-        match self.lines.first_head_from(from) {
+        match self.lines.next_head(place as usize) {
             Some(head) => Some(head as u32),
             None => None,
         }
+    }
+
+    /// Tells how many tests the order has.
+    fn len(&self) -> usize
+        ensures is { result ≡ length self.now.order }
+        ensures few { result < 2 ^ 32 }
+    {
+        self.standings.len()
     }
 
     /// Finds the place of a test in the order.
@@ -183,9 +208,7 @@ impl Ready {
         ensures { self.new ≡ with_standing self.old place standing }
     {
         self.standings[place] = standing;
-        let member = standing.is_ready();
-        self.marks.set(place, member);
-        self.lines.set(place, member);
+        self.lines.set(place, standing.is_ready());
     }
 }
 
@@ -232,29 +255,24 @@ fn standings(alloc: Global, counts: &[u32]) -> Result<Vec<Standing>, NoMemory>
     Ok(standings.collect(alloc)?)
 }
 
-/// Marks the places at which the count is 0.
-fn marks(alloc: Global, counts: &[u32]) -> Result<Marks, NoMemory>
-    requires few { length counts.now < 2 ^ 32 - 1 }
-    ensures room { IfOk result (λ marks. length counts.now ≤ length marks) }
-    ensures marked { IfOk result (AreMarkedAtZero counts.now) }
-{
-    let mut marks = Marks::new(alloc, counts.len())?;
-    for (place, count) in counts.iter().enumerate() {
-        marks.set(place, *count == 0);
-    }
-    Ok(marks)
-}
-
-/// Takes the lines of tests that have these counts, and has a member stand where the count is 0.
-fn lines_at_zero(alloc: Global, lines: &[u32], counts: &[u32]) -> Result<Lines, NoMemory>
+/// Takes the lines and bunches of tests that have these counts, and has a member stand where the count is 0.
+fn lines_at_zero(
+    alloc: Global,
+    lines: &[u32],
+    bunches: &[u32],
+    counts: &[u32],
+) -> Result<Lines, NoMemory>
     requires few { length lines.now < 2 ^ 32 - 1 }
     requires numbered { AreNumbered lines.now }
+    requires bunched { length bunches.now ≡ length lines.now }
+    requires bunches { AreNumbered bunches.now }
     requires counted { length counts.now ≡ length lines.now }
     ensures lines { IfOk result (λ value. value.lines ≡ lines.now) }
+    ensures bunches { IfOk result (λ value. value.bunches ≡ bunches.now) }
     ensures room { IfOk result (λ value. length value.members ≡ length lines.now) }
     ensures marked { IfOk result (λ value. AreMarkedAtZero counts.now value.members) }
 {
-    let mut members = Lines::new(alloc, lines)?;
+    let mut members = Lines::new(alloc, lines, bunches)?;
     for (place, count) in counts.iter().enumerate() {
         members.set(place, *count == 0);
     }

@@ -136,6 +136,7 @@ returns-then-again-clause-kept c =
           ∙ ap (λ (k : ℕ). slice_set run.parts.states.items place (Pending k)) (next run.plan es room run.parts c.requires.kept c.args.number c.args.attempt c.args.worker c.args.seen c.requires.holds place at t found);
       in_use = subst (λ (u : InUse). Gives t (placement run.plan es room run.parts c.requires.kept c.args.number c.args.attempt c.args.worker c.args.seen c.requires.holds place at t found) run.parts.in_use u) (sym c.go_on.ensures.in_use) gives;
       followers = c.go_on.ensures.followers;
+      keys = c.go_on.ensures.keys;
       stopped = c.go_on.ensures.stopped;
       unfinished = c.go_on.ensures.unfinished;
     } in
@@ -212,6 +213,7 @@ conclude-requires c =
           ∙ ap (λ (v : Verdict). slice_set run.parts.states.items place (Final v)) c.one-verdict.ensures;
       in_use = gives;
       followers = refl;
+      keys = refl;
       stopped = refl;
       unfinished = refl;
     } in

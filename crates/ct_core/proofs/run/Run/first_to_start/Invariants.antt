@@ -1,11 +1,11 @@
-use Rattle.std.proofs.Common.{◌-◌, take, length}
-use Rattle.ct_core.specs.Choice.{NoneStarts}
+use Rattle.std.proofs.Common.{◌-◌, length}
 use Rattle.ct_core.specs.Run.{entries_of}
+use Rattle.ct_core.proofs.BunchLemmas.{IsLooked}
 use Rattle.ct_core.proofs.PickLemmas.{places_to}
 use Rattle.ct_core.proofs.run.Run.first_to_start.Given as goal
 
-abbrev pub invariant-loop-place : goal.invariant-loop-place
-invariant-loop-place l = NoneStarts l.self.plan (entries_of l.self) (take (places_to l.behind) l.self.plan.queue)
+abbrev pub invariant-loop-first : goal.invariant-loop-first
+invariant-loop-first l = IsLooked l.self.plan (entries_of l.self) l.self.parts.ready l.behind l.best
 
-abbrev pub decreases-loop-place : goal.decreases-loop-place
-decreases-loop-place l = length l.self.plan.queue - places_to l.behind
+abbrev pub decreases-loop-first : goal.decreases-loop-first
+decreases-loop-first l = length l.self.plan.queue - places_to l.behind

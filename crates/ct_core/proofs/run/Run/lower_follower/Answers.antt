@@ -46,7 +46,7 @@ returns-then-not-is_ready-clause-queued c =
     let ws : c.as_slice.result.now ≡ followers_at run.parts c.args.place = c.as_slice.ensures ∙ read_waiting run.plan es run.parts c.args.place c.requires.told c.requires.there c.index.result.now c.index.ensures in
     let is : x ≡ get_or (followers_at run.parts c.args.place) c.args.at 0 = ap (λ (l : List ℕ). get_or l c.args.at 0) ws in
     let waits : is_ready (lowered run.parts.ready x) x ≡ false = sym (ap (λ (r : ReadyValue). is_ready r x) c.lower.ensures) ∙ sym c.is_ready.ensures ∙ c.if-not-is_ready.true in
-    waits_on run.plan c.requires.told.sound es c.requires.goes_on run.parts c.requires.told c.args.place c.args.at x c.requires.there c.requires.within is c.requires.queued (record run.parts { ready = c.lower.new.self }) c.lower.ensures waits refl
+    waits_on run.plan c.requires.told.sound es c.requires.goes_on run.parts c.requires.told c.args.place c.args.at x c.requires.there c.requires.within is c.requires.queued (record run.parts { ready = c.lower.new.self }) c.lower.ensures refl waits refl
 
 pub returns-then-is_some-clause-queued : goal.returns-then-is_some-clause-queued
 returns-then-is_some-clause-queued c =
@@ -62,7 +62,7 @@ returns-then-is_some-clause-queued c =
     let found = found_here run.plan.tests x c.expect_place-here.result t here read in
     let now : is_ready (lowered run.parts.ready x) x ≡ true = sym (ap (λ (r : ReadyValue). is_ready r x) c.lower.ensures) ∙ sym c.is_ready.ensures ∙ c.if-not-is_ready.false in
     let some : is_some (cause_then run.plan es t) ≡ true = sym (ap (λ (o : Option Cause). is_some o) c.cause_then.ensures) ∙ sym c.is_some.ensures ∙ c.if-is_some.true in
-    settles run.plan c.requires.told.sound es c.requires.goes_on run.parts c.requires.told c.args.place c.args.at x c.requires.there c.requires.within is c.requires.queued (record run.parts { ready = c.lower.new.self; settleable = c.set.new.self }) c.lower.ensures t c.expect_place-here.result found here now some c.set.ensures
+    settles run.plan c.requires.told.sound es c.requires.goes_on run.parts c.requires.told c.args.place c.args.at x c.requires.there c.requires.within is c.requires.queued (record run.parts { ready = c.lower.new.self; settleable = c.set.new.self }) c.lower.ensures refl t c.expect_place-here.result found here now some c.set.ensures
 
 pub returns-else-is_some-clause-queued : goal.returns-else-is_some-clause-queued
 returns-else-is_some-clause-queued c =
@@ -78,4 +78,4 @@ returns-else-is_some-clause-queued c =
     let found = found_here run.plan.tests x c.expect_place-here.result t here read in
     let now : is_ready (lowered run.parts.ready x) x ≡ true = sym (ap (λ (r : ReadyValue). is_ready r x) c.lower.ensures) ∙ sym c.is_ready.ensures ∙ c.if-not-is_ready.false in
     let none : is_some (cause_then run.plan es t) ≡ false = sym (ap (λ (o : Option Cause). is_some o) c.cause_then.ensures) ∙ sym c.is_some.ensures ∙ c.if-is_some.false in
-    settles_not run.plan c.requires.told.sound es c.requires.goes_on run.parts c.requires.told c.args.place c.args.at x c.requires.there c.requires.within is c.requires.queued (record run.parts { ready = c.lower.new.self }) c.lower.ensures t c.expect_place-here.result found here now none refl
+    settles_not run.plan c.requires.told.sound es c.requires.goes_on run.parts c.requires.told c.args.place c.args.at x c.requires.there c.requires.within is c.requires.queued (record run.parts { ready = c.lower.new.self }) c.lower.ensures refl t c.expect_place-here.result found here now none refl

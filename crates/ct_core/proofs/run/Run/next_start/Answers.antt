@@ -1,16 +1,15 @@
-use Rattle.std.proofs.Common.{◌≡◌, ◌∙◌, ◌+◌, ◌<◌, ◌^◌, ℕ, ap, subst, sym, false, length, arith}
+use Rattle.std.proofs.Common.{◌≡◌, ◌∙◌, ap, subst, sym, false, arith}
 use Rattle.std.specs.Prelude.{Option}
 use Rattle.std.proofs.lemmas.Grind.{common_steps}
 use Rattle.ct_alloc.specs.Free.{FreeValue}
 use Rattle.ct_history.specs.declared.plan.PlanTest.{PlanTest}
 use Rattle.ct_history.specs.declared.plan.PlanParts.{PlanParts}
-use Rattle.ct_history.specs.History.{attempts_of}
 use Rattle.ct_core.specs.declared.slots.Place.{Place}
-use Rattle.ct_core.specs.Choice.{may_start_if_placed_at}
+use Rattle.ct_core.specs.Choice.{attempt_after, may_start_if_placed_at}
 use Rattle.ct_core.specs.InUse.{has_room_beside}
 use Rattle.ct_core.specs.Run.{entries_of}
 use Rattle.ct_core.specs.Slots.{IsPlaceFor}
-use Rattle.ct_core.proofs.ChoiceLemmas.{attempt_fits, attempts_stand, due_at, failed, not_due, nowhere, starts_of}
+use Rattle.ct_core.proofs.ChoiceLemmas.{due_at, failed, not_due, nowhere, starts_of}
 use Rattle.ct_core.proofs.InUseLemmas.{free_beside}
 use Rattle.ct_core.proofs.run.Run.next_start.Goals as goal
 
@@ -24,41 +23,27 @@ returns-then-not-has_room-clause-ok c =
     let no : c.has_room.result ≡ false = first_of (cc, grind (arith, common_steps)) in
     not_due run.plan (entries_of run) t c.args.number at.found (room ∙ no)
 
-pub unreachable-requires : goal.unreachable-requires
-unreachable-requires c =
+pub next_attempt-requires-clause-may : goal.next_attempt-requires-clause-may
+next_attempt-requires-clause-may c =
     let run = c.args.self.now in
     let t = c.index-tests-place.result in
-    let tests = c.as_slice-tests.ensures ∙ ap (λ (p : PlanParts). p.tests) c.parts-plan.ensures.is in
-    let at = due_at run.plan (entries_of run) run.parts c.args.number c.expect_place-place.result t c.as_slice-tests.result.now c.requires.kept.told c.requires.due tests c.expect_place-place.ensures c.index-tests-place.is in
-    c.in_default.not-Pending (length (attempts_of t.number t.rules (entries_of run))) (at.stands c.index.result.now c.index.ensures)
-
-pub overflow_add-result : goal.overflow_add-result
-overflow_add-result c =
-    let run = c.args.self.now in
-    let t = c.index-tests-place.result in
-    let ended = length (attempts_of t.number t.rules (entries_of run)) in
     let tests = c.as_slice-tests.ensures ∙ ap (λ (p : PlanParts). p.tests) c.parts-plan.ensures.is in
     let at = due_at run.plan (entries_of run) run.parts c.args.number c.expect_place-place.result t c.as_slice-tests.result.now c.requires.kept.told c.requires.due tests c.expect_place-place.ensures c.index-tests-place.is in
     let room = at.room ∙ sym (c.has_room.ensures ∙ ap (λ (p : PlanParts). has_room_beside p.level run.parts.in_use t) c.parts-plan.ensures.is) in
-    let count : c.in-Pending.attempts ≡ ended = attempts_stand c.index.result.now c.in-Pending.attempts ended c.in-Pending.is (at.stands c.index.result.now c.index.ensures) in
-    let read : c.parts-plan.result.now.repeat.times < 2 ^ 32 = omega arith in
-    let small = subst (λ (p : PlanParts). p.repeat.times < 2 ^ 32) c.parts-plan.ensures.is read in
-    omega (arith, count, attempt_fits run.plan t (entries_of run) (room ∙ c.if-not-has_room.false) small)
+    ap (λ (o : Option PlanTest). may_start_if_placed_at run.plan (entries_of run) o) at.found ∙ room ∙ c.if-not-has_room.false
 
 pub returns-in-Here-clause-ok : goal.returns-in-Here-clause-ok
 returns-in-Here-clause-ok c =
     let run = c.args.self.now in
     let t = c.index-tests-place.result in
-    let ended = length (attempts_of t.number t.rules (entries_of run)) in
     let tests = c.as_slice-tests.ensures ∙ ap (λ (p : PlanParts). p.tests) c.parts-plan.ensures.is in
     let at = due_at run.plan (entries_of run) run.parts c.args.number c.expect_place-place.result t c.as_slice-tests.result.now c.requires.kept.told c.requires.due tests c.expect_place-place.ensures c.index-tests-place.is in
     let room = at.room ∙ sym (c.has_room.ensures ∙ ap (λ (p : PlanParts). has_room_beside p.level run.parts.in_use t) c.parts-plan.ensures.is) in
-    let count : c.in-Pending.attempts ≡ ended = attempts_stand c.index.result.now c.in-Pending.attempts ended c.in-Pending.is (at.stands c.index.result.now c.index.ensures) in
     let free = run.parts.in_use.free in
     let found = subst (λ (o : Option FreeValue). IsPlaceFor o t.needs c.in_ok-placement.field-0) c.as_ref.ensures.value c.in_ok-placement.ensures in
     let placed = subst (λ (place : Place). IsPlaceFor free t.needs place) c.in-Here.is found in
-    starts_of run.plan (entries_of run) free t c.args.number (c.in-Pending.attempts + 1) c.in-Here.placement (free_beside run.plan (entries_of run) run.parts.in_use c.requires.kept.told.in_use) at.found (room ∙ c.if-not-has_room.false) placed
-    (ap (λ (k : ℕ). k + 1) count)
+    starts_of run.plan (entries_of run) free t c.args.number c.next_attempt.result c.in-Here.placement (free_beside run.plan (entries_of run) run.parts.in_use c.requires.kept.told.in_use) at.found (room ∙ c.if-not-has_room.false) placed
+    (c.next_attempt.ensures ∙ ap (λ (o : Option PlanTest). attempt_after (entries_of run) o) at.found)
 
 pub returns-in-Nowhere-clause-ok : goal.returns-in-Nowhere-clause-ok
 returns-in-Nowhere-clause-ok c =

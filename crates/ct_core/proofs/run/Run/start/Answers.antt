@@ -92,6 +92,7 @@ returns-clause-kept c =
       ready = c.out.ensures;
       settleable = refl;
       followers = refl;
+      keys = refl;
       stopped = refl;
       unfinished = refl;
     } in

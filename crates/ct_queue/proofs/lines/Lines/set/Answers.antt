@@ -14,7 +14,12 @@ invariant_of-self c =
     let was = subst (λ (line : ℕ). IsFoundIn c.self.inside.members line c.first_of-before.result) c.line-line.ensures.is c.first_of-before.ensures in
     let now = subst (λ (line : ℕ). IsFoundIn c.set.new.self line c.first_of-after.result) c.line-line.ensures.is c.first_of-after.ensures in
     let is = subst (λ (v : LinesValue). IsFoundIn v (line_in c.self.inside.members c.args.place) c.first_of-after.result) c.set.ensures now in
-    let marks = c.mark_there-2.ensures ∙ ap (λ (ms : List Bool). with_mark ms c.first_of-after.result true) c.mark_there.ensures in
-    subst (λ (v : LinesValue). AreHeads v c.mark_there-2.new.marks) (sym c.set.ensures)
-    (subst (λ (ms : List Bool). AreHeads (with_member c.self.inside.members c.args.place c.args.member) ms) (sym marks)
-    (heads_set c.self.inside.members c.self.inside.heads c.args.place c.args.member c.first_of-before.result c.first_of-after.result c.self.invariant was is))
+    let marks = c.stand_there-2.ensures.heads ∙ ap (λ (ms : List Bool). with_mark ms c.first_of-after.result true) c.stand_there.ensures.heads in
+    let lines = c.stand_there-2.ensures.bunches ∙ c.stand_there.ensures.bunches in
+    record {
+      bunched = ap length lines ∙ c.self.invariant.bunched ∙ ap (λ (v : LinesValue). length v.lines) (sym c.set.ensures);
+      marked =
+          subst (λ (v : LinesValue). AreHeads v c.stand_there-2.new.heads.members) (sym c.set.ensures)
+          (subst (λ (ms : List Bool). AreHeads (with_member c.self.inside.members c.args.place c.args.member) ms) (sym marks)
+          (heads_set c.self.inside.members c.self.inside.heads.members c.args.place c.args.member c.first_of-before.result c.first_of-after.result c.self.invariant.marked was is));
+    }

@@ -11,6 +11,12 @@ in_lines-requires-clause-lined c = ap length c.in_ok-lines.ensures ∙ length-ra
 pub in_lines-requires-clause-numbered : goal.in_lines-requires-clause-numbered
 in_lines-requires-clause-numbered c = subst (λ (l : List ℕ). AreNumbered l) (sym c.in_ok-lines.ensures) (own_numbered c.len.result)
 
+pub in_lines-requires-clause-bunched : goal.in_lines-requires-clause-bunched
+in_lines-requires-clause-bunched c = ap length c.in_ok-lines.ensures ∙ length-range_with_len 0 c.len.result ∙ c.len.ensures
+
+pub in_lines-requires-clause-bunches : goal.in_lines-requires-clause-bunches
+in_lines-requires-clause-bunches c = subst (λ (l : List ℕ). AreNumbered l) (sym c.in_ok-lines.ensures) (own_numbered c.len.result)
+
 pub returns : goal.returns
 returns c =
-    subst (λ (l : List ℕ). IfOk c.in_lines.result (λ ready. ready ≡ none_out c.args.order.now c.args.counts.now l)) (c.in_ok-lines.ensures ∙ ap own_lines c.len.ensures) c.in_lines.ensures
+    subst (λ (l : List ℕ). IfOk c.in_lines.result (λ ready. ready ≡ none_out c.args.order.now c.args.counts.now l l)) (c.in_ok-lines.ensures ∙ ap own_lines c.len.ensures) c.in_lines.ensures
