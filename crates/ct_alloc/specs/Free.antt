@@ -20,7 +20,7 @@ used_at free place = slice_index free.used place
 abbrev pub slot_counts : List Resource → List ℕ
 slot_counts resources = map (λ (r : Resource). r.slots) resources
 
--- no resource is used beyond its slots, which fit in 32 bits as their number does
+-- no more slots of a resource are used than it has; slots and the number of resources fit in 32 bits
 pub record IsWithinSlots (resources : List Resource) (used : List ℕ) : Type 0 where
   pub count : length used ≡ length resources
   pub few : length resources < 2 ^ 32 - 1

@@ -37,7 +37,7 @@ pub record IsNext (free : List ℕ) (size room card : ℕ) : Type 0 where
 abbrev pub reaching : ℕ → ℕ → ℕ
 reaching least amount = if nat_le least amount then amount else 0
 
--- one, where an amount reaches a least one
+-- 1 if the amount is at least the bound, else 0
 abbrev pub one_from : ℕ → ℕ → ℕ
 one_from least amount = if nat_le least amount then 1 else 0
 

@@ -50,7 +50,7 @@ cards_from place kind [] = []
 cards_from place kind (resource ∷ resources) =
     if bytes_eq resource.kind kind then place ∷ cards_from (place + 1) kind resources else cards_from (place + 1) kind resources
 
--- the places of both kinds of needs, in the order of the needs
+-- the places of the needs of one kind and of all others, in the order of the needs
 abbrev pub interleaved : List ℕ → List Need → List ℕ → List ℕ → List ℕ
 interleaved kind [] here rest = []
 interleaved kind (need ∷ needs) here rest = if asks_kind kind need then slice_index here 0 ∷ interleaved kind needs (drop 1 here) rest else slice_index rest 0 ∷ interleaved kind needs here (drop 1 rest)

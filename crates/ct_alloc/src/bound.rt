@@ -1,7 +1,8 @@
 ghost use Rattle.std.specs.Prelude.{◌≡◌, ◌<◌, true, sum_by};
 ghost use Rattle.ct_alloc.specs.Packing.{CannotPack, one_from, reaching, rooms};
 
-/// Tells that sizes cannot be packed, since those from one size on are too many or too much for the cards.
+/// Tells whether, for some size, the sizes from it on are too many or take too many slots for the cards: then
+/// no packing exists.
 pub fn is_overfull(free: &[u32], sizes: &[u32]) -> bool
     ensures { result ≡ true → CannotPack free.now sizes.now }
 {

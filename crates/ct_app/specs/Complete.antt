@@ -46,7 +46,7 @@ CompletesRun s outcome = IsRunnable s → IsUnfailed s → (outcome ≡ Complete
 abbrev pub CompletesList : Sides → Outcome → Type 0
 CompletesList s outcome = IsListable s → IsUnfailed s → (outcome ≡ Listed) ⊎ (outcome ≡ Memory)
 
--- so it is with what the words ask for, a run or a list
+-- what the words ask for is carried out: a run is completed, or a list is put
 pub record Completes (s : Sides) (outcome : Outcome) : Type 0 where
   pub run : ask_for_list s.words ≡ false → CompletesRun s outcome
   pub list : ask_for_list s.words ≡ true → CompletesList s outcome

@@ -69,7 +69,7 @@ IsSeen seen (End t a w ended) = ended ≡ seen t a
 IsSeen seen (Settle t cause) = ⊤
 IsSeen seen Stop = ⊤
 
--- so it was of each attempt that ended
+-- this is what was seen of each attempt that ended
 abbrev pub AreSeen : (ℕ → ℕ → Seen) → List Entry → Type 0
 AreSeen seen [] = ⊤
 AreSeen seen (entry ∷ entries) = IsSeen seen entry × AreSeen seen entries
@@ -79,8 +79,8 @@ abbrev pub IsMeant : PlanParts → (ℕ → ℕ → Seen) → List Entry → ℕ
 IsMeant plan seen entries number =
     (verdict_of_test plan entries number ≡ meant_verdict plan seen number) ⊎ ((has_stop entries ≡ true) × (verdict_of_test plan entries number ≡ Some (NotRun Stopped)))
 
--- so has each test, and all of them the meant one without --stop-on-failure; with it or without, some verdict is of the failing
--- class exactly where some meant one is
+-- each test has its meant verdict or was kept from running by a Stop; without --stop-on-failure each has its
+-- meant one; in both cases some verdict is of the failing class exactly where some meant one is
 pub record AreMeant (plan : PlanParts) (seen : ℕ → ℕ → Seen) (entries : List Entry) : Type 0 where
   pub verdicts : (number : ℕ) → IsMeant plan seen entries number
   pub unstopped : plan.stop_on_failure ≡ false → (number : ℕ) → verdict_of_test plan entries number ≡ meant_verdict plan seen number

@@ -17,6 +17,7 @@ pub record HaveSameTexts (plan : PlanParts) (one other : List Entry) : Type 0 wh
   pub costs : (before : CostData) → costs_after plan one before ≡ costs_after plan other before
   pub log : failed_log_text plan one ≡ failed_log_text plan other
 
--- so has this one with each legal history in which each test is final too, and the same is seen of each attempt
+-- this history has the same texts as each legal one in which each test is final and the same is seen of each
+-- attempt
 abbrev pub HasMeantTexts : PlanParts → (ℕ → ℕ → Seen) → List Entry → Type 0
 HasMeantTexts plan seen entries = (other : List Entry) → is_legal plan other ≡ true → are_all_final plan other ≡ true → AreSeen seen other → HaveSameTexts plan entries other

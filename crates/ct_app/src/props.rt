@@ -56,7 +56,7 @@ fn props_of(alloc: Global, number: u32, def: &TestDef) -> Result<Props, Outcome>
     }
 }
 
-/// What a fault of the properties of a test is to a run.
+/// Turns a fault of a test's properties into the outcome of the call.
 fn refusal(test: u32, fault: PropFault) -> Outcome
     ensures { result ≡ outcome_of_prop test fault }
 {

@@ -9,7 +9,7 @@ use Rattle.ct_history.specs.Plan.{test_at}
 use Rattle.ct_core.specs.declared.state.State.{State}
 use Rattle.ct_core.specs.declared.state.State.TheVariants.{Pending, Final}
 
--- how a test stands before any entry
+-- the state of a test before the first entry
 abbrev pub first_state : PlanTest → State
 first_state t = if t.disabled then Final Disabled else Pending 0
 

@@ -67,8 +67,8 @@ abbrev pub may_start_if_placed_at : PlanParts → List Entry → Option PlanTest
 may_start_if_placed_at plan entries None = false
 may_start_if_placed_at plan entries (Some t) = may_start_if_placed plan t entries
 
--- some test of the queue may start wherever its needs are met (so it may where it has none), and no earlier one may with
--- any placement
+-- some test of the queue may start with any placement for its needs, or has no needs and may start; no
+-- earlier one may start with any placement
 pub record SomeIsToPlace (plan : PlanParts) (entries : List Entry) : Type 0 where
   pub earlier : List ℕ
   pub number : ℕ

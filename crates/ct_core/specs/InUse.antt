@@ -27,7 +27,7 @@ pub record IsInUse (plan : PlanParts) (starts : List Running) (u : InUse) : Type
   pub resources : resources_of u.free ≡ plan.resources
   pub slots : (place : ℕ) → used_of u.free place ≡ sum_by (λ (r : Running). placed_slots place r.placement) starts
 
--- more is in use by a test with this placement
+-- what is in use after a test has started with this placement
 pub record Takes (t : PlanTest) (placement : Option Placement) (old new : InUse) : Type 0 where
   pub processors : new.processors ≡ old.processors + t.processors
   pub opens : new.open_count ≡ old.open_count + 1
@@ -37,7 +37,7 @@ pub record Takes (t : PlanTest) (placement : Option Placement) (old new : InUse)
   pub resources : resources_of new.free ≡ resources_of old.free
   pub slots : (place : ℕ) → used_of new.free place ≡ used_of old.free place + placed_slots place placement
 
--- less is in use by a test with this placement, which alone held its locks
+-- what is in use after a test with this placement has ended; no other test held its locks
 pub record Gives (t : PlanTest) (placement : Option Placement) (old new : InUse) : Type 0 where
   pub processors : new.processors ≡ old.processors - t.processors
   pub opens : new.open_count ≡ old.open_count - 1

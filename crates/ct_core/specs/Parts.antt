@@ -31,8 +31,8 @@ is_pending_in (Some s) = is_pending_state s
 abbrev pub is_pending_at_place : List State → ℕ → Bool
 is_pending_at_place states place = is_pending_in (slice_get states place)
 
--- how the tests of a sound plan stand, what the open ones use, and whether a Stop stands, are as the history says; who
--- waits for whom is as the plan says
+-- the state of each test of a sound plan, what the open ones use, and whether there is a Stop agree with the
+-- history; the followers agree with the plan
 pub record AreTold (plan : PlanParts) (entries : List Entry) (parts : Parts) : Type 0 where
   pub sound : IsSound plan
   pub states : parts.states.items ≡ states_of plan entries
@@ -51,7 +51,7 @@ pub record AreQueued (plan : PlanParts) (entries : List Entry) (left : List ℕ)
 abbrev pub HasRoom : List Entry → ℕ → Parts → Type 0
 HasRoom entries room parts = 0 < parts.in_use.open_count → length entries + parts.in_use.open_count + stop_places entries ≤ room
 
--- the history is legal, and each part says what it says
+-- the history is legal, and each part agrees with it
 pub record IsKept (plan : PlanParts) (entries : List Entry) (room : ℕ) (parts : Parts) : Type 0 where
   pub legal : is_legal plan entries ≡ true
   pub reserved : HasRoom entries room parts
@@ -59,8 +59,8 @@ pub record IsKept (plan : PlanParts) (entries : List Entry) (room : ℕ) (parts 
   pub unfinished : parts.unfinished ≡ count_unfinished parts.states.items
   pub queued : AreQueued plan entries [] parts
 
--- the last entry made the test final with this verdict, and that alone is not noted yet: how many are not final, those
--- that wait for it, and the Stop that may be due
+-- the last entry made the test final with this verdict; only these are not updated yet: the number of tests
+-- that are not final, its followers, a due Stop
 pub record IsConcluding (plan : PlanParts) (entries : List Entry) (room : ℕ) (number : ℕ) (verdict : Verdict) (parts : Parts) : Type 0 where
   pub allowed : is_allowed_so_far plan entries ≡ true
   pub final : verdict_of_test plan entries number ≡ Some verdict

@@ -12,7 +12,7 @@ use Rattle.ct_core.specs.Parts.{IsConcluding, IsKept}
 abbrev pub entries_of : Run → List Entry
 entries_of run = run.history.entries.items
 
--- its history is legal, and its parts say what it says
+-- its history is legal, and its parts agree with it
 abbrev pub IsKeptRun : Run → Type 0
 IsKeptRun run = IsKept run.plan (entries_of run) (vec_capacity run.history.entries) run.parts
 

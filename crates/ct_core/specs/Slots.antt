@@ -26,7 +26,7 @@ pub record IsFreeBeside (plan : PlanParts) (entries : List Entry) (free : Option
   pub resources : resources_of free ≡ plan.resources
   pub used : IfSome free (λ f. (place : ℕ) → used_at f place ≡ used_slots entries place)
 
--- the needs are met so: by no placement, or by this one
+-- the answer for these needs: no placement is right for them, or this one is
 abbrev pub IsPlaceFor : Option FreeValue → List Need → Place → Type 0
 IsPlaceFor free needs Nowhere = (placement : Option Placement) → is_placed (resources_of free) needs (used_of free) placement ≡ true → ⊥
 IsPlaceFor free needs (Here placement) = is_placed (resources_of free) needs (used_of free) placement ≡ true

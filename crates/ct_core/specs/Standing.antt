@@ -21,7 +21,7 @@ standing (Some v) running attempts = Final v
 standing None (Some r) attempts = Open attempts r.placement
 standing None None attempts = Pending attempts
 
--- how a test stands
+-- the state of a test
 abbrev pub state_of : Repeat → List Entry → PlanTest → State
 state_of repeat entries t = standing (verdict_in repeat t entries) (open_start t.number entries) (length (attempts_of t.number t.rules entries))
 

@@ -28,8 +28,8 @@ is_pending_at plan entries (Some t) = is_pending plan t entries
 abbrev pub cause_then : PlanParts → List Entry → PlanTest → Option Cause
 cause_then plan entries t = cause_behind (first_unpassed plan t entries) t.fixed
 
--- each test of the queue stands in the set with its predecessors that are not final, those of `left` with one more;
--- out are those that are final or open; those of one line ask for the same
+-- each test of the queue is in the set with the number of its predecessors that are not final, a test of
+-- `left` with one more; final and open tests are out; tests of one line have the same demand
 pub record IsQueued (plan : PlanParts) (entries : List Entry) (left : List ℕ) (ready : ReadyValue) : Type 0 where
   pub order : ready.order ≡ plan.queue
   pub counted : length ready.counts ≡ length plan.queue

@@ -20,7 +20,8 @@ use ct_verdict::Verdict;
 use std::alloc::Global;
 
 impl Parts {
-    /// Makes the parts of a run in which nothing has happened. More tests than a place can name are never had.
+    /// Makes the parts of a run before its first entry. More tests than 32-bit places can name are answered
+    /// as want of memory.
     pub(crate) fn begin(alloc: Global, plan: &PlanParts) -> Result<Parts, NoMemory>
         requires { IsSound plan.now }
         ensures { IfOk result (λ parts. IsKept plan.now [] 0 parts) }
@@ -64,8 +65,7 @@ fn first_state(test: &PlanTest) -> State
     }
 }
 
-/// Has each test of the queue wait for its predecessors, in line with those that ask for the same, and in one bunch with
-/// those that wait for the same lock.
+/// Makes the set of ready tests: each test of the queue with the number of its predecessors, its line and its bunch.
 fn first_ready(alloc: Global, plan: &PlanParts, keys: &[Option<u32>]) -> Result<Ready, NoMemory>
     requires sound { IsSound plan.now }
     requires few { length plan.now.tests < 2 ^ 32 - 1 }

@@ -31,7 +31,7 @@ fn none_each(alloc: Global, tests: &[PlanTest]) -> Result<Vec<List<u32>>, NoMemo
     Ok(followers)
 }
 
-/// Puts the test at a place behind those in front of it that wait for the same tests.
+/// Appends the test at a place to the list of each test that it waits for.
 fn follow(tests: &[PlanTest], at: usize, followers: &mut Vec<List<u32>>) -> Result<(), NoMemory>
     requires numbers { IsAscendingFrom 1 (map (λ t. t.number) tests.now) }
     requires before { AllAscend (λ t. t.before) tests.now }

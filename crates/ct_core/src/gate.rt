@@ -30,7 +30,7 @@ pub struct Request {
 }
 
 impl Request {
-    /// Makes a second request of the same parts.
+    /// Copies the request.
     pub fn copy(&self, alloc: Global) -> Result<Request, NoMemory>
         ensures { IfOk result (λ request. request ≡ self.now) }
     {
@@ -80,7 +80,7 @@ pub struct Ended {
     pub micros: u64,
 }
 
-/// Tells whether memory was wanting for an attempt that ended so.
+/// Tells whether an attempt ended for want of memory.
 pub fn lacks_memory(how: How) -> bool
     ensures { result ≡ is_no_memory how }
 {

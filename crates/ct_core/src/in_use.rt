@@ -37,7 +37,8 @@ pub(crate) fn nothing(alloc: Global, plan: &PlanParts) -> Result<InUse, NoMemory
     })
 }
 
-/// Copies the plan's resources, where some are given. More than a placement can name are never had.
+/// Copies the plan's resources, if there are any. More than 32-bit places can name are answered as want of
+/// memory.
 fn all_free(alloc: Global, plan: &PlanParts) -> Result<Option<Free>, NoMemory>
     ensures whole { IfOk result (λ free. resources_of free ≡ plan.now.resources) }
     ensures unused { IfOk result (λ free. (place : ℕ) → used_of free place ≡ 0) }

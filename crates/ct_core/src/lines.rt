@@ -11,8 +11,8 @@ use std::alloc::Global;
 
 /// Gives each test of the queue its line: the place of the first one that asks for the same.
 ///
-/// Tests are found by a text of what they ask for, and then compared. So a text that tests share which ask for different
-/// things makes more lines, and no wrong one.
+/// A line is looked up by a text of what its tests ask for, and the tests are then compared. If tests that
+/// ask for different things share a text, there are more lines, but no wrong one.
 pub(crate) fn lines_of(alloc: Global, plan: &PlanParts) -> Result<List<u32>, NoMemory>
     requires ascends { IsAscendingFrom 1 (map (λ t. t.number) plan.now.tests) }
     requires few { length plan.now.queue < 2 ^ 32 }
@@ -27,7 +27,8 @@ pub(crate) fn lines_of(alloc: Global, plan: &PlanParts) -> Result<List<u32>, NoM
     Ok(lines)
 }
 
-/// Gives the line of the test at a place: one that is known by its text, or a new one, which is known from then on.
+/// Returns the line of the test at a place: a known line, or a new one, which is stored under the test's
+/// text.
 fn line_of(
     alloc: Global,
     plan: &PlanParts,

@@ -134,7 +134,8 @@ impl Run {
         Ok(())
     }
 
-    /// Notes what follows from a test's being final: the Stop that is due, or that others wait for it no longer.
+    /// Updates the parts after a test became final: sets the Stop that is due, or lowers the counts of its
+    /// followers.
     fn conclude(&mut self, number: u32, verdict: Verdict)
         requires concluding { IsConcludingRun number verdict self.old }
         ensures kept { IsKeptRun self.new }
@@ -154,7 +155,7 @@ impl Run {
         }
     }
 
-    /// Notes of the tests that wait for the one at a place that they do so no longer.
+    /// Lowers the count of each follower of the test at a place.
     fn lower_followers(&mut self, place: usize)
         requires there { place < length self.old.plan.tests }
         requires goes_on { has_stop (entries_of self.old) ≡ false }
@@ -170,7 +171,7 @@ impl Run {
         }
     }
 
-    /// Notes of one of the tests that wait for the one at a place that it does so no longer, and whether it may be settled now.
+    /// Lowers the count of one follower of the test at a place, and marks it if it may be settled now.
     fn lower_follower(&mut self, place: usize, at: usize)
         requires there { place < length self.old.plan.tests }
         requires within { at < length (followers_at self.old.parts place) }
@@ -195,7 +196,8 @@ impl Run {
     }
 }
 
-/// Tells whether a test with this verdict stops the run, where it is the first one that makes it fail.
+/// Tells whether this verdict stops the run: the plan stops on failure, and the verdict is of the failing
+/// class.
 fn stops_at(plan: &PlanParts, verdict: Verdict) -> bool
     ensures { result ≡ (plan.now.stop_on_failure && is_failing_verdict verdict) }
 {

@@ -28,8 +28,8 @@ pub enum Next {
 
 /// Decides which attempt starts when, and keeps the history of the run.
 ///
-/// Contracts see its plan, its entries and whether it was aborted. It keeps beside its history what that says of each
-/// test, so that a call costs what it changes.
+/// Contracts see its plan, its entries and whether it was aborted. It also keeps the state of each test, so a
+/// call costs only what it changes.
 #[derive(Drop)]
 pub struct Core {
     run: Run,
@@ -106,7 +106,7 @@ impl Core {
         self.run.verdict(test)
     }
 
-    /// Says what this worker has to do next, and appends what that makes of the history.
+    /// Says what this worker has to do next, and appends the entry of that step to the history.
     ///
     /// The first that holds: the run was given up; every test is final; a test may be settled, and
     /// the least is; a test may start, and the first in the queue does; wait for an end. So some

@@ -35,7 +35,7 @@ pub(crate) fn place_for(
     }
 }
 
-/// Makes a second placement of the same picks, where there is one.
+/// Copies a placement, if there is one.
 pub(crate) fn copy_placement(
     alloc: Global,
     placement: Option<&Placement>,

@@ -5,12 +5,12 @@ ghost use Rattle.ct_history.specs.Verdicts.{is_passed_verdict};
 use ct_alloc::Placement;
 use ct_verdict::Verdict;
 
-/// How a test of a plan stands in a run.
+/// The state of a test of a plan in a run.
 #[derive(Drop)]
 pub(crate) enum State {
-    /// Neither open nor final, after so many attempts.
+    /// Neither open nor final; the number of attempts that have ended.
     Pending(u32),
-    /// An attempt is open with this placement, behind so many that have ended.
+    /// An attempt is open with this placement; the number of attempts that ended before it.
     Open(u32, Option<Placement>),
     /// It has this verdict.
     Final(Verdict),
@@ -23,7 +23,7 @@ impl State {
         matches!(self, State::Final(Verdict::Passed))
     }
 
-    /// Gives the verdict of a test that stands so, where it is final.
+    /// Returns the verdict of a test in this state, if it is final.
     pub(crate) fn verdict(&self) -> Option<Verdict>
         ensures { result ≡ verdict_of_state self.now }
     {

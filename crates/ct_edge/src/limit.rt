@@ -31,8 +31,7 @@ impl Limit {
         self.micros.is_some()
     }
 
-    /// The microseconds up to the limit, or as many as these where there are more; 0 once the time
-    /// is up.
+    /// The microseconds left before the limit, at most `most`; 0 once the time is up.
     pub fn left<R: Clock>(&self, rt: &R, most: u64) -> io::Result<u64>
         ensures most { IfOk result (λ left. left ≤ most) }
         ensures limit { IfOk result (λ left. IfSome self.now.micros (λ limit. left ≤ limit)) }

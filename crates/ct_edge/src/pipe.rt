@@ -86,8 +86,8 @@ fn awaited<R: AsRawFd>(output: &R, more: bool) -> pollfd {
     }
 }
 
-/// Waits until a read of one of these gives at once, but no longer than this, in microseconds, and
-/// tells of each whether it does.
+/// Waits until one of these can be read without waiting, at most so many microseconds, and tells which of
+/// them can.
 ///
 /// It waits in whole milliseconds, rounded up. A signal ends the wait early.
 fn ready(mut awaited: [pollfd; 2], micros: u64) -> io::Result<[bool; 2]> {
@@ -98,8 +98,7 @@ fn ready(mut awaited: [pollfd; 2], micros: u64) -> io::Result<[bool; 2]> {
     broken_off(io::Error::from_raw_os_error(os::errno()))
 }
 
-/// What a wait tells that the system broke off: a signal made neither ready, and any other error is a
-/// fault.
+/// The answer of a wait that failed: after a signal neither can be read, and any other error is a fault.
 fn broken_off(fault: io::Error) -> io::Result<[bool; 2]>
     ensures signal { error_kind fault ≡ ErrorKind.Interrupted → result ≡ Ok (false ∷ false ∷ []) }
     ensures failed { error_kind fault ≢ ErrorKind.Interrupted → result ≡ Err fault }

@@ -29,7 +29,7 @@ waiting count = record { count = count; is_out = false }
 abbrev pub standing_at : ReadyValue → ℕ → Standing
 standing_at ready place = record { count = count_at ready place; is_out = is_out_at ready place }
 
--- the same but for the test at a place, which stands so
+-- the set with this standing for the test at a place
 abbrev pub with_standing : ReadyValue → ℕ → Standing → ReadyValue
 with_standing ready place s =
     record { order = ready.order; counts = slice_set ready.counts place s.count; outs = slice_set ready.outs place s.is_out; lines = ready.lines; bunches = ready.bunches }

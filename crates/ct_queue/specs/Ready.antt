@@ -4,8 +4,8 @@ use Rattle.std.specs.Prelude.{◌≡◌, ◌≢◌, ℕ, ◌-◌, ◌<◌, ◌�
 use Rattle.std.specs.List.{position_or_len}
 use Rattle.ct_queue.specs.Lines.{IsHeadOf}
 
--- tests in an order and, by the place of a test there, how many of its predecessors are open, whether it is out, and
--- the line and the bunch that it stands in
+-- tests in an order and, by the place of a test there, how many of its predecessors are not final, whether it is out,
+-- and the line and the bunch that it stands in
 pub record ReadyValue : Type 0 where
   pub order : List ℕ
   pub counts : List ℕ
@@ -25,7 +25,7 @@ place_of order test = position_or_len (λ t. t == test) order
 abbrev pub StandsIn : List ℕ → ℕ → Type 0
 StandsIn order test = place_of order test < length order
 
--- how many predecessors of the test at a place are open
+-- how many predecessors of the test at a place are not final
 abbrev pub count_at : ReadyValue → ℕ → ℕ
 count_at ready place = slice_index_or ready.counts place 0
 
@@ -33,11 +33,11 @@ count_at ready place = slice_index_or ready.counts place 0
 abbrev pub is_out_at : ReadyValue → ℕ → Bool
 is_out_at ready place = slice_index_or ready.outs place false
 
--- a member stands at the place: a test that has no open predecessor and is not out
+-- a member stands at the place: a test whose predecessors are final and that is not out
 abbrev pub is_member : ReadyValue → ℕ → Bool
 is_member ready place = nat_lt place (length ready.order) && (count_at ready place == 0) && not (is_out_at ready place)
 
--- how many predecessors of a test are open
+-- how many predecessors of a test are not final
 abbrev pub count_of : ReadyValue → ℕ → ℕ
 count_of ready test = count_at ready (place_of ready.order test)
 
@@ -54,7 +54,7 @@ abbrev pub none_out : List ℕ → List ℕ → List ℕ → List ℕ → ReadyV
 none_out order counts lines bunches =
     record { order = order; counts = counts; outs = replicate (length order) false; lines = lines; bunches = bunches }
 
--- the same but for one predecessor of a test, which is open no longer
+-- the same but for one predecessor of a test, which is final now
 abbrev pub lowered : ReadyValue → ℕ → ReadyValue
 lowered ready test =
     record { order = ready.order; counts = slice_set ready.counts (place_of ready.order test) (count_of ready test - 1); outs = ready.outs; lines = ready.lines; bunches = ready.bunches }

@@ -15,7 +15,7 @@ first_spot lines line = count_by (λ l. nat_lt l line) lines
 abbrev pub spot_of : List ℕ → ℕ → ℕ
 spot_of lines place = first_spot lines (slice_index lines place) + size_of (take place lines) (slice_index lines place)
 
--- a list of so many numbers, each as this says of its place
+-- a list of this length that has the function's value at each place
 pub record IsTable (of : ℕ → ℕ) (size : ℕ) (table : List ℕ) : Type 0 where
   pub long : length table ≡ size
   pub reads : (at : ℕ) → at < size → slice_index table at ≡ of at

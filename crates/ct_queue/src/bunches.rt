@@ -43,7 +43,7 @@ impl Bunches {
         })
     }
 
-    /// Has a member stand at a place, or none.
+    /// Adds or removes the member at a place.
     pub fn set(&mut self, place: usize, member: bool)
         requires { place < length self.old.lines }
         ensures { self.new ≡ with_member self.old place member }
@@ -72,7 +72,7 @@ impl Bunches {
     }
 }
 
-/// Marks a place if one is given, or takes its mark away.
+/// Marks a place, if one is given, or removes its mark.
 fn mark_there(marks: &mut Marks, place: Option<usize>, mark: bool)
     requires { IfSome place (λ at. at < length marks.old) }
     ensures { marks.new ≡ with_mark marks.old place mark }

@@ -46,7 +46,7 @@ impl Lines {
         })
     }
 
-    /// Has a member stand at a place, or none.
+    /// Adds or removes the member at a place.
     pub fn set(&mut self, place: usize, member: bool)
         requires { place < length self.old.lines }
         ensures { self.new ≡ with_bunched self.old place member }
@@ -75,7 +75,7 @@ impl Lines {
     }
 }
 
-/// Has a head stand at a place if one is given, or none.
+/// Adds or removes the head at a place, if one is given.
 fn stand_there(heads: &mut Bunches, place: Option<usize>, head: bool)
     requires { IfSome place (λ at. at < length heads.old.lines) }
     ensures bunches { heads.new.lines ≡ heads.old.lines }

@@ -91,7 +91,7 @@ impl Members {
         }
     }
 
-    /// Has a member stand at a place, or none.
+    /// Adds or removes the member at a place.
     pub fn set(&mut self, place: usize, member: bool)
         requires { place < length self.old.lines }
         ensures { self.new ≡ with_member self.old place member }

@@ -10,7 +10,7 @@ use std::collections::BTreeMap;
 use std::marker::Model;
 use std::snapshot::Snapshot;
 
-/// How a test stands: how many of its predecessors are open, and whether it is out.
+/// The state of a test in the set: how many of its predecessors are not final, and whether it is out.
 #[derive(Clone, Copy)]
 pub(crate) struct Standing {
     pub count: u32,
@@ -28,7 +28,7 @@ impl Standing {
 
 /// The tests of a run in the order of their cost, with those of them that are ready.
 ///
-/// Its members are the tests that have no open predecessor and are not out. Each call but `new` and `in_lines` takes
+/// Its members are the tests whose predecessors are final and that are not out. Each call but `new` and `in_lines` takes
 /// no memory, and costs at most a few logarithms of the number of tests.
 /// Source: CMake manual, ctest(1), -j, and cmake-properties(7), COST. The set is this project's own.
 #[derive(Drop)]
@@ -52,7 +52,7 @@ impl Model for Ready {
 }
 
 impl Ready {
-    /// Takes the tests in their order, with how many predecessors of each are open, at the place of the test.
+    /// Takes the tests in their order, each with the number of its predecessors that are not final.
     /// None of them is out, and each is a line and a bunch of its own.
     pub fn new(alloc: Global, order: &List<u32>, counts: &List<u32>) -> Result<Ready, NoMemory>
         requires few { length order.now < 2 ^ 32 - 1 }
@@ -64,8 +64,8 @@ impl Ready {
         Ready::in_lines(alloc, order, counts, &lines, &lines)
     }
 
-    /// Takes the tests in their order, with how many predecessors of each are open, and the line and the bunch that it
-    /// stands in, at the place of the test. None of them is out.
+    /// Takes the tests in their order, each with the number of its predecessors that are not final, its line and its
+    /// bunch. None of them is out.
     pub fn in_lines(
         alloc: Global,
         order: &List<u32>,
@@ -95,7 +95,7 @@ impl Ready {
         })
     }
 
-    /// Notes that one predecessor of a test is open no longer.
+    /// Lowers by one the number of a test's predecessors that are not final.
     pub fn lower(&mut self, test: u32)
         requires stands { StandsIn self.old.order test }
         requires open_before { 0 < count_of self.old test }
@@ -202,7 +202,7 @@ impl Ready {
         self.standings[place]
     }
 
-    /// Has the test at a place stand so from now on.
+    /// Sets the standing of the test at a place.
     fn put(&mut self, place: usize, standing: Standing)
         requires { place < length self.old.order }
         ensures { self.new ≡ with_standing self.old place standing }

@@ -33,7 +33,7 @@ pub record IsReady (jobs : Jobs) (turn : TurnValue) (worker : ℕ) (pass : PassV
   pub number : pass.known.worker ≡ worker
   pub reach : Reach jobs pass.known.plan
 
--- so may the workers from this one on, each with the pass of its place
+-- the workers from this one on may take part, each with the pass of its place
 abbrev pub AreReady : Jobs → TurnValue → ℕ → List PassValue → Type 0
 AreReady jobs turn worker [] = ⊤
 AreReady jobs turn worker (pass ∷ passes) = IsReady jobs turn worker pass × AreReady jobs turn (worker + 1) passes

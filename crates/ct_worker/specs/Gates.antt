@@ -66,7 +66,7 @@ lacks_for run entry = is_end_of run.test run.attempt entry && lacks_memory entry
 abbrev pub ended_lacking : List Entry → Running → Bool
 ended_lacking entries run = list_any (lacks_for run) entries
 
--- these are the attempts, in order, of which those that pass the test may be missing
+-- the second list is the first, from which runs that pass the test may be missing
 abbrev pub MayMiss : (Running → Bool) → List Running → List Running → Type 0
 MayMiss may [] kept = kept ≡ []
 MayMiss may (run ∷ runs) [] = (may run ≡ true) × MayMiss may runs []
@@ -199,7 +199,8 @@ pub record IsAsked (terms : Terms) (worker : ℕ) (before now : GateTell) (entri
   pub world : now.world ≡ before.world
   pub unstarted : CountsUnstarted (unstarted_count worker entries) (unsure_count worker entries) before.faults now.faults
 
--- so were these gates, each by the worker of its place; the first of them is that of this worker
+-- each of these gates was asked for the attempts of its worker; the first gate is that of this worker, the
+-- next that of the next one
 abbrev pub AreAsked : Terms → ℕ → List GateTell → List GateTell → List Entry → Type 0
 AreAsked terms worker [] [] entries = ⊤
 AreAsked terms worker [] (now ∷ nows) entries = ⊥
@@ -213,6 +214,6 @@ is_below workers (End t a w seen) = nat_lt w workers
 is_below workers (Settle t cause) = true
 is_below workers Stop = true
 
--- each Start and End is
+-- each Start and End is of one of so many first workers
 abbrev pub are_below : ℕ → List Entry → Bool
 are_below workers entries = list_all (is_below workers) entries

@@ -82,7 +82,7 @@ fn unpooled<G, S: Sink>(mut state: State<S>, gates: Vec<G>) -> Pooled<G, S>
     Pooled { state, gates }
 }
 
-/// Hands out that the plan of a run is sound.
+/// Does nothing when it runs; its clause says that the plan of a run is sound.
 fn hand_out_sound<S: Sink>(state: &State<S>)
     ensures { IsSound state.now.plan }
 {
@@ -146,7 +146,7 @@ fn crew<R: Threads + Wait + Sync, G: Gate + Send, S: Sink + Send>(
     );
 }
 
-/// Lets the workers of two parts take part.
+/// Runs the workers of both halves.
 #[cycle(crew)]
 fn both<R: Threads + Wait + Sync, G: Gate + Send, S: Sink + Send>(
     rt: &R,

@@ -13,7 +13,7 @@ pub struct Jobs<'a> {
     pub own: &'a [Pair],
     pub defs: &'a List<TestDef>,
     pub props: &'a List<Props>,
-    /// How long an attempt may run of a test that does not say so, in microseconds; 0 is no limit.
+    /// The limit of a test without TIMEOUT, in microseconds; 0 is no limit.
     pub timeout: u64,
 }
 

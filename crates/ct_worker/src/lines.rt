@@ -60,7 +60,7 @@ impl<S: Sink> Lines<S> {
 
     /// Puts the line of a test, where that is final, behind those of the others, and counts it.
     ///
-    /// A line that has no number counts as one for which memory is wanting.
+    /// Where the count of lines is at its last value, the answer is want of memory.
     fn put(&mut self, core: &Core, test: u32) -> Result<(), SinkFault>
         requires { KnowsSome core.now self.old.known }
         ensures { PutsNext S.tells test core.now self.old self.new result }

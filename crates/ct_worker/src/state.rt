@@ -111,7 +111,7 @@ impl<S: Sink> State<S> {
         give_up(Halt::Memory, &mut self.core, &mut self.halt);
     }
 
-    /// Does nothing: contracts learn here what the sink took of the lines of the run.
+    /// Does nothing when it runs; its clauses say which lines of the run the sink took.
     pub(crate) fn hand_out_lines(&self)
         ensures put { PutsLines (test_lines self.now.plan self.now.entries) self.now.opened self.now.sink (put_of self.now.halt) }
         ensures halted { IfErr (put_of self.now.halt)
