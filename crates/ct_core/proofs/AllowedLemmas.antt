@@ -1,5 +1,5 @@
 -- What an allowed history and each of its entries say: what holds all along, which test an entry is about.
-use Rattle.std.proofs.Common.{◌≡◌, ◌∙◌, sym, ap, subst, Bool, true, false, ℕ, List, [], ◌∷◌, ◌++◌, refl, arith, append_assoc}
+use Rattle.std.proofs.Common.{◌≡◌, ◌∙◌, ap, Bool, true, false, ℕ, List, [], ◌∷◌, ◌++◌, refl, arith}
 use Rattle.std.specs.Prelude.{Option, Some, None, is_some, not, ◌&&◌, ◌==◌, filter_map, if◌then◌else◌}
 use Rattle.std.specs.List.{cons_option}
 use Rattle.std.proofs.lemmas.Bool.{and_parts}
@@ -22,20 +22,10 @@ use Rattle.ct_history.specs.Plan.{test_at}
 use Rattle.ct_history.specs.History.{attempt_by, attempts_of, holds_start, is_busy_in, is_open_in, settled_by}
 use Rattle.ct_history.specs.Verdicts.{attempted_verdict, first_of_list, settled_cause, settled_or}
 use Rattle.ct_history.specs.Rules.{is_pending}
-use Rattle.ct_history.specs.Legal.{are_allowed_behind, is_allowed, is_allowed_so_far, is_stop_due, settles, starts}
+use Rattle.ct_history.specs.Legal.{is_allowed, is_stop_due, settles, starts}
+pub use Rattle.ct_history.proofs.ApartLemmas.{allowed_induction}
 use Rattle.ct_history.proofs.MayLemmas.{SettlesAs, StartsAs, pending-parts, settles-parts, starts-parts}
 use Rattle.ct_history.proofs.PlanLemmas.{find_passes}
-
--- what holds at first, and stays with each allowed entry, holds of each allowed history
-module _ (plan : PlanParts) (P : List Entry → Type 0) (step : (es : List Entry) (e : Entry) → is_allowed plan es e ≡ true → P es → P (es ++ e ∷ [])) where
-  holds_behind : (front es : List Entry) → are_allowed_behind plan front es ≡ true → P front → P (front ++ es)
-  holds_behind front [] allowed holds = subst P (sym (append-nil front)) holds
-  holds_behind front (e ∷ es) allowed holds =
-      let both = and_parts (is_allowed plan front e) (are_allowed_behind plan (front ++ e ∷ []) es) allowed in
-      subst P (append_assoc front (e ∷ []) es) (holds_behind (front ++ e ∷ []) es both.1 (step front e both.0 holds))
-
-  pub allowed_induction : P [] → (es : List Entry) → is_allowed_so_far plan es ≡ true → P es
-  allowed_induction first es so_far = holds_behind [] es so_far first
 
 -- a test is found by its own number
 pub number_at : (tests : List PlanTest) (n : ℕ) (t : PlanTest) → test_at tests n ≡ Some t → t.number ≡ n

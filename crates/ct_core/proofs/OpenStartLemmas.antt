@@ -7,8 +7,6 @@ use Rattle.std.proofs.lemmas.Bool.Decides.{nat_tests}
 use Rattle.std.proofs.lemmas.List.{append-nil}
 use Rattle.std.proofs.lemmas.List.Elements.{All-contains, All-filter, All-nil, All-push, filter_passes}
 use Rattle.std.proofs.lemmas.List.Folds.{list_any_at}
-use Rattle.std.proofs.lemmas.List.Kept.{AllPairs-filter}
-use Rattle.std.proofs.lemmas.List.Quantifiers.{all_pairs_push}
 use Rattle.ct_alloc.specs.declared.placement.Placement.{Placement}
 use Rattle.ct_verdict.specs.declared.attempt.Seen.{Seen}
 use Rattle.ct_verdict.specs.declared.repeat.Repeat.{Repeat}
@@ -24,6 +22,7 @@ use Rattle.ct_history.specs.History.{Running, attempts_of, holds_start, is_open_
 use Rattle.ct_history.specs.Verdicts.{is_over, last_of_list, settled_cause, settled_or, verdict_at, verdict_in, verdict_of_test}
 use Rattle.ct_history.specs.Rules.{is_placed}
 use Rattle.ct_history.specs.Legal.{is_allowed, is_allowed_so_far}
+use Rattle.ct_history.proofs.ApartLemmas.{starts_apart}
 use Rattle.ct_history.proofs.AttemptLemmas.{attempts_left}
 use Rattle.ct_history.proofs.BoolLemmas.{eq_is}
 use Rattle.ct_history.proofs.MayLemmas.{SettlesAs, StartsAs}
@@ -62,22 +61,9 @@ opens_stop es = open_starts-snoc es Stop refl ∙ append-nil (open_starts es)
 pub start_opens : (es : List Entry) (n a w : ℕ) (p : Option Placement) → open_starts (es ++ Start n a w p ∷ []) ≡ open_starts es ++ (record { test = n; attempt = a; worker = w; placement = p }) ∷ []
 start_opens es n a w p = open_starts-snoc es (Start n a w p) refl
 
--- the starts of two tests
-abbrev pub OfTwo : Running → Running → Type 0
-OfTwo x y = x.test ≢ y.test
-
-apart-snoc : (plan : PlanParts) (es : List Entry) (e : Entry) → is_allowed plan es e ≡ true → AllPairs OfTwo (open_starts es) → AllPairs OfTwo (open_starts (es ++ e ∷ []))
-apart-snoc plan es (Start n a w p) allowed apart =
-    subst (AllPairs OfTwo) (sym (start_opens es n a w p))
-    (all_pairs_push OfTwo (open_starts es) (record { test = n; attempt = a; worker = w; placement = p }) apart (start_unlike plan es n a p (start_begins plan es n a w p allowed)))
-apart-snoc plan es (End n a w s) allowed apart = subst (AllPairs OfTwo) (sym (open_starts-end es n a w s)) (AllPairs-filter OfTwo (λ r. not (is_of n a r)) (open_starts es) apart)
-apart-snoc plan es (Settle n c) allowed apart = subst (AllPairs OfTwo) (sym (opens_settle es n c)) apart
-apart-snoc plan es Stop allowed apart = subst (AllPairs OfTwo) (sym (opens_stop es)) apart
-
 -- two open starts are of two tests
 pub open_apart : (plan : PlanParts) (es : List Entry) → is_allowed_so_far plan es ≡ true → AllPairs (λ (x y : Running). x.test ≢ y.test) (open_starts es)
-open_apart plan es so_far =
-    allowed_induction plan (λ (xs : List Entry). AllPairs OfTwo (open_starts xs)) (λ xs e allowed apart. apart-snoc plan xs e allowed apart) (λ i j d lt within. absurd (omega (arith, within))) es so_far
+open_apart plan es so_far = (starts_apart plan es so_far).tests
 
 -- the placement was right for the test at some moment of the history
 pub record WasPlaced (plan : PlanParts) (t : PlanTest) (placement : Option Placement) (es : List Entry) : Type 0 where
@@ -287,7 +273,7 @@ open_placed plan es n r t so_far is found =
     subst (λ (u : PlanTest). WasPlaced plan u r.placement es) same opens.placed
 
 -- where two are always of two tests, each is found by its test
-found_apart : (rs : List Running) (q : Running) → AllPairs OfTwo rs → Contains rs q → find (λ (r : Running). r.test == q.test) rs ≡ Some q
+found_apart : (rs : List Running) (q : Running) → AllPairs (λ (x y : Running). x.test ≢ y.test) rs → Contains rs q → find (λ (r : Running). r.test == q.test) rs ≡ Some q
 found_apart [] q apart is = absurd (omega (arith, is.1))
 found_apart (r ∷ rs) q apart (zero, lt, same) =
     let here : r ≡ q = same in

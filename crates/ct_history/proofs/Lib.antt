@@ -7,6 +7,7 @@ pub mod MayLemmas
 pub mod WithinLemmas
 pub mod FinalLemmas
 pub mod LegalLemmas
+pub mod ApartLemmas
 pub mod ProgressLemmas
 pub mod SlotLemmas
 pub mod EndingLemmas

@@ -10,9 +10,10 @@ use Rattle.ct_history.specs.declared.history.Entry.{Entry}
 use Rattle.ct_history.specs.declared.history.Entry.TheVariants.{Start}
 use Rattle.ct_history.specs.History.{Running, holds_start, is_busy_in, open_starts}
 use Rattle.ct_history.specs.Legal.{is_legal}
+use Rattle.ct_history.proofs.ApartLemmas.{Differ, differ-head, differ-tail, starts_apart}
+use Rattle.ct_history.proofs.LegalLemmas.{legal_allowed}
 use Rattle.ct_history.proofs.OpenLemmas.{is_of, open_starts-snoc}
 use Rattle.ct_turn.specs.Seen.{AddsOwn, is_own, open_start}
-use Rattle.ct_turn.proofs.StartLemmas.{Distinct, lone_legal}
 
 true_is_false : true ≡ false → ⊥
 true_is_false is = cc
@@ -82,7 +83,7 @@ unfound p q (x ∷ xs) none = elim (cases_Bool (q x)) [
     rest : list_any p xs ≡ false
     rest = (parts (p x) (list_any p xs) none).1
 
-end_leaves : (w : ℕ) (r : Running) (rs : List Running) → Distinct (λ q. q.worker) rs → find (λ (q : Running). q.worker == w) rs ≡ Some r → find (λ (q : Running). q.worker == w) (filter (λ q. not (is_of r.test r.attempt q)) rs) ≡ None
+end_leaves : (w : ℕ) (r : Running) (rs : List Running) → Differ (λ q. q.worker) rs → find (λ (q : Running). q.worker == w) rs ≡ Some r → find (λ (q : Running). q.worker == w) (filter (λ q. not (is_of r.test r.attempt q)) rs) ≡ None
 end_leaves w r [] all is = refl
 end_leaves w r (x ∷ xs) all is =
     let own : Running → Bool = λ q. q.worker == w in
@@ -94,9 +95,9 @@ end_leaves w r (x ∷ xs) all is =
           let lost : not (is_of r.test r.attempt x) ≡ false = subst (λ (q : Running). not (is_of r.test r.attempt q) ≡ false) (sym same) (grind (arith, nat_tests)) in
           let worker : x.worker ≡ w = grind (arith, nat_tests, here) in
           ap (λ (b : Bool). find (λ (q : Running). q.worker == w) (cond b (x ∷ filter (λ q. not (is_of r.test r.attempt q)) xs) (filter (λ q. not (is_of r.test r.attempt q)) xs))) lost
-          ∙ unfound (λ (q : Running). q.worker == w) (λ q. not (is_of r.test r.attempt q)) xs (subst (λ (k : ℕ). list_any (λ (q : Running). q.worker == k) xs ≡ false) worker all.0)
+          ∙ unfound (λ (q : Running). q.worker == w) (λ q. not (is_of r.test r.attempt q)) xs (subst (λ (k : ℕ). list_any (λ (q : Running). q.worker == k) xs ≡ false) worker (differ-head (λ q. q.worker) x xs all))
       | inr other ↦
-          let rest = end_leaves w r xs all.1 (sym (ap (λ (b : Bool). cond b (Some x) (find (λ (q : Running). q.worker == w) xs)) other) ∙ is) in
+          let rest = end_leaves w r xs (differ-tail (λ q. q.worker) x xs all) (sym (ap (λ (b : Bool). cond b (Some x) (find (λ (q : Running). q.worker == w) xs)) other) ∙ is) in
           elim (cases_Bool (not (is_of r.test r.attempt x))) [
             | inl stays ↦
                 ap (λ (b : Bool). find (λ (q : Running). q.worker == w) (cond b (x ∷ filter (λ q. not (is_of r.test r.attempt q)) xs) (filter (λ q. not (is_of r.test r.attempt q)) xs))) stays
@@ -109,7 +110,7 @@ end_leaves w r (x ∷ xs) all is =
 -- behind the End of the start that it held a worker holds none
 pub end_holds_none : (plan : PlanParts) (w : ℕ) (r : Running) (es : List Entry) → is_legal plan es ≡ true → open_start w es ≡ Some r → (e : Entry) → open_starts (es ++ e ∷ []) ≡ filter (λ q. not (is_of r.test r.attempt q)) (open_starts es) → open_start w (es ++ e ∷ []) ≡ None
 end_holds_none plan w r es legal is e closes =
-    ap (λ (rs : List Running). find (λ (q : Running). q.worker == w) rs) closes ∙ end_leaves w r (open_starts es) (lone_legal plan es legal) is
+    ap (λ (rs : List Running). find (λ (q : Running). q.worker == w) rs) closes ∙ end_leaves w r (open_starts es) (starts_apart plan es (legal_allowed plan es legal)).workers is
 
 -- a Settle or a Stop leaves the start that a worker holds
 pub settle_stays : (w : ℕ) (es : List Entry) (e : Entry) → open_starts (es ++ e ∷ []) ≡ open_starts es ++ [] → open_start w (es ++ e ∷ []) ≡ open_start w es

@@ -2,21 +2,17 @@
 use Rattle.std.proofs.Common.{◌≡◌, ◌∙◌, sym, ap, subst, refl, Bool, true, false, ℕ, zero, suc, List, [], ◌∷◌, ◌++◌, inl, inr, arith, append_assoc}
 use Rattle.std.specs.Prelude.{Option, Some, None, find, filter, not, ◌==◌, ◌&&◌, ◌||◌, cond, Contains, if◌then◌else◌}
 use Rattle.std.specs.List.{list_any}
-use Rattle.std.proofs.lemmas.Bool.{and_parts, cases_Bool, not-true}
+use Rattle.std.proofs.lemmas.Bool.{and_parts, cases_Bool}
 use Rattle.std.proofs.lemmas.Bool.Decides.{nat_tests}
 use Rattle.std.proofs.lemmas.List.{append-nil}
-use Rattle.std.proofs.lemmas.List.Folds.{list_any-append}
-use Rattle.ct_history.specs.declared.plan.PlanTest.{PlanTest}
 use Rattle.ct_history.specs.declared.plan.PlanParts.{PlanParts}
 use Rattle.ct_history.specs.declared.history.Entry.{Entry}
 use Rattle.ct_history.specs.declared.history.Entry.TheVariants.{Start, End, Settle, Stop}
-use Rattle.ct_history.specs.History.{Running, holds_start, is_busy_in, open_starts}
-use Rattle.ct_history.specs.Plan.{test_at}
-use Rattle.ct_history.specs.Legal.{are_allowed_behind, is_allowed, is_legal, is_stop_due, starts}
-use Rattle.ct_history.proofs.LegalLemmas.{legal_allowed}
-use Rattle.ct_history.proofs.MayLemmas.{pending-parts, starts-parts}
+use Rattle.ct_history.specs.History.{Running, holds_start, open_starts}
+use Rattle.ct_history.specs.Legal.{are_allowed_behind, is_allowed, is_allowed_so_far, is_legal, is_stop_due}
+use Rattle.ct_history.proofs.ApartLemmas.{Differ, differ-head, differ-tail, starts_apart}
+use Rattle.ct_history.proofs.LegalLemmas.{allowed-snoc, legal_allowed}
 use Rattle.ct_history.proofs.OpenLemmas.{is_of, open_starts-end, open_starts-snoc}
-use Rattle.ct_history.proofs.PlanLemmas.{find_passes}
 use Rattle.ct_turn.specs.Seen.{GoesOn, is_by, open_start}
 
 true_is_false : true ≡ false → ⊥
@@ -30,73 +26,11 @@ or_parts false b is = (refl, is)
 pub or_from : (a b : Bool) → a ≡ false → b ≡ false → (a || b) ≡ false
 or_from a b none no_other = ap (λ (x : Bool). x || b) none ∙ no_other
 
--- no two of these starts have the same number
-abbrev pub Distinct : (Running → ℕ) → List Running → Type 0
-Distinct key [] = Unit {0}
-Distinct key (r ∷ rs) = (list_any (λ (q : Running). key q == key r) rs ≡ false) × Distinct key rs
-
 flipped : (m n : ℕ) → (m == n) ≡ false → (n == m) ≡ false
 flipped m n is = grind (arith, nat_tests)
 
-distinct-snoc : (key : Running → ℕ) (rs : List Running) (r : Running) → Distinct key rs → list_any (λ (q : Running). key q == key r) rs ≡ false → Distinct key (rs ++ r ∷ [])
-distinct-snoc key [] r all none = (refl, tt)
-distinct-snoc key (x ∷ xs) r all none =
-    let both = or_parts (key x == key r) (list_any (λ (q : Running). key q == key r) xs) none in (
-      list_any-append (λ (q : Running). key q == key x) xs (r ∷ []) ∙ or_from _ _ all.0 (or_from (key r == key x) false (flipped (key x) (key r) both.0) refl),
-      distinct-snoc key xs r all.1 both.1,
-    )
-
-none-filter : (q p : Running → Bool) (rs : List Running) → list_any q rs ≡ false → list_any q (filter p rs) ≡ false
-none-filter q p [] none = refl
-none-filter q p (x ∷ xs) none =
-    let both = or_parts (q x) (list_any q xs) none in
-    let rest = none-filter q p xs both.1 in
-    elim (cases_Bool (p x)) [
-      | inl kept ↦ ap (λ (b : Bool). list_any q (cond b (x ∷ filter p xs) (filter p xs))) kept ∙ or_from (q x) _ both.0 rest
-      | inr lost ↦ ap (λ (b : Bool). list_any q (cond b (x ∷ filter p xs) (filter p xs))) lost ∙ rest
-    ]
-
-distinct-filter : (key : Running → ℕ) (p : Running → Bool) (rs : List Running) → Distinct key rs → Distinct key (filter p rs)
-distinct-filter key p [] all = tt
-distinct-filter key p (x ∷ xs) all =
-    let rest = distinct-filter key p xs all.1 in
-    elim (cases_Bool (p x)) [
-      | inl kept ↦ subst (λ (b : Bool). Distinct key (cond b (x ∷ filter p xs) (filter p xs))) (sym kept) (none-filter (λ (q : Running). key q == key x) p xs all.0, rest)
-      | inr lost ↦ subst (λ (b : Bool). Distinct key (cond b (x ∷ filter p xs) (filter p xs))) (sym lost) rest
-    ]
-
--- no two open starts are of one test, or of one worker
-record AreLone (es : List Entry) : Type 0 where
-  tests : Distinct (λ r. r.test) (open_starts es)
-  workers : Distinct (λ r. r.worker) (open_starts es)
-
-lone-from : (es : List Entry) (rs : List Running) → open_starts es ≡ rs → Distinct (λ r. r.test) rs → Distinct (λ r. r.worker) rs → AreLone es
-lone-from es rs is tests workers = record {
-  tests = subst (λ (xs : List Running). Distinct (λ r. r.test) xs) (sym is) tests;
-  workers = subst (λ (xs : List Running). Distinct (λ r. r.worker) xs) (sym is) workers;
-}
-
 same_number : (m n : ℕ) → (m == n) ≡ true → m ≡ n
 same_number m n is = grind (arith, nat_tests)
-
--- one allowed entry more
-lone-snoc : (plan : PlanParts) (es : List Entry) (e : Entry) → is_allowed plan es e ≡ true → AreLone es → AreLone (es ++ e ∷ [])
-lone-snoc plan es (Start n a w p) allowed lone =
-    let most = and_parts (not (is_stop_due plan es) && starts plan es a p (test_at plan.tests n)) (not (is_busy_in w es)) allowed in
-    let both = and_parts (not (is_stop_due plan es)) (starts plan es a p (test_at plan.tests n)) most.0 in
-    let begins = starts-parts plan es a p (test_at plan.tests n) both.1 in
-    let closed = (pending-parts plan begins.test es begins.may.pending).closed in
-    let number = same_number begins.test.number n (find_passes (λ (t : PlanTest). t.number == n) plan.tests begins.test begins.found) in
-    let run : Running = record { test = n; attempt = a; worker = w; placement = p } in
-    lone-from (es ++ Start n a w p ∷ []) (open_starts es ++ run ∷ []) (open_starts-snoc es (Start n a w p) refl)
-    (distinct-snoc (λ r. r.test) (open_starts es) run lone.tests (subst (λ (k : ℕ). list_any (λ (r : Running). r.test == k) (open_starts es) ≡ false) number closed))
-    (distinct-snoc (λ r. r.worker) (open_starts es) run lone.workers (not-true (is_busy_in w es) most.1))
-lone-snoc plan es (End t a w s) allowed lone =
-    lone-from (es ++ End t a w s ∷ []) (filter (λ r. not (is_of t a r)) (open_starts es)) (open_starts-end es t a w s)
-    (distinct-filter (λ r. r.test) (λ r. not (is_of t a r)) (open_starts es) lone.tests)
-    (distinct-filter (λ r. r.worker) (λ r. not (is_of t a r)) (open_starts es) lone.workers)
-lone-snoc plan es (Settle t c) allowed lone = lone-from (es ++ Settle t c ∷ []) (open_starts es) (open_starts-snoc es (Settle t c) refl ∙ append-nil (open_starts es)) lone.tests lone.workers
-lone-snoc plan es Stop allowed lone = lone-from (es ++ Stop ∷ []) (open_starts es) (open_starts-snoc es Stop refl ∙ append-nil (open_starts es)) lone.tests lone.workers
 
 filter_none : (t a : ℕ) (rs : List Running) → list_any (λ (q : Running). q.test == t) rs ≡ false → filter (λ r. not (is_of t a r)) rs ≡ rs
 filter_none t a [] none = refl
@@ -116,7 +50,7 @@ none_held t a v (x ∷ xs) none =
     or_from (is_held t a v x) (list_any (is_held t a v) xs) (ap (λ (b : Bool). b && x.attempt == a && x.worker == v) both.0) (none_held t a v xs both.1)
 
 -- an End of another worker's start leaves a worker's start as it is
-find-end : (t a v w : ℕ) (rs : List Running) → Distinct (λ r. r.test) rs → list_any (is_held t a v) rs ≡ true → (v == w) ≡ false → find (λ (r : Running). r.worker == w) (filter (λ r. not (is_of t a r)) rs) ≡ find (λ (r : Running). r.worker == w) rs
+find-end : (t a v w : ℕ) (rs : List Running) → Differ (λ r. r.test) rs → list_any (is_held t a v) rs ≡ true → (v == w) ≡ false → find (λ (r : Running). r.worker == w) (filter (λ r. not (is_of t a r)) rs) ≡ find (λ (r : Running). r.worker == w) rs
 find-end t a v w [] all held other = refl
 find-end t a v w (x ∷ xs) all held other =
     let rest : List Running = filter (λ r. not (is_of t a r)) xs in
@@ -124,7 +58,7 @@ find-end t a v w (x ∷ xs) all held other =
     elim (cases_Bool (is_of t a x)) [
       | inl same ↦
           let test = same_number x.test t (and_parts (x.test == t) (x.attempt == a) same).0 in
-          let none = subst (λ (k : ℕ). list_any (λ (q : Running). q.test == k) xs ≡ false) test all.0 in
+          let none = subst (λ (k : ℕ). list_any (λ (q : Running). q.test == k) xs ≡ false) test (differ-head (λ r. r.test) x xs all) in
           elim (cases_Bool (x.worker == v)) [
             | inl by ↦
                 let unlike : (x.worker == w) ≡ false = ap (λ (k : ℕ). k == w) (same_number x.worker v by) ∙ other in
@@ -138,7 +72,7 @@ find-end t a v w (x ∷ xs) all held other =
       | inr unlike ↦
           let not_here : is_held t a v x ≡ false = ap (λ (b : Bool). b && x.worker == v) unlike in
           let there = sym (ap (λ (b : Bool). b || list_any (is_held t a v) xs) not_here) ∙ held in
-          ap first unlike ∙ ap (λ (o : Option Running). if x.worker == w then Some x else o) (find-end t a v w xs all.1 there other)
+          ap first unlike ∙ ap (λ (o : Option Running). if x.worker == w then Some x else o) (find-end t a v w xs (differ-tail (λ r. r.test) x xs all) there other)
     ]
 
 no_other : {A : Type 0} (o : Option A) (p : A → Bool) (a : A) → p a ≡ false → (xs : List A) → find p xs ≡ o → find p (xs ++ a ∷ []) ≡ o
@@ -151,31 +85,25 @@ no_other o p a unlike (x ∷ xs) is = elim (cases_Bool (p x)) [
 ]
 
 -- an allowed entry of another worker leaves a worker's open start as it is
-start-snoc : (plan : PlanParts) (es : List Entry) (e : Entry) (w : ℕ) → AreLone es → is_allowed plan es e ≡ true → is_by w e ≡ false → open_start w (es ++ e ∷ []) ≡ open_start w es
-start-snoc plan es (Start n a v p) w lone allowed other =
+start-snoc : (plan : PlanParts) (es : List Entry) (e : Entry) (w : ℕ) → is_allowed_so_far plan es ≡ true → is_allowed plan es e ≡ true → is_by w e ≡ false → open_start w (es ++ e ∷ []) ≡ open_start w es
+start-snoc plan es (Start n a v p) w so_far allowed other =
     let run : Running = record { test = n; attempt = a; worker = v; placement = p } in
     ap (λ (rs : List Running). find (λ (r : Running). r.worker == w) rs) (open_starts-snoc es (Start n a v p) refl)
     ∙ no_other (open_start w es) (λ (r : Running). r.worker == w) run other (open_starts es) refl
-start-snoc plan es (End t a v s) w lone allowed other =
+start-snoc plan es (End t a v s) w so_far allowed other =
     ap (λ (rs : List Running). find (λ (r : Running). r.worker == w) rs) (open_starts-end es t a v s)
-    ∙ find-end t a v w (open_starts es) lone.tests (and_parts (not (is_stop_due plan es)) (holds_start t a v es) allowed).1 other
-start-snoc plan es (Settle t c) w lone allowed other = ap (λ (rs : List Running). find (λ (r : Running). r.worker == w) rs) (open_starts-snoc es (Settle t c) refl ∙ append-nil (open_starts es))
-start-snoc plan es Stop w lone allowed other = ap (λ (rs : List Running). find (λ (r : Running). r.worker == w) rs) (open_starts-snoc es Stop refl ∙ append-nil (open_starts es))
+    ∙ find-end t a v w (open_starts es) (starts_apart plan es so_far).tests (and_parts (not (is_stop_due plan es)) (holds_start t a v es) allowed).1 other
+start-snoc plan es (Settle t c) w so_far allowed other = ap (λ (rs : List Running). find (λ (r : Running). r.worker == w) rs) (open_starts-snoc es (Settle t c) refl ∙ append-nil (open_starts es))
+start-snoc plan es Stop w so_far allowed other = ap (λ (rs : List Running). find (λ (r : Running). r.worker == w) rs) (open_starts-snoc es Stop refl ∙ append-nil (open_starts es))
 
-lone_behind : (plan : PlanParts) (front more : List Entry) → AreLone front → are_allowed_behind plan front more ≡ true → AreLone (front ++ more)
-lone_behind plan front [] lone allowed = subst AreLone (sym (append-nil front)) lone
-lone_behind plan front (e ∷ es) lone allowed =
-    let both = and_parts (is_allowed plan front e) (are_allowed_behind plan (front ++ e ∷ []) es) allowed in
-    subst AreLone (append_assoc front (e ∷ []) es) (lone_behind plan (front ++ e ∷ []) es (lone-snoc plan front e both.0 lone) both.1)
-
-start_behind : (plan : PlanParts) (front more : List Entry) (w : ℕ) → AreLone front → are_allowed_behind plan front more ≡ true → list_any (is_by w) more ≡ false → open_start w (front ++ more) ≡ open_start w front
-start_behind plan front [] w lone allowed none = ap (open_start w) (append-nil front)
-start_behind plan front (e ∷ es) w lone allowed none =
+start_behind : (plan : PlanParts) (front more : List Entry) (w : ℕ) → is_allowed_so_far plan front ≡ true → are_allowed_behind plan front more ≡ true → list_any (is_by w) more ≡ false → open_start w (front ++ more) ≡ open_start w front
+start_behind plan front [] w so_far allowed none = ap (open_start w) (append-nil front)
+start_behind plan front (e ∷ es) w so_far allowed none =
     let both = and_parts (is_allowed plan front e) (are_allowed_behind plan (front ++ e ∷ []) es) allowed in
     let other = or_parts (is_by w e) (list_any (is_by w) es) none in
     ap (open_start w) (sym (append_assoc front (e ∷ []) es))
-    ∙ start_behind plan (front ++ e ∷ []) es w (lone-snoc plan front e both.0 lone) both.1 other.1
-    ∙ start-snoc plan front e w lone both.0 other.0
+    ∙ start_behind plan (front ++ e ∷ []) es w (allowed-snoc plan front e so_far both.0) both.1 other.1
+    ∙ start-snoc plan front e w so_far both.0 other.0
 
 allowed_split : (plan : PlanParts) (front xs ys : List Entry) → are_allowed_behind plan front (xs ++ ys) ≡ true → (are_allowed_behind plan front xs ≡ true) × (are_allowed_behind plan (front ++ xs) ys ≡ true)
 allowed_split plan front [] ys allowed = (refl, subst (λ (es : List Entry). are_allowed_behind plan es ys ≡ true) (sym (append-nil front)) allowed)
@@ -186,38 +114,31 @@ allowed_split plan front (x ∷ xs) ys allowed =
       subst (λ (es : List Entry). are_allowed_behind plan es ys ≡ true) (append_assoc front (x ∷ []) xs) rest.1,
     )
 
-lone_empty : AreLone []
-lone_empty = record { tests = tt; workers = tt }
-
 -- the start that a worker has open is the one that it had open in what it has seen
 pub start_stays : (plan : PlanParts) (w : ℕ) (seen now : List Entry) → is_legal plan now ≡ true → GoesOn w seen now → open_start w now ≡ open_start w seen
 start_stays plan w seen now legal goes =
     let allowed = subst (λ (es : List Entry). are_allowed_behind plan [] es ≡ true) goes.is (legal_allowed plan now legal) in
     let both = allowed_split plan [] seen goes.more allowed in
-    ap (open_start w) goes.is ∙ start_behind plan seen goes.more w (lone_behind plan [] seen lone_empty both.0) both.1 goes.others
-
--- no two open starts of a legal history are of one worker
-pub lone_legal : (plan : PlanParts) (es : List Entry) → is_legal plan es ≡ true → Distinct (λ r. r.worker) (open_starts es)
-lone_legal plan es legal = (lone_behind plan [] es lone_empty (legal_allowed plan es legal)).workers
+    ap (open_start w) goes.is ∙ start_behind plan seen goes.more w both.0 both.1 goes.others
 
 none_at : (p : Running → Bool) (rs : List Running) (r : Running) → list_any p rs ≡ false → Contains rs r → p r ≡ false
 none_at p [] r none (i, lt, e) = absurd (omega (arith, lt))
 none_at p (x ∷ xs) r none (zero, lt, e) = subst (λ (y : Running). p y ≡ false) e (or_parts (p x) (list_any p xs) none).0
 none_at p (x ∷ xs) r none (suc i, lt, e) = none_at p xs r (or_parts (p x) (list_any p xs) none).1 (i, omega (arith, lt), e)
 
-find_own : (rs : List Running) (r : Running) → Distinct (λ q. q.worker) rs → Contains rs r → find (λ (q : Running). q.worker == r.worker) rs ≡ Some r
+find_own : (rs : List Running) (r : Running) → Differ (λ q. q.worker) rs → Contains rs r → find (λ (q : Running). q.worker == r.worker) rs ≡ Some r
 find_own [] r all (i, lt, e) = absurd (omega (arith, lt))
 find_own (x ∷ xs) r all (zero, lt, e) =
     let same : (x.worker == r.worker) ≡ true = subst (λ (y : Running). (x.worker == y.worker) ≡ true) e (grind (arith, nat_tests)) in
     ap (λ (b : Bool). if b then Some x else find (λ (q : Running). q.worker == r.worker) xs) same ∙ ap (λ (y : Running). Some y) e
 find_own (x ∷ xs) r all (suc i, lt, e) =
     let there : Contains xs r = (i, omega (arith, lt), e) in
-    let unlike : (x.worker == r.worker) ≡ false = flipped r.worker x.worker (none_at (λ (q : Running). q.worker == x.worker) xs r all.0 there) in
-    ap (λ (b : Bool). if b then Some x else find (λ (q : Running). q.worker == r.worker) xs) unlike ∙ find_own xs r all.1 there
+    let unlike : (x.worker == r.worker) ≡ false = flipped r.worker x.worker (none_at (λ (q : Running). q.worker == x.worker) xs r (differ-head (λ q. q.worker) x xs all) there) in
+    ap (λ (b : Bool). if b then Some x else find (λ (q : Running). q.worker == r.worker) xs) unlike ∙ find_own xs r (differ-tail (λ q. q.worker) x xs all) there
 
 -- an open start is the one that its worker has open
 pub open_start-own : (plan : PlanParts) (es : List Entry) (r : Running) → is_legal plan es ≡ true → Contains (open_starts es) r → open_start r.worker es ≡ Some r
-open_start-own plan es r legal there = find_own (open_starts es) r (lone_legal plan es legal) there
+open_start-own plan es r legal there = find_own (open_starts es) r (starts_apart plan es (legal_allowed plan es legal)).workers there
 
 -- a worker with an open start has an entry
 pub opened_by : (plan : PlanParts) (es : List Entry) (r : Running) → is_legal plan es ≡ true → Contains (open_starts es) r → list_any (is_by r.worker) es ≡ false → ⊥
