@@ -1,5 +1,6 @@
 -- What a gate that follows a script is to its callers. This project's own.
-use Rattle.std.specs.Prelude.{◌≡◌, ℕ, ◌+◌, ◌-◌, ◌^◌, min, List, Some, [], ◌∷◌, ◌++◌, if◌then◌else◌}
+use Rattle.std.specs.Prelude.{◌≡◌, ℕ, ◌+◌, ◌-◌, ◌*◌, ◌^◌, min, nat_lt, true, false, List, Some, [], ◌∷◌, ◌++◌, if◌then◌else◌}
+use Rattle.std.specs.List.Sorted.{IsNonDecreasingBy, IsPartitionPoint}
 use Rattle.ct_verdict.specs.declared.attempt.How.{How}
 use Rattle.ct_core.specs.declared.gate.Asked.{Asked}
 use Rattle.ct_core.specs.declared.gate.Request.{Request}
@@ -24,3 +25,16 @@ Records old request new = new ≡ record old { asked = old.asked ++ asked_for re
 -- an attempt that was not started raised the count, and nothing else changed
 abbrev pub CountsStart : ScriptValue → How → ScriptValue → Type 0
 CountsStart old how new = new ≡ record old { faults = (if is_not_started how then min (old.faults + 1) (2 ^ 64 - 1) else old.faults) }
+
+-- the rank of an attempt in the order of test and attempt, which are below 2^32
+abbrev pub rank : ℕ → ℕ → ℕ
+rank test attempt = test * 2 ^ 32 + attempt
+
+-- what is told stands in the order of test and attempt
+abbrev pub AreInOrder : List Told → Type 0
+AreInOrder world = IsNonDecreasingBy (λ (t : Told). rank t.test t.attempt) world
+
+-- in front of this place stands what has a lower rank, and from it on what has not
+abbrev pub IsPlaceOf : ℕ → List Told → ℕ → Type 0
+IsPlaceOf sought world place =
+    IsPartitionPoint (λ (t : Told). nat_lt (rank t.test t.attempt) sought ≡ true) (λ (t : Told). nat_lt (rank t.test t.attempt) sought ≡ false) world place

@@ -1,7 +1,7 @@
-ghost use Rattle.std.specs.Prelude.{◌≡◌, [], find, ◌==◌, ◌&&◌, OnOk, OnErr};
+ghost use Rattle.std.specs.Prelude.{◌≡◌, ◌<◌, ◌^◌, [], true, find, ◌==◌, ◌&&◌, OnOk, OnErr};
 ghost use Rattle.std.specs.Option.{option_copied};
 ghost use Rattle.ct_core.specs.Gate.{HasStartCause, told};
-ghost use Rattle.ct_core.specs.ScriptValue.{told_of_script};
+ghost use Rattle.ct_core.specs.ScriptValue.{AreInOrder, IsPlaceOf, rank, told_of_script};
 
 use crate::{Asked, Ended, Gate, Request, Ticket, Told, lacks_memory};
 use ct_base::{Ear, List, Name, NoMemory, Pair};
@@ -10,9 +10,12 @@ use std::alloc::Global;
 use std::marker::Model;
 
 /// A gate that runs nothing and answers as its world tells.
+///
+/// Where the world stands in the order of test and attempt, the time to find an attempt in it grows with the
+/// logarithm of its length, and else with its length.
 #[derive(Debug, Drop)]
 pub struct ScriptGate {
-    world: List<Told>,
+    world: World,
     asked: List<Asked>,
     sent: List<Request>,
     faults: u64,
@@ -34,7 +37,7 @@ impl ScriptGate {
         ensures { result ≡ record { world = world; asked = []; sent = []; faults = 0 } }
     {
         ScriptGate {
-            world,
+            world: World::new(world),
             asked: List::new(alloc),
             sent: List::new(alloc),
             faults: 0,
@@ -65,10 +68,7 @@ impl ScriptGate {
     fn tell(&self, test: u32, attempt: u32) -> Option<&Told>
         ensures { option_copied result ≡ find (λ t. t.test == test && t.attempt == attempt) self.now.world }
     {
-        let world = self.world.as_slice();
-        world
-            .iter()
-            .find(|told| told.test == test && told.attempt == attempt)
+        self.world.find(test, attempt)
     }
 
     fn told_end(&self, test: u32, attempt: u32) -> Ended
@@ -149,4 +149,95 @@ impl Gate for ScriptGate {
             },
         }
     }
+}
+
+/// What is told of attempts, and whether it stands in their order.
+#[derive(Debug, Drop)]
+struct World {
+    told: List<Told>,
+    in_order: bool,
+}
+
+impl Model for World {
+    ghost use Rattle.std.specs.Prelude.{◌≡◌, true, List};
+    ghost use Rattle.ct_core.specs.declared.gate.Told.{Told};
+    ghost use Rattle.ct_core.specs.ScriptValue.{AreInOrder};
+
+    ghost Value = { List Told };
+
+    ghost view = { λ w. w.told };
+
+    ghost invariant = { λ w. w.in_order ≡ true → AreInOrder w.told };
+}
+
+impl World {
+    fn new(told: List<Told>) -> World
+        ensures { result ≡ told }
+    {
+        let in_order = are_in_order(told.as_slice());
+        World { told, in_order }
+    }
+
+    /// Finds the first that is told of an attempt.
+    fn find(&self, test: u32, attempt: u32) -> Option<&Told>
+        ensures { option_copied result ≡ find (λ t. t.test == test && t.attempt == attempt) self.now }
+    {
+        let told = self.told.as_slice();
+        if self.in_order {
+            find_in_order(told, test, attempt)
+        } else {
+            told.iter()
+                .find(|told| told.test == test && told.attempt == attempt)
+        }
+    }
+}
+
+/// Tells whether no attempt stands behind a later one.
+fn are_in_order(told: &[Told]) -> bool
+    ensures { result ≡ true → AreInOrder told.now }
+{
+    for at in 1..told.len() {
+        if rank(&told[at]) < rank(&told[at - 1]) {
+            return false;
+        }
+    }
+    true
+}
+
+/// Finds the first that is told of an attempt, where that stands in the order of attempts.
+fn find_in_order(told: &[Told], test: u32, attempt: u32) -> Option<&Told>
+    requires { AreInOrder told.now }
+    ensures { option_copied result ≡ find (λ t. t.test == test && t.attempt == attempt) told.entry.now }
+{
+    let sought = rank_of(test, attempt);
+    let place = place_of(told, sought);
+    let found = told.get(place)?;
+    if rank(found) == sought {
+        Some(found)
+    } else {
+        None
+    }
+}
+
+/// Finds where a rank belongs in what is told: in front stand those of lower rank.
+fn place_of(told: &[Told], sought: u64) -> usize
+    requires { AreInOrder told.now }
+    ensures { IsPlaceOf sought told.now result }
+{
+    told.partition_point(|told| rank(told) < sought)
+}
+
+/// The rank of what is told in the order of attempts.
+fn rank(told: &Told) -> u64
+    ensures is { result ≡ rank told.now.test told.now.attempt }
+    ensures low { told.now.attempt < 2 ^ 32 }
+{
+    rank_of(told.test, told.attempt)
+}
+
+/// The rank of an attempt in the order of test and attempt.
+fn rank_of(test: u32, attempt: u32) -> u64
+    ensures { result ≡ rank test attempt }
+{
+    u64::from(test) * 4_294_967_296 + u64::from(attempt)
 }
