@@ -179,7 +179,7 @@ fn failing(alloc: Global, facts: &str, kind: &str) -> Result<List<u64>, NoMemory
 }
 
 /// The words of a line.
-fn words_of(alloc: Global, line: &str) -> Result<List<Name>, NoMemory> {
+pub(crate) fn words_of(alloc: Global, line: &str) -> Result<List<Name>, NoMemory> {
     let mut words = List::new(alloc);
     for word in line.split(' ') {
         if !word.is_empty() {
@@ -236,6 +236,15 @@ fn files_and_sink(alloc: Global, call: &Call<'_>) -> Result<(MemFiles, MemSink),
 /// The sink of a call.
 pub(crate) fn sink(alloc: Global, call: &Call<'_>) -> Result<MemSink, NoMemory> {
     Ok(MemSink::new(alloc, failing(alloc, call.facts, "put ")?))
+}
+
+/// A sink whose put with this number fails, where it is one.
+pub(crate) fn sink_failing_at(alloc: Global, number: &str) -> Result<MemSink, NoMemory> {
+    let mut failing = List::new(alloc);
+    if let Ok(number) = number.parse() {
+        failing.push(number)?;
+    }
+    Ok(MemSink::new(alloc, failing))
 }
 
 /// Runs on these gates, with one variable in the environment.

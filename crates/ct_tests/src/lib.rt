@@ -1,7 +1,7 @@
 //! The tests of whole runs.
 //!
 //! Hands up: nothing. A crate with tests of its own is proved twice, so they stand here.
-//! Stands on: ct_app, ct_worker and what is below them.
+//! Stands on: ct_load, ct_app, ct_worker and what is below them.
 //! Read first: `calls.rt`, then `app.rt`.
 #![tactic(auto)]
 
@@ -13,6 +13,8 @@ mod calls;
 mod fixtures;
 #[cfg(test)]
 mod lists;
+#[cfg(test)]
+mod load;
 #[cfg(test)]
 mod resources;
 #[cfg(test)]

@@ -1,0 +1,72 @@
+-- What a load is asked for, and what it puts and answers. This project's own.
+use Rattle.std.specs.Prelude.{◌≡◌, ◌⊎◌, ℕ, nat_le, ◌&&◌, List, [], ◌∷◌, codes, Option, Some, None, IsSomeAnd, Result, Ok, Err, if◌then◌else◌}
+use Rattle.ct_base.specs.declared.sink.SinkFault.{SinkFault}
+use Rattle.ct_base.specs.declared.sink.SinkFault.TheVariants.{Failed, NoMemory}
+use Rattle.ct_base.specs.Outside.{Rose, SinkTell}
+use Rattle.ct_base.specs.Seconds.{number_in}
+use Rattle.ct_report.specs.PutLines.{PutsLines}
+use Rattle.ct_report.specs.Report.{summary_lines}
+use Rattle.ct_app.specs.Calls.{Tries}
+use Rattle.ct_app.specs.Ends.{history_entries}
+use Rattle.ct_load.specs.Run.{IsLoadRun, LoadRun}
+
+-- the greatest number of tests
+abbrev pub most_tests : ℕ
+most_tests = 100000
+
+-- a number of tests, where it is one from 1 to the greatest
+abbrev pub count_within : ℕ → Option ℕ
+count_within count = if nat_le 1 count && nat_le count most_tests then Some count else None
+
+-- the number of tests that a word asks for, where it is a number
+abbrev pub count_of : Option ℕ → Option ℕ
+count_of None = None
+count_of (Some count) = count_within count
+
+-- the number of tests that these words ask for: they are one word, a number from 1 to the greatest
+abbrev pub count_in : List (List ℕ) → Option ℕ
+count_in [] = None
+count_in (word ∷ []) = count_of (number_in word)
+count_in (word ∷ other ∷ words) = None
+
+-- the line that says which words a load takes
+abbrev pub usage_line : List ℕ
+usage_line = codes "usage: ct_load n\n"
+
+-- the summary of a run was put; where that has no Ok, a beginning of it was written
+abbrev pub PutsSummary : LoadRun → SinkTell → SinkTell → Result (Unit {0}) SinkFault → Type 0
+PutsSummary run before now put = IsSomeAnd run.plan (λ plan. IsSomeAnd run.history (λ history.
+    PutsLines (summary_lines plan (history_entries history)) before now put))
+
+-- a run of so many tests was completed, and its summary was put, or a beginning of it
+pub record IsShown (count : ℕ) (run : LoadRun) (before now : SinkTell)
+    (put : Result (Unit {0}) SinkFault) : Type 0 where
+  pub ran : IsLoadRun count run
+  pub summary : PutsSummary run before now put
+
+-- the whole summary was put, and the status is that of the run
+pub record IsWhole (count : ℕ) (run : LoadRun) (before now : SinkTell) (status : ℕ) : Type 0 where
+  pub shown : IsShown count run before now (Ok tt)
+  pub is : status ≡ run.status
+
+-- the sink failed at the summary, of which a beginning was written
+pub record IsCut (count : ℕ) (run : LoadRun) (before now : SinkTell) (status : ℕ) : Type 0 where
+  pub shown : IsShown count run before now (Err Failed)
+  pub rose : Rose before.faults now.faults
+  pub is : status ≡ 4
+
+-- memory was wanting or the run was not completed: nothing was put, or a beginning of the summary of a run
+abbrev pub IsShort : ℕ → SinkTell → SinkTell → Type 0
+IsShort count before now = (now ≡ before) ⊎ ((run : LoadRun) × IsShown count run before now (Err NoMemory))
+
+-- what a load of so many tests gives, which has its run but for want of memory
+abbrev pub LoadsTests : ℕ → SinkTell → SinkTell → Option LoadRun → ℕ → Type 0
+LoadsTests count before now (Some run) status =
+    IsWhole count run before now status ⊎ IsCut count run before now status
+LoadsTests count before now None status = IsShort count before now × (status ≡ 5)
+
+-- what a load gives, by the number of tests that it is asked for; without one it has no run, and the line on
+-- its words is tried
+abbrev pub Loads : Option ℕ → SinkTell → SinkTell → Option LoadRun → ℕ → Type 0
+Loads (Some count) before now run status = LoadsTests count before now run status
+Loads None before now run status = Tries usage_line before now × (run ≡ None) × (status ≡ 1)

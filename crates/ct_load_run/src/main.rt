@@ -1,0 +1,15 @@
+//! The program that loads: it runs as many generated tests as its word asks for, without programs, and prints
+//! the summary of that run.
+//!
+//! Hands up: nothing; it is the program.
+//! Stands on: ct_base, ct_load, ct_edge.
+//! Read first: `start.rt`.
+#![tactic(auto)]
+
+mod start;
+
+use std::process::ExitCode;
+
+fn main(rt: HostRuntime) -> ExitCode {
+    start::exit_code(start::begin(&rt, rt))
+}

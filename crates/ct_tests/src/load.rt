@@ -1,0 +1,94 @@
+//! Loads: runs of many generated tests.
+
+use crate::calls::{sink_failing_at, words_of, written};
+use ct_base::NoMemory;
+use ct_load::load_main;
+use std::alloc::Global;
+use std::test::Fail;
+
+/// Loads, each with the number of the put that fails, if one does, its words, the status that comes of it,
+/// and the counts of its summary or the line that it puts.
+const LOADS: &str = "\
+|1|0|100% tests passed, 0 tests failed out of 1
+|96|0|100% tests passed, 0 tests failed out of 96
+|97|8|98% tests passed, 1 tests failed out of 97
+|1000|8|99% tests passed, 10 tests failed out of 1000
+|10000|8|98% tests passed, 103 tests failed out of 10000
+1|10|4|
+||1|usage: ct_load n
+|0|1|usage: ct_load n
+|100001|1|usage: ct_load n
+|x|1|usage: ct_load n
+|10 10|1|usage: ct_load n
+1|x|1|
+";
+
+/// What a row of the table says.
+#[derive(Clone, Copy)]
+struct Load<'a> {
+    fails: &'a str,
+    words: &'a str,
+    status: u8,
+    line: &'a str,
+}
+
+impl<'a> Load<'a> {
+    fn of(row: &'a str) -> Load<'a> {
+        let mut cells = row.splitn(4, '|');
+        Load {
+            fails: cells.next().unwrap_or(""),
+            words: cells.next().unwrap_or(""),
+            status: cells.next().unwrap_or("").parse().unwrap_or(255),
+            line: cells.next().unwrap_or(""),
+        }
+    }
+
+    /// What is to be written.
+    fn text(self, alloc: Global) -> Result<String, NoMemory> {
+        let line = self.line;
+        match self.status {
+            0 => Ok(format!(in alloc; "\n{line}\n")?),
+            8 => {
+                let failed = failed_lines(alloc, self.words.parse().unwrap_or(0))?;
+                Ok(format!(in alloc;
+                    "\n{line}\n\nThe following tests FAILED:\n{failed}Errors while running CTest\n"
+                )?)
+            }
+            1 if self.fails.is_empty() => Ok(format!(in alloc; "{line}\n")?),
+            _ => Ok(String::new(alloc)),
+        }
+    }
+}
+
+/// The lines of the tests that fail among so many.
+fn failed_lines(alloc: Global, count: u32) -> Result<String, NoMemory> {
+    let mut lines = String::new(alloc);
+    for number in 1..=count {
+        if number % 97 == 0 {
+            lines = format!(in alloc; "{lines}\t{number} - t{number} (Failed)\n")?;
+        }
+    }
+    Ok(lines)
+}
+
+#[test]
+fn puts_the_same_summary_at_each_run(rt: HostRuntime) -> Result<(), Fail> {
+    let alloc = rt.alloc();
+    for row in LOADS.lines() {
+        let load = Load::of(row);
+        let want = load.text(alloc)?;
+        let words = words_of(alloc, load.words)?;
+        for _ in 0..2 {
+            let sink = sink_failing_at(alloc, load.fails)?;
+            let loaded = load_main(&rt, alloc, words.as_slice(), sink);
+            assert!(rt;
+                loaded.status == load.status,
+                "{row}: status {}",
+                loaded.status
+            );
+            let text = written(&loaded.sink);
+            assert!(rt; text == want.as_str(), "{row}\n{text}");
+        }
+    }
+    Ok(())
+}
