@@ -9,7 +9,8 @@ use Rattle.ct_lex.specs.declared.call.Call.{Call}
 use Rattle.ct_lex.specs.declared.fault.LexFault.{LexFault}
 use Rattle.ct_suite.specs.declared.fault.ValueFault.{ValueFault}
 use Rattle.ct_suite.specs.declared.fault.ValueFault.TheVariants as Values
-use Rattle.ct_testfile.specs.Tree.{fault_in}
+use Rattle.ct_testfile.specs.Outcome.{on_line}
+use Rattle.ct_testfile.specs.Tree.{FileReading, fault_in, nested}
 use Rattle.ct_suite.specs.Tests.{most_bytes, most_tests}
 use Rattle.ct_testfile.specs.declared.limits.Limits.{Limits}
 use Rattle.ct_testfile.specs.declared.fault.ReadKind.{ReadKind}
@@ -18,6 +19,7 @@ use Rattle.ct_testfile.specs.declared.fault.ReadFault.{ReadFault}
 use Rattle.ct_testfile.specs.declared.fault.ReadFault.TheVariants.{At, FilesFailed, NoMemory}
 use Rattle.ct_testfile.specs.declared.fault.Stop.{Stop}
 use Rattle.ct_testfile.specs.declared.fault.Stop.TheVariants as stop
+use Rattle.ct_testfile.specs.declared.open_file.OpenFile.{OpenFile}
 
 -- a step gave what its definition says, unless memory was wanting
 abbrev pub Follows : {A : Type 0} → Result A Stop → Result A ReadKind → Type 0
@@ -87,6 +89,14 @@ pub record Over {A : Type 0} (before now : FilesTell) (says : Held → Result A 
   pub answer : (held : Held) → TellsHeld held before.held → IsAnswerOf (says held) result
   pub kept : (held : Held) → TellsHeld held before.held → TellsHeld held now.held
   pub cause : HasFilesCause before now result
+
+-- a call for a command of an open file: it gives what this says, within the limits and in the folder of that file, and a refusal is of the command's line
+abbrev pub OverCall : {A : Type 0} → FilesTell → FilesTell → OpenFile → Call → (Limits → Held → List ℕ → Result A ReadKind) → Result A ReadFault → Type 0
+OverCall before now here call says result = Over before now (λ held. on_line here.file.now.path call.line (says here.limits.now held here.file.now.dir)) result
+
+-- how the files are read that the commands of an open file open
+abbrev pub inside : OpenFile → Held → FileReading
+inside here held = nested here.limits.now held here.more
 
 -- the fault is this refusal, unless memory was wanting
 abbrev pub IsAt : List ℕ → ℕ → ReadKind → ReadFault → Type 0

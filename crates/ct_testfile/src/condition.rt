@@ -5,8 +5,8 @@ ghost use Rattle.ct_testfile.specs.Outcome.{on_line};
 ghost use Rattle.ct_testfile.specs.Says.{Follows, Over};
 ghost use Rattle.ct_testfile.specs.Condition.{bad_pattern, holds, is_exists, is_matches, is_bare_word, matched, subject};
 
-use crate::fault::{ReadFault, ReadKind, Stop, at_line, files_fault};
-use crate::opening::TestFile;
+use crate::fault::{ReadFault, ReadKind, Stop, files_fault};
+use crate::open_file::OpenFile;
 use ct_base::{Files, Name, join_path};
 use ct_regex::{Regex, RegexFault};
 use ct_suite::{Table, Value};
@@ -16,28 +16,28 @@ use std::alloc::Global;
 ///
 /// Source: CMake manual, if, Condition Syntax.
 pub(crate) fn holds<F: Files>(
-    alloc: Global,
     files: &mut F,
-    file: &TestFile,
+    here: &OpenFile<'_>,
     line: u32,
     table: &Table,
     values: &[Value],
 ) -> Result<bool, ReadFault>
-    ensures { Over (F.tells files.old) (F.tells files.new) (λ held. on_line file.now.path line (holds held file.now.dir table.now values.now)) result }
+    ensures { Over (F.tells files.old) (F.tells files.new)
+        (λ held. on_line here.now.file.now.path line
+        (holds held here.now.file.now.dir table.now values.now)) result }
 {
     if is_exists(values) {
-        return exists(alloc, files, &file.dir, &values[1].text);
+        return exists(here.alloc, files, &here.file.dir, &values[1].text);
     }
     if is_matches(values) {
-        let found = matched(alloc, subject(table, &values[0]), values[2].text.bytes());
-        return at_line(alloc, &file.path, line, found);
+        let found = matched(
+            here.alloc,
+            subject(table, &values[0]),
+            values[2].text.bytes(),
+        );
+        return here.at_line(line, found);
     }
-    at_line(
-        alloc,
-        &file.path,
-        line,
-        Err(Stop::Refused(ReadKind::BadCondition)),
-    )
+    here.at_line(line, Err(Stop::Refused(ReadKind::BadCondition)))
 }
 
 /// Tells whether values are `EXISTS path`.

@@ -1,13 +1,10 @@
-ghost use Rattle.std.specs.Prelude.{◌≡◌, Result};
-ghost use Rattle.ct_testfile.specs.Outcome.{on_line};
-ghost use Rattle.ct_testfile.specs.Says.{Follows, IsAnswerOf, Unfailed, files_fault, stop_for};
-ghost use Rattle.ct_testfile.specs.declared.fault.ReadKind.{ReadKind as Kind};
+ghost use Rattle.std.specs.Prelude.{◌≡◌};
+ghost use Rattle.ct_testfile.specs.Says.{files_fault, stop_for};
 ghost use Rattle.ct_testfile.specs.declared.fault.ReadFault.TheVariants as Cause;
 ghost use Rattle.ct_testfile.specs.declared.fault.Stop.TheVariants as Stopped;
 
 use ct_base::{FilesFault, Name, NoMemory};
 use ct_suite::ValueFault;
-use std::alloc::Global;
 
 /// What is wrong with a test file.
 #[derive(Clone, Copy, Debug, PartialEq, Eq)]
@@ -94,27 +91,6 @@ impl From<ValueFault> for Stop {
             ValueFault::TooLong => Stop::Refused(ReadKind::TooLong),
             ValueFault::NoMemory => Stop::NoMemory,
         }
-    }
-}
-
-/// Gives a refusal its place: a line of a file.
-pub(crate) fn at_line<T>(
-    alloc: Global,
-    file: &Name,
-    line: u32,
-    given: Result<T, Stop>,
-) -> Result<T, ReadFault>
-    ensures says { (says : Result T Kind) → Follows given says → IsAnswerOf (on_line file.now line says) result }
-    ensures unfailed { Unfailed result }
-{
-    match given {
-        Ok(value) => Ok(value),
-        Err(Stop::Refused(kind)) => Err(ReadFault::At {
-            file: file.copy(alloc)?,
-            line,
-            kind,
-        }),
-        Err(Stop::NoMemory) => Err(ReadFault::NoMemory),
     }
 }
 

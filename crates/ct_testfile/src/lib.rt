@@ -12,6 +12,7 @@ mod condition;
 mod fault;
 mod ifs;
 mod limits;
+mod open_file;
 mod opening;
 mod perform;
 mod state;

@@ -1,6 +1,5 @@
 ghost use Rattle.std.specs.Prelude.{◌≡◌, Err, IfOk, if◌then◌else◌};
-ghost use Rattle.ct_testfile.specs.Outcome.{on_line};
-ghost use Rattle.ct_testfile.specs.Says.{AreBounded, Follows, IsAnswerOf, Over, Unfailed};
+ghost use Rattle.ct_testfile.specs.Says.{AreBounded, Follows, IsAnswerOf, OverCall, Unfailed};
 ghost use Rattle.ct_testfile.specs.Ifs.{asked, begun_if, behind_else, behind_elseif, behind_if, begun_else, continued, done, in_branch, is_live, left, stepped};
 ghost use Rattle.ct_testfile.specs.declared.branch.Branch.TheVariants as branch;
 ghost use Rattle.ct_testfile.specs.declared.fault.ReadFault.TheVariants.{At};
@@ -9,13 +8,14 @@ ghost use Rattle.ct_testfile.specs.declared.fault.ReadKind.TheVariants.{Unpaired
 use crate::branch::{Branch, OpenIf};
 use crate::command::{Flow, command_of, flow_of};
 use crate::condition::holds;
-use crate::fault::{ReadFault, ReadKind, Stop, at_line};
+use crate::fault::{ReadFault, ReadKind, Stop};
 use crate::ifs::Ifs;
 use crate::limits::Limits;
-use crate::opening::{Opens, TestFile};
+use crate::open_file::OpenFile;
+use crate::opening::Opens;
 use crate::perform::carry_out;
 use crate::state::State;
-use ct_base::{Files, Name, NoMemory};
+use ct_base::{Files, NoMemory};
 use ct_lex::Call;
 use std::alloc::Global;
 
@@ -29,47 +29,35 @@ pub(crate) struct Step {
 
 /// Goes on behind a command of a file, but for what it opens.
 pub(crate) fn advance<F: Files>(
-    alloc: Global,
     files: &mut F,
-    limits: &Limits,
-    file: &TestFile,
+    here: &OpenFile<'_>,
     ifs: Ifs,
     state: State,
     call: &Call,
 ) -> Result<Step, ReadFault>
-    requires { AreBounded limits.now }
-    ensures { Over (F.tells files.old) (F.tells files.new) (λ held. on_line file.now.path call.now.line (stepped limits.now held file.now.dir ifs state call.now)) result }
+    requires { AreBounded here.now.limits.now }
+    ensures { OverCall (F.tells files.old) (F.tells files.new) here.now call.now
+        (λ limits held dir. stepped limits held dir ifs state call.now) result }
 {
     let Some(flow) = flow_of(call.name.bytes()) else {
-        let step = do_other(alloc, limits, &file.dir, ifs, state, call);
-        return at_line(alloc, &file.path, call.line, step);
+        let step = do_other(here, ifs, state, call);
+        return here.at_line(call.line, step);
     };
     match flow {
-        Flow::If => do_if(alloc, files, limits, file, ifs, state, call),
-        Flow::ElseIf => do_elseif(alloc, files, limits, file, ifs, state, call),
-        Flow::Else => {
-            let step = do_else(alloc, limits, ifs, state);
-            at_line(alloc, &file.path, call.line, step)
-        }
-        Flow::EndIf => {
-            let step = do_endif(alloc, ifs, state);
-            at_line(alloc, &file.path, call.line, step)
-        }
+        Flow::If => do_if(files, here, ifs, state, call),
+        Flow::ElseIf => do_elseif(files, here, ifs, state, call),
+        Flow::Else => here.at_line(call.line, do_else(here, ifs, state)),
+        Flow::EndIf => here.at_line(call.line, do_endif(here, ifs, state)),
     }
 }
 
 /// Carries out a command that is none of an `if`, or passes it over.
-fn do_other(
-    alloc: Global,
-    limits: &Limits,
-    dir: &Name,
-    ifs: Ifs,
-    state: State,
-    call: &Call,
-) -> Result<Step, Stop>
-    requires { AreBounded limits.now }
-    ensures { Follows result (done limits.now dir.now call.now ifs state (is_live ifs)) }
+fn do_other(here: &OpenFile<'_>, ifs: Ifs, state: State, call: &Call) -> Result<Step, Stop>
+    requires { AreBounded here.now.limits.now }
+    ensures { Follows result
+        (done here.now.limits.now here.now.file.now.dir call.now ifs state (is_live ifs)) }
 {
+    let alloc = here.alloc;
     if !ifs.is_live() {
         return Ok(Step {
             ifs,
@@ -78,7 +66,8 @@ fn do_other(
         });
     }
     let command = command_of(call.name.bytes());
-    let (state, opens) = carry_out(alloc, limits, dir, command, &call.args, state)?;
+    let dir = &here.file.dir;
+    let (state, opens) = carry_out(alloc, here.limits, dir, command, &call.args, state)?;
     Ok(Step { ifs, state, opens })
 }
 
@@ -86,35 +75,33 @@ fn do_other(
 ///
 /// Source: CMake manual, if.
 fn do_if<F: Files>(
-    alloc: Global,
     files: &mut F,
-    limits: &Limits,
-    file: &TestFile,
+    here: &OpenFile<'_>,
     ifs: Ifs,
     state: State,
     call: &Call,
 ) -> Result<Step, ReadFault>
-    ensures { Over (F.tells files.old) (F.tells files.new) (λ held. on_line file.now.path call.now.line (begun_if limits.now held file.now.dir call.now ifs state)) result }
+    ensures { OverCall (F.tells files.old) (F.tells files.new) here.now call.now
+        (λ limits held dir. begun_if limits held dir call.now ifs state) result }
 {
     let live = ifs.is_live();
-    let (branch, state) = behind_if(alloc, files, limits, file, live, state, call)?;
-    Ok(in_branch(alloc, call.line, ifs, branch, state)?)
+    let (branch, state) = behind_if(files, here, live, state, call)?;
+    Ok(in_branch(here.alloc, call.line, ifs, branch, state)?)
 }
 
 /// Tells which branch stands behind an `if`.
 fn behind_if<F: Files>(
-    alloc: Global,
     files: &mut F,
-    limits: &Limits,
-    file: &TestFile,
+    here: &OpenFile<'_>,
     live: bool,
     state: State,
     call: &Call,
 ) -> Result<(Branch, State), ReadFault>
-    ensures { Over (F.tells files.old) (F.tells files.new) (λ held. on_line file.now.path call.now.line (behind_if limits.now held file.now.dir call.now state live)) result }
+    ensures { OverCall (F.tells files.old) (F.tells files.new) here.now call.now
+        (λ limits held dir. behind_if limits held dir call.now state live) result }
 {
     if live {
-        asked(alloc, files, limits, file, state, call)
+        asked(files, here, state, call)
     } else {
         Ok((Branch::Idle, state))
     }
@@ -124,79 +111,64 @@ fn behind_if<F: Files>(
 ///
 /// Source: CMake manual, elseif.
 fn do_elseif<F: Files>(
-    alloc: Global,
     files: &mut F,
-    limits: &Limits,
-    file: &TestFile,
+    here: &OpenFile<'_>,
     ifs: Ifs,
     state: State,
     call: &Call,
 ) -> Result<Step, ReadFault>
-    ensures { Over (F.tells files.old) (F.tells files.new) (λ held. on_line file.now.path call.now.line (continued limits.now held file.now.dir call.now ifs state)) result }
+    ensures { OverCall (F.tells files.old) (F.tells files.new) here.now call.now
+        (λ limits held dir. continued limits held dir call.now ifs state) result }
 {
     let Some((inner, outer)) = ifs.take_inner() else {
-        return unpaired(alloc, file, call.line);
+        return unpaired(here, call.line);
     };
-    let (branch, state) = behind_elseif(alloc, files, limits, file, inner.branch, state, call)?;
-    Ok(in_branch(alloc, inner.line, outer, branch, state)?)
+    let (branch, state) = behind_elseif(files, here, inner.branch, state, call)?;
+    Ok(in_branch(here.alloc, inner.line, outer, branch, state)?)
 }
 
 /// Tells which branch stands behind an `elseif`.
 fn behind_elseif<F: Files>(
-    alloc: Global,
     files: &mut F,
-    limits: &Limits,
-    file: &TestFile,
+    here: &OpenFile<'_>,
     branch: Branch,
     state: State,
     call: &Call,
 ) -> Result<(Branch, State), ReadFault>
-    ensures { Over (F.tells files.old) (F.tells files.new) (λ held. on_line file.now.path call.now.line (behind_elseif limits.now held file.now.dir call.now state branch)) result }
+    ensures { OverCall (F.tells files.old) (F.tells files.new) here.now call.now
+        (λ limits held dir. behind_elseif limits held dir call.now state branch) result }
 {
     match branch {
-        Branch::Waiting => asked(alloc, files, limits, file, state, call),
+        Branch::Waiting => asked(files, here, state, call),
         Branch::Taken => Ok((Branch::Over, state)),
         Branch::Over => Ok((Branch::Over, state)),
         Branch::Idle => Ok((Branch::Idle, state)),
-        Branch::ElseTaken => unpaired(alloc, file, call.line),
-        Branch::ElseOver => unpaired(alloc, file, call.line),
+        Branch::ElseTaken => unpaired(here, call.line),
+        Branch::ElseOver => unpaired(here, call.line),
     }
 }
 
 /// Refuses a command that belongs to no open `if`.
-fn unpaired<T>(alloc: Global, file: &TestFile, line: u32) -> Result<T, ReadFault>
-    ensures says { IsAnswerOf (Err (At file.now.path line UnpairedIf)) result }
+fn unpaired<T>(here: &OpenFile<'_>, line: u32) -> Result<T, ReadFault>
+    ensures says { IsAnswerOf (Err (At here.now.file.now.path line UnpairedIf)) result }
     ensures unfailed { Unfailed result }
 {
-    at_line(
-        alloc,
-        &file.path,
-        line,
-        Err(Stop::Refused(ReadKind::UnpairedIf)),
-    )
+    here.at_line(line, Err(Stop::Refused(ReadKind::UnpairedIf)))
 }
 
 /// Asks a condition: its command is counted, and the branch is taken where it holds.
 fn asked<F: Files>(
-    alloc: Global,
     files: &mut F,
-    limits: &Limits,
-    file: &TestFile,
+    here: &OpenFile<'_>,
     state: State,
     call: &Call,
 ) -> Result<(Branch, State), ReadFault>
-    ensures { Over (F.tells files.old) (F.tells files.new) (λ held. on_line file.now.path call.now.line (asked limits.now held file.now.dir call.now state)) result }
+    ensures { OverCall (F.tells files.old) (F.tells files.new) here.now call.now
+        (λ limits held dir. asked limits held dir call.now state) result }
 {
-    let begun = state.begin(alloc, limits, &call.args);
-    let (values, state) = at_line(alloc, &file.path, call.line, begun)?;
-    let found = holds(
-        alloc,
-        files,
-        file,
-        call.line,
-        &state.variables,
-        values.as_slice(),
-    )?;
+    let begun = state.begin(here.alloc, here.limits, &call.args);
+    let (values, state) = here.at_line(call.line, begun)?;
+    let found = holds(files, here, call.line, &state.variables, values.as_slice())?;
     Ok((branch_by(found), state))
 }
 
@@ -209,14 +181,14 @@ fn branch_by(is: bool) -> Branch
 /// Begins the last branch of the innermost `if`.
 ///
 /// Source: CMake manual, else.
-fn do_else(alloc: Global, limits: &Limits, ifs: Ifs, state: State) -> Result<Step, Stop>
-    ensures { Follows result (begun_else limits.now ifs state) }
+fn do_else(here: &OpenFile<'_>, ifs: Ifs, state: State) -> Result<Step, Stop>
+    ensures { Follows result (begun_else here.now.limits.now ifs state) }
 {
     let Some((inner, outer)) = ifs.take_inner() else {
         return Err(Stop::Refused(ReadKind::UnpairedIf));
     };
-    let (branch, state) = behind_else(limits, inner.branch, state)?;
-    Ok(in_branch(alloc, inner.line, outer, branch, state)?)
+    let (branch, state) = behind_else(here.limits, inner.branch, state)?;
+    Ok(in_branch(here.alloc, inner.line, outer, branch, state)?)
 }
 
 /// Tells which branch stands behind an `else`.
@@ -234,7 +206,7 @@ fn behind_else(limits: &Limits, branch: Branch, state: State) -> Result<(Branch,
 /// Ends the innermost `if`.
 ///
 /// Source: CMake manual, endif.
-fn do_endif(alloc: Global, ifs: Ifs, state: State) -> Result<Step, Stop>
+fn do_endif(here: &OpenFile<'_>, ifs: Ifs, state: State) -> Result<Step, Stop>
     ensures { Follows result (left ifs state) }
 {
     let Some((_, outer)) = ifs.take_inner() else {
@@ -243,7 +215,7 @@ fn do_endif(alloc: Global, ifs: Ifs, state: State) -> Result<Step, Stop>
     Ok(Step {
         ifs: outer,
         state,
-        opens: Opens::nothing(alloc),
+        opens: Opens::nothing(here.alloc),
     })
 }
 

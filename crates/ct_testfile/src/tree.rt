@@ -2,14 +2,15 @@ ghost use Rattle.std.specs.Prelude.{◌≡◌, ◌+◌, ◌<◌, ◌≤◌, [], 
 ghost use Rattle.ct_base.specs.Outside.{Becomes, SameHeld};
 ghost use Rattle.ct_lex.specs.Place.{beginning};
 ghost use Rattle.ct_lex.specs.Reads.{reading};
-ghost use Rattle.ct_testfile.specs.Says.{AreBounded, Follows, HasFilesCause, IsAnswerOf, IsAt, IsFaultIn, IsNextOf, IsRefusalOf, Over, Unfailed};
+ghost use Rattle.ct_testfile.specs.Says.{AreBounded, Follows, HasFilesCause, IsAnswerOf, IsAt, IsFaultIn, IsNextOf, IsRefusalOf, Over, Unfailed, inside};
 ghost use Rattle.ct_testfile.specs.Commands.{openings, test_file};
 ghost use Rattle.ct_testfile.specs.Tree.{absent, admitted, beginning_with, carried, ended, nested, all_opened, opened_by, top, tree_of, tree_within};
 ghost use Rattle.ct_suite.specs.Tests.{HasShortValues, most_bytes, most_tests};
 
-use crate::fault::{ReadFault, ReadKind, Stop, at_line, files_fault};
+use crate::fault::{ReadFault, ReadKind, Stop, files_fault};
 use crate::ifs::Ifs;
 use crate::limits::{LIMITS, Limits};
+use crate::open_file::OpenFile;
 use crate::opening::{Opening, Opens, TestFile, opening_of, test_file};
 use crate::state::State;
 use crate::step::{Step, advance};
@@ -87,16 +88,13 @@ fn open_top<F: Files>(
     ensures { Over (F.tells files.old) (F.tells files.new) (λ held. opened_by (nested limits.now held limits.now.open_files) (test_file dir.now).path 0 (top dir.now) state (held (test_file dir.now).path)) result }
 {
     let opening = top(alloc, dir)?;
-    open(
+    let here = OpenFile {
         alloc,
-        files,
         limits,
-        limits.open_files,
-        &opening.file.path,
-        0,
-        &opening,
-        state,
-    )
+        file: &opening.file,
+        more: limits.open_files,
+    };
+    open(files, &here, 0, &opening, state)
 }
 
 /// The test file of the folder at the top, which is passed over where it is absent.
@@ -143,28 +141,23 @@ fn begin(alloc: Global, config: &Name) -> Result<State, NoMemory>
 }
 
 /// Opens, one behind the other, what a command on a line of a file opens.
-///
-/// `left` is how many more files may be open, each inside the one before it.
 #[cycle(tree)]
 fn open_each<F: Files>(
-    alloc: Global,
     files: &mut F,
-    limits: &Limits,
-    left: u32,
-    file: &TestFile,
+    here: &OpenFile<'_>,
     line: u32,
     opens: &Opens,
     state: State,
 ) -> Result<State, ReadFault>
-    requires { AreBounded limits.now }
-    ensures { Over (F.tells files.old) (F.tells files.new) (λ held. all_opened (nested limits.now held left) held file.now.path line (openings file.now.dir opens.now) state) result }
+    requires { AreBounded here.now.limits.now }
+    ensures { Over (F.tells files.old) (F.tells files.new)
+        (λ held. all_opened (inside here.now held) held here.now.file.now.path line
+        (openings here.now.file.now.dir opens.now) state) result }
 {
     let mut known = state;
     for name in opens.names.as_slice() {
-        let opening = opening_of(alloc, &file.dir, opens.required, name)?;
-        known = open(
-            alloc, files, limits, left, &file.path, line, &opening, known,
-        )?;
+        let opening = opening_of(here.alloc, &here.file.dir, opens.required, name)?;
+        known = open(files, here, line, &opening, known)?;
     }
     Ok(known)
 }
@@ -172,55 +165,51 @@ fn open_each<F: Files>(
 /// Opens one file for a command on a line of another one.
 #[cycle(tree)]
 fn open<F: Files>(
-    alloc: Global,
     files: &mut F,
-    limits: &Limits,
-    left: u32,
-    site: &Name,
+    here: &OpenFile<'_>,
     line: u32,
     opening: &Opening,
     state: State,
 ) -> Result<State, ReadFault>
-    requires { AreBounded limits.now }
-    ensures { Over (F.tells files.old) (F.tells files.new) (λ held. opened_by (nested limits.now held left) site.now line opening.now state (held opening.now.file.path)) result }
+    requires { AreBounded here.now.limits.now }
+    ensures { Over (F.tells files.old) (F.tells files.new)
+        (λ held. opened_by (inside here.now held) here.now.file.now.path line opening.now state
+        (held opening.now.file.path)) result }
 {
-    let got = fetch(alloc, files, &opening.file.path, limits.file_bytes)?;
-    enter(alloc, files, limits, left, site, line, opening, state, got)
+    let most = here.limits.file_bytes;
+    let got = fetch(here.alloc, files, &opening.file.path, most)?;
+    enter(files, here, line, opening, state, got)
 }
 
 /// Reads what a path held as a file that a command opens on a line of another one.
 #[cycle(tree)]
 fn enter<F: Files>(
-    alloc: Global,
     files: &mut F,
-    limits: &Limits,
-    left: u32,
-    site: &Name,
+    here: &OpenFile<'_>,
     line: u32,
     opening: &Opening,
     state: State,
     got: Option<Blob>,
 ) -> Result<State, ReadFault>
-    requires { AreBounded limits.now }
-    ensures { Over (F.tells files.old) (F.tells files.new) (λ held. opened_by (nested limits.now held left) site.now line opening.now state got) result }
+    requires { AreBounded here.now.limits.now }
+    ensures { Over (F.tells files.old) (F.tells files.new)
+        (λ held. opened_by (inside here.now held) here.now.file.now.path line opening.now state got) result }
 {
     let Some(text) = got else {
-        return at_line(alloc, site, line, absent(opening, state));
+        return here.at_line(line, absent(opening, state));
     };
-    if left == 0 {
-        return at_line(alloc, site, line, Err(Stop::Refused(ReadKind::TooDeep)));
+    if here.more == 0 {
+        return here.at_line(line, Err(Stop::Refused(ReadKind::TooDeep)));
     }
-    let admitted = admit(limits, text.bytes(), state);
-    let state = at_line(alloc, &opening.file.path, 0, admitted)?;
-    carry(
-        alloc,
-        files,
-        limits,
-        left - 1,
-        &opening.file,
-        state,
-        text.bytes(),
-    )
+    let inner = OpenFile {
+        alloc: here.alloc,
+        limits: here.limits,
+        file: &opening.file,
+        more: here.more - 1,
+    };
+    let admitted = admit(here.limits, text.bytes(), state);
+    let state = inner.at_line(0, admitted)?;
+    carry(files, &inner, state, text.bytes())
 }
 
 /// Reads what a path holds: of a file that is longer than `most`, one byte more than that.
@@ -267,36 +256,34 @@ fn admit(limits: &Limits, text: &[u8], state: State) -> Result<State, Stop>
 }
 
 /// Carries out the commands of a text that is read as a file.
-///
-/// `more` is how many files may be open inside this one, each inside the one before it.
 #[cycle(tree)]
 fn carry<F: Files>(
-    alloc: Global,
     files: &mut F,
-    limits: &Limits,
-    more: u32,
-    file: &TestFile,
+    here: &OpenFile<'_>,
     state: State,
     text: &[u8],
 ) -> Result<State, ReadFault>
-    requires limits { AreBounded limits.now }
+    requires limits { AreBounded here.now.limits.now }
     requires lines { length text.now < 4294967295 }
-    ensures { Over (F.tells files.old) (F.tells files.new) (λ held. carried (nested limits.now held more) limits.now held file.now [] state (reading (beginning text.now)).0 (reading (beginning text.now)).1) result }
+    ensures { Over (F.tells files.old) (F.tells files.new)
+        (λ held. carried (inside here.now held) here.now.limits.now held here.now.file.now [] state
+        (reading (beginning text.now)).0 (reading (beginning text.now)).1) result }
 {
+    let alloc = here.alloc;
     let mut lexer = Lexer::new(text);
     let mut ifs = Ifs::new(alloc);
     let mut known = state;
-    'calls: while let Some(call) = next_call(alloc, &mut lexer, &file.path)? {
-        let step = advance(alloc, files, limits, file, ifs, known, &call)?;
+    'calls: while let Some(call) = next_call(alloc, &mut lexer, &here.file.path)? {
+        let step = advance(files, here, ifs, known, &call)?;
         let Step {
             ifs: behind,
             state,
             opens,
         } = step;
         ifs = behind;
-        known = open_each(alloc, files, limits, more, file, call.line, &opens, state)?;
+        known = open_each(files, here, call.line, &opens, state)?;
     }
-    end(alloc, &file.path, ifs, known)
+    end(here, ifs, known)
 }
 
 /// Reads the next command of a file.
@@ -310,18 +297,13 @@ fn next_call(alloc: Global, lexer: &mut Lexer<'_>, file: &Name) -> Result<Option
 }
 
 /// Ends a file: each `if` has to be ended in it.
-fn end(alloc: Global, file: &Name, ifs: Ifs, state: State) -> Result<State, ReadFault>
-    ensures says { IsAnswerOf (ended file.now ifs state None) result }
+fn end(here: &OpenFile<'_>, ifs: Ifs, state: State) -> Result<State, ReadFault>
+    ensures says { IsAnswerOf (ended here.now.file.now.path ifs state None) result }
     ensures unfailed { Unfailed result }
 {
     match ifs.take_inner() {
         None => Ok(state),
-        Some((inner, _)) => at_line(
-            alloc,
-            file,
-            inner.line,
-            Err(Stop::Refused(ReadKind::UnpairedIf)),
-        ),
+        Some((inner, _)) => here.at_line(inner.line, Err(Stop::Refused(ReadKind::UnpairedIf))),
     }
 }
 

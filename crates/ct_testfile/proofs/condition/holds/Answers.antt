@@ -12,8 +12,8 @@ use Rattle.ct_testfile.proofs.condition.holds.Goals as goal
 
 pub returns-then-is_exists : goal.returns-then-is_exists
 returns-then-is_exists g c =
-    let path = c.args.file.now.path in
-    let dir = c.args.file.now.dir in
+    let path = c.args.here.now.file.now.path in
+    let dir = c.args.here.now.file.now.dir in
     let variables = c.args.table.now in
     let values = c.args.values.now in
     let asks : Held → Result Bool ReadFault = λ held. on_line path c.args.line (holds held dir variables values) in
@@ -22,8 +22,8 @@ returns-then-is_exists g c =
 
 pub returns-then-is_matches : goal.returns-then-is_matches
 returns-then-is_matches g c =
-    let path = c.args.file.now.path in
-    let dir = c.args.file.now.dir in
+    let path = c.args.here.now.file.now.path in
+    let dir = c.args.here.now.file.now.dir in
     let variables = c.args.table.now in
     let values = c.args.values.now in
     let asks : Held → Result Bool ReadFault = λ held. on_line path c.args.line (holds held dir variables values) in
@@ -34,8 +34,8 @@ returns-then-is_matches g c =
 
 pub returns : goal.returns
 returns g c =
-    let path = c.args.file.now.path in
-    let dir = c.args.file.now.dir in
+    let path = c.args.here.now.file.now.path in
+    let dir = c.args.here.now.file.now.dir in
     let variables = c.args.table.now in
     let values = c.args.values.now in
     let asks : Held → Result Bool ReadFault = λ held. on_line path c.args.line (holds held dir variables values) in

@@ -12,45 +12,45 @@ use Rattle.ct_testfile.proofs.step.advance.Goals as goal
 pub returns-in_default : goal.returns-in_default
 returns-in_default g c =
     let tells = g.F.Files.tells c.args.files.now in
-    let path = c.args.file.now.path in
-    let dir = c.args.file.now.dir in
+    let path = c.args.here.now.file.now.path in
+    let dir = c.args.here.now.file.now.dir in
     let call = c.args.call.now in
-    let goes : Option Flow → Held → Result Step ReadFault = λ flow held. on_line path call.line (stepped_by c.args.limits.now held dir call c.args.ifs c.args.state flow) in
+    let goes : Option Flow → Held → Result Step ReadFault = λ flow held. on_line path call.line (stepped_by c.args.here.now.limits.now held dir call c.args.ifs c.args.state flow) in
     let is : flow_of call.name ≡ None = ap flow_of (sym c.bytes.ensures) ∙ sym c.flow_of.ensures ∙ c.in_default.is in
-    Over-same tells tells (goes None) (goes (flow_of call.name)) c.at_line.result (λ held. ap (λ flow. goes flow held) (sym is)) (Over-still tells (goes None) c.at_line.result c.at_line.ensures.unfailed (λ held. c.at_line.ensures.says (done c.args.limits.now dir call c.args.ifs c.args.state (is_live c.args.ifs)) c.do_other-step.ensures))
+    Over-same tells tells (goes None) (goes (flow_of call.name)) c.at_line.result (λ held. ap (λ flow. goes flow held) (sym is)) (Over-still tells (goes None) c.at_line.result c.at_line.ensures.unfailed (λ held. c.at_line.ensures.says (done c.args.here.now.limits.now dir call c.args.ifs c.args.state (is_live c.args.ifs)) c.do_other-step.ensures))
 
 pub returns-in-If : goal.returns-in-If
 returns-in-If g c =
     let tells = g.F.Files.tells c.args.files.now in
-    let path = c.args.file.now.path in
+    let path = c.args.here.now.file.now.path in
     let call = c.args.call.now in
-    let goes : Option Flow → Held → Result Step ReadFault = λ flow held. on_line path call.line (stepped_by c.args.limits.now held c.args.file.now.dir call c.args.ifs c.args.state flow) in
+    let goes : Option Flow → Held → Result Step ReadFault = λ flow held. on_line path call.line (stepped_by c.args.here.now.limits.now held c.args.here.now.file.now.dir call c.args.ifs c.args.state flow) in
     let is : flow_of call.name ≡ Some If = ap flow_of (sym c.bytes.ensures) ∙ sym c.flow_of.ensures ∙ c.in-Some.is ∙ ap Some c.in-If.is in
     Over-same tells (g.F.Files.tells c.do_if.new.files) (goes (Some If)) (goes (flow_of call.name)) c.do_if.result (λ held. ap (λ flow. goes flow held) (sym is)) c.do_if.ensures
 
 pub returns-in-ElseIf : goal.returns-in-ElseIf
 returns-in-ElseIf g c =
     let tells = g.F.Files.tells c.args.files.now in
-    let path = c.args.file.now.path in
+    let path = c.args.here.now.file.now.path in
     let call = c.args.call.now in
-    let goes : Option Flow → Held → Result Step ReadFault = λ flow held. on_line path call.line (stepped_by c.args.limits.now held c.args.file.now.dir call c.args.ifs c.args.state flow) in
+    let goes : Option Flow → Held → Result Step ReadFault = λ flow held. on_line path call.line (stepped_by c.args.here.now.limits.now held c.args.here.now.file.now.dir call c.args.ifs c.args.state flow) in
     let is : flow_of call.name ≡ Some ElseIf = ap flow_of (sym c.bytes.ensures) ∙ sym c.flow_of.ensures ∙ c.in-Some.is ∙ ap Some c.in-ElseIf.is in
     Over-same tells (g.F.Files.tells c.do_elseif.new.files) (goes (Some ElseIf)) (goes (flow_of call.name)) c.do_elseif.result (λ held. ap (λ flow. goes flow held) (sym is)) c.do_elseif.ensures
 
 pub returns-in-Else : goal.returns-in-Else
 returns-in-Else g c =
     let tells = g.F.Files.tells c.args.files.now in
-    let path = c.args.file.now.path in
+    let path = c.args.here.now.file.now.path in
     let call = c.args.call.now in
-    let goes : Option Flow → Held → Result Step ReadFault = λ flow held. on_line path call.line (stepped_by c.args.limits.now held c.args.file.now.dir call c.args.ifs c.args.state flow) in
+    let goes : Option Flow → Held → Result Step ReadFault = λ flow held. on_line path call.line (stepped_by c.args.here.now.limits.now held c.args.here.now.file.now.dir call c.args.ifs c.args.state flow) in
     let is : flow_of call.name ≡ Some Else = ap flow_of (sym c.bytes.ensures) ∙ sym c.flow_of.ensures ∙ c.in-Some.is ∙ ap Some c.in-Else.is in
-    Over-same tells tells (goes (Some Else)) (goes (flow_of call.name)) c.at_line-in-Else.result (λ held. ap (λ flow. goes flow held) (sym is)) (Over-still tells (goes (Some Else)) c.at_line-in-Else.result c.at_line-in-Else.ensures.unfailed (λ held. c.at_line-in-Else.ensures.says (begun_else c.args.limits.now c.args.ifs c.args.state) c.do_else-step.ensures))
+    Over-same tells tells (goes (Some Else)) (goes (flow_of call.name)) c.at_line-in-Else.result (λ held. ap (λ flow. goes flow held) (sym is)) (Over-still tells (goes (Some Else)) c.at_line-in-Else.result c.at_line-in-Else.ensures.unfailed (λ held. c.at_line-in-Else.ensures.says (begun_else c.args.here.now.limits.now c.args.ifs c.args.state) c.do_else.ensures))
 
 pub returns-in-EndIf : goal.returns-in-EndIf
 returns-in-EndIf g c =
     let tells = g.F.Files.tells c.args.files.now in
-    let path = c.args.file.now.path in
+    let path = c.args.here.now.file.now.path in
     let call = c.args.call.now in
-    let goes : Option Flow → Held → Result Step ReadFault = λ flow held. on_line path call.line (stepped_by c.args.limits.now held c.args.file.now.dir call c.args.ifs c.args.state flow) in
+    let goes : Option Flow → Held → Result Step ReadFault = λ flow held. on_line path call.line (stepped_by c.args.here.now.limits.now held c.args.here.now.file.now.dir call c.args.ifs c.args.state flow) in
     let is : flow_of call.name ≡ Some EndIf = ap flow_of (sym c.bytes.ensures) ∙ sym c.flow_of.ensures ∙ c.in-Some.is ∙ ap Some c.in-EndIf.is in
-    Over-same tells tells (goes (Some EndIf)) (goes (flow_of call.name)) c.at_line-in-EndIf.result (λ held. ap (λ flow. goes flow held) (sym is)) (Over-still tells (goes (Some EndIf)) c.at_line-in-EndIf.result c.at_line-in-EndIf.ensures.unfailed (λ held. c.at_line-in-EndIf.ensures.says (left c.args.ifs c.args.state) c.do_endif-step.ensures))
+    Over-same tells tells (goes (Some EndIf)) (goes (flow_of call.name)) c.at_line-in-EndIf.result (λ held. ap (λ flow. goes flow held) (sym is)) (Over-still tells (goes (Some EndIf)) c.at_line-in-EndIf.result c.at_line-in-EndIf.ensures.unfailed (λ held. c.at_line-in-EndIf.ensures.says (left c.args.ifs c.args.state) c.do_endif.ensures))

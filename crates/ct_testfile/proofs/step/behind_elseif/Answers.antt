@@ -29,10 +29,10 @@ returns-in-Idle g c =
 
 pub returns-in-ElseTaken : goal.returns-in-ElseTaken
 returns-in-ElseTaken g c =
-    let says : Held → Result (Branch × State) ReadFault = λ held. Err (At c.args.file.now.path c.args.call.now.line UnpairedIf) in
+    let says : Held → Result (Branch × State) ReadFault = λ held. Err (At c.args.here.now.file.now.path c.args.call.now.line UnpairedIf) in
     rw c.in-ElseTaken.is (Over-still (g.F.Files.tells c.args.files.now) says c.unpaired.result c.unpaired.ensures.unfailed (λ held. c.unpaired.ensures.says))
 
 pub returns-in-ElseOver : goal.returns-in-ElseOver
 returns-in-ElseOver g c =
-    let says : Held → Result (Branch × State) ReadFault = λ held. Err (At c.args.file.now.path c.args.call.now.line UnpairedIf) in
+    let says : Held → Result (Branch × State) ReadFault = λ held. Err (At c.args.here.now.file.now.path c.args.call.now.line UnpairedIf) in
     rw c.in-ElseOver.is (Over-still (g.F.Files.tells c.args.files.now) says c.unpaired-in-ElseOver.result c.unpaired-in-ElseOver.ensures.unfailed (λ held. c.unpaired-in-ElseOver.ensures.says))

@@ -24,13 +24,13 @@ pub carry-returns-in_err-call : goal.carry-returns-in_err-call
 carry-returns-in_err-call g t c =
     let before = g.F.Files.tells c.args.files.now in
     let now = g.F.Files.tells c.calls.files in
-    let limits = c.args.limits.now in
-    let file = c.args.file.now in
+    let limits = c.args.here.now.limits.now in
+    let file = c.args.here.now.file.now in
     let fault = c.in_err-call.field-0.0 in
-    let begin = from limits c.args.more file c.new-ifs.result c.args.state c.new-lexer.result in
-    let rest = from limits c.args.more file c.calls.ifs c.calls.known c.calls.lexer in
+    let begin = from limits c.args.here.now.more file c.new-ifs.result c.args.state c.new-lexer.result in
+    let rest = from limits c.args.here.now.more file c.calls.ifs c.calls.known c.calls.lexer in
     let p = err_from_is_err_and c.from_residual.result c.from_residual.ensures.1 in
-    rw (p.1, p.2) (Over-same before now begin (from limits c.args.more file [] c.args.state (beginning c.args.text.now)) (Err fault) (from-start limits c.args.more file c.new-ifs.result c.args.state c.new-lexer.result c.args.text.now c.new-ifs.ensures c.new-lexer.ensures.place) (SoFar-end before now now begin rest (Err fault) c.calls.invariant (Over-still now rest (Err fault) (ends-unfailed State file.path c.calls.lexer fault c.in_err-call.ensures) (from-refused limits c.args.more file c.calls.ifs c.calls.known c.calls.lexer fault c.in_err-call.ensures))))
+    rw (p.1, p.2) (Over-same before now begin (from limits c.args.here.now.more file [] c.args.state (beginning c.args.text.now)) (Err fault) (from-start limits c.args.here.now.more file c.new-ifs.result c.args.state c.new-lexer.result c.args.text.now c.new-ifs.ensures c.new-lexer.ensures.place) (SoFar-end before now now begin rest (Err fault) c.calls.invariant (Over-still now rest (Err fault) (ends-unfailed State file.path c.calls.lexer fault c.in_err-call.ensures) (from-refused limits c.args.here.now.more file c.calls.ifs c.calls.known c.calls.lexer fault c.in_err-call.ensures))))
 
 pub carry-same-ifs : goal.carry-same-ifs
 carry-same-ifs g t c = refl
@@ -40,14 +40,14 @@ carry-returns-in_err-step g t c =
     let before = g.F.Files.tells c.args.files.now in
     let between = g.F.Files.tells c.calls.files in
     let now = g.F.Files.tells c.advance.new.files in
-    let limits = c.args.limits.now in
-    let file = c.args.file.now in
+    let limits = c.args.here.now.limits.now in
+    let file = c.args.here.now.file.now in
     let fault = c.in_err-step.field-0.0 in
-    let begin = from limits c.args.more file c.new-ifs.result c.args.state c.new-lexer.result in
+    let begin = from limits c.args.here.now.more file c.new-ifs.result c.args.state c.new-lexer.result in
     let P : Option Call → Type 0 = λ call. IsNextOf file.path c.calls.lexer c.next_call.new.lexer (Ok call) in
     let next = subst P c.in-Some.is c.in_ok-call.ensures in
     let p = err_from_is_err_and c.from_residual-in_err-step.result c.from_residual-in_err-step.ensures.1 in
-    rw (p.1, p.2) (Over-same before now begin (from limits c.args.more file [] c.args.state (beginning c.args.text.now)) (Err fault) (from-start limits c.args.more file c.new-ifs.result c.args.state c.new-lexer.result c.args.text.now c.new-ifs.ensures c.new-lexer.ensures.place) (stopped-step limits c.args.more file before between now c.calls.ifs c.calls.known c.in-Some.call c.calls.lexer c.next_call.new.lexer begin fault c.calls.invariant next c.in_err-step.ensures))
+    rw (p.1, p.2) (Over-same before now begin (from limits c.args.here.now.more file [] c.args.state (beginning c.args.text.now)) (Err fault) (from-start limits c.args.here.now.more file c.new-ifs.result c.args.state c.new-lexer.result c.args.text.now c.new-ifs.ensures c.new-lexer.ensures.place) (stopped-step limits c.args.here.now.more file before between now c.calls.ifs c.calls.known c.in-Some.call c.calls.lexer c.next_call.new.lexer begin fault c.calls.invariant next c.in_err-step.ensures))
 
 pub carry-returns-in_err-known : goal.carry-returns-in_err-known
 carry-returns-in_err-known g t c =
@@ -55,21 +55,21 @@ carry-returns-in_err-known g t c =
     let between = g.F.Files.tells c.calls.files in
     let mid = g.F.Files.tells c.advance.new.files in
     let now = g.F.Files.tells c.open_each.new.files in
-    let limits = c.args.limits.now in
-    let file = c.args.file.now in
+    let limits = c.args.here.now.limits.now in
+    let file = c.args.here.now.file.now in
     let fault = c.in_err-known.field-0.0 in
-    let begin = from limits c.args.more file c.new-ifs.result c.args.state c.new-lexer.result in
+    let begin = from limits c.args.here.now.more file c.new-ifs.result c.args.state c.new-lexer.result in
     let P : Option Call → Type 0 = λ call. IsNextOf file.path c.calls.lexer c.next_call.new.lexer (Ok call) in
     let next = subst P c.in-Some.is c.in_ok-call.ensures in
     let p = err_from_is_err_and c.from_residual-in_err-known.result c.from_residual-in_err-known.ensures.1 in
-    rw (p.1, p.2) (Over-same before now begin (from limits c.args.more file [] c.args.state (beginning c.args.text.now)) (Err fault) (from-start limits c.args.more file c.new-ifs.result c.args.state c.new-lexer.result c.args.text.now c.new-ifs.ensures c.new-lexer.ensures.place) (stopped-known limits c.args.more file before between mid c.calls.ifs c.calls.known c.in-Some.call c.calls.lexer c.next_call.new.lexer now begin c.in_ok-step.step fault c.calls.invariant next c.in_ok-step.ensures c.in_err-known.ensures))
+    rw (p.1, p.2) (Over-same before now begin (from limits c.args.here.now.more file [] c.args.state (beginning c.args.text.now)) (Err fault) (from-start limits c.args.here.now.more file c.new-ifs.result c.args.state c.new-lexer.result c.args.text.now c.new-ifs.ensures c.new-lexer.ensures.place) (stopped-known limits c.args.here.now.more file before between mid c.calls.ifs c.calls.known c.in-Some.call c.calls.lexer c.next_call.new.lexer now begin c.in_ok-step.step fault c.calls.invariant next c.in_ok-step.ensures c.in_err-known.ensures))
 
 pub carry-same-ifs-in-Some : goal.carry-same-ifs-in-Some
 carry-same-ifs-in-Some g t c = refl
 
 pub carry-calls-smaller : goal.carry-calls-smaller
 carry-calls-smaller g t c =
-    let P : Option Call → Type 0 = λ call. IsNextOf c.args.file.now.path c.calls.lexer c.next_call.new.lexer (Ok call) in
+    let P : Option Call → Type 0 = λ call. IsNextOf c.args.here.now.file.now.path c.calls.lexer c.next_call.new.lexer (Ok call) in
     (subst P c.in-Some.is c.in_ok-call.ensures).2
 
 pub carry-calls-preserved : goal.carry-calls-preserved
@@ -78,12 +78,12 @@ carry-calls-preserved g t c =
     let between = g.F.Files.tells c.calls.files in
     let mid = g.F.Files.tells c.advance.new.files in
     let now = g.F.Files.tells c.open_each.new.files in
-    let limits = c.args.limits.now in
-    let file = c.args.file.now in
-    let begin = from limits c.args.more file c.new-ifs.result c.args.state c.new-lexer.result in
+    let limits = c.args.here.now.limits.now in
+    let file = c.args.here.now.file.now in
+    let begin = from limits c.args.here.now.more file c.new-ifs.result c.args.state c.new-lexer.result in
     let P : Option Call → Type 0 = λ call. IsNextOf file.path c.calls.lexer c.next_call.new.lexer (Ok call) in
     let next = subst P c.in-Some.is c.in_ok-call.ensures in
-    once-more limits c.args.more file before between mid c.calls.ifs c.calls.known c.in-Some.call c.calls.lexer c.next_call.new.lexer now begin c.in_ok-step.step c.in_ok-known.known c.calls.invariant next c.in_ok-step.ensures c.in_ok-known.ensures
+    once-more limits c.args.here.now.more file before between mid c.calls.ifs c.calls.known c.in-Some.call c.calls.lexer c.next_call.new.lexer now begin c.in_ok-step.step c.in_ok-known.known c.calls.invariant next c.in_ok-step.ensures c.in_ok-known.ensures
 
 pub carry-same-ifs-2 : goal.carry-same-ifs-2
 carry-same-ifs-2 g t c = refl
@@ -92,89 +92,89 @@ pub carry-returns : goal.carry-returns
 carry-returns g t c =
     let before = g.F.Files.tells c.args.files.now in
     let now = g.F.Files.tells c.calls.files in
-    let limits = c.args.limits.now in
-    let file = c.args.file.now in
-    let begin = from limits c.args.more file c.new-ifs.result c.args.state c.new-lexer.result in
-    let rest = from limits c.args.more file c.calls.ifs c.calls.known c.calls.lexer in
+    let limits = c.args.here.now.limits.now in
+    let file = c.args.here.now.file.now in
+    let begin = from limits c.args.here.now.more file c.new-ifs.result c.args.state c.new-lexer.result in
+    let rest = from limits c.args.here.now.more file c.calls.ifs c.calls.known c.calls.lexer in
     let P : Option Call → Type 0 = λ call. IsNextOf file.path c.calls.lexer c.next_call.new.lexer (Ok call) in
     let next = subst P c.in_default.is c.in_ok-call.ensures in
-    Over-same before now begin (from limits c.args.more file [] c.args.state (beginning c.args.text.now)) c.end.result (from-start limits c.args.more file c.new-ifs.result c.args.state c.new-lexer.result c.args.text.now c.new-ifs.ensures c.new-lexer.ensures.place) (SoFar-end before now now begin rest c.end.result c.calls.invariant (Over-still now rest c.end.result c.end.ensures.unfailed (λ held. IsAnswerOf-same (ended file.path c.calls.ifs c.calls.known None) (rest held) c.end.result (sym (from-end limits c.args.more file c.calls.ifs c.calls.known c.calls.lexer c.next_call.new.lexer next held)) c.end.ensures.says)))
+    Over-same before now begin (from limits c.args.here.now.more file [] c.args.state (beginning c.args.text.now)) c.end.result (from-start limits c.args.here.now.more file c.new-ifs.result c.args.state c.new-lexer.result c.args.text.now c.new-ifs.ensures c.new-lexer.ensures.place) (SoFar-end before now now begin rest c.end.result c.calls.invariant (Over-still now rest c.end.result c.end.ensures.unfailed (λ held. IsAnswerOf-same (ended file.path c.calls.ifs c.calls.known None) (rest held) c.end.result (sym (from-end limits c.args.here.now.more file c.calls.ifs c.calls.known c.calls.lexer c.next_call.new.lexer next held)) c.end.ensures.says)))
 
 pub enter-returns-in_default : goal.enter-returns-in_default
 enter-returns-in_default g t c =
     let tells = g.F.Files.tells c.args.files.now in
-    let site = c.args.site.now in
+    let site = c.args.here.now.file.now.path in
     let opening = c.args.opening.now in
-    let goes : Option (List ℕ) → Held → Result State ReadFault = λ got held. opened_by (nested c.args.limits.now held c.args.left) site c.args.line opening c.args.state got in
+    let goes : Option (List ℕ) → Held → Result State ReadFault = λ got held. opened_by (nested c.args.here.now.limits.now held c.args.here.now.more) site c.args.line opening c.args.state got in
     Over-same tells tells (goes None) (goes c.args.got) c.at_line.result (λ held. ap (λ got. goes got held) (sym c.in_default.is)) (Over-still tells (goes None) c.at_line.result c.at_line.ensures.unfailed (λ held. c.at_line.ensures.says (absent opening c.args.state) c.absent.ensures))
 
-pub enter-returns-then-left-eq0 : goal.enter-returns-then-left-eq0
-enter-returns-then-left-eq0 g t c =
+pub enter-returns-then-here-eq0 : goal.enter-returns-then-here-eq0
+enter-returns-then-here-eq0 g t c =
     let tells = g.F.Files.tells c.args.files.now in
-    let site = c.args.site.now in
+    let site = c.args.here.now.file.now.path in
     let opening = c.args.opening.now in
-    let goes : Held → Result State ReadFault = λ held. opened_by (nested c.args.limits.now held c.args.left) site c.args.line opening c.args.state c.args.got in
-    Over-same tells tells (λ held. Err (At site c.args.line TooDeep)) goes c.at_line-then-left-eq0.result (λ held. too-deep c.args.limits.now held c.args.left site c.args.line opening c.args.state c.args.got c.in-Some.text c.if-left-eq0.true c.in-Some.is) (Over-still tells (λ held. Err (At site c.args.line TooDeep)) c.at_line-then-left-eq0.result c.at_line-then-left-eq0.ensures.unfailed (λ held. c.at_line-then-left-eq0.ensures.says (Err TooDeep) refl))
+    let goes : Held → Result State ReadFault = λ held. opened_by (nested c.args.here.now.limits.now held c.args.here.now.more) site c.args.line opening c.args.state c.args.got in
+    Over-same tells tells (λ held. Err (At site c.args.line TooDeep)) goes c.at_line-then-here-eq0.result (λ held. too-deep c.args.here.now.limits.now held c.args.here.now.more site c.args.line opening c.args.state c.args.got c.in-Some.text c.if-here-eq0.true c.in-Some.is) (Over-still tells (λ held. Err (At site c.args.line TooDeep)) c.at_line-then-here-eq0.result c.at_line-then-here-eq0.ensures.unfailed (λ held. c.at_line-then-here-eq0.ensures.says (Err TooDeep) refl))
 
 pub enter-returns-in_err-state : goal.enter-returns-in_err-state
 enter-returns-in_err-state g t c =
     let tells = g.F.Files.tells c.args.files.now in
-    let limits = c.args.limits.now in
-    let site = c.args.site.now in
+    let limits = c.args.here.now.limits.now in
+    let site = c.args.here.now.file.now.path in
     let opening = c.args.opening.now in
     let text = c.bytes.result.now in
     let fault = c.in_err-state.field-0.0 in
-    let left = c.args.left in
+    let left = c.args.here.now.more in
     let first : Held → Result State ReadFault = λ held. on_line opening.file.path 0 (admitted limits text c.args.state) in
     let next : Held → State → Result State ReadFault = λ held state. from limits (left - 1) opening.file [] state (beginning text) held in
     let goes : Held → Result State ReadFault = λ held. opened_by (nested limits held left) site c.args.line opening c.args.state c.args.got in
     let p = err_from_is_err_and c.from_residual.result c.from_residual.ensures.1 in
-    rw (p.1, p.2) (Over-same tells tells (λ held. first held >>= next held) goes (Err fault) (λ held. entered limits held left (left - 1) site c.args.line opening c.args.state c.args.got text (grind (arith, c.if-left-eq0.false)) (c.in-Some.is ∙ ap Some (sym c.bytes.ensures))) (Over-stopped tells tells first next fault (Over-still tells first (Err fault) c.in_err-state.ensures.unfailed (λ held. c.in_err-state.ensures.says (admitted limits text c.args.state) c.admit-admitted.ensures))))
+    rw (p.1, p.2) (Over-same tells tells (λ held. first held >>= next held) goes (Err fault) (λ held. entered limits held left (left - 1) site c.args.line opening c.args.state c.args.got text (grind (arith, c.if-here-eq0.false)) (c.in-Some.is ∙ ap Some (sym c.bytes.ensures))) (Over-stopped tells tells first next fault (Over-still tells first (Err fault) c.in_err-state.ensures.unfailed (λ held. c.in_err-state.ensures.says (admitted limits text c.args.state) c.admit-admitted.ensures))))
 
 pub enter-carry-requires : goal.enter-carry-requires
 enter-carry-requires g t c κs within =
-    let short = admitted-is-short c.args.limits.now c.bytes.result.now c.args.state c.in_ok-state.state c.args.opening.now.file.path (c.in_ok-state.ensures.says (admitted c.args.limits.now c.bytes.result.now c.args.state) c.admit-admitted.ensures) in
+    let short = admitted-is-short c.args.here.now.limits.now c.bytes.result.now c.args.state c.in_ok-state.state c.args.opening.now.file.path (c.in_ok-state.ensures.says (admitted c.args.here.now.limits.now c.bytes.result.now c.args.state) c.admit-admitted.ensures) in
     let same : length c.bytes-2.result.now ≡ length c.bytes.result.now = ap length (c.bytes-2.ensures ∙ sym c.bytes.ensures) in
-    (omega (arith, c.decreases, c.if-left-eq0.false), (within, (c.requires, omega (arith, c.requires.lines))))
+    (omega (arith, c.decreases, c.if-here-eq0.false), (within, (c.requires, omega (arith, c.requires.lines))))
 
 pub enter-returns : goal.enter-returns
 enter-returns g t c =
     let tells = g.F.Files.tells c.args.files.now in
     let now = g.F.Files.tells c.carry.new.files in
-    let limits = c.args.limits.now in
-    let site = c.args.site.now in
+    let limits = c.args.here.now.limits.now in
+    let site = c.args.here.now.file.now.path in
     let opening = c.args.opening.now in
     let text = c.bytes.result.now in
-    let left = c.args.left in
+    let left = c.args.here.now.more in
     let first : Held → Result State ReadFault = λ held. on_line opening.file.path 0 (admitted limits text c.args.state) in
     let next : Held → State → Result State ReadFault = λ held state. from limits (left - 1) opening.file [] state (beginning text) held in
     let goes : Held → Result State ReadFault = λ held. opened_by (nested limits held left) site c.args.line opening c.args.state c.args.got in
     let P : List ℕ → Type 0 = λ text. Over tells now (λ held. from limits (left - 1) opening.file [] c.in_ok-state.state (beginning text) held) c.carry.result in
     let carried = subst P (c.bytes-2.ensures ∙ sym c.bytes.ensures) c.carry.ensures in
-    Over-same tells now (λ held. first held >>= next held) goes c.carry.result (λ held. entered limits held left (left - 1) site c.args.line opening c.args.state c.args.got text (grind (arith, c.if-left-eq0.false)) (c.in-Some.is ∙ ap Some (sym c.bytes.ensures))) (Over-then tells tells now first next c.in_ok-state.state c.carry.result (Over-still tells first (Ok c.in_ok-state.state) tt (λ held. c.in_ok-state.ensures.says (admitted limits text c.args.state) c.admit-admitted.ensures)) carried)
+    Over-same tells now (λ held. first held >>= next held) goes c.carry.result (λ held. entered limits held left (left - 1) site c.args.line opening c.args.state c.args.got text (grind (arith, c.if-here-eq0.false)) (c.in-Some.is ∙ ap Some (sym c.bytes.ensures))) (Over-then tells tells now first next c.in_ok-state.state c.carry.result (Over-still tells first (Ok c.in_ok-state.state) tt (λ held. c.in_ok-state.ensures.says (admitted limits text c.args.state) c.admit-admitted.ensures)) carried)
 
 pub open-returns-in_err-got : goal.open-returns-in_err-got
 open-returns-in_err-got g t c =
     let before = g.F.Files.tells c.args.files.now in
     let now = g.F.Files.tells c.fetch.new.files in
-    let limits = c.args.limits.now in
+    let limits = c.args.here.now.limits.now in
     let opening = c.args.opening.now in
     let fault = c.in_err-got.field-0.0 in
     let first : Held → Result (Option (List ℕ)) ReadFault = λ held. Ok (option_map (take (limits.file_bytes + 1)) (held opening.file.path)) in
-    let next : Held → Option (List ℕ) → Result State ReadFault = λ held got. opened_by (nested limits held c.args.left) c.args.site.now c.args.line opening c.args.state got in
+    let next : Held → Option (List ℕ) → Result State ReadFault = λ held got. opened_by (nested limits held c.args.here.now.more) c.args.here.now.file.now.path c.args.line opening c.args.state got in
     let p = err_from_is_err_and c.from_residual.result c.from_residual.ensures.1 in
-    rw (p.1, p.2) (Over-same before now (λ held. first held >>= next held) (λ held. next held (held opening.file.path)) (Err fault) (λ held. opened_by-taken limits held c.args.left c.args.site.now c.args.line opening c.args.state (held opening.file.path)) (Over-stopped before now first next fault c.in_err-got.ensures))
+    rw (p.1, p.2) (Over-same before now (λ held. first held >>= next held) (λ held. next held (held opening.file.path)) (Err fault) (λ held. opened_by-taken limits held c.args.here.now.more c.args.here.now.file.now.path c.args.line opening c.args.state (held opening.file.path)) (Over-stopped before now first next fault c.in_err-got.ensures))
 
 pub open-returns : goal.open-returns
 open-returns g t c =
     let before = g.F.Files.tells c.args.files.now in
     let between = g.F.Files.tells c.fetch.new.files in
     let now = g.F.Files.tells c.enter.new.files in
-    let limits = c.args.limits.now in
+    let limits = c.args.here.now.limits.now in
     let opening = c.args.opening.now in
     let first : Held → Result (Option (List ℕ)) ReadFault = λ held. Ok (option_map (take (limits.file_bytes + 1)) (held opening.file.path)) in
-    let next : Held → Option (List ℕ) → Result State ReadFault = λ held got. opened_by (nested limits held c.args.left) c.args.site.now c.args.line opening c.args.state got in
-    Over-same before now (λ held. first held >>= next held) (λ held. next held (held opening.file.path)) c.enter.result (λ held. opened_by-taken limits held c.args.left c.args.site.now c.args.line opening c.args.state (held opening.file.path)) (Over-then before between now first next c.in_ok-got.got c.enter.result c.in_ok-got.ensures c.enter.ensures)
+    let next : Held → Option (List ℕ) → Result State ReadFault = λ held got. opened_by (nested limits held c.args.here.now.more) c.args.here.now.file.now.path c.args.line opening c.args.state got in
+    Over-same before now (λ held. first held >>= next held) (λ held. next held (held opening.file.path)) c.enter.result (λ held. opened_by-taken limits held c.args.here.now.more c.args.here.now.file.now.path c.args.line opening c.args.state (held opening.file.path)) (Over-then before between now first next c.in_ok-got.got c.enter.result c.in_ok-got.ensures c.enter.ensures)
 
 pub open_each-loop-name-init : goal.open_each-loop-name-init
 open_each-loop-name-init g t c = SoFar-start _ _
@@ -183,11 +183,11 @@ pub open_each-returns-in_err-opening : goal.open_each-returns-in_err-opening
 open_each-returns-in_err-opening g t c =
     let before = g.F.Files.tells c.args.files.now in
     let now = g.F.Files.tells c.loop-name.files in
-    let limits = c.args.limits.now in
-    let file = c.args.file.now in
+    let limits = c.args.here.now.limits.now in
+    let file = c.args.here.now.file.now in
     let opens = c.args.opens.now in
-    let begin = opened_from limits c.args.left file c.args.line opens opens.names c.args.state in
-    let rest = opened_from limits c.args.left file c.args.line opens (drop c.loop-name.name-index opens.names) c.loop-name.known in
+    let begin = opened_from limits c.args.here.now.more file c.args.line opens opens.names c.args.state in
+    let rest = opened_from limits c.args.here.now.more file c.args.line opens (drop c.loop-name.name-index opens.names) c.loop-name.known in
     let p = err_from_is_err_and c.from_residual.result c.from_residual.ensures.1 in
     rw (p.1, p.2) (SoFar-end before now now begin rest (Err NoMemory) c.loop-name.invariant (Over-still now rest (Err NoMemory) tt (λ held. tt)))
 
@@ -198,11 +198,11 @@ open_each-returns-in_err-known g t c =
     let now = g.F.Files.tells c.open.new.files in
     let opens = c.args.opens.now in
     let fault = c.in_err-known.field-0.0 in
-    let begin = opened_from c.args.limits.now c.args.left c.args.file.now c.args.line opens opens.names c.args.state in
+    let begin = opened_from c.args.here.now.limits.now c.args.here.now.more c.args.here.now.file.now c.args.line opens opens.names c.args.state in
     let within : c.loop-name.name-index < length opens.names = subst (λ ns. c.loop-name.name-index < length ns) c.as_slice-name-items.ensures c.loop-name-test.true in
     let is : c.name-item.result ≡ get_or opens.names c.loop-name.name-index c.name-item.result = c.name-item.is ∙ ap (λ ns. get_or ns c.loop-name.name-index c.name-item.result) c.as_slice-name-items.ensures in
     let p = err_from_is_err_and c.from_residual-in_err-known.result c.from_residual-in_err-known.ensures.1 in
-    rw (p.1, p.2) (opened-stopped c.args.limits.now c.args.left c.args.file.now c.args.line opens before between now opens.names c.loop-name.name-index c.name-item.result c.in_ok-opening.opening c.loop-name.known within is c.in_ok-opening.ensures begin fault c.loop-name.invariant c.in_err-known.ensures)
+    rw (p.1, p.2) (opened-stopped c.args.here.now.limits.now c.args.here.now.more c.args.here.now.file.now c.args.line opens before between now opens.names c.loop-name.name-index c.name-item.result c.in_ok-opening.opening c.loop-name.known within is c.in_ok-opening.ensures begin fault c.loop-name.invariant c.in_err-known.ensures)
 
 pub open_each-loop-name-preserved : goal.open_each-loop-name-preserved
 open_each-loop-name-preserved g t c =
@@ -210,14 +210,14 @@ open_each-loop-name-preserved g t c =
     let between = g.F.Files.tells c.loop-name.files in
     let now = g.F.Files.tells c.open.new.files in
     let opens = c.args.opens.now in
-    let begin = opened_from c.args.limits.now c.args.left c.args.file.now c.args.line opens opens.names c.args.state in
+    let begin = opened_from c.args.here.now.limits.now c.args.here.now.more c.args.here.now.file.now c.args.line opens opens.names c.args.state in
     let within : c.loop-name.name-index < length opens.names = subst (λ ns. c.loop-name.name-index < length ns) c.as_slice-name-items.ensures c.loop-name-test.true in
     let is : c.name-item.result ≡ get_or opens.names c.loop-name.name-index c.name-item.result = c.name-item.is ∙ ap (λ ns. get_or ns c.loop-name.name-index c.name-item.result) c.as_slice-name-items.ensures in
-    opened-more c.args.limits.now c.args.left c.args.file.now c.args.line opens before between now opens.names c.loop-name.name-index c.name-item.result c.in_ok-opening.opening c.loop-name.known within is c.in_ok-opening.ensures begin c.in_ok-known.known c.loop-name.invariant c.in_ok-known.ensures
+    opened-more c.args.here.now.limits.now c.args.here.now.more c.args.here.now.file.now c.args.line opens before between now opens.names c.loop-name.name-index c.name-item.result c.in_ok-opening.opening c.loop-name.known within is c.in_ok-opening.ensures begin c.in_ok-known.known c.loop-name.invariant c.in_ok-known.ensures
 
 pub open_each-returns : goal.open_each-returns
 open_each-returns g t c =
     let opens = c.args.opens.now in
-    let begin = opened_from c.args.limits.now c.args.left c.args.file.now c.args.line opens opens.names c.args.state in
+    let begin = opened_from c.args.here.now.limits.now c.args.here.now.more c.args.here.now.file.now c.args.line opens opens.names c.args.state in
     let past : length opens.names ≤ c.loop-name.name-index = subst (λ ns. length ns ≤ c.loop-name.name-index) c.as_slice-name-items.ensures c.loop-name-test.false in
-    opened-all c.args.limits.now c.args.left c.args.file.now c.args.line opens (g.F.Files.tells c.args.files.now) (g.F.Files.tells c.loop-name.files) opens.names c.loop-name.name-index c.loop-name.known begin past c.loop-name.invariant
+    opened-all c.args.here.now.limits.now c.args.here.now.more c.args.here.now.file.now c.args.line opens (g.F.Files.tells c.args.files.now) (g.F.Files.tells c.loop-name.files) opens.names c.loop-name.name-index c.loop-name.known begin past c.loop-name.invariant
