@@ -22,7 +22,10 @@ fn find_as_told(rt: &impl Abort, ready: &Ready, row: &str) {
 fn find_bunches_as_told(rt: &impl Abort, ready: &Ready, row: &str) {
     for cell in row.split(", ") {
         let (behind, found) = cell.split_once(" finds ").unwrap_or((cell, ""));
-        assert!(rt; ready.new_bunch_after(place(behind)) == place(found), "{row}");
+        assert!(rt;
+            ready.new_bunch_after(place(behind)) == place(found),
+            "{row}"
+        );
     }
 }
 

@@ -33,7 +33,7 @@ count_in (word ∷ other ∷ words) = None
 abbrev pub usage_line : List ℕ
 usage_line = codes "usage: ct_load n\n"
 
--- the summary of a run was put; where that has no Ok, a beginning of it was written
+-- the summary of a run was put; where the put failed, a beginning of it was written
 abbrev pub PutsSummary : LoadRun → SinkTell → SinkTell → Result (Unit {0}) SinkFault → Type 0
 PutsSummary run before now put = IsSomeAnd run.plan (λ plan. IsSomeAnd run.history (λ history.
     PutsLines (summary_lines plan (history_entries history)) before now put))
