@@ -16,7 +16,7 @@ use Rattle.ct_app.specs.Outcome.{is_failed}
 use Rattle.ct_app.specs.Run.{OthersStay}
 use Rattle.ct_load.specs.Tree.{tree_files}
 use Rattle.ct_load.specs.World.{gates_of}
-use Rattle.ct_load.specs.Load.{IsShort, LoadsTests}
+use Rattle.ct_load.specs.Load.{EndsEarly, LoadsTests}
 use Rattle.ct_load.specs.Run.{IsLoadRun, LoadRun, calm_files, calm_sink, run_sides, run_words}
 
 -- the values of a run that began with these
@@ -54,7 +54,7 @@ ran_not_one (Some plan) (Some entries) s status ran one = status_not_one (is_fai
 
 -- a load that has no run, since memory was wanting
 pub short_load : (count : ℕ) (before now : SinkTell) (run : Option LoadRun) (status : ℕ) → run ≡ None →
-    status ≡ 5 → IsShort count before now → LoadsTests count before now run status
+    status ≡ 5 → EndsEarly count before now → LoadsTests count before now run status
 short_load count before now run status none five short = subst (λ (r : Option LoadRun). LoadsTests count before now r status) (sym none) (short, five)
 
 -- a load that the words ask for never has the status of other words

@@ -24,10 +24,10 @@ count_of None = None
 count_of (Some count) = count_within count
 
 -- the number of tests that these words ask for: they are one word, a number from 1 to the greatest
-abbrev pub count_in : List (List ℕ) → Option ℕ
-count_in [] = None
-count_in (word ∷ []) = count_of (number_in word)
-count_in (word ∷ other ∷ words) = None
+abbrev pub asked_count : List (List ℕ) → Option ℕ
+asked_count [] = None
+asked_count (word ∷ []) = count_of (number_in word)
+asked_count (word ∷ other ∷ words) = None
 
 -- the line that says which words a load takes
 abbrev pub usage_line : List ℕ
@@ -56,14 +56,14 @@ pub record IsCut (count : ℕ) (run : LoadRun) (before now : SinkTell) (status :
   pub is : status ≡ 4
 
 -- memory was wanting or the run was not completed: nothing was put, or a beginning of the summary of a run
-abbrev pub IsShort : ℕ → SinkTell → SinkTell → Type 0
-IsShort count before now = (now ≡ before) ⊎ ((run : LoadRun) × IsShown count run before now (Err NoMemory))
+abbrev pub EndsEarly : ℕ → SinkTell → SinkTell → Type 0
+EndsEarly count before now = (now ≡ before) ⊎ ((run : LoadRun) × IsShown count run before now (Err NoMemory))
 
 -- what a load of so many tests gives, which has its run but for want of memory
 abbrev pub LoadsTests : ℕ → SinkTell → SinkTell → Option LoadRun → ℕ → Type 0
 LoadsTests count before now (Some run) status =
     IsWhole count run before now status ⊎ IsCut count run before now status
-LoadsTests count before now None status = IsShort count before now × (status ≡ 5)
+LoadsTests count before now None status = EndsEarly count before now × (status ≡ 5)
 
 -- what a load gives, by the number of tests that it is asked for; without one it has no run, and the line on
 -- its words is tried

@@ -1,6 +1,6 @@
 ghost use Rattle.std.specs.Prelude.{◌≡◌, ◌↔◌, None};
 ghost use Rattle.ct_app.specs.Calls.{Tries};
-ghost use Rattle.ct_load.specs.Load.{Loads, LoadsTests, PutsSummary, count_in, count_within, usage_line};
+ghost use Rattle.ct_load.specs.Load.{Loads, LoadsTests, PutsSummary, asked_count, count_within, usage_line};
 ghost use Rattle.ct_load.specs.Run.{IsFinal};
 
 use crate::LoadRun;
@@ -41,19 +41,19 @@ pub fn load_main<R: Threads + Wait + Sync, S: Sink>(
     words: &[Name],
     sink: S,
 ) -> Loaded<S>
-    ensures usage { (result.status ≡ 1) ↔ (count_in words.now ≡ None) }
-    ensures answer { Loads (count_in words.now) (S.tells sink) (S.tells result.sink)
+    ensures usage { (result.status ≡ 1) ↔ (asked_count words.now ≡ None) }
+    ensures answer { Loads (asked_count words.now) (S.tells sink) (S.tells result.sink)
         result.run result.status }
 {
-    match count_in(words) {
+    match asked_count(words) {
         Some(count) => load(rt, alloc, count, sink),
         None => tell_usage(sink),
     }
 }
 
 /// The number of tests that the words ask for.
-fn count_in(words: &[Name]) -> Option<u32>
-    ensures { result ≡ count_in words.now }
+fn asked_count(words: &[Name]) -> Option<u32>
+    ensures { result ≡ asked_count words.now }
 {
     let [word] = words else {
         return None;

@@ -3,7 +3,7 @@ use Rattle.std.specs.Prelude.{ℕ, List, map, drop, None, Result, Ok, Err, strin
 use Rattle.std.specs.declared.string.String.{String}
 use Rattle.ct_edge.specs.Machine.{sink_tell}
 use Rattle.ct_edge.specs.declared.real_sink.RealSink.{RealSink}
-use Rattle.ct_load.specs.Load.{Loads, count_in}
+use Rattle.ct_load.specs.Load.{Loads, asked_count}
 use Rattle.ct_load.specs.declared.load.Loaded.{Loaded}
 use Rattle.ct_load_run.specs.declared.start.BeginFault.{BeginFault}
 use Rattle.ct_load_run.specs.declared.start.BeginFault.TheVariants.{Failed, NoMemory}
@@ -15,7 +15,7 @@ words_in args = map string_bytes (drop 1 args)
 -- what a load of these words came to, on an output that tells nothing, and of which no put had failed
 abbrev pub LoadsOnMachine : {W : Type 0} → List (List ℕ) → Loaded (RealSink W) → Type 0
 LoadsOnMachine words load =
-    Loads (count_in words) (sink_tell None 0) (sink_tell None load.sink.faults) load.run load.status
+    Loads (asked_count words) (sink_tell None 0) (sink_tell None load.sink.faults) load.run load.status
 
 -- the exit code of a load that could not begin
 abbrev pub status_of_fault : BeginFault → ℕ
