@@ -1,7 +1,8 @@
-//! The tests of what reads the properties of a test, its environment and the resources of a machine.
+//! The tests of what reads the properties of a test, its environment and the resources of a machine, and
+//! of the list for editors.
 //!
 //! Hands up: nothing. A crate with tests of its own is proved twice, so they stand here.
-//! Stands on: ct_groups, ct_props, ct_env, ct_spec and what is below them.
+//! Stands on: ct_groups, ct_props, ct_env, ct_spec, ct_info and what is below them.
 //! Read first: `rows.rt` makes properties of rows; each other module is named after the crate that it tests.
 #![tactic(auto)]
 
@@ -9,6 +10,8 @@
 mod env;
 #[cfg(test)]
 mod groups;
+#[cfg(test)]
+mod info;
 #[cfg(test)]
 mod props;
 #[cfg(test)]
