@@ -13,13 +13,20 @@ use std::test::Fail;
 /// How a quote, a backslash and a control character are told: RFC 8259, section 7.
 const TOLD: [(&[u8], &str, &str, &str, &str); 4] = [
     (b"ok", "", "", "ok", ""),
-    (b"ok", "a;b", "Debug", "ok", r#"{"name":"LABELS","value":"a;b"}"#),
+    (
+        b"ok",
+        "a;b",
+        "Debug",
+        "ok",
+        r#"{"name":"LABELS","value":"a;b"}"#,
+    ),
     (b"\xff\"\\\x01\xc3\xbc", "", "", r#"?\"\\\u0001??"#, ""),
     (b"\"\\\x01\xc3\xbc", "", "", r#"\"\\\u0001ü"#, ""),
 ];
 
 /// What stands in front of the tests, and behind them.
 const FRONT: &str = r#"{"kind":"ctestInfo","tests":["#;
+
 const BACK: &str = "],\"version\":{\"major\":1,\"minor\":0}}\n";
 
 fn test(alloc: Global, name: &[u8], labels: &str) -> Result<TestDef, NoMemory> {
