@@ -86,6 +86,23 @@ usage_text Word.BadPattern = codes "bad pattern"
 usage_text Word.Twice = codes "given twice"
 usage_text Word.BadMode = codes "bad mode"
 
+-- what is wrong with a line of a test file that passes a limit
+abbrev pub limit_text : ReadKind → List ℕ
+limit_text TooDeep = codes "files nest too deep"
+limit_text TooManyTests = codes "too many tests"
+limit_text TooManyCommands = codes "too many commands"
+limit_text kind = codes "too much text"
+
+-- what is wrong with a line of a test file that holds a command, or passes a limit
+abbrev pub command_text : ReadKind → List ℕ
+command_text UnknownCommand = codes "unknown command"
+command_text BadCall = codes "bad arguments"
+command_text MissingInclude = codes "included file is missing"
+command_text UnpairedIf = codes "unpaired if"
+command_text BadCondition = codes "bad condition"
+command_text BadPattern = codes "bad pattern"
+command_text kind = limit_text kind
+
 -- what is wrong with a line of a test file
 abbrev pub kind_text : ReadKind → List ℕ
 kind_text OpenString = codes "unclosed quoted argument"
@@ -94,16 +111,7 @@ kind_text OpenCall = codes "unclosed command"
 kind_text BadEscape = codes "bad escape"
 kind_text BadChar = codes "unexpected byte"
 kind_text BadReference = codes "bad variable reference"
-kind_text UnknownCommand = codes "unknown command"
-kind_text BadCall = codes "bad arguments"
-kind_text MissingInclude = codes "included file is missing"
-kind_text UnpairedIf = codes "unpaired if"
-kind_text BadCondition = codes "bad condition"
-kind_text BadPattern = codes "bad pattern"
-kind_text TooDeep = codes "files nest too deep"
-kind_text TooManyTests = codes "too many tests"
-kind_text TooManyCommands = codes "too many commands"
-kind_text TooLong = codes "too much text"
+kind_text kind = command_text kind
 
 -- what is wrong with a property
 abbrev pub prop_text : PropKind → List ℕ
