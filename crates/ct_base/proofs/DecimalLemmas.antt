@@ -1,4 +1,4 @@
--- Digits that are read one by one, while the number is kept at most at the greatest time.
+-- Digits that are read one by one, while the number is limited to the greatest time.
 use Rattle.std.proofs.Common.{ℕ, zero, suc, ◌+◌, ◌-◌, ◌*◌, ◌<◌, ◌≤◌, ◌≡◌, true, min, List, [], ◌∷◌, ◌++◌, take, drop, length, get_or, refl, sym, ap, ◌∙◌, arith, codes}
 use Rattle.std.specs.List.{list_all}
 use Rattle.std.specs.Int.{IsInRange}
@@ -10,21 +10,21 @@ use Rattle.std.proofs.Math.Seq.{take-append-add}
 use Rattle.std.proofs.lemmas.Bool.{and_parts, leb-true}
 use Rattle.ct_base.specs.Seconds.{most_micros, six_decimals}
 
--- two numbers that are the same up to the greatest time stay so behind the same digits
+-- two numbers that agree up to the greatest time still agree after the same digits
 same_behind : (n m : ℕ) (digits : List ℕ) → min n most_micros ≡ min m most_micros → min (digits_value_after 10 n digits) most_micros ≡ min (digits_value_after 10 m digits) most_micros
 same_behind n m [] same = same
 same_behind n m (digit ∷ digits) same = same_behind (n * 10 + digit_value digit) (m * 10 + digit_value digit) digits (omega (arith, same))
 
--- a number that was kept at most at the greatest time
+-- limiting a number before more digits are read does not change the limited result
 pub kept_behind : (n : ℕ) (digits : List ℕ) → min (digits_value_after 10 (min n most_micros) digits) most_micros ≡ min (digits_value_after 10 n digits) most_micros
 kept_behind n digits = same_behind (min n most_micros) n digits (omega arith)
 
--- digits in two pieces
+-- digits in two pieces write the same number as in one
 pub in_pieces : (n : ℕ) (one two : List ℕ) → digits_value_after 10 n (one ++ two) ≡ digits_value_after 10 (digits_value_after 10 n one) two
 in_pieces n [] two = refl
 in_pieces n (digit ∷ one) two = in_pieces (n * 10 + digit_value digit) one two
 
--- a byte among digits is one
+-- each byte of a text of digits is a digit
 pub is_digit_at : (digits : List ℕ) (at : ℕ) → list_all is_ascii_digit digits ≡ true → at < length digits → IsInRange 48 57 (get_or digits at 0)
 is_digit_at [] at all within = absurd (omega arith)
 is_digit_at (digit ∷ digits) zero all within = let parts = and_parts _ _ (and_parts _ _ all).0 in (leb-true 48 digit parts.0, leb-true digit 57 parts.1)
@@ -37,7 +37,7 @@ reads_digit digits value at all are within so_far =
     let rest = drop (at + 1) digits in
     kept_behind (value * 10 + (get_or digits at 0 - 48)) rest ∙ ap (λ d. min (digits_value_after 10 (value * 10 + d) rest) most_micros) (sym is_one) ∙ ap (λ ds. min (digits_value_after 10 value ds) most_micros) (sym (drop_more digits at 0 within)) ∙ so_far
 
--- zeros in a row, the first of them
+-- of six zeros, the first 6 - k are also the last 6 - k
 zeros_left : (k : ℕ) → k < 6 → take (6 - k) (codes "000000") ≡ drop k (codes "000000")
 zeros_left zero few = refl
 zeros_left (suc zero) few = refl
@@ -47,17 +47,17 @@ zeros_left (suc (suc (suc (suc zero)))) few = refl
 zeros_left (suc (suc (suc (suc (suc zero))))) few = refl
 zeros_left (suc (suc (suc (suc (suc (suc k)))))) few = absurd (omega arith)
 
--- the first six of fewer than six decimals
+-- fewer than six decimals are followed by zeros
 pub few_decimals : (decimals : List ℕ) → length decimals < 6 → six_decimals decimals ≡ decimals ++ drop (length decimals) (codes "000000")
 few_decimals decimals few =
     let six : 6 ≡ length decimals + (6 - length decimals) = omega arith in
     ap (λ n. take n (decimals ++ codes "000000")) six ∙ take-append-add decimals (codes "000000") (6 - length decimals) ∙ ap (λ zeros. decimals ++ zeros) (zeros_left (length decimals) few)
 
--- the first six of six decimals or more
+-- of six decimals or more, the first six count
 pub many_decimals : (decimals : List ℕ) → 6 ≤ length decimals → six_decimals decimals ≡ take 6 decimals
 many_decimals decimals many = take-append-le 6 decimals (codes "000000") many
 
--- the zeros behind fewer than six decimals are digits, and end with the sixth
+-- the zeros behind k decimals are 6 - k
 pub zeros_end : (k : ℕ) → k < 6 → take (6 - k) (drop k (codes "000000")) ≡ drop k (codes "000000")
 zeros_end zero few = refl
 zeros_end (suc zero) few = refl
@@ -76,6 +76,6 @@ zeros_are_digits (suc (suc (suc (suc zero)))) few = refl
 zeros_are_digits (suc (suc (suc (suc (suc zero))))) few = refl
 zeros_are_digits (suc (suc (suc (suc (suc (suc k)))))) few = absurd (omega arith)
 
--- digits behind a number that was kept at most at the greatest time
+-- digits in two pieces, with the number limited between them
 pub kept_in_pieces : (n : ℕ) (one two : List ℕ) → min (digits_value_after 10 (min (digits_value_after 10 n one) most_micros) two) most_micros ≡ min (digits_value_after 10 n (one ++ two)) most_micros
 kept_in_pieces n one two = kept_behind (digits_value_after 10 n one) two ∙ ap (λ m. min m most_micros) (sym (in_pieces n one two))

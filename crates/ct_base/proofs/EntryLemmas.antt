@@ -1,4 +1,4 @@
--- What the entries of a text are when its first byte is read.
+-- The entries of a text while it is read byte by byte; each step keeps what the whole text stands for.
 use Rattle.std.specs.Prelude.{ℕ, ◌+◌, ◌<◌, ◌≤◌, ◌≡◌, List, [], ◌∷◌, ◌++◌, true, false, filter, drop, length, slice_index, refl, ◌==◌, if◌then◌else◌}
 use Rattle.std.proofs.Common.{sym, ap, ◌∙◌}
 use Rattle.std.proofs.lemmas.Bool.{ne_eqb}
@@ -37,20 +37,20 @@ byte-at text at within is =
     let split = drop_more text at 0 within in
     ap parts_of split ∙ byte-parts (slice_index text at) (drop (at + 1) text) (sym (ap is_escape split) ∙ is)
 
--- what is read stays: an escaped semicolon is put behind the entry
+-- an escaped semicolon is read: a semicolon is appended to the entry
 pub reads_escape : (entries all : List (List ℕ)) (entry text : List ℕ) (at : ℕ) → is_escape (drop at text) ≡ true → entries ++ filter is_entry (with_front entry (parts_of (drop at text))) ≡ all → entries ++ filter is_entry (with_front (entry ++ semicolon ∷ []) (parts_of (drop (at + 2) text))) ≡ all
 reads_escape entries all entry text at is so_far =
     let rest = parts_of (drop (at + 2) text) in
     ap (λ ps. entries ++ filter is_entry ps) (sym (with_front-append entry (semicolon ∷ []) rest) ∙ ap (with_front entry) (sym (escape-at text at is))) ∙ so_far
 
--- a byte is put behind the entry
+-- another byte is read: it is appended to the entry
 pub reads_byte : (entries all : List (List ℕ)) (entry text : List ℕ) (at : ℕ) → at < length text → is_escape (drop at text) ≡ false → (slice_index text at ≡ semicolon → ⊥) → entries ++ filter is_entry (with_front entry (parts_of (drop at text))) ≡ all → entries ++ filter is_entry (with_front (entry ++ slice_index text at ∷ []) (parts_of (drop (at + 1) text))) ≡ all
 reads_byte entries all entry text at within is other so_far =
     let rest = parts_of (drop (at + 1) text) in
     let parts : parts_of (drop at text) ≡ with_front (slice_index text at ∷ []) rest = byte-at text at within is ∙ ap (λ b. if b then [] ∷ rest else with_front (slice_index text at ∷ []) rest) (byte-other (slice_index text at) other) in
     ap (λ ps. entries ++ filter is_entry ps) (sym (with_front-append entry (slice_index text at ∷ []) rest) ∙ ap (with_front entry) (sym parts)) ∙ so_far
 
--- a semicolon ends the entry
+-- a semicolon is read: it ends the entry
 pub reads_end : (entries all : List (List ℕ)) (entry text : List ℕ) (at : ℕ) → at < length text → is_escape (drop at text) ≡ false → slice_index text at ≡ semicolon → entries ++ filter is_entry (with_front entry (parts_of (drop at text))) ≡ all → entries ++ filter is_entry (entry ∷ []) ++ filter is_entry (with_front [] (parts_of (drop (at + 1) text))) ≡ all
 reads_end entries all entry text at within is ends so_far =
     let rest = parts_of (drop (at + 1) text) in
@@ -58,11 +58,11 @@ reads_end entries all entry text at within is ends so_far =
     let whole : filter is_entry (with_front entry (parts_of (drop at text))) ≡ filter is_entry (entry ∷ []) ++ filter is_entry rest = ap (λ ps. filter is_entry (with_front entry ps)) parts ∙ front_ends entry rest in
     append_assoc entries (filter is_entry (entry ∷ [])) (filter is_entry (with_front [] rest)) ∙ ap (λ es. entries ++ (filter is_entry (entry ∷ []) ++ es)) (no_front rest) ∙ ap (λ es. entries ++ es) (sym whole) ∙ so_far
 
--- at the end of the text
+-- at the end of the text: the entry is complete
 pub reads_all : (entries all : List (List ℕ)) (entry text : List ℕ) (at : ℕ) → length text ≤ at → entries ++ filter is_entry (with_front entry (parts_of (drop at text))) ≡ all → entries ++ filter is_entry (entry ∷ []) ≡ all
 reads_all entries all entry text at done so_far =
     ap (λ e. entries ++ filter is_entry (e ∷ [])) (sym (append-nil entry)) ∙ ap (λ t. entries ++ filter is_entry (with_front entry (parts_of t))) (sym (drop_all at text done)) ∙ so_far
 
--- before the first byte
+-- before the first byte: nothing is read yet
 pub reads_none : (text : List ℕ) → filter is_entry (with_front [] (parts_of (drop 0 text))) ≡ entries_of text
 reads_none text = no_front (parts_of text)

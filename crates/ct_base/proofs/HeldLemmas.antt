@@ -1,4 +1,4 @@
--- What pairs hold when one more is put behind them.
+-- What pairs hold when one more is appended.
 use Rattle.std.specs.Prelude.{ℕ, ◌≡◌, ◌≢◌, List, Bool, true, false, bytes_eq, refl}
 use Rattle.std.proofs.Common.{sym}
 use Rattle.std.proofs.lemmas.List.{reverse-append}
@@ -18,7 +18,7 @@ bytes_eq-other : (one other : List ℕ) → other ≢ one → bytes_eq one other
 bytes_eq-other one other differ =
     false-from_not (bytes_eq one other) (λ same. differ (sym ((bytes_eq-Decides one other).0 same)))
 
--- the pair behind the others is the one that counts for its path
+-- the last pair is the one that counts for its path
 pub held_by-put : (pairs after : List Pair) (path bytes : List ℕ) → after ≡ with_pair pairs path bytes → Writes path bytes (held_by pairs) (held_by after)
 held_by-put pairs after path bytes is = rw is (record {
   here = rw (reverse-append, bytes_eq-refl path);

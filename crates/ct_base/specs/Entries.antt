@@ -1,12 +1,12 @@
--- A text as a list of entries. Source: CMake manual, cmake-language(7), Lists. That square brackets protect nothing and
--- that no entry is empty is this project's choice.
+-- A text as a list of entries. Source: CMake manual, cmake-language(7), Lists.
+-- This project's choice: square brackets protect nothing, and no entry is empty.
 use Rattle.std.specs.Prelude.{ℕ, Bool, true, false, ◌&&◌, List, [], ◌∷◌, ◌++◌, filter, ◌==◌, if◌then◌else◌}
 
 -- the byte that ends an entry
 abbrev pub semicolon : ℕ
 semicolon = 59
 
--- the byte that makes a semicolon behind it a byte of the entry
+-- the byte that escapes a semicolon directly behind it
 abbrev pub backslash : ℕ
 backslash = 92
 
@@ -16,12 +16,12 @@ is_escape [] = false
 is_escape (byte ∷ []) = false
 is_escape (byte ∷ next ∷ rest) = byte == backslash && next == semicolon
 
--- the piece in front of the first of some parts
+-- the parts, with the piece in front of the first one; without parts, the piece alone
 abbrev pub with_front : List ℕ → List (List ℕ) → List (List ℕ)
 with_front piece [] = piece ∷ []
 with_front piece (part ∷ parts) = (piece ++ part) ∷ parts
 
--- the parts that come of a byte and those of what stands behind it
+-- the parts of a text, from its first byte and the parts of the bytes behind it
 abbrev pub parts_with : ℕ → List (List ℕ) → List (List ℕ)
 parts_with byte parts = if byte == semicolon then [] ∷ parts else with_front (byte ∷ []) parts
 

@@ -1,29 +1,29 @@
--- What a call does to files, a sink or an ear, which tell what they hold or do not. This project's own.
+-- What a call does to files or to a sink, which may tell what they hold. This project's own.
 use Rattle.std.specs.Prelude.{◌≡◌, ◌≢◌, ℕ, ◌+◌, ◌-◌, ◌^◌, ◌≤◌, ◌⊎◌, min, List, [], ◌++◌, Option, Some, Result, IfSome, IsSomeAnd, IsErrOf, OnOk, OnErr}
 use Rattle.ct_base.specs.declared.files.FilesFault.{FilesFault}
 use Rattle.ct_base.specs.declared.files.FilesFault.TheVariants as Files
 use Rattle.ct_base.specs.declared.sink.SinkFault.{SinkFault}
 use Rattle.ct_base.specs.declared.sink.SinkFault.TheVariants as Sinks
 
--- a count of faults has risen; one that stands at its last value counts as risen
+-- a count of faults has risen; at its greatest value, 2^64 - 1, it counts as risen
 abbrev pub Rose : ℕ → ℕ → Type 0
 Rose before now = min (before + 1) (2 ^ 64 - 1) ≤ now
 
--- a count never falls, it rose where this fault is answered, and it stays where it is not
+-- the count of faults never falls; it rises if the call returns this fault, and stays if not
 pub record HasCause {T E : Type 0} (fault : E) (before now : ℕ) (result : Result T E) : Type 0 where
   pub later : before ≤ now
   pub failed : IsErrOf result fault → Rose before now
   pub unfailed : (IsErrOf result fault → ⊥) → now ≡ before
 
--- what was told before is told still, and has so changed
+-- if a value was told before, a value is told now, and P relates the two
 abbrev pub Becomes : {A : Type 0} → Option A → Option A → (A → A → Type 0) → Type 0
 Becomes old new P = IfSome old (λ before. IsSomeAnd new (λ now. P before now))
 
--- nothing but this stands behind what was there before
+-- the list has grown at its end by exactly this piece
 abbrev pub Adds : {A : Type 0} → List A → List A → List A → Type 0
 Adds piece before now = now ≡ before ++ piece
 
--- some beginning of the piece stands behind what was there before
+-- the list has grown at its end by a beginning of the piece, from none of it to all
 pub record AddsPrefix {A : Type 0} (piece before now : List A) : Type 0 where
   pub kept : List A
   pub lost : List A
@@ -34,7 +34,7 @@ pub record AddsPrefix {A : Type 0} (piece before now : List A) : Type 0 where
 abbrev pub Held : Type 0
 Held = List ℕ → Option (List ℕ)
 
--- each path holds what it held
+-- each path holds what it held before
 abbrev pub SameHeld : Held → Held → Type 0
 SameHeld before now = (path : List ℕ) → now path ≡ before path
 
@@ -48,7 +48,7 @@ pub record Tears (path bytes : List ℕ) (before now : Held) : Type 0 where
   pub here : IfSome (now path) (λ left. AddsPrefix bytes [] left)
   pub others : (other : List ℕ) → other ≢ path → now other ≡ before other
 
--- a write that failed left all as it was, or tore the path
+-- a failed write left every path as it was, or left at this path nothing or a beginning of the bytes
 abbrev pub FailsToWrite : List ℕ → List ℕ → Held → Held → Type 0
 FailsToWrite path bytes before now = SameHeld before now ⊎ Tears path bytes before now
 
@@ -59,7 +59,8 @@ pub record FilesTell : Type 0 where
   pub refused : Option (Option (List ℕ))
   pub faults : ℕ
 
--- what every call on files says of its path and of the count: where it failed it was the last one that did
+-- every call on files: if it failed, its path is the refused path, where that is told, and the count rose;
+-- if it did not fail, both stay
 pub record Asks {T : Type 0} (path : List ℕ) (before now : FilesTell) (result : Result T FilesFault) : Type 0 where
   pub refused : IsErrOf result Files.Failed → IfSome now.refused (λ last. last ≡ Some path)
   pub unrefused : (IsErrOf result Files.Failed → ⊥) → now.refused ≡ before.refused
@@ -70,7 +71,8 @@ pub record LooksAt {T : Type 0} (path : List ℕ) (before now : FilesTell) (resu
   pub asks : Asks path before now result
   pub kept : Becomes before.held now.held SameHeld
 
--- a call that writes bytes to a path: it holds them, or the call failed, or memory was wanting and nothing changed
+-- a call that writes bytes to a path, by its outcome:
+-- the path holds the bytes; or the write failed; or memory was wanting and no path changed
 pub record WritesTo (path bytes : List ℕ) (before now : FilesTell) (result : Result (Unit {0}) FilesFault) : Type 0 where
   pub asks : Asks path before now result
   pub ok : OnOk result (Becomes before.held now.held (Writes path bytes))
@@ -83,13 +85,13 @@ pub record SinkTell : Type 0 where
   pub pieces : Option (List (List ℕ))
   pub faults : ℕ
 
--- a call that puts a text: the whole of it stands behind what was written, or where the call has no Ok some beginning
+-- a call that puts a text: an Ok adds the whole text to what was written, an Err adds a beginning of it
 pub record Puts (text : List ℕ) (before now : SinkTell) (result : Result (Unit {0}) SinkFault) : Type 0 where
   pub ok : OnOk result (Becomes before.written now.written (Adds text))
   pub err : OnErr result (Becomes before.written now.written (AddsPrefix text))
   pub cause : HasCause Sinks.Failed before.faults now.faults result
 
--- calls that put these lines: each line is one put; where the calls have no Ok some first lines were put whole
+-- calls that put lines, each line as one put: an Ok adds all of them, an Err adds some first lines whole
 pub record PutsEach (lines : List (List ℕ)) (before now : SinkTell) (result : Result (Unit {0}) SinkFault) : Type 0 where
   pub ok : OnOk result (Becomes before.pieces now.pieces (Adds lines))
   pub err : OnErr result (Becomes before.pieces now.pieces (AddsPrefix lines))

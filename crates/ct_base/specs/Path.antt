@@ -5,11 +5,11 @@ use Rattle.std.specs.Prelude.{ℕ, List, [], ◌∷◌, ◌++◌, Bool, false, �
 abbrev pub slash : ℕ
 slash = 47
 
--- a path that begins with `/`
+-- the path begins with `/`
 abbrev pub is_absolute : List ℕ → Bool
 is_absolute [] = false
 is_absolute (first ∷ _) = first == slash
 
--- the name where that is absolute, and else the name below the folder
+-- the name if it is absolute, else the folder, a `/` and the name
 abbrev pub joined : List ℕ → List ℕ → List ℕ
 joined dir name = if is_absolute name then name else dir ++ slash ∷ [] ++ name

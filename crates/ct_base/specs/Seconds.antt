@@ -1,5 +1,6 @@
--- Texts that write a number, and those that give a time in seconds. Source: CMake manual, cmake-properties(7), TIMEOUT
--- and COST. That a time is counted in whole microseconds up to 10^15, and that one below zero is 0, is this project's choice.
+-- Texts that write a number, and texts that give a time in seconds.
+-- Source: CMake manual, cmake-properties(7), TIMEOUT and COST.
+-- This project's choice: a time is in whole microseconds, at most 10^15, and a time below zero is 0.
 use Rattle.std.specs.Prelude.{ℕ, ◌+◌, ◌^◌, min, Bool, ◌&&◌, List, [], ◌∷◌, ◌++◌, take, drop, length, not, Option, Some, None, codes, ◌==◌, if◌then◌else◌}
 use Rattle.std.specs.List.{list_all, position}
 use Rattle.std.specs.Option.{option_map}
@@ -14,7 +15,7 @@ minus = 45
 abbrev pub point : ℕ
 point = 46
 
--- a text of one digit or more, and of nothing else
+-- the text is one or more digits and nothing else
 abbrev pub is_numeral : List ℕ → Bool
 is_numeral text = not (length text == 0) && list_all is_ascii_digit text
 
@@ -22,19 +23,21 @@ is_numeral text = not (length text == 0) && list_all is_ascii_digit text
 abbrev pub most_micros : ℕ
 most_micros = 10 ^ 15
 
--- the number that a text of digits alone writes; one above 10^15 is taken as that
+-- the number that a text of digits alone writes; a number above 10^15 becomes 10^15
 abbrev pub number_in : List ℕ → Option ℕ
 number_in text = if is_numeral text then Some (min (digits_value 10 text) most_micros) else None
 
--- the first six of some decimals, with zeros behind fewer
+-- the first six decimals, filled up with zeros where there are fewer
 abbrev pub six_decimals : List ℕ → List ℕ
 six_decimals decimals = take 6 (decimals ++ codes "000000")
 
--- the microseconds of seconds with these digits in front of the point and behind it; decimals behind the sixth are dropped
+-- the microseconds of a time, from the digits in front of the point and the decimals behind it, at most
+-- 10^15;
+-- decimals behind the sixth are dropped
 abbrev pub micros_of_digits : List ℕ → List ℕ → ℕ
 micros_of_digits whole decimals = min (digits_value 10 (whole ++ six_decimals decimals)) most_micros
 
--- the microseconds of a text without a sign whose first point stands at that place, or that has none
+-- the microseconds of a text without a sign, given the place of its first point, if it has one
 abbrev pub micros_with_point : List ℕ → Option ℕ → Option ℕ
 micros_with_point text None = if is_numeral text then Some (micros_of_digits text []) else None
 micros_with_point text (Some at) =
@@ -44,7 +47,7 @@ micros_with_point text (Some at) =
 abbrev pub plain_micros : List ℕ → Option ℕ
 plain_micros text = micros_with_point text (position (λ byte. byte == point) text)
 
--- the microseconds of a text of seconds: 0 for one with a `-` in front
+-- the microseconds of a text of seconds; a time with a `-` in front is 0
 abbrev pub micros_in : List ℕ → Option ℕ
 micros_in [] = None
 micros_in (first ∷ rest) = if first == minus then option_map (λ micros. 0) (plain_micros rest) else plain_micros (first ∷ rest)

@@ -50,7 +50,7 @@ impl Blob {
         Blob::of(alloc, self.bytes())
     }
 
-    /// Puts the piece behind what is there.
+    /// Appends the piece.
     pub fn append(&mut self, piece: &[u8]) -> Result<(), NoMemory>
         ensures ok { OnOk result (self.new ≡ self.old ++ piece.now) }
         ensures err { OnErr result (self.new ≡ self.old) }

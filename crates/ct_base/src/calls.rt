@@ -4,7 +4,7 @@ ghost use Rattle.ct_base.specs.Memory.{failed, is_due, no_calls, passed};
 use crate::List;
 use std::marker::Model;
 
-/// The calls of a form in memory, some of which are to fail.
+/// Counts the calls on files or a sink in memory, and knows which of them fail.
 #[derive(Debug, Drop)]
 pub(crate) struct Calls {
     /// The numbers, from 1, of the calls that fail.

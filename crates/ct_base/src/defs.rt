@@ -7,7 +7,7 @@ pub struct Pair {
     pub value: Name,
 }
 
-/// One need of a test: so many slots of one resource of a kind.
+/// One need of a test: a number of slots on one resource of a kind.
 ///
 /// Source: CMake manual, ctest(1), Resource Allocation.
 #[derive(Debug, Drop)]

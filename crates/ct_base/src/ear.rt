@@ -1,8 +1,8 @@
 ghost use Rattle.std.specs.Prelude.{List, ℕ, ◌++◌};
 
-/// What hears the output of a test's program. It cannot fail.
+/// Hears the output of a test's program. It cannot fail.
 ///
-/// `stands_for` says of a text that it may be all that was heard.
+/// `stands_for` holds for each text that may be all that was heard.
 pub trait Ear {
     ghost stands_for: { Self → List ℕ → Type 0 };
 

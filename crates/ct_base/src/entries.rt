@@ -4,8 +4,8 @@ ghost use Rattle.ct_base.specs.Entries.{entries_of, is_entry, is_escape as begin
 use crate::{List, Name, NoMemory};
 use std::alloc::Global;
 
-/// Reads a text as a list of entries: a `;` ends an entry, `\;` is a `;` of it, and empty entries
-/// are dropped.
+/// Reads a text as a list of entries: a `;` ends an entry, `\;` is a `;` inside an entry, and empty
+/// entries are dropped.
 ///
 /// Source: CMake manual, cmake-language(7), Lists. That square brackets protect nothing is this
 /// project's choice.
@@ -33,7 +33,7 @@ pub fn split_list(alloc: Global, text: &[u8]) -> Result<List<Name>, NoMemory>
     Ok(entries)
 }
 
-/// Puts an entry behind the others, if it is not empty.
+/// Appends an entry, if it is not empty.
 fn push_entry(entries: &mut List<Name>, entry: Vec<u8>) -> Result<(), NoMemory>
     ensures { OnOk result (entries.new ≡ entries.old ++ filter is_entry (entry.items ∷ [])) }
 {

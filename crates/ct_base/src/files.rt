@@ -5,10 +5,10 @@ ghost use Rattle.ct_base.specs.declared.files.FilesFault.TheVariants as FilesCau
 use crate::{Blob, Name, NoMemory};
 use std::alloc::Global;
 
-/// Why a call on files gave no answer.
+/// Why a call on files returned no answer.
 #[derive(Clone, Copy, Debug, PartialEq, Eq)]
 pub enum FilesFault {
-    /// The system, or what stands for it, could not do it.
+    /// The operation failed, in the system or in what stands for it.
     Failed,
     /// Memory was wanting.
     NoMemory,
@@ -24,13 +24,13 @@ impl From<NoMemory> for FilesFault {
 
 /// Files by their paths.
 ///
-/// `tells` is what they hold and the path of the last call that failed, where they tell these, and
-/// how many calls failed, which never falls.
+/// `tells` has three parts: what the files hold, the path of the last call that failed, and how
+/// many calls failed. Files may leave the first two untold. The count never falls.
 pub trait Files {
     ghost tells: { Self → FilesTell };
 
-    /// Reads a file: the whole of it where it has at most `most` bytes, and else its first
-    /// `most + 1` bytes. An absent path gives `None`.
+    /// Reads a file: the whole of it if it has at most `most` bytes, else its first `most + 1`
+    /// bytes. An absent path gives `None`.
     fn read(&mut self, alloc: Global, path: &Name, most: u64) -> Result<Option<Blob>, FilesFault>
         ensures ok { IfOk result (λ got. IfSome (tells self.old).held (λ files. got ≡ option_map (take (most + 1)) (files path.now))) }
         ensures bound { IfOk result (λ got. IfSome got (λ bytes. length bytes ≤ most + 1)) }

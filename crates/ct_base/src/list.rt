@@ -36,7 +36,7 @@ impl<T> List<T> {
         List { items }
     }
 
-    /// Gives the items back, without a copy.
+    /// Returns the items without a copy.
     pub fn into_vec(self) -> Vec<T>
         ensures { result.items ≡ self }
     {
@@ -69,7 +69,7 @@ impl<T> List<T> {
         self.items.as_slice()
     }
 
-    /// Puts an item behind the others. Where memory is wanting the item is dropped.
+    /// Appends an item. Where memory is wanting, the item is dropped.
     pub fn push(&mut self, item: T) -> Result<(), NoMemory>
     where
         T: Drop,

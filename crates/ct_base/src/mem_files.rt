@@ -8,7 +8,7 @@ use crate::{Blob, Files, FilesFault, List, Name, NoMemory, Pair};
 use std::alloc::Global;
 use std::marker::Model;
 
-/// Files in memory, of which some calls fail as planned.
+/// Files in memory, on which planned calls fail.
 #[derive(Debug, Drop)]
 pub struct MemFiles {
     pairs: List<Pair>,
@@ -25,8 +25,9 @@ impl Model for MemFiles {
 }
 
 impl MemFiles {
-    /// Makes files that hold these pairs, path and content; of several pairs of a path the last
-    /// counts. The calls whose numbers, from 1, stand in `fail_at` fail and change nothing.
+    /// Makes files that hold these pairs of path and content; if a path has several pairs, the last
+    /// one counts. The calls whose numbers, counted from 1, are in `fail_at` fail and change
+    /// nothing.
     pub fn new(held: List<Pair>, fail_at: List<u64>) -> MemFiles
         ensures { result ≡ record { pairs = held; counts = no_calls fail_at; refused = None } }
     {
@@ -44,7 +45,7 @@ impl MemFiles {
         last_value(self.pairs.as_slice(), path)
     }
 
-    /// Fails the call where it is due to, and counts it then.
+    /// Fails the call and counts it, if it is due to fail.
     fn admit(&mut self, alloc: Global, path: &Name) -> Result<(), FilesFault>
         ensures admitted { OnOk result (self.new ≡ self.old) }
         ensures due { OnOk result (is_due self.old.counts ≡ false) }
@@ -115,8 +116,8 @@ impl Model for CalmFiles {
 }
 
 impl CalmFiles {
-    /// Makes files that hold these pairs, path and content; of several pairs of a path the last
-    /// counts.
+    /// Makes files that hold these pairs of path and content; if a path has several pairs, the last
+    /// one counts.
     pub fn new(held: List<Pair>) -> CalmFiles
         ensures { result ≡ held }
     {
@@ -156,7 +157,7 @@ fn last_value<'a>(pairs: &'a [Pair], path: &Name) -> Option<&'a Name>
     Some(&last.value)
 }
 
-/// Copies what the path holds, at most one byte more than `most`.
+/// Copies what the path holds, at most `most + 1` bytes of it.
 fn read_last(
     alloc: Global,
     pairs: &[Pair],
@@ -171,7 +172,7 @@ fn read_last(
     }
 }
 
-/// Lends at most one byte more than `most`.
+/// Lends the first `most + 1` bytes, or all of them if there are fewer.
 fn front(bytes: &[u8], most: u64) -> &[u8]
     ensures { result.now ≡ take (most + 1) bytes.entry.now }
 {
@@ -182,7 +183,7 @@ fn front(bytes: &[u8], most: u64) -> &[u8]
     }
 }
 
-/// Puts a pair behind the others, so that it is the one that counts for its path.
+/// Appends a pair, which then counts for its path.
 fn put_last(
     alloc: Global,
     pairs: &mut List<Pair>,

@@ -7,7 +7,7 @@ use crate::{Blob, List, NoMemory, Sink, SinkFault};
 use std::alloc::Global;
 use std::marker::Model;
 
-/// A sink in memory, of which some puts fail as planned. It keeps each piece besides the whole.
+/// A sink in memory, in which planned puts fail. It keeps all bytes as one text, and each piece.
 #[derive(Debug, Drop)]
 pub struct MemSink {
     written: Blob,
@@ -25,8 +25,8 @@ impl Model for MemSink {
 }
 
 impl MemSink {
-    /// Makes a sink in which nothing is written. The puts whose numbers, from 1, stand in
-    /// `fail_at` fail and write nothing.
+    /// Makes an empty sink. The puts whose numbers, counted from 1, are in `fail_at` fail and write
+    /// nothing.
     pub fn new(alloc: Global, fail_at: List<u64>) -> MemSink
         ensures { result ≡ record { written = []; pieces = []; counts = no_calls fail_at } }
     {
@@ -73,7 +73,7 @@ impl Sink for MemSink {
     }
 }
 
-/// A sink in memory that never fails but for want of memory.
+/// A sink in memory that fails only for want of memory.
 #[derive(Debug, Drop)]
 pub struct CalmSink {
     written: Blob,
@@ -88,7 +88,7 @@ impl Model for CalmSink {
 }
 
 impl CalmSink {
-    /// Makes a sink in which nothing is written.
+    /// Makes an empty sink.
     pub fn new(alloc: Global) -> CalmSink
         ensures { result ≡ [] }
     {

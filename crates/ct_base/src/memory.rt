@@ -2,8 +2,8 @@ use std::alloc::{AllocError, AllocFailed};
 
 /// Memory was wanting.
 ///
-/// It is a cause of its own in each fault of this repository, and no clause ties it to a growth
-/// that the system refused.
+/// Each fault of this repository has it as a cause of its own. No clause ties it to a growth that
+/// the system refused.
 #[derive(Clone, Copy, Debug, PartialEq, Eq)]
 pub struct NoMemory;
 

@@ -35,7 +35,7 @@ impl Name {
         Name { bytes }
     }
 
-    /// Gives the bytes back, without a copy.
+    /// Returns the bytes without a copy.
     pub fn into_vec(self) -> Vec<u8>
         ensures { result.items ≡ self }
     {

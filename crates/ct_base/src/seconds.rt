@@ -10,8 +10,8 @@ const MOST_MICROS: u64 = 1_000_000_000_000_000;
 /// Reads a time in seconds as whole microseconds: an optional `-`, digits, and optionally a `.` and
 /// digits.
 ///
-/// Decimals behind the sixth are dropped. A time below zero is 0, and one above 10^15 microseconds
-/// is that. Any other text is `None`.
+/// Decimals behind the sixth are dropped. A time below zero becomes 0, and one above 10^15
+/// microseconds becomes 10^15. Any other text is `None`.
 ///
 /// Source: CMake manual, cmake-properties(7), TIMEOUT and COST. The bounds are this project's
 /// choice.
@@ -37,7 +37,7 @@ pub fn is_numeral(text: &[u8]) -> bool
     !text.is_empty() && has_only_digits(text)
 }
 
-/// Reads a text of digits alone as a number; one above 10^15 is taken as that.
+/// Reads a text of digits alone as a number; a number above 10^15 becomes 10^15.
 pub fn number(text: &[u8]) -> Option<u64>
     ensures { result ≡ number_in text.now }
 {
@@ -88,7 +88,7 @@ fn micros_of_digits(whole: &[u8], decimals: &[u8]) -> u64
     with_six_decimals(with_digits(0, whole), decimals)
 }
 
-/// The number with the first six of some decimals behind it, and zeros behind fewer.
+/// Returns the number followed by its first six decimals, with zeros where there are fewer.
 fn with_six_decimals(before: u64, decimals: &[u8]) -> u64
     requires few { before ≤ most_micros }
     requires digits { IsTrue (list_all is_ascii_digit decimals.now) }
@@ -101,7 +101,7 @@ fn with_six_decimals(before: u64, decimals: &[u8]) -> u64
     with_digits(before, &decimals[..6])
 }
 
-/// The number that the digits write behind those of a number before, or the greatest time.
+/// Returns the number with the digits of `before` followed by `digits`, at most the greatest time.
 fn with_digits(before: u64, digits: &[u8]) -> u64
     requires few { before ≤ most_micros }
     requires digits { IsTrue (list_all is_ascii_digit digits.now) }

@@ -7,7 +7,7 @@ use crate::NoMemory;
 /// Why a sink did not take a piece.
 #[derive(Clone, Copy, Debug, PartialEq, Eq)]
 pub enum SinkFault {
-    /// The system, or what stands for it, could not do it.
+    /// The operation failed, in the system or in what stands for it.
     Failed,
     /// Memory was wanting.
     NoMemory,
@@ -21,14 +21,15 @@ impl From<NoMemory> for SinkFault {
     }
 }
 
-/// What takes the report.
+/// Takes the text of a report.
 ///
-/// `tells` is all that it took and the pieces that it took whole, where it tells them, and how many
-/// calls failed, which never falls.
+/// `tells` has three parts: all that the sink took, the pieces that it took whole, and how many
+/// calls failed. A sink may leave the first two untold. The count never falls.
 pub trait Sink {
     ghost tells: { Self → SinkTell };
 
-    /// Writes the piece behind what was written. After a fault some beginning of it was written.
+    /// Writes the piece behind what was written. After a fault, a beginning of the piece was
+    /// written.
     fn put(&mut self, piece: &[u8]) -> Result<(), SinkFault>
         ensures puts { Puts piece.now (tells self.old) (tells self.new) result }
         ensures each { PutsEach (piece.now ∷ []) (tells self.old) (tells self.new) result };

@@ -1,4 +1,4 @@
--- One description of resource groups: a count, where it has one, and requirements, with commas between them.
+-- One description of resource groups: an optional count, then requirements, with commas between them.
 -- Source: CMake manual, cmake-properties(7), RESOURCE_GROUPS. The refusals and the limits are this project's choice.
 use Rattle.std.specs.Prelude.{ℕ, ◌+◌, Bool, false, ◌&&◌, ◌||◌, List, [], ◌∷◌, take, drop, nat_lt, Option, Some, None, Result, Ok, Err, ◌==◌, if◌then◌else◌}
 use Rattle.std.specs.List.{list_all, position, slice_split}
@@ -10,7 +10,7 @@ use Rattle.ct_groups.specs.declared.fault.GroupsFault.TheVariants.{NoColon, BadT
 use Rattle.ct_groups.specs.declared.description.Requirement.{Requirement}
 use Rattle.ct_groups.specs.declared.description.Description.{Description}
 
--- goes on with what was read, or passes its fault on
+-- continues with what was read, or returns its fault
 abbrev pub reads_on : {X Y : Type 0} → Result X GroupsFault → (X → Result Y GroupsFault) → Result Y GroupsFault
 reads_on (Ok x) next = next x
 reads_on (Err why) next = Err why
@@ -27,35 +27,35 @@ colon = 58
 abbrev pub underscore : ℕ
 underscore = 95
 
--- what a type begins with: `a` to `z` or `_`
+-- a byte that a type begins with: `a` to `z` or `_`
 abbrev pub begins_kind : ℕ → Bool
 begins_kind byte = is_in_range 97 122 byte || byte == underscore
 
--- what a type goes on with: `a` to `z`, `_` or a digit
+-- a byte that a type goes on with: `a` to `z`, `_` or a digit
 abbrev pub continues_kind : ℕ → Bool
 continues_kind byte = begins_kind byte || is_ascii_digit byte
 
--- the name of a resource type
+-- the text is the name of a resource type
 abbrev pub is_kind : List ℕ → Bool
 is_kind [] = false
 is_kind (first ∷ rest) = begins_kind first && list_all continues_kind rest
 
--- so many slots; no number, none, and above 1,000,000,000 are refused
+-- a number of slots; no number, 0, and a number above 1,000,000,000 are refused
 abbrev pub slots_of : Option ℕ → Result ℕ GroupsFault
 slots_of None = Err BadCount
 slots_of (Some slots) = if slots == 0 then Err ZeroSlots else if nat_lt 1000000000 slots then Err TooMany else Ok slots
 
--- so many slots of a type
+-- the requirement of a number of slots of a type, or the fault of that number
 abbrev pub requirement_for : List ℕ → Result ℕ GroupsFault → Result Requirement GroupsFault
 requirement_for kind slots = reads_on slots (λ n. Ok (record { kind = kind; slots = n }))
 
--- the requirement in a piece with its first `:` at that place; the type is looked at before the slots
+-- the requirement in a piece, given the place of its first `:`; the type is checked before the slots
 abbrev pub requirement_at : List ℕ → Option ℕ → Result Requirement GroupsFault
 requirement_at piece None = Err NoColon
 requirement_at piece (Some at) =
     if is_kind (take at piece) then requirement_for (take at piece) (slots_of (number_in (drop (at + 1) piece))) else Err BadType
 
--- the requirement in a piece: a type and slots with a `:` between
+-- the requirement in a piece: a type and its slots, with a `:` between them
 abbrev pub requirement_of : List ℕ → Result Requirement GroupsFault
 requirement_of piece = requirement_at piece (position (λ byte. byte == colon) piece)
 
@@ -64,11 +64,11 @@ abbrev pub requirements_of : List (List ℕ) → Result (List Requirement) Group
 requirements_of [] = Ok []
 requirements_of (piece ∷ pieces) = reads_on (requirement_of piece) (λ one. reads_on (requirements_of pieces) (λ others. Ok (one ∷ others)))
 
--- so many groups; none, and above 64 are refused
+-- a number of groups; 0 and a number above 64 are refused
 abbrev pub checked_count : ℕ → Result ℕ GroupsFault
 checked_count count = if count == 0 then Err BadCount else if nat_lt 64 count then Err TooMany else Ok count
 
--- the count in a first piece of digits alone, and 1 for another one
+-- the number of groups: the count in the first piece, or 1 where there is none
 abbrev pub count_in : Option ℕ → Result ℕ GroupsFault
 count_in None = Ok 1
 count_in (Some count) = checked_count count
@@ -78,7 +78,7 @@ abbrev pub required : List (List ℕ) → List (List ℕ)
 required [] = []
 required (first ∷ pieces) = if is_numeral first then pieces else first ∷ pieces
 
--- the number in the first piece, where it is of digits alone
+-- the number in the first piece, if that piece is digits alone
 abbrev pub first_number : List (List ℕ) → Option ℕ
 first_number [] = None
 first_number (first ∷ pieces) = number_in first
@@ -87,7 +87,7 @@ first_number (first ∷ pieces) = number_in first
 abbrev pub pieces_of : List ℕ → List (List ℕ)
 pieces_of text = slice_split (λ byte. byte == comma) text
 
--- the description in these pieces: the count is looked at before the requirements
+-- the description in these pieces; the count is checked before the requirements
 abbrev pub described : List (List ℕ) → Result Description GroupsFault
 described pieces = reads_on (count_in (first_number pieces)) (λ count. reads_on (requirements_of (required pieces)) (λ asked. Ok (record { count = count; requirements = asked })))
 

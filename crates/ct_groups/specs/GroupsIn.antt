@@ -10,28 +10,29 @@ use Rattle.ct_groups.specs.declared.description.Description.{Description}
 use Rattle.ct_groups.specs.declared.groups.Groups.{Groups}
 use Rattle.ct_groups.specs.Description.{reads_on, description_of}
 
--- what a group needs for a requirement
+-- the need of a group for one requirement
 abbrev pub need_for : ℕ → Requirement → Need
 need_for group requirement = record { group = group; kind = requirement.kind; slots = requirement.slots }
 
--- what a group with these requirements needs, in order
+-- the needs of a group with these requirements, in order
 abbrev pub group_needs : List Requirement → ℕ → List Need
 group_needs requirements group = map (need_for group) requirements
 
--- what so many groups from a number on need, in order
+-- the needs of `count` groups with these requirements, in order; the first has the number `first`
 abbrev pub needs_from : ℕ → ℕ → List Requirement → List Need
 needs_from first count requirements = flat_map (group_needs requirements) (range_with_len first count)
 
--- more than 64 groups, or more than 64 needs, would stand there with the description's
+-- with the groups of the description there would be more than 64 groups, or more than 64 needs
 abbrev pub passes_limits : Groups → Description → Bool
 passes_limits groups d = nat_lt 64 (groups.count + d.count) || nat_lt 64 (length groups.needs + d.count * length d.requirements)
 
--- the groups with those of a description behind them
+-- the groups followed by those of a description, or TooMany above the limits
 abbrev pub with_description : Groups → Description → Result Groups GroupsFault
 with_description groups d =
     if passes_limits groups d then Err TooMany else Ok (record { needs = groups.needs ++ needs_from groups.count d.count d.requirements; count = groups.count + d.count })
 
--- the groups with those of these descriptions behind them, or the first fault; the limits are looked at behind each description
+-- the groups followed by those of these descriptions, or the first fault;
+-- the limits are checked after each description
 abbrev pub with_descriptions : Groups → List (List ℕ) → Result Groups GroupsFault
 with_descriptions groups [] = Ok groups
 with_descriptions groups (text ∷ texts) = reads_on (description_of text) (λ d. reads_on (with_description groups d) (λ more. with_descriptions more texts))

@@ -14,14 +14,14 @@ pub const MOST: u64 = 64;
 /// How many slots a requirement may ask for. This project's choice.
 const MOST_SLOTS: u64 = 1_000_000_000;
 
-/// What each group of a description asks for: so many slots of one resource of a type.
+/// What each group of a description asks for: a number of slots on one resource of a type.
 #[derive(Debug, Drop)]
 pub struct Requirement {
     pub kind: Name,
     pub slots: u32,
 }
 
-/// So many groups with the same requirements.
+/// A number of groups with the same requirements.
 #[derive(Debug, Drop)]
 pub struct Description {
     pub count: u32,
@@ -45,7 +45,7 @@ impl Description {
     }
 }
 
-/// The number in the first piece, where it is of digits alone.
+/// Returns the number in the first piece, if that piece is digits alone.
 fn first_number(pieces: &[Name]) -> Option<u64>
     ensures { result ≡ number_in_front pieces.now }
 {
@@ -55,7 +55,7 @@ fn first_number(pieces: &[Name]) -> Option<u64>
     }
 }
 
-/// The pieces that are requirements.
+/// Lends the pieces that are requirements: all but a count in front.
 fn required(pieces: &[Name]) -> &[Name]
     ensures { result.now ≡ without_count pieces.now }
 {

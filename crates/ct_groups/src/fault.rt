@@ -7,20 +7,21 @@ use thiserror::Error;
 /// project's choice.
 #[derive(Debug, PartialEq, Eq, Drop, Error)]
 pub enum GroupsFault {
-    /// A piece that is neither a count in front nor has a `:`.
+    /// A piece has no `:` and is not the count in front.
     #[error("a requirement has no `:`")]
     NoColon,
-    /// A type that does not begin with a lower-case letter or `_`, or has another byte than those
-    /// and digits.
+    /// A type is not valid: it has to begin with a lower-case letter or `_`, and to go on with
+    /// these and digits.
     #[error("a resource type is not valid")]
     BadType,
-    /// A count of 0, or a text in place of slots that has other bytes than digits.
+    /// A count of groups is 0, or the slots are not written as digits alone.
     #[error("a count is not valid")]
     BadCount,
-    /// A requirement of no slots.
+    /// A requirement asks for 0 slots.
     #[error("a requirement asks for no slots")]
     ZeroSlots,
-    /// More than 64 groups, 64 needs or 1,000,000,000 slots.
+    /// More than 64 groups, more than 64 needs, or more than 1,000,000,000 slots for one
+    /// requirement.
     #[error("too much is required")]
     TooMany,
     /// Memory was wanting.

@@ -8,7 +8,7 @@ use crate::description::{Description, MOST, Requirement};
 use ct_base::{List, Need, NoMemory, split_list};
 use std::alloc::Global;
 
-/// The resource groups of a test, with what each of them needs.
+/// The resource groups of a test, with the needs of each.
 ///
 /// Source: CMake manual, cmake-properties(7), RESOURCE_GROUPS.
 #[derive(Debug, Drop)]
@@ -18,7 +18,7 @@ pub struct Groups {
 }
 
 impl Groups {
-    /// Makes no groups.
+    /// Makes a value without groups.
     pub fn none(alloc: Global) -> Groups
         ensures { result ≡ no_groups }
     {
@@ -58,7 +58,7 @@ impl Groups {
         self.count
     }
 
-    /// Puts the groups of a description behind the others.
+    /// Appends the groups of a description.
     fn with(self, alloc: Global, description: &Description) -> Result<Groups, GroupsFault>
         ensures { IsRead result (groups_with self description.now) }
     {
@@ -89,7 +89,7 @@ impl Groups {
     }
 }
 
-/// Puts what a group needs behind the needs of the groups in front of it.
+/// Appends the needs of a group to those of the groups in front of it.
 fn push_group(
     alloc: Global,
     needs: &mut List<Need>,

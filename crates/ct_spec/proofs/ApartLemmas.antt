@@ -20,7 +20,7 @@ use Rattle.ct_spec.specs.Entry.{stood_before, is_type_name, id_in, slots_in, res
 use Rattle.ct_spec.specs.Specification.{goes_on, entries_from, resources_in_array, resources_of_kind, resources_of_kinds, is_one_resource, AreApart}
 use Rattle.ct_spec.proofs.ReadLemmas.{Kind}
 
--- every element of two lists, the first in front of the second
+-- a relation that holds within each of two lists and across them holds within both together
 pairs_append : {X : Type 0} (R : X → X → Type 0) (xs ys : List X) → AllPairs R xs → AllPairs R ys → All (λ x. All (R x) ys) xs → AllPairs R (xs ++ ys)
 pairs_append R [] ys front back across = back
 pairs_append R (x ∷ xs) ys front back across =
@@ -46,14 +46,14 @@ second : (a b : Bool) → b ≡ false → (a && b) ≡ false
 second true b is = is
 second false b is = refl
 
--- resources whose ids differ, or whose kinds do
+-- resources with different ids, or of different kinds, are different resources
 other_id : (one other : Resource) → bytes_eq one.id other.id ≡ false → is_one_resource one other ≡ false
 other_id one other differ = second (bytes_eq one.kind other.kind) (bytes_eq one.id other.id) differ
 
 other_kind : (one other : Resource) → bytes_eq one.kind other.kind ≡ false → is_one_resource one other ≡ false
 other_kind one other differ = ap (λ b. b && bytes_eq one.id other.id) differ
 
--- resources that the entries of a kind declare, behind those with these ids
+-- what holds of the resources that the entries of a kind declare, behind entries with these ids
 record AreDeclared (kind : List ℕ) (ids : List (List ℕ)) (resources : List Resource) : Type 0 where
   kinds : All (λ (r : Resource). r.kind ≡ kind) resources
   fresh : All (λ (r : Resource). stood_before r.id ids ≡ false) resources
@@ -104,7 +104,7 @@ for_by : (kind : List ℕ) (place : ℕ) (ids : List (List ℕ)) (id : Option (L
 for_by kind place ids None slots one is = cc
 for_by kind place ids (Some id) slots one is = taken_by kind place ids id slots one _ (stood_before id ids) refl is
 
--- what the entries behind declare
+-- whatever the entries declare from any place on, behind any ids, meets `AreDeclared`
 abbrev Behind : List ℕ → Items → Type 0
 Behind kind entries = (place : ℕ) (ids : List (List ℕ)) (resources : List Resource) → entries_from kind place ids entries ≡ Ok resources → AreDeclared kind ids resources
 
@@ -137,11 +137,11 @@ kind_by kind entries resources false is = cc
 kind_apart : (kind : List ℕ) (value : Data) (resources : List Resource) → resources_of_kind kind value ≡ Ok resources → AreDeclared kind [] resources
 kind_apart kind value resources is = kind_by kind (as_array value) resources (is_type_name kind) is
 
--- a name is among those of kinds
+-- the name is that of one of the kinds
 abbrev is_of : List Kind → List ℕ → Bool
 is_of kinds name = list_any (λ (k : Kind). bytes_eq name (string_bytes k.0)) kinds
 
--- resources of these kinds, which differ
+-- the resources are of these kinds, and no two are the same
 record AreOf (kinds : List Kind) (resources : List Resource) : Type 0 where
   among : All (λ (r : Resource). is_of kinds r.kind ≡ true) resources
   apart : AreApart resources
@@ -162,7 +162,7 @@ below_by : (name other key : List ℕ) (more : Bool) → slice_cmp nat_cmp name 
 below_by name other key more less rest true here found = unlike name other key less ((bytes_eq-Decides other key).0 here) (bytes_eq name other) refl
 below_by name other key more less rest false here found = rest found
 
--- a name below the keys of kinds is none of them
+-- a name below the names of all kinds is none of them
 below_other : (name : List ℕ) (kinds : List Kind) → AllByRecursion (λ (k : String Global). slice_cmp nat_cmp name (string_bytes k) ≡ Less) (keys_of kinds) → (other : List ℕ) → is_of kinds other ≡ true → bytes_eq name other ≡ false
 below_other name [] below other is = cc
 below_other name (kind ∷ kinds) below other is =
@@ -190,7 +190,7 @@ kind_added kind kinds these others below declared rest =
 no_kinds : AreOf [] []
 no_kinds = record { among = All-nil (λ (r : Resource). is_of [] r.kind ≡ true); apart = λ i j d less within. absurd (omega arith) }
 
--- what the kinds behind declare
+-- whatever these kinds declare meets `AreOf`
 abbrev Declares : List Kind → Type 0
 Declares kinds = (resources : List Resource) → resources_of_kinds (members_view kinds) ≡ Ok resources → AreOf kinds resources
 
@@ -214,6 +214,6 @@ kinds_are [] sorted resources is = subst (AreOf []) (ap resources_said is) no_ki
 kinds_are (kind ∷ kinds) sorted resources is =
     kinds_by kind kinds sorted.0 (λ rs said. kinds_are kinds sorted.1 rs said) resources (resources_of_kind (string_bytes kind.0) (view kind.1)) refl is
 
--- the resources of kinds in order of their names differ
+-- kinds in order of their names declare no resource twice
 pub kinds_apart : (kinds : List Kind) → IsStrictlySortedBy string_cmp (keys_of kinds) → (resources : List Resource) → resources_of_kinds (members_view kinds) ≡ Ok resources → AreApart resources
 kinds_apart kinds sorted resources is = (kinds_are kinds sorted resources is).apart

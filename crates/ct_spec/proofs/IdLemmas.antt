@@ -9,7 +9,7 @@ use Rattle.ct_spec.specs.Entry.{stood_before}
 use Rattle.ct_spec.specs.Ids.{AreIds}
 
 module _ {Z : Type 0} where
-  -- an id among those that are kept
+  -- an id is among the keys exactly if it is among their bytes
   pub stood_before-keys : (id : List ℕ) (keys : List (Vec ℕ Z)) → list_any (λ (key : Vec ℕ Z). bytes_eq id key.items) keys ≡ stood_before id (map (λ (key : Vec ℕ Z). key.items) keys)
   stood_before-keys id [] = refl
   stood_before-keys id (key ∷ keys) = ap (λ more. bytes_eq id key.items || more) (stood_before-keys id keys)
@@ -37,7 +37,7 @@ module _ {Z : Type 0} where
   abbrev ids_in : List (Vec ℕ Z) → List (List ℕ)
   ids_in keys = map (λ (key : Vec ℕ Z). key.items) keys
 
-  -- an id that is put to the others
+  -- the set with one more id stands for the earlier ids and that one
   pub id_put : (keys new : List (Vec ℕ Z)) (key : Vec ℕ Z) (id : List ℕ) (added : Bool) → key.items ≡ id → added ≡ not (list_any (λ (k : Vec ℕ Z). bytes_eq key.items k.items) keys) → MatchBool added (IsPermutation (key ∷ keys) new) (new ≡ keys)
       → (taken : List (List ℕ)) → AreIds (ids_in keys) taken → AreIds (ids_in new) (taken ++ id ∷ [])
   id_put keys new key id true is added puts taken are =

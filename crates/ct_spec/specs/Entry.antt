@@ -11,58 +11,58 @@ use Rattle.ct_spec.specs.declared.fault.SpecFault.{SpecFault}
 use Rattle.ct_spec.specs.declared.fault.SpecFault.TheVariants.{BadId, TwiceId, BadSlots}
 use Rattle.ct_spec.specs.Json.{whole}
 
--- `a` to `z` or `_`: what the name of a resource type begins with
+-- a byte that the name of a resource type begins with: `a` to `z` or `_`
 abbrev pub begins_type : ℕ → Bool
 begins_type byte = is_in_range 97 122 byte || byte == 95
 
--- what a name goes on with, and what an id has: `a` to `z`, `_` or a digit
+-- a byte that a name goes on with, and a byte of an id: `a` to `z`, `_` or a digit
 abbrev pub is_name_byte : ℕ → Bool
 is_name_byte byte = begins_type byte || is_ascii_digit byte
 
--- the name of a resource type
+-- the text is the name of a resource type
 abbrev pub is_type_name : List ℕ → Bool
 is_type_name [] = false
 is_type_name (first ∷ rest) = begins_type first && list_all is_name_byte rest
 
--- the id of a resource
+-- the text is the id of a resource
 abbrev pub is_id : List ℕ → Bool
 is_id text = not (length text == 0) && list_all is_name_byte text
 
--- the id is one of these
+-- the id is among these
 abbrev pub stood_before : List ℕ → List (List ℕ) → Bool
 stood_before id ids = list_any (λ other. bytes_eq id other) ids
 
--- a text that is an id
+-- the text, if it is an id
 abbrev pub checked_id : List ℕ → Option (List ℕ)
 checked_id text = if is_id text then Some text else None
 
--- the id of an entry, where it has one
+-- the id of an entry, if it has a valid one
 abbrev pub id_in : Data → Option (List ℕ)
 id_in entry = option_and_then checked_id (option_and_then as_str (get (codes "id") entry))
 
--- a number of slots, up to 1,000,000,000
+-- the number of slots, if it is at most 1,000,000,000
 abbrev pub checked_slots : ℕ → Option ℕ
 checked_slots slots = if nat_le slots 1000000000 then Some slots else None
 
--- the slots that a member says, 1 where there is none
+-- the slots in a member, if they are valid; 1 where the member is absent
 abbrev pub slots_said : Option Data → Option ℕ
 slots_said None = Some 1
 slots_said (Some value) = option_and_then checked_slots (whole value)
 
--- the slots of an entry, where they are a number
+-- the slots of an entry, if they are valid
 abbrev pub slots_in : Data → Option ℕ
 slots_in entry = slots_said (get (codes "slots") entry)
 
--- the resource with this id, where the slots are a number
+-- the resource with this id, or BadSlots where the slots are not valid
 abbrev pub resource_with : List ℕ → ℕ → List ℕ → Option ℕ → Result Resource SpecFault
 resource_with kind place id None = Err (BadSlots kind place)
 resource_with kind place id (Some slots) = Ok (record { kind = kind; id = id; slots = slots })
 
--- the resource of the entry at a place, behind those with these ids; the id is looked at before the slots
+-- the resource of the entry at a place, behind entries with these ids; the id is checked before the slots
 abbrev pub resource_for : List ℕ → ℕ → List (List ℕ) → Option (List ℕ) → Option ℕ → Result Resource SpecFault
 resource_for kind place ids None slots = Err (BadId kind place)
 resource_for kind place ids (Some id) slots = if stood_before id ids then Err (TwiceId kind place) else resource_with kind place id slots
 
--- the resource that an entry declares, or what is wrong with it
+-- the resource that an entry declares, or its fault
 abbrev pub resource_in : List ℕ → ℕ → List (List ℕ) → Data → Result Resource SpecFault
 resource_in kind place ids entry = resource_for kind place ids (id_in entry) (slots_in entry)

@@ -3,12 +3,12 @@ use Rattle.std.specs.Prelude.{◌≡◌, ⊤, Result, Ok, Err}
 use Rattle.ct_spec.specs.declared.fault.SpecFault.{SpecFault}
 use Rattle.ct_spec.specs.declared.fault.SpecFault.TheVariants.{NoMemory}
 
--- the fault is the one that the definition says; want of memory is free
+-- the fault is the one that the definition says; NoMemory is always allowed
 abbrev pub IsFault : {X : Type 0} → Result X SpecFault → SpecFault → Type 0
 IsFault says NoMemory = ⊤
 IsFault says why = says ≡ Err why
 
--- the answer is what the definition says
+-- the call returned what the definition says, or NoMemory
 abbrev pub IsAnswer : {X : Type 0} → Result X SpecFault → Result X SpecFault → Type 0
 IsAnswer (Ok x) says = says ≡ Ok x
 IsAnswer (Err why) says = IsFault says why

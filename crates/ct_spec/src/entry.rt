@@ -14,7 +14,7 @@ use std::alloc::Global;
 /// The most slots of a resource. This project's choice.
 const MOST_SLOTS: u64 = 1_000_000_000;
 
-/// Reads the entry at a place of a kind, behind those with these ids.
+/// Reads the entry at a place of a kind, behind entries with these ids.
 pub(crate) fn resource_in(
     alloc: Global,
     kind: &[u8],
@@ -54,7 +54,7 @@ pub(crate) fn resource_in(
     })
 }
 
-/// Lends the id of an entry.
+/// Lends the id of an entry, if it has a valid one.
 fn id_in(entry: &Value) -> Option<&[u8]>
     ensures { option_map (λ id. id.now) result ≡ id_said (view entry.now) }
 {

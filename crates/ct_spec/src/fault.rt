@@ -18,11 +18,11 @@ pub enum SpecFault {
     BadKind { kind: Name },
     /// The entry has no id of lower-case letters, digits and `_`.
     BadId { kind: Name, entry: u32 },
-    /// The id stood before in this kind.
+    /// An earlier entry of this kind has the same id.
     TwiceId { kind: Name, entry: u32 },
     /// The slots are no whole number from 0 to 1,000,000,000.
     BadSlots { kind: Name, entry: u32 },
-    /// More than 4,096 resources.
+    /// There are more than 4,096 resources.
     TooMany,
     /// Memory was wanting.
     NoMemory,

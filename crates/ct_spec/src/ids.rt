@@ -7,7 +7,7 @@ use std::alloc::Global;
 use std::collections::HashSet;
 use std::marker::Model;
 
-/// The ids of a kind that stood before. Contracts see them in an order that says nothing.
+/// The ids that earlier entries of a kind have. Contracts see them in an order without meaning.
 #[derive(Drop)]
 pub(crate) struct Ids {
     ids: HashSet<Vec<u8>>,
@@ -22,7 +22,7 @@ impl Model for Ids {
 }
 
 impl Ids {
-    /// Makes the set without an id.
+    /// Makes the empty set.
     pub(crate) fn new(alloc: Global) -> Ids
         ensures { AreIds result [] }
     {
@@ -37,7 +37,7 @@ impl Ids {
         self.ids.contains(id)
     }
 
-    /// Puts one more id to the others.
+    /// Adds an id to the set.
     pub(crate) fn with(self, alloc: Global, id: &[u8]) -> Result<Ids, NoMemory>
         ensures { IfOk result (λ ids. (taken : List (List ℕ)) → AreIds self taken → AreIds ids (taken ++ id.now ∷ [])) }
     {

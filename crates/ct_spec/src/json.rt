@@ -6,7 +6,7 @@ use ct_base::NoMemory;
 use serde_json::Value;
 use std::alloc::Global;
 
-/// Reads a text as JSON, where it is that.
+/// Reads a text as JSON; `None` if it is not JSON.
 pub(crate) fn json_in(alloc: Global, text: &[u8]) -> Result<Option<Value>, NoMemory>
     ensures { IfOk result (λ value. option_map view value ≡ json_of text.now) }
 {
@@ -21,14 +21,14 @@ pub(crate) fn json_in(alloc: Global, text: &[u8]) -> Result<Option<Value>, NoMem
     }
 }
 
-/// Gives the whole number that a member is.
+/// Returns the whole number in a member.
 pub(crate) fn whole_at(value: &Value, name: &str) -> Option<u64>
     ensures { result ≡ whole_in name.now (view value.now) }
 {
     value.get(name).and_then(Value::as_u64)
 }
 
-/// Gives the item of an array of one.
+/// Returns the item of an array that has exactly one.
 #[tactic(auto, using(crate::proofs::ReadLemmas::no_item, crate::proofs::ReadLemmas::more_items))]
 pub(crate) fn only_item(items: &[Value]) -> Option<&Value>
     ensures { option_map (λ v. view v.now) result ≡ one_item (items_view items.now) }

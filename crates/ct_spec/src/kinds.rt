@@ -35,7 +35,7 @@ fn push_all(resources: &mut List<Resource>, more: List<Resource>) -> Result<(), 
     Ok(())
 }
 
-/// Reads the resources of a kind; its name is looked at first.
+/// Reads the resources of a kind; its name is checked first.
 fn resources_of_kind(alloc: Global, kind: &[u8], value: &Value) -> Result<List<Resource>, SpecFault>
     ensures { IsAnswer result (kind_says kind.now (view value.now)) }
 {

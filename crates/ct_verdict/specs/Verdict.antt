@@ -15,7 +15,7 @@ use Rattle.ct_verdict.specs.declared.verdict.Cause.TheVariants.{Unstarted, Fixtu
 use Rattle.ct_verdict.specs.declared.verdict.Verdict.{Verdict}
 use Rattle.ct_verdict.specs.declared.verdict.Verdict.TheVariants.{Passed, Failed, Timeout, Exception, Skipped, NotRun, Disabled}
 
--- a test's skip code is this exit code
+-- the exit code is the skip code of the test
 abbrev pub has_skip_code : Option ℤ → ℤ → Bool
 has_skip_code None code = false
 has_skip_code (Some skip) code = int_eq skip code
@@ -24,11 +24,12 @@ has_skip_code (Some skip) code = int_eq skip code
 abbrev pub is_skipped_exit : Rules → Seen → ℤ → Bool
 is_skipped_exit rules seen code = has_skip_code rules.skip_code code || seen.skip_hit
 
--- an exit is good: no fail pattern hits, and a pass pattern hits where one is wanted, and else the code is 0
+-- an exit is good: no fail pattern hits; and a pass pattern hits or, where the test has none, the exit code
+-- is 0
 abbrev pub is_good_exit : Rules → Seen → ℤ → Bool
 is_good_exit rules seen code = not seen.fail_hit && (if rules.pass_wanted then seen.pass_hit else int_eq code (pos 0))
 
--- an exit passes: it is good, or bad where the test is to fail
+-- an exit passes: it is good or, for a test with WILL_FAIL, it is not
 abbrev pub is_passing_exit : Rules → Seen → ℤ → Bool
 is_passing_exit rules seen code = if rules.will_fail then not (is_good_exit rules seen code) else is_good_exit rules seen code
 
@@ -36,7 +37,7 @@ is_passing_exit rules seen code = if rules.will_fail then not (is_good_exit rule
 abbrev pub verdict_of_exit : Rules → Seen → ℤ → Verdict
 verdict_of_exit rules seen code = if is_skipped_exit rules seen code then Skipped else (if is_passing_exit rules seen code then Passed else Failed)
 
--- the verdict of an attempt that ended so
+-- the verdict of an attempt, by how it ended
 abbrev pub verdict_of_how : Rules → Seen → How → Verdict
 verdict_of_how rules seen (Exited code) = verdict_of_exit rules seen code
 verdict_of_how rules seen Signalled = Exception
@@ -65,7 +66,7 @@ is_failing_verdict Skipped = false
 is_failing_verdict (NotRun cause) = is_failing_cause cause
 is_failing_verdict Disabled = false
 
--- an attempt with this verdict makes the mode ask for one more
+-- in this mode, an attempt with this verdict asks for one more
 abbrev pub asks_again : Mode → Verdict → Bool
 asks_again Once last = false
 asks_again UntilFail Passed = true
@@ -74,7 +75,8 @@ asks_again UntilPass last = is_failing_verdict last
 asks_again AfterTimeout Timeout = true
 asks_again AfterTimeout _ = false
 
--- a test is tried again after so many attempts: before the first, and then up to the times where the last asks for it
+-- a test is tried again after `done` attempts: always before the first attempt;
+-- later, if fewer than `times` are done and the last verdict asks for one more
 abbrev pub is_repeated : Repeat → ℕ → Option Verdict → Bool
 is_repeated repeat done None = true
 is_repeated repeat done (Some last) = nat_lt done repeat.times && asks_again repeat.mode last

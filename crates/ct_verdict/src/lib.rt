@@ -1,4 +1,4 @@
-//! What an attempt of a test comes to, and whether it is tried again.
+//! The verdict of an attempt of a test, and whether the test is tried again.
 //!
 //! Hands up: `one`, the verdict of one attempt, and `Repeat::again`.
 //! Stands on: ct_base.

@@ -14,7 +14,7 @@ pub enum Mode {
     AfterTimeout,
 }
 
-/// How often a run tries a test at most, and what makes it try again.
+/// How often a run tries a test at most, and what makes the run try it again.
 ///
 /// Source: CMake manual, ctest(1), --repeat.
 #[derive(Clone, Copy, Debug, PartialEq, Eq)]
@@ -24,7 +24,8 @@ pub struct Repeat {
 }
 
 impl Repeat {
-    /// Tells whether a test is tried again after so many attempts, the last with this verdict.
+    /// Tells whether a test is tried again after `done` attempts, of which the last had this
+    /// verdict.
     pub fn again(&self, done: u32, last: Option<Verdict>) -> bool
         requires { IsNone last ↔ (done ≡ 0) }
         ensures { result ≡ is_repeated self.now done last }

@@ -8,13 +8,13 @@ use crate::{Cause, How, Seen, Verdict};
 /// Source: CMake manual, cmake-properties(7), PASS_REGULAR_EXPRESSION, SKIP_RETURN_CODE, WILL_FAIL.
 #[derive(Clone, Copy, Debug, PartialEq, Eq)]
 pub struct Rules {
-    /// Whether there is a pass pattern, so that a hit stands in place of the exit code 0.
+    /// Whether there is a pass pattern. If so, a hit of one counts in place of the exit code 0.
     pub pass_wanted: bool,
     pub skip_code: Option<i32>,
     pub will_fail: bool,
 }
 
-/// Gives the verdict of one attempt.
+/// Returns the verdict of one attempt.
 ///
 /// Source: CMake manual, cmake-properties(7), Properties on Tests. The order of the rules is this
 /// project's choice.

@@ -16,13 +16,13 @@ pub enum Cause {
     BadOperation(u32),
     /// Its resource needs fit nowhere.
     Insufficient,
-    /// The run was stopped before it.
+    /// The run was stopped before the test started.
     Stopped,
     /// Memory was wanting.
     Memory,
 }
 
-/// What a test comes to.
+/// The verdict of an attempt or of a test.
 ///
 /// Source: CMake manual, cmake-properties(7), Properties on Tests.
 #[derive(Clone, Copy, Debug, PartialEq, Eq)]
