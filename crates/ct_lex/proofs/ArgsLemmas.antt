@@ -1,4 +1,4 @@
--- The arguments of a command as they are kept: their text alone is read as they are, and the first of them is read
+-- The arguments of a command as they are kept: their text alone is read as the same arguments, the first one
 -- first.
 use Rattle.std.proofs.Common.{◌≡◌, ◌∙◌, inl, inr, ℕ, suc, ◌+◌, ◌<◌, ◌≤◌, Bool, true, false, ◌==◌, List, [], ◌∷◌, ◌++◌, length, take, drop, get_or, Result, Ok, Err, refl, sym, ap, subst, arith, append_assoc, length-append, length-drop}
 use Rattle.std.specs.Result.{is_ok, IsOk}
@@ -22,7 +22,7 @@ use Rattle.ct_lex.proofs.StepLemmas.{first-byte, gap_passed, argument_passed, ar
 use Rattle.ct_lex.proofs.ArgumentLemmas.{argument-is, argument-some}
 use Rattle.ct_lex.proofs.ArgumentsLemmas.{arguments-is, arguments-read}
 
--- what is read of arguments is read of their own text alone
+-- arguments are read from their own text alone as they are from the longer text
 pub arguments-cut : (text : List ℕ) (args : List Arg) (n : ℕ) → arguments_from 0 text ≡ Ok (args, n) → arguments_from 0 (take n text) ≡ Ok (args, n)
 arguments-cut text args n e =
     let read = arguments-is (suc (length text)) false text args n (omega arith) (λ (no_way : false ≡ true). cc) e in
@@ -40,7 +40,7 @@ bytes_read-ok {A} n (Ok x) e =
     let P : ℕ → Result (List A × ℕ) Stop = λ k. Ok (x.0, k) in
     ap P same
 
--- a copy of the text of arguments
+-- the copy of a text has the same arguments, of n bytes
 pub record IsKept (text copy : List ℕ) (n : ℕ) : Type 0 where
   pub begins : BeginsArguments copy
   pub same : arguments_from 0 text ≡ Ok (arguments_in copy, n)
@@ -53,7 +53,7 @@ arguments-kept text copy n e cut =
     let P : List Arg → Result (List Arg × ℕ) Stop = λ a. Ok (a, n) in
     record { begins = ap (λ r. is_ok r) again; same = read ∙ ap P (sym args) }
 
--- where a gap stands no `)` does
+-- a text that begins with a gap does not begin with a `)`
 pub gap-no-close : (text : List ℕ) (n : ℕ) → 0 < n → gap_at text ≡ Ok n → (get_or text 0 0 == 41) ≡ false
 gap-no-close [] n some gap = refl
 gap-no-close (byte ∷ rest) n some gap = by_close (byte == 41) refl
@@ -75,7 +75,7 @@ argument-refused : (text : List ℕ) (stop : Stop) → 0 < length text → (get_
 argument-refused [] stop some goes gap read = absurd (omega arith)
 argument-refused (byte ∷ rest) stop some goes gap read = rw (goes, gap, read) refl
 
--- where arguments begin and neither a gap nor a `)` stands at their front, an argument does
+-- where arguments begin with neither a gap nor a `)`, an argument stands at their front
 pub argument-found : (text : List ℕ) (at : ℕ) → BeginsArguments text → at < length text → (get_or text at 0 == 41) ≡ false → gap_at (drop at text) ≡ Ok 0 → moved at (arguments_from 0 (drop at text)) ≡ arguments_from 0 text → IsOk (argument (drop at text))
 argument-found text at begins inside goes gap kept = by_read (argument (drop at text)) refl
   where
@@ -86,7 +86,7 @@ argument-found text at begins inside goes gap kept = by_read (argument (drop at 
         let refused : is_ok (moved at (arguments_from 0 (drop at text))) ≡ false = rw none refl in
         absurd (true≢false (sym begins ∙ ap (λ q. is_ok q) (sym kept) ∙ refused))
 
--- an argument that is found is read, apart from what stands behind it
+-- an argument that is found is also read without the check of what stands behind it
 pub argument-read_by : (text : List ℕ) → IsOk (argument text) → IsOk (argument_by text (opening text))
 argument-read_by text found = by_read (argument_by text (opening text)) refl
   where
@@ -96,7 +96,7 @@ argument-read_by text found = by_read (argument_by text (opening text)) refl
         let none : argument text ≡ Err stop = rw r refl in
         absurd (true≢false (sym found ∙ ap (λ q. is_ok q) none))
 
--- of a quoted one the text is read
+-- if a quoted argument is found, its text is read
 pub quoted-found : (text : List ℕ) → IsOk (plain_argument text) → stands 34 0 text ≡ true → IsOk (text_from Quoted 0 (drop 1 text))
 quoted-found text found quote = by_paren (stands 40 0 text) refl
   where
@@ -112,7 +112,7 @@ quoted-found text found quote = by_paren (stands 40 0 text) refl
     by_paren true p = not_found (rw p refl)
     by_paren false p = by_read p (text_from Quoted 0 (drop 1 text)) refl
 
--- and nothing touches an argument that is found
+-- no other argument touches an argument that is found
 argument-apart : (text : List ℕ) (x : Arg × ℕ) → IsOk (argument text) → argument_by text (opening text) ≡ Ok x → argument text ≡ Ok x
 argument-apart text x found read = by_follow (may_follow (drop x.1 text)) refl
   where
@@ -134,7 +134,7 @@ argument-longer (byte ∷ rest) arg n goes read =
     let found = argument-is byte rest arg n goes read in
     subst (λ (k : ℕ). 0 < k) found.size (argument-some found.written)
 
--- an argument behind the gaps at the front
+-- the argument behind the gaps at the front is the first one
 pub argument-taken : (text : List ℕ) (arg : Arg) (at n : ℕ) → BeginsArguments text → at < length text → (get_or text at 0 == 41) ≡ false → gap_at (drop at text) ≡ Ok 0 → HasNoGap (drop at text) → argument_by (drop at text) (opening (drop at text)) ≡ Ok (arg, n) → n ≤ length (drop at text) → moved at (arguments_from 0 (drop at text)) ≡ arguments_from 0 text → (at + n ≤ length text) × (arguments_from 0 text ≡ argument_before arg (moved (at + n) (arguments_from 0 (drop (at + n) text))))
 argument-taken text arg at n begins inside goes gap front read fits kept =
     let first = first-byte text at goes in
@@ -142,7 +142,7 @@ argument-taken text arg at n begins inside goes gap front read fits kept =
     let some : 0 < n = argument-longer (drop at text) arg n (argument-goes (drop at text) front (omega (arith, length-drop at text)) first) whole in
     (omega (arith, length-drop at text), sym kept ∙ argument_passed text arg at n first gap whole some fits)
 
--- what was read with so many bytes
+-- if n bytes were read, something that takes n bytes was read
 something-read : {A : Type 0} (n : ℕ) (read : Result (A × ℕ) Stop) → bytes_read read ≡ Ok n → (x : A) × (read ≡ Ok (x, n))
 something-read n (Err stop) e = cc
 something-read {A} n (Ok x) e =
@@ -163,13 +163,13 @@ counted_turn text at n whole inside goes gap read some fits kept =
     let found = something-read n (argument (drop at text)) read in
     argument_turn text at n found.0 whole inside goes gap found.1 some fits kept
 
--- the fault of an argument is that of the arguments
+-- the fault of an argument is the fault of the arguments
 pub counted-refused : (text : List ℕ) (at : ℕ) (stop : Stop) (whole : Result ℕ Stop) → at < length text → (get_or text at 0 == 41) ≡ false → gap_at (drop at text) ≡ Ok 0 → bytes_read (argument (drop at text)) ≡ Err stop → bytes_read (moved at (arguments_from 0 (drop at text))) ≡ whole → Err stop ≡ whole
 counted-refused text at stop whole inside goes gap read kept =
     let refused = argument-refused (drop at text) stop (omega (arith, length-drop at text)) (first-byte text at goes) gap (nothing-read stop (argument (drop at text)) read) in
     sym (ap (λ r. bytes_read (moved at r)) refused) ∙ kept
 
--- the bytes of an argument, by what stands behind it
+-- an argument takes n bytes, if what stands behind them may follow an argument
 pub bytes_read-apart : (text : List ℕ) (n : ℕ) → bytes_read (argument_by text (opening text)) ≡ Ok n → may_follow (drop n text) ≡ true → bytes_read (argument text) ≡ Ok n
 bytes_read-apart text n read follows =
     let found = something-read n (argument_by text (opening text)) read in

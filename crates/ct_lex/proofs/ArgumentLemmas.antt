@@ -1,4 +1,4 @@
--- One argument: what the reader finds is what the grammar has, and no other.
+-- One argument: the reader finds exactly the argument that the grammar writes.
 use Rattle.std.proofs.Common.{◌≡◌, ℕ, suc, ◌+◌, ◌<◌, Bool, true, false, cond, ◌||◌, ◌==◌, List, [], ◌∷◌, ◌++◌, length, take, drop, get_or, Option, Some, None, Result, Ok, Err, refl, sym, ap, ◌∙◌, subst, arith, append_assoc, length-append}
 use Rattle.std.proofs.lemmas.Bool.Decides.{nat_tests}
 use Rattle.std.proofs.lemmas.Bool.{true≢false, or_parts, or_from}
@@ -112,7 +112,7 @@ plain-is byte rest arg n goes o e =
     by_paren false t f =
         by_quote t (byte == 34) refl (ap (λ b. cond b (quoted_by (byte ∷ rest) (text_from Quoted 0 rest)) (unquoted_by (text_from Unquoted 0 (byte ∷ rest)))) (sym (stands-front 34 byte rest)) ∙ f)
 
--- the same, and that no other argument touches it
+-- an argument at the front of a text, by the grammar, which no other argument touches
 pub record ArgumentRead (text : List ℕ) (arg : Arg) (n : ℕ) : Type 0 where
   pub front : List ℕ
   pub back : List ℕ
@@ -155,7 +155,8 @@ argument-some (grammar.bracketed b) = bracket-some b
 argument-some (grammar.quoted t) = omega arith
 argument-some (grammar.unquoted {text = text} t some unopened) = some-of text some
 
--- an argument that is written is found
+-- an argument that is written is found;
+-- first: a text that is not empty does not begin with a byte that ends it
 quoted-front : {kind : ArgKind} {text : List ℕ} {parts : List Part} → IsText kind text parts → (text ≡ [] → ⊥) → ends_text kind (get_or text 0 0) ≡ false
 quoted-front grammar.nothing some = absurd (some refl)
 quoted-front {kind} (grammar.plain byte fits t) some =
@@ -174,7 +175,7 @@ ending false false false false quote a = absurd (true≢false (sym a))
 abbrev pub follows_byte : ℕ → Bool
 follows_byte byte = is_gap byte || byte == 41 || byte == 35
 
--- what an unquoted argument begins with
+-- the byte may begin an unquoted argument: it is no blank, line feed, `(`, `)`, `#` or `"`
 record IsWordFront (byte : ℕ) : Type 0 where
   pub gap : is_gap byte ≡ false
   pub paren : (byte == 40) ≡ false
@@ -247,7 +248,7 @@ argument-read {front} {arg} a byte back follows =
     let whole : argument (front ++ byte ∷ back) ≡ apart (front ++ byte ∷ back) (arg, length front) = rw read refl in
     whole ∙ apart-read front (byte ∷ back) arg follows
 
--- an argument begins as no gap does, and with no `)`
+-- the first byte of an argument begins no gap and is no `)`
 pub record IsFront (text : List ℕ) : Type 0 where
   pub closes : (get_or text 0 0 == 41) ≡ false
   pub gap : gap_at text ≡ Ok 0

@@ -1,4 +1,4 @@
--- The arguments of a command: what the reader finds is what the grammar has, and no other.
+-- The arguments of a command: the reader finds exactly the arguments that the grammar writes.
 use Rattle.std.proofs.Common.{◌≡◌, ℕ, zero, suc, ◌+◌, ◌<◌, ◌≤◌, Bool, true, false, ◌==◌, List, [], ◌∷◌, ◌++◌, length, drop, get_or, Result, Ok, Err, refl, sym, ap, ◌∙◌, subst, arith, append_assoc, append-nil, length-append}
 use Rattle.std.proofs.lemmas.Bool.Decides.{nat_tests}
 use Rattle.std.proofs.lemmas.Bool.{true≢false}
@@ -164,7 +164,7 @@ arguments-is (suc fuel) behind (byte ∷ rest) args n fits follows e =
         record { front = []; back = rest; split = ap (λ b. b ∷ rest) close; size = same.1; written = written }
     by_end false t shorter again = by_gap t shorter again (gap_at (byte ∷ rest)) refl
 
--- what stands in front of the `)` begins with what may stand behind an argument
+-- written arguments in front of a `)` are read; behind an argument they begin with a byte that may follow it
 pub record ArgumentsGo (behind : Bool) (text back : List ℕ) (args : List Arg) : Type 0 where
   pub reads : arguments_from 0 (text ++ 41 ∷ back) ≡ Ok (args, length text + 1)
   pub follows : behind ≡ true → (byte : ℕ) × (rest : List ℕ) × (text ++ 41 ∷ back ≡ byte ∷ rest) × (follows_byte byte ≡ true)

@@ -1,4 +1,5 @@
--- Brackets, comments and blanks: what the reader finds at the front of a text is what the grammar has, and no other.
+-- Brackets, comments and blanks: the reader finds at the front of a text exactly what the grammar writes
+-- there.
 use Rattle.std.proofs.Common.{◌≡◌, ◌⊎◌, ℕ, zero, suc, ◌+◌, ◌<◌, ◌≤◌, Bool, true, false, cond, not, ◌||◌, ◌&&◌, ◌==◌, nat_lt, List, [], ◌∷◌, ◌++◌, length, take, drop, get_or, replicate, Option, Some, None, option_map, Result, Ok, inl, inr, ⊎_elim, refl, sym, ap, ◌∙◌, subst, arith, append_assoc, append-nil, length-append, drop-cons}
 use Rattle.std.proofs.lemmas.Bool.Decides.{nat_tests}
 use Rattle.std.proofs.lemmas.Bool.{true≢false, and_parts, and_from, false_from_ne_true}
@@ -13,7 +14,7 @@ use Rattle.ct_lex.specs.Grammar.{opens_with, closes_with, BeginsBracket, IsInsid
 use Rattle.ct_lex.specs.declared.stop.Stop.{Stop}
 use Rattle.ct_lex.proofs.FrontLemmas.{feeds-append, run-read, stands-front, stands-at, drop-front}
 
--- n times `=` between two bytes of that kind
+-- n times `=` between two edge bytes
 abbrev pub mark : ℕ → ℕ → List ℕ
 mark edge n = edge ∷ (replicate n 61 ++ edge ∷ [])
 
@@ -54,7 +55,7 @@ mark-stands edge n more =
     ap (λ i. get_or (edge ∷ inner) i 0) next ∙ ap (λ i. get_or inner i 0) (sym (length-replicate {A = ℕ} n 61)) ∙ get_or-append_seam (replicate n 61) edge more 0 in
     stands-at edge (n + 1) (edge ∷ inner) (omega (arith, length-append (replicate n 61) (edge ∷ more), length-replicate {A = ℕ} n 61)) there
 
--- a mark at the front of a text, by the tests of the reader
+-- if the tests of the reader find a mark, the text begins with that mark
 pub mark-is : (edge n byte : ℕ) (rest : List ℕ) → byte ≡ edge → equals rest ≡ n → stands edge (n + 1) (byte ∷ rest) ≡ true → (more : List ℕ) × (byte ∷ rest ≡ mark edge n ++ more)
 mark-is edge n byte rest first count last =
     let there = stands-is edge (n + 1) (byte ∷ rest) last in
@@ -66,7 +67,7 @@ mark-is edge n byte rest first count last =
     let split : rest ≡ replicate n 61 ++ edge ∷ drop (suc n) rest = sym (take-append-drop n rest) ∙ ap (λ t. t ++ drop n rest) run ∙ ap (λ t. replicate n 61 ++ t) back in
     (drop (suc n) rest, ap (λ b. b ∷ rest) first ∙ ap (λ t. edge ∷ t) split ∙ sym (mark-split edge n (drop (suc n) rest)))
 
--- openings
+-- an opening with n times `=` is found
 pub opening-read : (n : ℕ) (more : List ℕ) → opening (opens_with n ++ more) ≡ Some n
 opening-read n more =
     let inner : List ℕ = replicate n 61 ++ 91 ∷ more in
@@ -89,7 +90,7 @@ opening-is (byte ∷ rest) n e = by_test (stands 91 0 (byte ∷ rest) && stands 
 pub opening-none : (text : List ℕ) → opening text ≡ None → BeginsBracket text → ⊥
 opening-none text e begins = let found : opening text ≡ Some begins.0 = ap (λ t. opening t) begins.2 ∙ opening-read begins.0 begins.1 in cc
 
--- closings
+-- a closing with n times `=` is found
 pub closes-read : (n : ℕ) (more : List ℕ) → closes n (closes_with n ++ more) ≡ true
 closes-read n more =
     let inner : List ℕ = replicate n 61 ++ 93 ∷ more in
@@ -106,7 +107,7 @@ closes-is n (byte ∷ rest) e =
     let same : (equals rest == n) ≡ true = both.1 in
     mark-is 93 n byte rest (stands-is 93 0 (byte ∷ rest) both.0).1 (grind (arith, nat_tests)) all.1
 
--- what a first closing is found behind
+-- the first closing stands behind k bytes
 pub record ClosedAt (n : ℕ) (text : List ℕ) (k : ℕ) : Type 0 where
   pub inside : List ℕ
   pub back : List ℕ
@@ -114,7 +115,7 @@ pub record ClosedAt (n : ℕ) (text : List ℕ) (k : ℕ) : Type 0 where
   pub size : length inside ≡ k
   pub only : IsInside n inside
 
--- bytes of a list with one byte at the front
+-- two equal lists have equal first bytes and equal rests
 pub tails : (a b : ℕ) (xs ys : List ℕ) → a ∷ xs ≡ b ∷ ys → (a ≡ b) × (xs ≡ ys)
 tails a b xs ys e = (cc, cc)
 
@@ -162,7 +163,7 @@ inside-less : (n byte : ℕ) (inside : List ℕ) → IsInside n (byte ∷ inside
 inside-less n byte inside only front back e =
     (tails byte byte front inside (only (byte ∷ front) back (ap (λ t. byte ∷ t) e))).1
 
--- a text that begins with one and goes on longer begins with it alone too
+-- if a text begins with `front`, so does a first part of the text that is at least as long
 prefix-of : (xs ys front bs : List ℕ) → length front ≤ length xs → xs ++ ys ≡ front ++ bs → (more : List ℕ) × (xs ≡ front ++ more)
 prefix-of xs ys [] bs fits e = (xs, refl)
 prefix-of [] ys (a ∷ front) bs fits e = absurd (omega arith)
@@ -189,7 +190,7 @@ closing-read n (byte ∷ inside) back only =
     let sums : length inside + 1 ≡ length (byte ∷ inside) = omega arith in
     ap (λ b. cond b (Some 0) (option_map (λ k. k + 1) (closing n rest))) unclosed ∙ ap (λ f. option_map (λ k. k + 1) f) later ∙ ap P sums
 
--- comments up to the end of a line
+-- a comment up to the end of its line
 pub record LineRead (text : List ℕ) : Type 0 where
   pub line : List ℕ
   pub back : List ℕ
@@ -228,7 +229,7 @@ line-run (byte ∷ line) e = by_test (byte == 10) refl (line-run line) e
         let more : line_len line ≡ length line = again none in
         rw t (let sums : 1 + line_len line ≡ suc (length line) = omega arith in sums)
 
--- a bracket begins with what `[` and `=` make, so no byte behind a text makes it begin with one
+-- the byte may stand in an opening: `[` or `=`; so no other byte behind a text completes an opening
 abbrev pub is_opening_byte : ℕ → Bool
 is_opening_byte byte = byte == 91 || byte == 61
 
@@ -338,7 +339,7 @@ gap-is byte rest n e = by_gap (is_gap byte) refl e
     by_gap true t f = by_blank (is_blank byte) refl t (let one : 1 ≡ n = cc in one)
     by_gap false t f = by_hash t (byte == 35) refl f
 
--- a gap that is written is found
+-- a gap that is written is found; first: a bracket comment
 bracket-comment-read : (n : ℕ) (inside back : List ℕ) → IsInside n inside → comment (35 ∷ ((opens_with n ++ (inside ++ closes_with n)) ++ back)) ≡ Ok (length (35 ∷ (opens_with n ++ (inside ++ closes_with n))))
 bracket-comment-read n inside back only =
     let behind : List ℕ = inside ++ (closes_with n ++ back) in

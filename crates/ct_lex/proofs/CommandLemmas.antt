@@ -1,4 +1,4 @@
--- One command: what the reader finds is what the grammar has, and no other.
+-- One command: the reader finds exactly the command that the grammar writes.
 use Rattle.std.proofs.Common.{◌≡◌, ℕ, suc, ◌+◌, Bool, true, false, ◌||◌, ◌==◌, nat_lt, List, [], ◌∷◌, ◌++◌, length, take, drop, get_or, Result, Ok, Err, refl, sym, ap, ◌∙◌, subst, arith, append_assoc, length-append}
 use Rattle.std.proofs.lemmas.Bool.Decides.{nat_tests}
 use Rattle.std.proofs.lemmas.Bool.{true≢false, and_parts, and_from}
@@ -45,7 +45,7 @@ same-command a b xs ys m n e =
     let both : left ≡ right = cc in
     (ap (λ (z : CommandRead). z.0) both, ap (λ (z : CommandRead). z.1) both, ap (λ (z : CommandRead). z.2) both)
 
--- the command of a word, behind which its spaces and its `(` stand
+-- a word, spaces, a `(` and arguments are a command of that word
 named-is : (word spaces inner name : List ℕ) (args : List Arg) (n : ℕ) → IsIdentifier word → list_all is_space spaces ≡ true →
     (read : Result (List Arg × ℕ) Stop) → arguments_from 0 inner ≡ read → named (lower word) (length word + length spaces + 1) read ≡ Ok (name, args, n) → CommandWritten (word ++ (spaces ++ 40 ∷ inner)) name args n
 named-is word spaces inner name args n is_word blank (Err stop) r e = cc
@@ -65,7 +65,7 @@ named-is word spaces inner name args n is_word blank (Ok x) r e =
       written = subst (λ (w : List ℕ). IsCommand front w args) same.0 (subst (λ (all : List Arg). IsCommand front (lower word) all) same.1 written);
     }
 
--- where the word and the spaces behind it end
+-- the place where the word and the spaces behind it end
 paren-of : (word spaces back : List ℕ) → word_len (word ++ (spaces ++ back)) ≡ length word → prefix_len is_space (spaces ++ back) ≡ length spaces → paren_at (word ++ (spaces ++ back)) ≡ length word + length spaces
 paren-of word spaces back count blank =
     let text : List ℕ = word ++ (spaces ++ back) in
@@ -78,7 +78,7 @@ command-as word spaces back count blank =
     ∙ ap (λ k. command_by text (lower (take k text)) (length word + length spaces)) count
     ∙ ap (λ t. command_by text (lower t) (length word + length spaces)) (take_at word (spaces ++ back) (length word) refl)
 
--- behind the word and its spaces
+-- what is left behind the word and its spaces
 behind-both : (word spaces back : List ℕ) (n : ℕ) → n ≡ length word + length spaces → drop n (word ++ (spaces ++ back)) ≡ back
 behind-both word spaces back n e =
     let text : List ℕ = word ++ (spaces ++ back) in
@@ -132,12 +132,12 @@ command-is byte rest name args n begins e =
     let read = command-as word spaces.run spaces.back (ap (λ t. word_len t) (sym split) ∙ count) blank in
     subst (λ (t : List ℕ). CommandWritten t name args n) (sym split) (opens-is word spaces.run spaces.back name args n (begins, run.all) spaces.all (sym read ∙ ap (λ t. command t) (sym split) ∙ e))
 
--- a command that is written is found
+-- a command that is written is found; first: an identifier is one run of its bytes
 identifier-run : (word : List ℕ) → IsIdentifier word → prefix_len is_word word ≡ length word
 identifier-run [] fit = absurd fit
 identifier-run (byte ∷ bytes) fit = run-whole is_word (byte ∷ bytes) (and_from (is_word byte) (list_all is_word bytes) (word-of-begins byte fit.0) fit.1)
 
--- behind an identifier and spaces, which neither `(` nor a space goes on
+-- an identifier in front of spaces and a `(` ends with its own last byte
 word-ends : (word spaces inner : List ℕ) → IsIdentifier word → list_all is_space spaces ≡ true → word_len (word ++ (spaces ++ 40 ∷ inner)) ≡ length word
 word-ends word [] inner fit blank = run-read is_word word 40 inner (identifier-run word fit) refl
 word-ends word (first ∷ spaces) inner fit blank =

@@ -8,7 +8,7 @@ use Rattle.std.proofs.lemmas.List.Sums.{sum_by-append}
 use Rattle.std.specs.List.{prefix_len}
 use Rattle.ct_lex.specs.Bytes.{stands, feeds}
 
--- what stands behind one text stands behind both
+-- of three texts in a row, the first two may be seen as one
 pub behind-front : (front rest middle back : List ℕ) → rest ≡ middle ++ back → front ++ rest ≡ (front ++ middle) ++ back
 behind-front front rest middle back e = ap (λ t. front ++ t) e ∙ sym (append_assoc front middle back)
 
@@ -18,7 +18,7 @@ behind-feed front rest middle back e = sym (append_assoc front (10 ∷ []) rest)
 pub stands-front : (byte first : ℕ) (rest : List ℕ) → stands byte 0 (first ∷ rest) ≡ (first == byte)
 stands-front byte first rest = let e : nat_lt 0 (length (first ∷ rest)) ≡ true = grind (arith, nat_tests) in rw e
 
--- a run of bytes of one kind, in front of a byte of another kind
+-- a run of bytes of one kind ends at a byte of another kind
 pub run-read : (p : ℕ → Bool) (run : List ℕ) (byte : ℕ) (more : List ℕ) → prefix_len p run ≡ length run → p byte ≡ false → prefix_len p (run ++ byte ∷ more) ≡ length run
 run-read p run byte more all other =
     let e : (prefix_len p run == length run) ≡ true = grind (arith, nat_tests) in
@@ -41,7 +41,7 @@ not_true false e = refl
 pub feeds-append : (a b : List ℕ) → feeds (a ++ b) ≡ feeds a + feeds b
 feeds-append a b = sum_by-append (λ byte. cond (byte == 10) 1 0) a b
 
--- a byte of which a test holds is not one of which it does not
+-- two bytes differ if a test holds for one of them alone
 pub is-other : (p : ℕ → Bool) (byte code : ℕ) → p byte ≡ true → p code ≡ false → (byte == code) ≡ false
 is-other p byte code holds never = by_test (byte == code) refl
   where

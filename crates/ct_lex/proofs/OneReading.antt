@@ -11,7 +11,7 @@ use Rattle.ct_lex.specs.declared.fault.LexFault.{LexFault}
 use Rattle.ct_lex.specs.declared.fault.LexFault.TheVariants.{OpenString, OpenBracket, OpenCall, BadEscape, BadChar, BadReference, NoMemory}
 use Rattle.ct_lex.specs.declared.stop.Stop.{Stop}
 
--- what an answer with a command says, and another call or place where it says none
+-- the command in an answer, or the given one where the answer has none
 call_in : Call → Result (Option (Call × Place)) LexFault → Call
 call_in call (Ok (Some x)) = x.0
 call_in call (Ok None) = call
@@ -61,12 +61,12 @@ pub next-inside : (rest : List ℕ) (line : ℕ) (behind : Bool) (call : Call) (
 next-inside [] line behind call after e = cc
 next-inside (byte ∷ rest) line behind call after e = omega arith
 
--- behind a command less of the text is left
+-- behind a command, less of the text is left
 pub next-shorter : (place : Place) (call : Call) (after : Place) → next_of place ≡ Ok (Some (call, after)) → length after.rest < length place.rest
 next-shorter place call after e =
     next_by-shorter place (start_from place.behind 0 place.rest) call after (next-inside place.rest place.line place.behind call after e) e
 
--- the reading from a place on, by what comes next there
+-- the reading from a place on, by what comes next there; first: nothing comes next
 pub none-only : (place : Place) → next_of place ≡ Ok None → (others : List Call) (other : Ending) → ReadsFrom place others other → (others ≡ []) × (other ≡ None)
 none-only place e [] None read = (refl, refl)
 none-only place e [] (Some fault) read = cc
@@ -80,8 +80,8 @@ fault-only place fault e (call ∷ calls) other read = let h = read.1 in cc
 list_of_same : (a b : Call) (xs ys : List Call) → a ≡ b → xs ≡ ys → a ∷ xs ≡ b ∷ ys
 list_of_same a b xs ys e f = cc
 
--- what is read by what comes next, and that it does not hang on how many things may be read, where that is more than
--- there are bytes
+-- the reading does not depend on how many steps are allowed, if they are more than the bytes;
+-- first: two readings that agree behind the next command are the same
 pub reading_by-same : (next : Result (Option (Call × Place)) LexFault) (f g : Place → List Call × Ending) → ((call : Call) (after : Place) → next ≡ Ok (Some (call, after)) → f after ≡ g after) → reading_by next f ≡ reading_by next g
 reading_by-same (Ok None) f g same = refl
 reading_by-same (Err fault) f g same = refl
@@ -109,7 +109,7 @@ call-only place call after one e (found ∷ calls) other read =
     let rest = one.only calls other (subst P (same_place (next_of place) found call read.0 after read.1 e) read.2) in
     (list_of_same found call calls (reading after).0 (same_call (next_of place) found call read.0 after read.1 e) rest.0, rest.1)
 
--- a reading and no others, stated of any list of calls and ending that the reading is
+-- `all` is the reading from a place on, and the only one
 pub record IsOne (place : Place) (all : List Call × Ending) : Type 0 where
   pub read : ReadsFrom place all.0 all.1
   pub only : (calls : List Call) (ending : Ending) → ReadsFrom place calls ending → (calls ≡ all.0) × (ending ≡ all.1)
@@ -138,7 +138,7 @@ fault-step old fault e =
     let step : reading old ≡ ([], Some fault) = reading-step old ∙ ap P e in
     (ap (λ (r : List Call × Ending). r.0) step, ap (λ (r : List Call × Ending). r.1) step)
 
--- what a call of `next` answers is the next of what is read
+-- what `next` returns is the next item of the reading
 pub reads_on : (old new : Place) (answer : Result (Option Call) LexFault) → AnswersNext old answer new → ReadsOn old answer new
 reads_on old new (Ok (Some call)) e =
     let P : Result (Option (Call × Place)) LexFault → List Call × Ending = λ next. reading_by next reading in

@@ -1,4 +1,4 @@
--- Whole files: what the reader finds is what the grammar has, and no other.
+-- Whole files: the reader finds exactly the commands that the grammar writes.
 use Rattle.std.proofs.Common.{◌≡◌, ℕ, zero, suc, ◌+◌, ◌<◌, ◌≤◌, Bool, true, false, cond, not, ◌&&◌, ◌==◌, List, [], ◌∷◌, ◌++◌, length, take, drop, get_or, Option, Some, None, option_map, Result, Ok, Err, refl, sym, ap, ◌∙◌, subst, arith, append_assoc, append-nil, length-append, add-zero, add_comm}
 use Rattle.std.proofs.lemmas.Bool.Decides.{nat_tests}
 use Rattle.std.proofs.lemmas.Bool.{true≢false}
@@ -26,7 +26,8 @@ use Rattle.ct_lex.proofs.BracketLemmas.{IsGapAt, no_gap, space, feed, line_comme
 use Rattle.ct_lex.proofs.CommandLemmas.{command-is, command-read}
 use Rattle.ct_lex.proofs.ArgumentsLemmas.{space-some}
 
--- the way to the next command, by the grammar: what stands in front of it goes before any commands that stand from it on
+-- the gaps in front of the next command, by the grammar: they may stand in front of any commands from there
+-- on
 pub record StartRead (behind : Bool) (line : ℕ) (text : List ℕ) (n : ℕ) : Type 0 where
   pub front : List ℕ
   pub byte : ℕ
@@ -43,7 +44,7 @@ StartSays behind line text (Some n) = StartRead behind line text n
 rest_at : {behind : Bool} {text : List ℕ} {calls : List Call} (m n : ℕ) → m ≡ n → IsRest behind m text calls → IsRest behind n text calls
 rest_at {behind} {text} {calls} m n e r = subst (λ (k : ℕ). IsRest behind k text calls) e r
 
--- something in front of what was read
+-- more text in front of what was read
 before : (behind after : Bool) (line : ℕ) (front back : List ℕ) (found : Option ℕ) → ((calls : List Call) → IsRest after (line + feeds front) back calls → IsRest behind line (front ++ back) calls) → StartSays after (line + feeds front) back found →
     StartSays behind line (front ++ back) (option_map (λ k. k + length front) found)
 before behind after line front back None goes read = goes [] read
@@ -146,7 +147,7 @@ start-is (suc fuel) behind line (byte ∷ rest) found fits e = by_gap (gap_at (b
         by_word g behind (not behind && begins_word byte) refl refl (sym here ∙ e)
     by_gap (Ok (suc k)) g again = start-gap (gap-is byte rest (suc k) g) behind line found (omega arith) g e again
 
--- what comes next at a place
+-- what comes next at a place; first: nothing comes next where no command begins
 next-none : (place : Place) → next_of place ≡ Ok None → start_from place.behind 0 place.rest ≡ Ok None
 next-none place e = by_start (start_from place.behind 0 place.rest) refl e
   where
@@ -185,7 +186,7 @@ next-some place call after e = by_start (start_from place.behind 0 place.rest) r
     by_start (Ok None) s f = cc
     by_start (Ok (Some n)) s f = by_command n s (command (drop n place.rest)) refl f
 
--- a command is read: the grammar has it in front of what it has behind it
+-- a command that is read stands, by the grammar, in front of the commands behind it
 call-is : (place : Place) (call : Call) (after : Place) (calls : List Call) → NextRead place call after → IsRestFrom after calls → IsRestFrom place (call ∷ calls)
 call-is place call after calls next later =
     let start = start-is (suc (length place.rest)) place.behind place.line place.rest (Some next.front) (omega arith) next.start in
@@ -214,7 +215,7 @@ pub rest-is : (calls : List Call) (place : Place) → ReadsFrom place calls None
 rest-is [] place e = start-is (suc (length place.rest)) place.behind place.line place.rest None (omega arith) (next-none place e)
 rest-is (call ∷ calls) place read = call-is place call read.0 calls (next-some place call read.0 read.1) (rest-is calls read.0 read.2)
 
--- what is written is read
+-- what is written is read; first: a call that is moved behind a front
 shift-call : (front back : List ℕ) (line : ℕ) (behind after : Bool) (k : ℕ) (read : Result CommandRead Stop) (x : Option (Call × Place)) → call_at (record { rest = back; line = line + feeds front; behind = after }) k read ≡ Ok x →
     call_at (record { rest = front ++ back; line = line; behind = behind }) (k + length front) read ≡ Ok x
 shift-call front back line behind after k (Err stop) x e = cc
@@ -253,7 +254,7 @@ gap-shift front back line behind after calls some gap goes read =
     reads-shift (record { rest = back; line = line + feeds front; behind = after }) (record { rest = front ++ back; line = line; behind = behind }) calls
     (λ x e. ap (λ r. next_by (record { rest = front ++ back; line = line; behind = behind }) r) step ∙ shift-next front back line behind after (start_from after 0 back) x e) read
 
--- a command begins as no gap does
+-- a byte that begins a command begins no gap
 start-name : (byte : ℕ) (rest : List ℕ) → begins_word byte ≡ true → start_from false 0 (byte ∷ rest) ≡ Ok (Some 0)
 start-name byte rest begins =
     rw (is-other begins_word byte 32 begins refl, is-other begins_word byte 9 begins refl, is-other begins_word byte 13 begins refl, is-other begins_word byte 10 begins refl, is-other begins_word byte 35 begins refl, begins) refl
@@ -301,7 +302,7 @@ rest-reads {line = line} (grammar.command {front = front} {text = text} {name = 
 pub reads_files : (text : List ℕ) → ReadsFiles text
 reads_files text calls = (rest-is calls (beginning text), λ (r : IsFile text calls). rest-reads r)
 
--- where the text is refused, the grammar writes it as no list of commands
+-- a text that is refused is no list of commands by the grammar
 refused-is : (place : Place) (fault : LexFault) → next_of place ≡ Err fault → (calls : List Call) → IsRestFrom place calls → ⊥
 refused-is place fault e calls r = by_calls calls (rest-reads r)
   where
@@ -309,7 +310,7 @@ refused-is place fault e calls r = by_calls calls (rest-reads r)
     by_calls [] read = cc
     by_calls (call ∷ more) read = let h = read.1 in cc
 
--- what a call of `next` answers, in the words of the grammar
+-- what `next` returns, in terms of the grammar
 pub writes_on : (old new : Place) (answer : Result (Option Call) LexFault) → AnswersNext old answer new → WritesOn old answer new
 writes_on old new (Ok (Some call)) e = λ calls. (
   λ (r : IsRestFrom old (call ∷ calls)).

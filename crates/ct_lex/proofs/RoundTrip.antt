@@ -1,4 +1,4 @@
--- What is written as CMake writes it is written by the grammar, and so it is read again.
+-- Commands that are written as CMake writes them follow the grammar, and so they are read back.
 use Rattle.std.proofs.Common.{◌≡◌, ℕ, ◌+◌, Bool, true, false, cond, ◌||◌, ◌==◌, List, [], ◌∷◌, ◌++◌, length, get_or, Some, refl, sym, ap, ◌∙◌, subst, arith, append_assoc}
 use Rattle.std.proofs.lemmas.Bool.Decides.{nat_tests}
 use Rattle.std.proofs.lemmas.Bool.{true≢false, and_parts}
@@ -23,7 +23,7 @@ use Rattle.ct_lex.proofs.RunLemmas.{with_bytes-join}
 text_as : {kind : ArgKind} {text other : List ℕ} {parts more : List Part} → other ≡ text → more ≡ parts → IsText kind other more → IsText kind text parts
 text_as {kind} {text} {other} {parts} {more} e f t = subst (λ (p : List Part). IsText kind text p) f (subst (λ (s : List ℕ). IsText kind s more) e t)
 
--- quoted arguments
+-- quoted arguments; first: equal bytes have the same escape
 escaped-same : (byte code : ℕ) → escaped Quoted code ≡ Some (Bytes (code ∷ [])) → (byte == code) ≡ true → escaped Quoted byte ≡ Some (Bytes (byte ∷ []))
 escaped-same byte code stands_for e =
     let same : byte ≡ code = grind (arith, nat_tests) in subst (λ (b : ℕ). escaped Quoted b ≡ Some (Bytes (b ∷ []))) (sym same) stands_for
@@ -46,7 +46,7 @@ parts-written [] fit = grammar.nothing
 parts-written (Bytes bytes ∷ parts) fit = text_as refl fit.0 (bytes-written bytes (written_parts parts) parts (parts-written parts fit.1))
 parts-written (Ref name ∷ parts) fit = grammar.reference name fit.0 (parts-written parts fit.1)
 
--- words without quotes
+-- words without quotes: plain bytes are the text of an unquoted argument
 plain-written : (bytes : List ℕ) → list_all (is_plain Unquoted) bytes ≡ true → IsText Unquoted bytes (with_bytes bytes [])
 plain-written [] all = grammar.nothing
 plain-written (byte ∷ bytes) all =
@@ -116,6 +116,6 @@ written-read : (calls : List Call) → CanBeWritten 1 calls → Reads (written c
 written-read calls fit =
     (reads_files (written calls) calls).1 (subst (λ (t : List ℕ). IsRest false 1 t calls) (sym (unmarked-written calls 1 fit)) (calls-written calls 1 fit))
 
--- what is written is read again
+-- what is written is read back
 pub reads_written : (text : List ℕ) → ReadsWritten text
 reads_written text calls fit e = subst (λ (t : List ℕ). Reads t calls) (sym e) (written-read calls fit)

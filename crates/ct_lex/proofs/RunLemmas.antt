@@ -1,4 +1,5 @@
--- A run of bytes that stand for themselves at the front of the text of an argument, and what is read behind it.
+-- A run of bytes that stand for themselves at the front of the text of an argument, and the reading behind
+-- it.
 use Rattle.std.proofs.Common.{◌≡◌, ℕ, suc, ◌+◌, ◌<◌, ◌≤◌, Bool, true, false, ◌||◌, ◌==◌, List, [], ◌∷◌, ◌++◌, length, get_or, take, drop, Result, Ok, Err, refl, sym, ap, subst, ◌∙◌, arith, add-zero, length-drop}
 use Rattle.std.proofs.lemmas.Bool.{or_parts}
 use Rattle.std.proofs.lemmas.List.{get_or-drop, drop-drop}
@@ -26,7 +27,7 @@ with_bytes-join byte (next ∷ bytes) [] = refl
 with_bytes-join byte (next ∷ bytes) (Bytes more ∷ parts) = refl
 with_bytes-join byte (next ∷ bytes) (Ref name ∷ parts) = refl
 
--- bytes in front of bytes
+-- putting bytes in front of parts in two pieces is putting them there in one
 pub bytes_joined : (front back : List ℕ) (parts : List Part) → with_bytes (front ++ back) parts ≡ with_bytes front (with_bytes back parts)
 bytes_joined [] back parts = refl
 bytes_joined (byte ∷ front) back parts =
@@ -39,7 +40,7 @@ nothing_before : (read : Result (List Part × ℕ) Stop) → read ≡ piece_befo
 nothing_before (Ok x) = let P : ℕ → Result (List Part × ℕ) Stop = λ n. Ok (x.0, n) in ap P (sym (add-zero x.1))
 nothing_before (Err stop) = refl
 
--- one byte in front of a run
+-- one byte in front of a run is a longer run
 byte_before : (byte : ℕ) (run : List ℕ) (n : ℕ) (read : Result (List Part × ℕ) Stop) → piece_before (Bytes (byte ∷ [])) (moved 1 (piece_before (Bytes run) (moved n read))) ≡ piece_before (Bytes (byte ∷ run)) (moved (suc n) read)
 byte_before byte run n (Err stop) = refl
 byte_before byte run n (Ok x) =
@@ -48,11 +49,11 @@ byte_before byte run n (Ok x) =
     let e : (x.1 + n) + 1 ≡ x.1 + suc n = omega arith in
     ap P e ∙ ap Q (with_bytes-join byte run x.0)
 
--- the first bytes are one piece, in front of what is read behind them
+-- the first n bytes are read as one piece, in front of what is read behind them
 abbrev IsRun : ArgKind → List ℕ → ℕ → Type 0
 IsRun kind text n = text_from kind 0 text ≡ piece_before (Bytes (take n text)) (moved n (text_from kind 0 (drop n text)))
 
--- the run at the front is
+-- the run of plain bytes at the front is read as one piece
 pub text_from-run : (kind : ArgKind) (text : List ℕ) (n : ℕ) → n ≡ prefix_len (is_plain kind) text → IsRun kind text n
 text_from-run kind [] n is = ap (λ k. piece_before (Bytes (take k [])) (moved k (text_from kind 0 (drop k [])))) (sym is)
 text_from-run kind (byte ∷ rest) n is = by_plain (is_plain kind byte) refl (text_from-run kind rest (prefix_len (is_plain kind) rest) refl)
@@ -72,7 +73,7 @@ text_from-run kind (byte ∷ rest) n is = by_plain (is_plain kind byte) refl (te
         ∙ ap (λ r. piece_before (Bytes (byte ∷ [])) (moved 1 r)) behind
         ∙ byte_before byte (take more rest) more (text_from kind 0 (drop more rest)))
 
--- nothing is read in front of the byte that ends a text
+-- at the byte that ends a text, nothing more is read
 pub text-ended : (kind : ArgKind) (text : List ℕ) (at : ℕ) → at < length text → ends_text kind (get_or text at 0) ≡ true → text_from kind 0 (drop at text) ≡ Ok ([], 0)
 text-ended kind text at inside ends =
     by_rest (drop at text) (omega (arith, length-drop at text)) (ap (λ byte. ends_text kind byte) (get_or-drop at text 0 0 ∙ ap (λ i. get_or text i 0) (add-zero at)) ∙ ends)
@@ -121,7 +122,7 @@ parts_run kind text at n old new whole inside is grows kept = (
       ∙ kept,
 )
 
--- a text that is one run
+-- a text that is one run has that run as its one part
 pub run_only : (kind : ArgKind) (text : List ℕ) (n : ℕ) (parts : List Part) → n < length text → n ≡ prefix_len (is_plain kind) text → ends_text kind (get_or text n 0) ≡ true → parts ≡ with_bytes (take n text) [] → text_from kind 0 text ≡ Ok (parts, n)
 run_only kind text n parts inside is ends made =
     let behind : text_from kind 0 (drop n text) ≡ Ok ([], 0) = text-ended kind text n inside ends in

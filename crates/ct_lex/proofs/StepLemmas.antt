@@ -1,4 +1,4 @@
--- What is read behind the thing at the front of a text: a definition that skips bytes reads what is left behind them.
+-- One step of a reading: a definition that skips the bytes of the first item reads the text behind them.
 use Rattle.std.proofs.Common.{◌≡◌, ℕ, zero, suc, ◌+◌, ◌-◌, ◌<◌, ◌≤◌, Bool, false, not, ◌&&◌, ◌==◌, List, [], ◌∷◌, length, get_or, drop, Option, Some, None, Result, Ok, Err, refl, sym, ap, ◌∙◌, arith, add_assoc, add_comm, add-zero, add-one, length-drop}
 use Rattle.std.proofs.lemmas.List.{get_or-drop, drop-drop}
 use Rattle.std.proofs.lemmas.Bool.Decides.{nat_tests}
@@ -52,7 +52,7 @@ start_from-skip behind (suc k) [] = refl
 start_from-skip behind (suc k) (byte ∷ rest) =
     ap (λ r. shifted 1 r) (start_from-skip behind k rest) ∙ shifted-shifted 1 k (start_from behind 0 (drop k rest)) ∙ ap (λ n. shifted n (start_from behind 0 (drop k rest))) (add-one k)
 
--- a unit at the front of a text, and the parts behind it
+-- a unit at the front of a text, then the parts behind it
 pub text_from-step : (kind : ArgKind) (text : List ℕ) (piece : Part) (n : ℕ) → 0 < n → ends_text kind (get_or text 0 0) ≡ false → unit_at kind text ≡ Ok (piece, n) → text_from kind 0 text ≡ piece_before piece (moved n (text_from kind 0 (drop n text)))
 text_from-step kind [] piece n positive goes_on unit = cc
 text_from-step kind (byte ∷ rest) piece zero positive goes_on unit = absurd (omega arith)
@@ -97,7 +97,7 @@ count_turn kind text at n piece whole inside goes_on unit positive fits kept =
           ∙ kept,
     )
 
--- a gap at the front of the arguments, and those behind it
+-- a gap at the front of arguments, then the arguments behind it
 pub arguments_from-gap : (text : List ℕ) (n : ℕ) → 0 < n → n ≤ length text → (get_or text 0 0 == 41) ≡ false → gap_at text ≡ Ok n → arguments_from 0 text ≡ moved n (arguments_from 0 (drop n text))
 arguments_from-gap [] n positive fits goes_on gap = absurd (omega arith)
 arguments_from-gap (byte ∷ rest) zero positive fits goes_on gap = absurd (omega arith)
@@ -106,7 +106,7 @@ arguments_from-gap (byte ∷ rest) (suc k) positive fits goes_on gap =
     let nonzero : (suc k == 0) ≡ false = grind (arith, nat_tests) in
     rw (goes_on, gap, nonzero, less) (arguments_from-skip (suc k) (byte ∷ rest))
 
--- an argument at the front, and those behind it
+-- an argument at the front, then the arguments behind it
 pub arguments_from-argument : (text : List ℕ) (arg : Arg) (n : ℕ) → 0 < n → n ≤ length text → (get_or text 0 0 == 41) ≡ false → gap_at text ≡ Ok 0 → argument text ≡ Ok (arg, n) → arguments_from 0 text ≡ argument_before arg (moved n (arguments_from 0 (drop n text)))
 arguments_from-argument [] arg n positive fits goes_on gap read = absurd (omega arith)
 arguments_from-argument (byte ∷ rest) arg zero positive fits goes_on gap read = absurd (omega arith)
@@ -117,7 +117,7 @@ arguments_from-argument (byte ∷ rest) arg (suc k) positive fits goes_on gap re
 pub first-byte : (text : List ℕ) (at : ℕ) → (get_or text at 0 == 41) ≡ false → (get_or (drop at text) 0 0 == 41) ≡ false
 first-byte text at goes_on = ap (λ byte. byte == 41) (get_or-drop at text 0 0 ∙ ap (λ i. get_or text i 0) (add-zero at)) ∙ goes_on
 
--- what is read from a place on, and from behind a gap there
+-- what is read from a place on is what is read behind the gap there
 pub gap_passed : (text : List ℕ) (at n : ℕ) → (get_or (drop at text) 0 0 == 41) ≡ false → gap_at (drop at text) ≡ Ok n → 0 < n → n ≤ length (drop at text) → moved (at + n) (arguments_from 0 (drop (at + n) text)) ≡ moved at (arguments_from 0 (drop at text))
 gap_passed text at n first gap positive fits =
     ap (λ k. moved k (arguments_from 0 (drop (at + n) text))) (add_comm at n)
@@ -125,7 +125,7 @@ gap_passed text at n first gap positive fits =
     ∙ ap (λ rest. moved at (moved n (arguments_from 0 rest))) (sym (drop-drop n at text))
     ∙ ap (λ r. moved at r) (sym (arguments_from-gap (drop at text) n positive fits first gap))
 
--- the same behind an argument
+-- behind an argument, two moves of an end are one move by their sum
 pub argument_before-moved : (arg : Arg) (at n : ℕ) (read : Result (List Arg × ℕ) Stop) → moved at (argument_before arg (moved n read)) ≡ argument_before arg (moved (at + n) read)
 argument_before-moved arg at n (Err stop) = refl
 argument_before-moved arg at n (Ok x) =
@@ -158,7 +158,7 @@ argument_turn text at n arg whole inside goes_on gap read positive fits kept = (
       ∙ kept,
 )
 
--- a gap in front of a command, and what stands behind it
+-- a gap in front of a command, then what stands behind it
 pub start_from-step : (behind : Bool) (text : List ℕ) (n : ℕ) → 0 < n → n ≤ length text → gap_at text ≡ Ok n → start_from behind 0 text ≡ shifted n (start_from (behind && not (get_or text 0 0 == 10)) 0 (drop n text))
 start_from-step behind [] n positive fits gap = absurd (omega arith)
 start_from-step behind (byte ∷ rest) zero positive fits gap = absurd (omega arith)

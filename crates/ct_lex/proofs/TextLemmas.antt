@@ -1,4 +1,4 @@
--- The text of an argument: what the reader finds is what the grammar has, and no other.
+-- The text of an argument: the reader finds exactly the text that the grammar writes.
 use Rattle.std.proofs.Common.{◌≡◌, ℕ, zero, suc, ◌+◌, ◌<◌, Bool, true, false, cond, ◌||◌, ◌&&◌, ◌==◌, nat_lt, List, [], ◌∷◌, ◌++◌, length, take, drop, get_or, Option, Some, None, Result, Ok, Err, codes, refl, sym, ap, ◌∙◌, subst, arith, append_assoc, append-nil, length-append, length-drop}
 use Rattle.std.proofs.lemmas.Bool.Decides.{nat_tests}
 use Rattle.std.proofs.lemmas.Bool.{true≢false, and_parts, or_parts, or_from, and_from}
@@ -23,7 +23,7 @@ use Rattle.ct_lex.proofs.StepLemmas.{text_from-step}
 use Rattle.ct_lex.proofs.FrontLemmas.{run-read, stands-at, drop-front, not_true}
 use Rattle.ct_lex.proofs.BracketLemmas.{stands-is}
 
--- what was read in front of something, and what was read behind it
+-- what was read with its end moved by m was read with an end m bytes earlier
 pub moved-ok : {A : Type 0} (m n : ℕ) (x : A) (read : Result (A × ℕ) Stop) → moved m read ≡ Ok (x, n) → (k : ℕ) × (read ≡ Ok (x, k)) × (k + m ≡ n)
 moved-ok m n x (Err stop) e = cc
 moved-ok {A} m n x (Ok y) e =
@@ -81,7 +81,7 @@ run-whole p (byte ∷ run) e =
     let again : prefix_len p run ≡ length run = run-whole p run both.1 in
     rw (both.0) (let sums : 1 + prefix_len p run ≡ suc (length run) = omega arith in sums)
 
--- whether a word begins a text does not hang on what stands behind a byte that the word has not
+-- whether a text begins with a word does not depend on what follows a byte that the word lacks
 pub starts-same : (word text : List ℕ) (byte : ℕ) (back : List ℕ) → list_any (λ c. c == byte) word ≡ false → starts_with ◌==◌ (text ++ byte ∷ back) word ≡ starts_with ◌==◌ text word
 starts-same [] text byte back other = refl
 starts-same (c ∷ word) [] byte back other =
@@ -91,7 +91,7 @@ starts-same (c ∷ word) (x ∷ text) byte back other =
     let parts = or_parts (c == byte) (list_any (λ c. c == byte) word) other in
     ap (λ b. (c == x) && b) (starts-same word text byte back parts.1)
 
--- a byte of which a test holds is none of those of which it does not
+-- if a test holds for a byte and for no byte of a word, the word lacks that byte
 none-of : (p : ℕ → Bool) (byte : ℕ) (word : List ℕ) → p byte ≡ true → list_any p word ≡ false → list_any (λ c. c == byte) word ≡ false
 none-of p byte [] holds none = refl
 none-of p byte (c ∷ word) holds none =
@@ -292,7 +292,7 @@ text-is (suc fuel) kind (byte ∷ rest) parts n fits e = by_end (ends_text kind 
         let read = again unit.1 pieces.0 shift.0 some (omega (arith, length-drop unit.1 (byte ∷ rest))) shift.1 in
         subst (λ (p : List Part). TextRead kind (byte ∷ rest) p n) pieces.2 (subst (λ (k : ℕ). TextRead kind (byte ∷ rest) (with_piece unit.0 pieces.0) k) shift.2 (text-step is t pieces.0 shift.0 read))
 
--- the text of an argument that is written is found
+-- the text of an argument that is written is found; first: a backslash does not end it
 pub ends-backslash : (kind : ArgKind) → ends_text kind 92 ≡ false
 ends-backslash Bracket = refl
 ends-backslash Quoted = refl

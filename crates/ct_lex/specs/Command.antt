@@ -10,11 +10,11 @@ use Rattle.ct_lex.specs.declared.stop.Stop.{Stop}
 use Rattle.ct_lex.specs.declared.stop.Stop.TheVariants.{Ended}
 use Rattle.ct_lex.specs.declared.stop.Cause.TheVariants.{BadChar}
 
--- how many bytes the identifier has that a text begins with
+-- how many bytes the identifier at the front of a text has
 abbrev pub word_len : List ℕ → ℕ
 word_len text = prefix_len is_word text
 
--- the place of the first byte behind the identifier and the spaces and tabs behind it
+-- the place of the first byte behind the identifier and behind the spaces and tabs that follow it
 abbrev pub paren_at : List ℕ → ℕ
 paren_at text = word_len text + prefix_len is_space (drop (word_len text) text)
 
@@ -22,7 +22,8 @@ paren_at text = word_len text + prefix_len is_space (drop (word_len text) text)
 abbrev pub CommandRead : Type 0
 CommandRead = List ℕ × List Arg × ℕ
 
--- the command of that name, by what was read of its arguments, with so many bytes in front of them
+-- the command of that name with the arguments that were read, or their fault; `front` bytes stand in front of
+-- them
 abbrev pub named : List ℕ → ℕ → Result (List Arg × ℕ) Stop → Result CommandRead Stop
 named name front read = read >>= λ x. Ok (name, x.0, x.1 + front)
 
@@ -37,17 +38,18 @@ command_by text name paren =
 abbrev pub command : List ℕ → Result CommandRead Stop
 command text = command_by text (lower (take (word_len text) text)) (paren_at text)
 
--- moves the place of the next command by so many bytes
+-- the place of the next command, n bytes further on
 abbrev pub shifted : ℕ → Result (Option ℕ) Stop → Result (Option ℕ) Stop
 shifted n read = read >>= λ start. Ok (option_map (λ k. k + n) start)
 
--- whether what stands behind a gap stands behind a command on its line still: a line feed alone ends that
+-- the text behind a gap is still on the line of the command in front of it; only a line feed ends that
 abbrev pub stays_behind : Bool → ℕ → Bool
 stays_behind behind first = behind && not (first == char "\n")
 
--- How many bytes of blanks, line feeds and comments stand in front of the next command, or none at the end of the
--- text. Behind a command no other one begins before the next line feed outside a comment. The first `skip` bytes
--- belong to what stands in front.
+-- How many bytes of blanks, line feeds and comments stand in front of the next command; None at the end of
+-- the text.
+-- Behind a command, the next one begins only after a line feed outside a comment.
+-- The first `skip` bytes belong to a gap that is already read.
 abbrev pub start_from : Bool → ℕ → List ℕ → Result (Option ℕ) Stop
 start_from behind skip [] = Ok None
 start_from behind (suc skip) (byte ∷ rest) = shifted 1 (start_from behind skip rest)

@@ -1,4 +1,4 @@
--- What is read of a file, in the words of the grammar.
+-- The reading of a file, in terms of the grammar.
 use Rattle.std.specs.Prelude.{ℕ, ◌↔◌, ⊤, List, [], ◌∷◌, Option, Some, None, Result, Ok, Err}
 use Rattle.ct_lex.specs.Grammar.{IsRest}
 use Rattle.ct_lex.specs.Place.{Place, beginning}
@@ -7,20 +7,22 @@ use Rattle.ct_lex.specs.declared.call.Call.{Call}
 use Rattle.ct_lex.specs.declared.fault.LexFault.{LexFault}
 use Rattle.ct_lex.specs.declared.fault.LexFault.TheVariants.{NoMemory}
 
--- what stands from a place on, and its commands
+-- the grammar writes the text from a place on as these commands
 abbrev pub IsRestFrom : Place → List Call → Type 0
 IsRestFrom place calls = IsRest place.behind place.line place.rest calls
 
--- a file, without the byte order mark that it may begin with, and its commands
+-- the grammar writes a file as these commands, behind the byte order mark that it may begin with
 abbrev pub IsFile : List ℕ → List Call → Type 0
 IsFile text calls = IsRestFrom (beginning text) calls
 
--- what is read is what the grammar writes, and what it writes is read: so it writes a text as one list of commands alone
+-- a text is read as a list of commands exactly if the grammar writes it as that list;
+-- so the grammar writes a text as at most one list of commands
 abbrev pub ReadsFiles : List ℕ → Type 0
 ReadsFiles text = (calls : List Call) → Reads text calls ↔ IsFile text calls
 
--- What an answer of `next` says in the words of the grammar: a command stands in front of what stands from the new place
--- on; or no command more; or, where the text is refused, it is no list of commands from there on.
+-- What an answer of `next` means in terms of the grammar, by cases:
+-- a command stands in front of what stands from the new place on; None: no command is left;
+-- a refusal: the text from the old place on is no list of commands; want of memory: nothing.
 abbrev pub WritesOn : Place → Result (Option Call) LexFault → Place → Type 0
 WritesOn old (Ok (Some call)) new = (calls : List Call) → IsRestFrom old (call ∷ calls) ↔ IsRestFrom new calls
 WritesOn old (Ok None) new = IsRestFrom old []

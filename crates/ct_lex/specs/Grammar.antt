@@ -23,7 +23,7 @@ closes_with n = codes "]" ++ (replicate n (char "=") ++ codes "]")
 abbrev pub BeginsBracket : List ℕ → Type 0
 BeginsBracket text = (n : ℕ) × (more : List ℕ) × (text ≡ opens_with n ++ more)
 
--- a text in a bracket: the closing stands behind it, and nowhere before
+-- the text inside a bracket: the closing stands directly behind it, and nowhere before
 abbrev pub IsInside : ℕ → List ℕ → Type 0
 IsInside n inside =
     (front back : List ℕ) → inside ++ closes_with n ≡ front ++ (closes_with n ++ back) → front ≡ inside
@@ -43,7 +43,7 @@ pub data IsLineComment : List ℕ → Type 0 where
   line_comment : (text : List ℕ) →
       feeds text ≡ 0 → (BeginsBracket text → ⊥) → IsLineComment (codes "#" ++ text)
 
--- the end of a line: a line feed, with a comment in front of it or without
+-- the end of a line: a line feed, with or without a comment in front of it
 pub data IsLineEnd : List ℕ → Type 0 where
   feed : IsLineEnd (codes "\n")
   commented : {text : List ℕ} → IsLineComment text → IsLineEnd (text ++ codes "\n")
@@ -58,8 +58,8 @@ abbrev pub IsVariable : List ℕ → Type 0
 IsVariable [] = ⊥
 IsVariable (byte ∷ bytes) = list_all is_name (byte ∷ bytes) ≡ true
 
--- the text of a quoted or an unquoted argument, and its parts: plain bytes, escapes, references, and each `$` that
--- begins no reference
+-- the text of a quoted or an unquoted argument, with its parts:
+-- plain bytes, escapes, references, and each `$` that begins no reference
 pub data IsText : ArgKind → List ℕ → List Part → Type 0 where
   nothing : {kind : ArgKind} → IsText kind [] []
   plain : {kind : ArgKind} {text : List ℕ} {parts : List Part} (byte : ℕ) →
@@ -75,7 +75,7 @@ pub data IsText : ArgKind → List ℕ → List Part → Type 0 where
       IsVariable name → IsText kind text parts →
       IsText kind (codes "${" ++ (name ++ (codes "}" ++ text))) (Ref name ∷ parts)
 
--- an argument: a bracket, a text between two `"`, or some text that begins with no bracket
+-- an argument: a bracket, a text between two `"`, or a text that is not empty and begins with no bracket
 pub data IsArgument : List ℕ → Arg → Type 0 where
   bracketed : {text inside : List ℕ} → IsBracket text inside →
       IsArgument text (record { kind = Bracket; parts = with_bytes (without_feed inside) [] })
@@ -85,7 +85,7 @@ pub data IsArgument : List ℕ → Arg → Type 0 where
       (text ≡ [] → ⊥) → (BeginsBracket text → ⊥) →
       IsArgument text (record { kind = Unquoted; parts = parts })
 
--- What stands between the `(` and the `)` of a command. Directly behind an argument no other one begins.
+-- What stands between the `(` and the `)` of a command. No argument begins directly behind another one.
 pub data IsArguments : (behind : Bool) → List ℕ → List Arg → Type 0 where
   none : {behind : Bool} → IsArguments behind [] []
   space : {behind : Bool} {front text : List ℕ} {args : List Arg} →
@@ -101,8 +101,8 @@ pub data IsCommand : List ℕ → List ℕ → List Arg → Type 0 where
       IsIdentifier word → list_all is_space spaces ≡ true → IsArguments false text args →
       IsCommand (word ++ (spaces ++ (codes "(" ++ (text ++ codes ")")))) (lower word) args
 
--- What stands from a line on up to the end of a file, and its commands with their lines. Behind a command no other one
--- begins on its line.
+-- The text from a line on up to the end of a file, with its commands and their lines.
+-- Behind a command, the next one begins only after the end of a line.
 pub data IsRest : (behind : Bool) → (line : ℕ) → List ℕ → List Call → Type 0 where
   at_end : {behind : Bool} {line : ℕ} → IsRest behind line [] []
   in_comment : {behind : Bool} {line : ℕ} {text : List ℕ} → IsLineComment text → IsRest behind line text []

@@ -4,6 +4,6 @@ use Rattle.ct_lex.specs.Argument.{with_bytes}
 use Rattle.ct_lex.specs.declared.call.Part.{Part}
 use Rattle.ct_lex.specs.declared.parts.Parts.{Parts}
 
--- all the parts of an argument: the ones so far, and those of what is still to be read
+-- all parts of an argument: the parts read so far, followed by the parts still to be read
 abbrev pub joined_parts : Parts → List Part → List Part
 joined_parts parts more = parts.whole ++ with_bytes parts.bytes.items more

@@ -1,20 +1,20 @@
--- The next argument of a command, as it is lent or made.
+-- The next argument of a command, which is lent or made.
 use Rattle.std.specs.Prelude.{ℕ, [], Option, option_map, Result, Ok, Err}
 use Rattle.ct_lex.specs.Argument.{with_bytes}
 use Rattle.ct_lex.specs.declared.call.Arg.{Arg}
 use Rattle.ct_lex.specs.declared.call.NextArg.{NextArg}
 use Rattle.ct_lex.specs.declared.call.NextArg.TheVariants.{Run, Made}
 
--- the argument: that of its kind with these bytes as its one part, or the one that is made
+-- the argument that is lent or made; a lent run of bytes is its one part, and an empty run is no part
 abbrev pub arg_of : NextArg → Arg
 arg_of (Run kind bytes) = record { kind = kind; parts = with_bytes bytes.now [] }
 arg_of (Made arg) = arg
 
--- the same, and how many bytes it takes
+-- an argument that is lent or made, with how many bytes it takes
 abbrev pub read_as : NextArg × ℕ → Arg × ℕ
 read_as x = (arg_of x.0, x.1)
 
--- the next argument, where there is one
+-- the next argument, if there is one
 abbrev pub next_of : {E : Type 0} → Result (Option NextArg) E → Result (Option Arg) E
 next_of (Ok found) = Ok (option_map arg_of found)
 next_of (Err fault) = Err fault

@@ -11,7 +11,8 @@ use Rattle.ct_lex.specs.declared.stop.Stop.TheVariants.{Ended, At}
 use Rattle.ct_lex.specs.declared.fault.LexFault.{LexFault}
 use Rattle.ct_lex.specs.declared.fault.LexFault.TheVariants as fault
 
--- what is left of the text, the line at its front, and whether it stands behind a command on that command's line
+-- a place in a text: what is left of the text, the line of its first byte,
+-- and whether the place is behind a command on that command's line
 pub record Place : Type 0 where
   pub rest : List ℕ
   pub line : ℕ
@@ -25,11 +26,11 @@ byte_order_mark = 0xEF ∷ 0xBB ∷ 0xBF ∷ []
 abbrev pub unmarked : List ℕ → List ℕ
 unmarked text = if starts_with ◌==◌ text byte_order_mark then drop 3 text else text
 
--- where a text begins
+-- the place at the front of a text
 abbrev pub beginning : List ℕ → Place
 beginning text = record { rest = unmarked text; line = 1; behind = false }
 
--- the line of what stands behind the next n bytes
+-- the line of the place behind the next n bytes
 abbrev pub line_behind : Place → ℕ → ℕ
 line_behind place n = place.line + feeds (take n place.rest)
 
@@ -42,27 +43,28 @@ fault_of BadEscape line = fault.BadEscape line
 fault_of BadChar line = fault.BadChar line
 fault_of BadReference line = fault.BadReference line
 
--- a refusal with its line; where the text ends in a command, the line is that of the command, behind n bytes
+-- the fault of a refusal, with its line;
+-- if the text ends inside a command, the line is that of the command, which begins behind n bytes
 abbrev pub fault_at : Place → ℕ → Stop → LexFault
 fault_at place n Ended = fault_of OpenCall (line_behind place n)
 fault_at place n (At cause left) = fault_of cause (line_behind place (length place.rest - left))
 
--- behind a command
+-- the place behind a command that ends after n bytes
 abbrev pub behind_command : Place → ℕ → Place
 behind_command place n = record { rest = drop n place.rest; line = line_behind place n; behind = true }
 
--- the command that stands behind the next n bytes, and where it ends
+-- the command that begins behind n bytes, and the place behind it, or the fault
 abbrev pub call_at : Place → ℕ → Result CommandRead Stop → Result (Option (Call × Place)) LexFault
 call_at place n (Err stop) = Err (fault_at place n stop)
 call_at place n (Ok read) =
     Ok (Some (record { name = read.0; args = read.1; line = line_behind place n }, behind_command place (n + read.2)))
 
--- what comes next from a place on, by where the next command stands
+-- what comes next from a place on, given where the next command begins
 abbrev pub next_by : Place → Result (Option ℕ) Stop → Result (Option (Call × Place)) LexFault
 next_by place (Err stop) = Err (fault_at place 0 stop)
 next_by place (Ok None) = Ok None
 next_by place (Ok (Some n)) = call_at place n (command (drop n place.rest))
 
--- the next command from a place on and the place behind it, none at the end of the text, or why there is no reading
+-- the next command and the place behind it, None at the end of the text, or the fault
 abbrev pub next_of : Place → Result (Option (Call × Place)) LexFault
 next_of place = next_by place (start_from place.behind 0 place.rest)

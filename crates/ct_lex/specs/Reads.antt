@@ -5,57 +5,57 @@ use Rattle.ct_lex.specs.declared.call.Call.{Call}
 use Rattle.ct_lex.specs.declared.fault.LexFault.{LexFault}
 use Rattle.ct_lex.specs.declared.fault.LexFault.TheVariants.{NoMemory}
 
--- the end of a text, or the first fault in it
+-- how a reading ends: None at the end of the text, or the first fault
 abbrev pub Ending : Type 0
 Ending = Option LexFault
 
--- nothing more is read from a place on, for this ending
+-- the reading ends at this place, with this ending
 abbrev pub EndsAt : Place → Ending → Type 0
 EndsAt place None = next_of place ≡ Ok None
 EndsAt place (Some fault) = next_of place ≡ Err fault
 
--- from a place on these calls are read one by one, and then this ending comes
+-- from a place on, these calls are read one by one, and then the reading has this ending
 abbrev pub ReadsFrom : Place → List Call → Ending → Type 0
 ReadsFrom place [] ending = EndsAt place ending
 ReadsFrom place (call ∷ calls) ending =
     (after : Place) × (next_of place ≡ Ok (Some (call, after))) × ReadsFrom after calls ending
 
--- the text is these calls
+-- the text is read as these calls, up to its end
 abbrev pub Reads : List ℕ → List Call → Type 0
 Reads text calls = ReadsFrom (beginning text) calls None
 
--- the text has these calls, and then no reading, for this fault
+-- the text is read as these calls, and then refused with this fault
 abbrev pub Refuses : List ℕ → List Call → LexFault → Type 0
 Refuses text calls fault = ReadsFrom (beginning text) calls (Some fault)
 
--- what is read, by what comes next: a call, and then what is read behind it; or the ending
+-- the reading, given what comes next: a call in front of the reading behind it, or the ending
 abbrev pub reading_by : Result (Option (Call × Place)) LexFault → (Place → List Call × Ending) → List Call × Ending
 reading_by (Ok None) later = ([], None)
 reading_by (Err fault) later = ([], Some fault)
 reading_by (Ok (Some x)) later = (x.0 ∷ (later x.1).0, (later x.1).1)
 
--- the first n things that are read from a place on
+-- the reading from a place on, cut after n steps
 abbrev pub reading_within : ℕ → Place → List Call × Ending
 reading_within zero place = ([], None)
 reading_within (suc n) place = reading_by (next_of place) (λ after. reading_within n after)
 
--- all that is read from a place on, the calls and the ending: there are fewer calls than bytes
+-- the whole reading from a place on, the calls and the ending; it has fewer calls than the text has bytes
 unfoldable pub reading : Place → List Call × Ending
 reading place = reading_within (suc (length place.rest)) place
 
--- a text has one reading: one list of calls, and then its end or one first fault
+-- one reading from a place on: one list of calls, and then the end of the text or one first fault
 pub record HasOneReading (place : Place) : Type 0 where
   pub read : ReadsFrom place (reading place).0 (reading place).1
   pub only : (calls : List Call) (ending : Ending) → ReadsFrom place calls ending → (calls ≡ (reading place).0) × (ending ≡ (reading place).1)
 
--- what a call of `next` answers at a place, and where the lexer stands behind it: an answer that is no command leaves it
+-- what `next` returns at a place, and the place of the lexer afterwards; without a command the place stays
 abbrev pub AnswersNext : Place → Result (Option Call) LexFault → Place → Type 0
 AnswersNext old (Ok (Some call)) new = next_of old ≡ Ok (Some (call, new))
 AnswersNext old (Ok None) new = (next_of old ≡ Ok None) × (new ≡ old)
 AnswersNext old (Err NoMemory) new = new ≡ old
 AnswersNext old (Err fault) new = (next_of old ≡ Err fault) × (new ≡ old)
 
--- the same in the words of the whole reading
+-- what `next` returns in terms of the whole reading: its first call, its end, or its fault
 abbrev pub ReadsOn : Place → Result (Option Call) LexFault → Place → Type 0
 ReadsOn old (Ok (Some call)) new = ((reading old).0 ≡ call ∷ (reading new).0) × ((reading old).1 ≡ (reading new).1)
 ReadsOn old (Ok None) new = ((reading old).0 ≡ []) × ((reading old).1 ≡ None)

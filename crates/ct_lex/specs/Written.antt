@@ -1,4 +1,4 @@
--- How commands can be written, as CMake writes them, so that reading gives them again.
+-- How CMake writes commands, so that reading the text returns the same commands.
 use Rattle.std.specs.Prelude.{◌≡◌, ℕ, ◌+◌, true, false, ◌||◌, ◌==◌, if◌then◌else◌, ⊤, List, [], ◌∷◌, ◌++◌, codes}
 use Rattle.std.specs.List.{list_all}
 use Rattle.ct_lex.specs.Argument.{with_bytes, is_plain, without_feed}
@@ -12,12 +12,12 @@ use Rattle.ct_lex.specs.declared.call.Call.{Call}
 use Rattle.ct_lex.specs.declared.call.Part.{Part}
 use Rattle.ct_lex.specs.declared.call.Part.TheVariants.{Bytes, Ref}
 
--- a byte of a quoted argument: `"`, a backslash and `$` stand behind a backslash
+-- a byte as a quoted argument writes it: `"`, a backslash and `$` have a backslash in front
 abbrev pub written_byte : ℕ → List ℕ
 written_byte byte =
     if byte == char "\"" || byte == char "\\" || byte == char "$" then codes "\\" ++ byte ∷ [] else byte ∷ []
 
--- the bytes of a quoted argument
+-- bytes as a quoted argument writes them
 abbrev pub written_bytes : List ℕ → List ℕ
 written_bytes [] = []
 written_bytes (byte ∷ bytes) = written_byte byte ++ written_bytes bytes
@@ -28,19 +28,19 @@ written_parts [] = []
 written_parts (Bytes bytes ∷ parts) = written_bytes bytes ++ written_parts parts
 written_parts (Ref name ∷ parts) = codes "${" ++ (name ++ (codes "}" ++ written_parts parts))
 
--- the bytes of parts among which is no reference
+-- the bytes of the parts, without the references
 abbrev pub plain_bytes : List Part → List ℕ
 plain_bytes [] = []
 plain_bytes (Bytes bytes ∷ parts) = bytes ++ plain_bytes parts
 plain_bytes (Ref name ∷ parts) = plain_bytes parts
 
--- an argument in a bracket of one `=`, between two `"`, or as it is
+-- an argument as it is written: in a bracket with one `=`, between two `"`, or as it is
 abbrev pub written_arg : ArgKind → List Part → List ℕ
 written_arg Bracket parts = opens_with 1 ++ (plain_bytes parts ++ closes_with 1)
 written_arg Quoted parts = codes "\"" ++ (written_parts parts ++ codes "\"")
 written_arg Unquoted parts = plain_bytes parts
 
--- each argument with a space behind it
+-- arguments as they are written, each with a space behind it
 abbrev pub written_args : List Arg → List ℕ
 written_args [] = []
 written_args (arg ∷ args) = written_arg arg.kind arg.parts ++ (codes " " ++ written_args args)
@@ -54,23 +54,25 @@ abbrev pub written : List Call → List ℕ
 written [] = []
 written (call ∷ calls) = written_call call ++ written calls
 
--- parts as a reading gives them: bytes are not empty and stand beside no others, and a reference has a name
+-- parts as a reading returns them: no part of bytes is empty or beside another one, and each reference has a
+-- name
 abbrev pub AreParts : List Part → Type 0
 AreParts [] = ⊤
 AreParts (Bytes bytes ∷ parts) = (with_bytes bytes parts ≡ Bytes bytes ∷ parts) × AreParts parts
 AreParts (Ref name ∷ parts) = IsVariable name × AreParts parts
 
--- bytes that can stand in a bracket of one `=`: no line feed is dropped in front of them, and they close no bracket
+-- bytes that a bracket with one `=` can hold: no line feed at their front is dropped, and they do not close
+-- it
 pub record IsInBracket (bytes : List ℕ) : Type 0 where
   pub front : without_feed bytes ≡ bytes
   pub closed : IsInside 1 bytes
 
--- a word that needs no quotes: some plain bytes, the first of them no `[`
+-- a word that needs no quotes: one or more plain bytes, of which the first is no `[`
 abbrev pub IsPlainWord : List ℕ → Type 0
 IsPlainWord [] = ⊥
 IsPlainWord (byte ∷ bytes) = ((byte == char "[") ≡ false) × (list_all (is_plain Unquoted) (byte ∷ bytes) ≡ true)
 
--- parts that an argument of that kind can have and be written
+-- parts that an argument of that kind can have, and that can be written
 abbrev pub IsArg : ArgKind → List Part → Type 0
 IsArg Bracket parts = (with_bytes (plain_bytes parts) [] ≡ parts) × IsInBracket (plain_bytes parts)
 IsArg Quoted parts = AreParts parts
@@ -91,6 +93,6 @@ CanBeWritten line [] = ⊤
 CanBeWritten line (call ∷ calls) =
     IsCommandName call.name × AreArgs call.args × (call.line ≡ line) × CanBeWritten (line + feeds (written_call call)) calls
 
--- a text that is written so is read as these commands and no others
+-- a text that is written for commands in this way is read as exactly these commands
 abbrev pub ReadsWritten : List ℕ → Type 0
 ReadsWritten text = (calls : List Call) → CanBeWritten 1 calls → text ≡ written calls → Reads text calls

@@ -13,11 +13,11 @@ use std::marker::Model;
 
 /// The arguments of a command, in order. Contracts see the list of them.
 ///
-/// They are kept as they are written, which takes a byte for each byte of the text, and are made one
+/// The text is kept as it is written, at one byte for each byte. The arguments are made from it one
 /// by one.
 #[derive(Debug, Drop)]
 pub struct Args {
-    /// What stands behind the `(` of the command, with the `)`.
+    /// The text behind the `(` of the command, up to and with the `)`.
     text: Vec<u8>,
 }
 
@@ -34,7 +34,7 @@ impl Model for Args {
 }
 
 impl Args {
-    /// Reads the arguments of a command behind its `(`, and counts their bytes with the `)`.
+    /// Reads the arguments of a command behind its `(`, and counts their bytes, the `)` included.
     pub(crate) fn read(alloc: Global, text: &[u8]) -> Result<(Args, usize), Halt>
         ensures value { GivesRead result (arguments_from 0 text.now) }
         ensures within { IfOk result (λ x. x.1 ≤ length text.now) }
@@ -46,7 +46,7 @@ impl Args {
         Ok((args, taken))
     }
 
-    /// Begins to make the arguments, from the first one on.
+    /// Returns a reader that makes the arguments, from the first one on.
     pub fn reader(&self) -> ArgReader<'_>
         ensures { result ≡ self.now }
     {
@@ -56,7 +56,7 @@ impl Args {
     }
 }
 
-/// Makes the arguments of a command one by one. Contracts see the list of those that are left.
+/// Makes the arguments of a command one by one. Contracts see the list of the arguments left.
 #[derive(Debug, Drop)]
 pub struct ArgReader<'a> {
     rest: &'a [u8],
@@ -75,7 +75,7 @@ impl<'a> Model for ArgReader<'a> {
 }
 
 impl<'a> ArgReader<'a> {
-    /// Makes the next argument: `None` exactly behind the last one.
+    /// Makes the next argument; `None` exactly if none is left.
     ///
     /// An `Err` changes nothing.
     pub fn next(&mut self, alloc: Global) -> Result<Option<Arg>, NoMemory>
@@ -91,7 +91,8 @@ impl<'a> ArgReader<'a> {
         }
     }
 
-    /// Lends the next argument, or makes it where it is more than one run: `None` exactly behind the last one.
+    /// Lends the next argument, or makes it if it is more than one run; `None` exactly if none is
+    /// left.
     ///
     /// An `Err` changes nothing.
     pub fn lend_next(&mut self, alloc: Global) -> Result<Option<NextArg<'a>>, NoMemory>

@@ -18,7 +18,7 @@ use crate::unit::unit_at;
 use ct_base::{List, NoMemory};
 use std::alloc::Global;
 
-/// Counts the bytes of the arguments of a command behind its `(`, with the `)`.
+/// Counts the bytes of the arguments of a command behind its `(`, the `)` included.
 pub fn arguments_len(text: &[u8]) -> Result<usize, Stop>
     ensures value { result ≡ bytes_read (arguments_from 0 text.now) }
     ensures within { IfOk result (λ taken. taken ≤ length text.now) }
@@ -38,7 +38,7 @@ pub fn arguments_len(text: &[u8]) -> Result<usize, Stop>
     Err(Stop::Ended)
 }
 
-/// Finds the first one of the arguments that a text begins with, and counts its bytes with those in front of it.
+/// Finds the first argument of a text, and counts the bytes up to its end.
 pub fn first_argument(alloc: Global, text: &[u8]) -> Result<Option<(NextArg<'_>, usize)>, NoMemory>
     requires { BeginsArguments text.now }
     ensures { IfOk result (λ found. IsFirst text.now (option_map (λ x. read_as x) found)) }
@@ -51,7 +51,7 @@ pub fn first_argument(alloc: Global, text: &[u8]) -> Result<Option<(NextArg<'_>,
     Ok(Some((arg, at + taken)))
 }
 
-/// Counts the bytes of the gaps with which arguments begin.
+/// Counts the bytes of the gaps in front of the first argument, or of the `)`.
 fn gaps(text: &[u8]) -> usize
     requires { BeginsArguments text.now }
     ensures same { moved result (arguments_from 0 (drop result text.now)) ≡ arguments_from 0 text.now }
@@ -70,7 +70,7 @@ fn gaps(text: &[u8]) -> usize
     unreachable!()
 }
 
-/// Finds the argument that a text begins with, and counts its bytes.
+/// Finds the argument at the front of a text, and counts its bytes.
 fn argument_at(alloc: Global, text: &[u8]) -> Result<(NextArg<'_>, usize), NoMemory>
     requires whole { IsOk (argument text.now) }
     ensures read { IfOk result (λ x. argument_by text.now (opening text.now) ≡ Ok (read_as x)) }
@@ -82,7 +82,7 @@ fn argument_at(alloc: Global, text: &[u8]) -> Result<(NextArg<'_>, usize), NoMem
     }
 }
 
-/// Finds the bracket argument that a text begins with, with that many `=`, and counts its bytes.
+/// Finds the bracket argument with `n` times `=` at the front of a text, and counts its bytes.
 fn bracket_at(n: usize, text: &[u8]) -> (NextArg<'_>, usize)
     requires whole { IsOk (argument_by text.now (Some n)) }
     requires opened { n + 2 ≤ length text.now }
@@ -97,7 +97,7 @@ fn bracket_at(n: usize, text: &[u8]) -> (NextArg<'_>, usize)
     (NextArg::Run(ArgKind::Bracket, run), inside + 2 * (n + 2))
 }
 
-/// Finds the quoted or unquoted argument that a text begins with, and counts its bytes.
+/// Finds the quoted or unquoted argument at the front of a text, and counts its bytes.
 fn plain_at(alloc: Global, text: &[u8]) -> Result<(NextArg<'_>, usize), NoMemory>
     requires whole { IsOk (plain_argument text.now) }
     ensures read { IfOk result (λ x. plain_argument text.now ≡ Ok (read_as x)) }
@@ -112,7 +112,8 @@ fn plain_at(alloc: Global, text: &[u8]) -> Result<(NextArg<'_>, usize), NoMemory
     }
 }
 
-/// Finds the quoted or unquoted argument that has a text, and counts the bytes of the text up to the one that ends it.
+/// Finds the quoted or unquoted argument with this text, and counts the bytes in front of the one
+/// that ends it.
 fn text_at(alloc: Global, kind: ArgKind, text: &[u8]) -> Result<(NextArg<'_>, usize), NoMemory>
     requires whole { IsOk (text_from kind 0 text.now) }
     ensures kind { IfOk result (λ x. (read_as x).0.kind ≡ kind) }
@@ -127,7 +128,8 @@ fn text_at(alloc: Global, kind: ArgKind, text: &[u8]) -> Result<(NextArg<'_>, us
     Ok((NextArg::Made(Arg { kind, parts }), inside))
 }
 
-/// Makes the parts of the text of a quoted or unquoted argument, and counts its bytes up to the one that ends it.
+/// Makes the parts of the text of a quoted or unquoted argument, and counts the bytes in front of
+/// the one that ends it.
 fn parts_of(alloc: Global, kind: ArgKind, text: &[u8]) -> Result<(List<Part>, usize), NoMemory>
     requires whole { IsOk (text_from kind 0 text.now) }
     ensures read { IfOk result (λ x. text_from kind 0 text.now ≡ Ok x) }

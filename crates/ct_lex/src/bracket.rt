@@ -5,7 +5,7 @@ ghost use Rattle.ct_lex.specs.Bracket.{equals, opening, closes, closing, line_le
 use crate::bytes::{is_gap, stands};
 use crate::stop::{Cause, Stop};
 
-/// Counts the `=` that a text begins with.
+/// Counts the `=` at the front of a text.
 fn equals(text: &[u8]) -> usize
     ensures count { result ≡ equals text.now }
     ensures within { result ≤ length text.now }
@@ -13,7 +13,7 @@ fn equals(text: &[u8]) -> usize
     text.iter().take_while(|byte| **byte == b'=').count()
 }
 
-/// Tells of how many `=` the bracket opening is that a text begins with.
+/// Returns how many `=` the bracket opening at the front of a text has, if there is one.
 pub fn opening(text: &[u8]) -> Option<usize>
     ensures value { result ≡ opening text.now }
     ensures within { IfSome result (λ n. n + 2 ≤ length text.now) }
@@ -29,7 +29,7 @@ pub fn opening(text: &[u8]) -> Option<usize>
     }
 }
 
-/// Tells whether a text begins with a bracket closing of that many `=`.
+/// Tells whether a text begins with a bracket closing with `n` times `=`.
 fn closes(n: usize, text: &[u8]) -> bool
     ensures value { result ≡ closes n text.now }
     ensures within { IsTrue result → n + 2 ≤ length text.now }
@@ -37,7 +37,7 @@ fn closes(n: usize, text: &[u8]) -> bool
     stands(text, 0, b']') && equals(&text[1..]) == n && stands(text, n + 1, b']')
 }
 
-/// Counts the bytes in front of the first bracket closing of that many `=`.
+/// Counts the bytes in front of the first bracket closing with `n` times `=`, if there is one.
 pub fn closing(n: usize, text: &[u8]) -> Option<usize>
     ensures value { result ≡ closing n text.now }
     ensures within { IfSome result (λ inside. inside + n + 2 ≤ length text.now) }
@@ -60,7 +60,7 @@ fn line_len(text: &[u8]) -> usize
 
 /// Counts the bytes of the comment that begins with a text's first byte, a `#`.
 ///
-/// It stands apart from `gap_at`, so that the test of a blank takes little room in each loop.
+/// It is a function of its own, so that the test of a blank takes little room in each loop.
 #[inline(never)]
 fn comment(text: &[u8]) -> Result<usize, Stop>
     requires { 0 < length text.now }
@@ -76,8 +76,8 @@ fn comment(text: &[u8]) -> Result<usize, Stop>
     }
 }
 
-/// Counts the bytes of the blank, the line feed or the comment that a text begins with: 0 where it begins
-/// otherwise.
+/// Counts the bytes of the blank, line feed or comment at the front of a text; 0 if something else
+/// stands there.
 pub fn gap_at(text: &[u8]) -> Result<usize, Stop>
     ensures value { result ≡ gap_at text.now }
     ensures within { IfOk result (λ taken. taken ≤ length text.now) }

@@ -43,7 +43,7 @@ pub fn is_name(byte: u8) -> bool
     is_word(byte) || byte == b'.' || byte == b'/' || byte == b'+' || byte == b'-'
 }
 
-/// Tells whether a text has that byte at that place, from 0.
+/// Tells whether a text has that byte at that place, counted from 0.
 pub fn stands(text: &[u8], at: usize, byte: u8) -> bool
     ensures { result ≡ stands byte at text.now }
 {

@@ -34,22 +34,22 @@ pub enum ArgKind {
 #[derive(Debug, Drop)]
 pub struct Arg {
     pub kind: ArgKind,
-    /// In order, no two `Bytes` beside each other. An empty argument has none.
+    /// The parts in order, with no two `Bytes` beside each other. An empty argument has no part.
     pub parts: List<Part>,
 }
 
-/// The next argument of a command: lent where its text is one run of bytes that stand for themselves, and made
-/// otherwise.
+/// The next argument of a command. It is lent if its text is one run of bytes that stand for
+/// themselves, and made if not.
 #[derive(Debug, Drop)]
 pub enum NextArg<'a> {
-    /// Those bytes, of which there may be none. It is the argument that has them as its one part.
+    /// The bytes of the run. The argument has them as its one part, or no part if there are none.
     Run(ArgKind, &'a [u8]),
-    /// The argument, whose parts have bytes of their own.
+    /// The argument that was made; its parts have bytes of their own.
     Made(Arg),
 }
 
 impl<'a> NextArg<'a> {
-    /// Makes the argument, where it is lent.
+    /// Makes the argument, if it is lent.
     pub(crate) fn made(self, alloc: Global) -> Result<Arg, NoMemory>
         ensures { IfOk result (λ arg. arg ≡ arg_of self.entry) }
     {
@@ -79,7 +79,7 @@ fn plain_parts(alloc: Global, text: &[u8]) -> Result<List<Part>, NoMemory>
 /// One command of a test file.
 #[derive(Debug, Drop)]
 pub struct Call {
-    /// In lower case, since the names of commands do not depend on case.
+    /// The name in lower case, since the names of commands do not depend on case.
     pub name: Name,
     pub args: Args,
     /// The line of the name's first byte, from 1.

@@ -11,7 +11,7 @@ use crate::stop::{Cause, Halt, Stop};
 use ct_base::{Name, NoMemory};
 use std::alloc::Global;
 
-/// Counts the bytes of the identifier that a text begins with.
+/// Counts the bytes of the identifier at the front of a text.
 fn word_len(text: &[u8]) -> usize
     ensures count { result ≡ word_len text.now }
     ensures within { result ≤ length text.now }
@@ -19,7 +19,7 @@ fn word_len(text: &[u8]) -> usize
     text.iter().take_while(|byte| is_word(**byte)).count()
 }
 
-/// Counts the spaces and tabs that a text begins with.
+/// Counts the spaces and tabs at the front of a text.
 fn space_len(text: &[u8]) -> usize
     ensures count { result ≡ prefix_len (λ byte. is_space byte) text.now }
     ensures within { result ≤ length text.now }
@@ -27,8 +27,8 @@ fn space_len(text: &[u8]) -> usize
     text.iter().take_while(|byte| is_space(**byte)).count()
 }
 
-/// Finds the first byte behind the spaces and tabs behind the identifier that a text begins with, which has so many
-/// bytes.
+/// Finds the first byte behind the identifier at the front of a text, which has `word` bytes, and
+/// behind the spaces and tabs that follow it.
 fn paren_at(word: usize, text: &[u8]) -> usize
     requires identifier { word ≡ word_len text.now }
     requires inside { word ≤ length text.now }
@@ -45,7 +45,7 @@ fn lower(alloc: Global, word: &[u8]) -> Result<Name, NoMemory>
     Ok(Name::from_vec(word.to_ascii_lowercase(alloc)?))
 }
 
-/// Reads the command that a text begins with: its name, its arguments, and how many bytes it takes.
+/// Reads the command at the front of a text: its name, its arguments, and how many bytes it takes.
 pub fn command(alloc: Global, text: &[u8]) -> Result<(Name, Args, usize), Halt>
     ensures value { GivesRead result (command text.now) }
     ensures within { IfOk result (λ x. (0 < x.2) × (x.2 ≤ length text.now)) }
@@ -63,15 +63,16 @@ pub fn command(alloc: Global, text: &[u8]) -> Result<(Name, Args, usize), Halt>
     Ok((name, args, taken + paren + 1))
 }
 
-/// Tells whether what follows a gap stands behind a command on its line still. Only a line feed ends that.
+/// Tells whether the text behind a gap is still on the line of the command in front of it. Only a
+/// line feed ends that.
 fn stays_behind(behind: bool, first: u8) -> bool
     ensures { result ≡ stays_behind behind first }
 {
     behind && first != b'\n'
 }
 
-/// Counts the bytes in front of the next command: `None` where none comes up to the end of the text. Behind a
-/// command no other one begins before the next line feed outside a comment.
+/// Counts the bytes in front of the next command; `None` if none follows. Behind a command, the
+/// next one begins only after a line feed outside a comment.
 pub fn start(behind_command: bool, text: &[u8]) -> Result<Option<usize>, Stop>
     ensures value { result ≡ start_from behind_command 0 text.now }
     ensures within { IfOk result (λ start. IfSome start (λ n. n < length text.now)) }

@@ -11,7 +11,7 @@ use crate::plain::{ends_text, plain_len};
 use crate::stop::{Cause, Stop};
 use crate::unit::unit_at;
 
-/// Counts the bytes of the argument that a text begins with. Another one must not touch it.
+/// Counts the bytes of the argument at the front of a text. The next argument must not touch it.
 pub fn argument_len(text: &[u8]) -> Result<usize, Stop>
     requires { may_follow text.now ≡ false }
     ensures value { result ≡ bytes_read (argument text.now) }
@@ -27,7 +27,7 @@ pub fn argument_len(text: &[u8]) -> Result<usize, Stop>
     }
 }
 
-/// Counts the bytes of the argument that a text begins with, whatever stands behind it.
+/// Counts the bytes of the argument at the front of a text, whatever stands behind it.
 fn lone_len(text: &[u8]) -> Result<usize, Stop>
     requires { may_follow text.now ≡ false }
     ensures value { result ≡ bytes_read (argument_by text.now (opening text.now)) }
@@ -40,7 +40,7 @@ fn lone_len(text: &[u8]) -> Result<usize, Stop>
     }
 }
 
-/// Counts the bytes of the bracket argument that a text begins with, with that many `=`.
+/// Counts the bytes of the bracket argument with `n` times `=` at the front of a text.
 fn bracketed_len(n: usize, text: &[u8]) -> Result<usize, Stop>
     requires { n + 2 ≤ length text.now }
     ensures value { result ≡ bytes_read (argument_by text.now (Some n)) }
@@ -53,7 +53,7 @@ fn bracketed_len(n: usize, text: &[u8]) -> Result<usize, Stop>
     }
 }
 
-/// Counts the bytes of the argument that a text begins with, where that is no bracket argument.
+/// Counts the bytes of the argument at the front of a text, if it is no bracket argument.
 fn unbracketed_len(text: &[u8]) -> Result<usize, Stop>
     requires { may_follow text.now ≡ false }
     ensures value { result ≡ bytes_read (plain_argument text.now) }
@@ -69,7 +69,7 @@ fn unbracketed_len(text: &[u8]) -> Result<usize, Stop>
     text_len(ArgKind::Unquoted, text)
 }
 
-/// Counts the bytes of the quoted argument whose `"` a text begins with.
+/// Counts the bytes of the quoted argument whose `"` is the first byte of a text.
 fn quoted_len(text: &[u8]) -> Result<usize, Stop>
     requires { 0 < length text.now }
     ensures value { result ≡ bytes_read (quoted_by text.now (text_from ArgKind.Quoted 0 (drop 1 text.now))) }
@@ -93,7 +93,8 @@ fn may_follow(text: &[u8]) -> bool
     }
 }
 
-/// Counts the bytes of the text of a quoted or unquoted argument, up to the byte that ends it.
+/// Counts the bytes of the text of a quoted or unquoted argument, in front of the byte that ends
+/// it.
 fn text_len(kind: ArgKind, text: &[u8]) -> Result<usize, Stop>
     ensures value { result ≡ bytes_read (text_from kind 0 text.now) }
     ensures within { IfOk result (λ inside. inside < length text.now) }

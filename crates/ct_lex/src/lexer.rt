@@ -41,9 +41,10 @@ impl<'a> Lexer<'a> {
         ensures place { result ≡ beginning text.now }
         // A text has one list of calls, and then its end or one first fault.
         ensures one { HasOneReading (beginning text.now) }
-        // What is read is what the grammar writes, which is apart from how it is read.
+        // The reading is what the grammar writes. The grammar does not depend on how a text is
+        // read.
         ensures grammar { ReadsFiles text.now }
-        // Commands that are written as CMake writes them are read again.
+        // Commands that are written as CMake writes them are read back.
         ensures again { ReadsWritten text.now }
     {
         Lexer {
@@ -53,19 +54,19 @@ impl<'a> Lexer<'a> {
         }
     }
 
-    /// Reads the next command: `None` exactly at the end of the text.
+    /// Reads the next command; `None` exactly at the end of the text.
     ///
-    /// An `Err` changes nothing, so a refusal comes again at each further call.
+    /// An `Err` changes nothing, so a refusal is returned again at each further call.
     ///
     /// Source: CMake manual, cmake-language(7), Syntax. Which forms are left out, and that a bracket comment may
     /// stand beside a command on its line, is this project's choice.
     pub fn next(&mut self, alloc: Global) -> Result<Option<Call>, LexFault>
         ensures answer { AnswersNext self.old result self.new }
-        // The same in the words of the whole reading.
+        // The answer in terms of the whole reading.
         ensures reading { ReadsOn self.old result self.new }
-        // The same in the words of the grammar: a text that is refused is no list of commands.
+        // The answer in terms of the grammar: a text that is refused is no list of commands.
         ensures grammar { WritesOn self.old result self.new }
-        // Behind a command less of the text is left.
+        // Behind a command, less of the text is left.
         ensures shrinks { IfOk result (λ found. IsSome found → length self.new.rest < length self.old.rest) }
     {
         self.advance(alloc)
@@ -95,7 +96,7 @@ impl<'a> Lexer<'a> {
         }
     }
 
-    /// The line of what stands behind the next bytes.
+    /// Returns the line of the place behind the next bytes.
     fn line_behind(&self, bytes: usize) -> u32
         requires { bytes ≤ length self.now.rest }
         ensures value { result ≡ line_behind self.now bytes }
@@ -104,7 +105,8 @@ impl<'a> Lexer<'a> {
         self.line + feeds(&self.rest[..bytes]) as u32
     }
 
-    /// Gives a refusal its line: where the text ends in a command, that of the command behind those bytes.
+    /// Returns the fault of a refusal, with its line. If the text ends inside a command, the line
+    /// is that of the command, which begins behind these bytes.
     fn fault(&self, bytes: usize, stop: Stop) -> LexFault
         requires { bytes ≤ length self.now.rest }
         ensures { result ≡ fault_at self.now bytes stop }
@@ -121,7 +123,7 @@ impl<'a> Lexer<'a> {
     }
 }
 
-/// Passes over the byte order mark of UTF-8 that a text may begin with.
+/// Lends a text without the byte order mark of UTF-8 that it may begin with.
 fn unmarked(text: &[u8]) -> &[u8]
     ensures value { result.now ≡ unmarked text.now }
     ensures within { length result.now ≤ length text.now }

@@ -1,7 +1,7 @@
 //! Reads the commands of a test file, one by one.
 //!
-//! Hands up: `Lexer`, which gives each `Call` or the first `LexFault`, and `ArgReader`, which makes
-//! or lends the arguments of a call one by one.
+//! Hands up: `Lexer`, which returns each `Call` or the first `LexFault`, and `ArgReader`, which
+//! makes or lends the arguments of a call one by one.
 //! Stands on: ct_base for names and lists.
 //! Read first: `specs/Grammar.antt`, then `lexer.rt`.
 #![tactic(auto)]

@@ -7,7 +7,7 @@ use ct_base::{List, Name, NoMemory};
 use std::alloc::Global;
 use std::mem;
 
-/// The parts of an argument so far: those that are whole, and the bytes behind them.
+/// The parts of an argument so far: the complete ones, and the bytes behind them.
 #[derive(Drop)]
 pub struct Parts {
     pub whole: List<Part>,
@@ -18,7 +18,7 @@ impl Parts {
     ghost use Rattle.ct_lex.specs.Argument.{with_bytes, with_piece};
     ghost use Rattle.ct_lex.specs.Joined.{joined_parts};
 
-    /// Nothing yet, with room for the one part that most arguments have.
+    /// Makes a value without parts, with room for the one part that most arguments have.
     pub fn new(alloc: Global) -> Result<Parts, NoMemory>
         ensures { IfOk result (λ parts. (more : List Part) → joined_parts parts more ≡ more) }
     {
@@ -28,7 +28,7 @@ impl Parts {
         })
     }
 
-    /// Puts a unit behind the others.
+    /// Appends a unit.
     pub fn add(&mut self, alloc: Global, unit: Unit<'_>) -> Result<(), NoMemory>
         ensures { OnOk result ((more : List Part) → joined_parts self.new more ≡ joined_parts self.old (with_piece (piece_of unit.entry) more)) }
     {
@@ -44,7 +44,7 @@ impl Parts {
         Ok(())
     }
 
-    /// Puts bytes that stand for themselves behind the others.
+    /// Appends bytes that stand for themselves.
     #[tactic(auto, using(crate::proofs::RunLemmas::bytes_joined))]
     pub fn add_plain(&mut self, run: &[u8]) -> Result<(), NoMemory>
         ensures { OnOk result ((more : List Part) → joined_parts self.new more ≡ joined_parts self.old (with_bytes run.now more)) }
@@ -53,7 +53,7 @@ impl Parts {
         Ok(())
     }
 
-    /// Makes the bytes a whole part, if there are any.
+    /// Makes the bytes a complete part, if there are any.
     fn flush(&mut self, alloc: Global) -> Result<(), NoMemory>
         ensures whole { OnOk result (self.new.whole ≡ joined_parts self.old []) }
         ensures empty { OnOk result (self.new.bytes.items ≡ []) }
@@ -65,7 +65,7 @@ impl Parts {
         Ok(())
     }
 
-    /// The parts, with the bytes behind them as the last one.
+    /// Returns the parts, with the bytes behind them as the last one.
     pub fn finish(mut self, alloc: Global) -> Result<List<Part>, NoMemory>
         ensures { IfOk result (λ parts. parts ≡ joined_parts self []) }
     {

@@ -27,7 +27,7 @@ fn is_plain(kind: ArgKind, byte: u8) -> bool
 
 /// Tells whether a byte stands for itself in a quoted argument.
 ///
-/// Nearly every byte is greater than `$`, so that two comparisons tell.
+/// Nearly every byte is greater than `$`, so two comparisons are enough.
 fn is_plain_quoted(byte: u8) -> bool
     ensures { result ≡ is_plain ArgKind.Quoted byte }
 {
@@ -40,7 +40,7 @@ fn is_plain_quoted(byte: u8) -> bool
 
 /// Tells whether a byte stands for itself in an unquoted argument.
 ///
-/// Nearly every byte is greater than `)`, so that two comparisons tell.
+/// Nearly every byte is greater than `)`, so two comparisons are enough.
 fn is_plain_unquoted(byte: u8) -> bool
     ensures { result ≡ is_plain ArgKind.Unquoted byte }
 {
@@ -53,7 +53,7 @@ fn is_plain_unquoted(byte: u8) -> bool
 
 /// Counts the bytes at the front of the text of an argument that stand for themselves.
 ///
-/// The kind is looked at once, and not for each byte.
+/// The kind is checked once, not for each byte.
 pub fn plain_len(kind: ArgKind, text: &[u8]) -> usize
     ensures count { result ≡ prefix_len (is_plain kind) text.now }
     ensures within { result ≤ length text.now }

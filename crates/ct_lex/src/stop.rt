@@ -15,12 +15,12 @@ pub enum Cause {
     BadReference,
 }
 
-/// Why a text is not read on.
+/// Why the reading of a text stops.
 #[derive(Clone, Copy, Debug, PartialEq, Eq)]
 pub enum Stop {
-    /// It ends where more has to come.
+    /// The text ends where more has to come.
     Ended,
-    /// There is no reading at a place, which is named by how many bytes are left from it on.
+    /// The text has no reading at a place. The number says how many bytes are left from there on.
     At(Cause, usize),
 }
 
@@ -33,7 +33,7 @@ impl Stop {
     }
 }
 
-/// Why a reader that takes memory ends without a value.
+/// Why a reader that takes memory returns no value.
 #[derive(Clone, Copy, Debug, PartialEq, Eq)]
 pub enum Halt {
     Memory,

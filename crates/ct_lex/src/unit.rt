@@ -44,7 +44,7 @@ fn escaped(kind: ArgKind, byte: u8) -> Option<Unit<'static>>
     }
 }
 
-/// Reads the escape whose backslash a text begins with, and counts its bytes.
+/// Reads the escape whose backslash is the first byte of a text, and counts its bytes.
 fn escape_at(kind: ArgKind, text: &[u8]) -> Result<(Unit<'static>, usize), Stop>
     requires { 0 < length text.now }
     ensures value { seen result ≡ escape_at kind text.now }
@@ -59,7 +59,7 @@ fn escape_at(kind: ArgKind, text: &[u8]) -> Result<(Unit<'static>, usize), Stop>
     }
 }
 
-/// Counts the bytes of a variable's name that a text begins with.
+/// Counts the bytes of a variable's name at the front of a text.
 fn name_len(text: &[u8]) -> usize
     ensures count { result ≡ name_len text.now }
     ensures within { result ≤ length text.now }
@@ -67,7 +67,7 @@ fn name_len(text: &[u8]) -> usize
     text.iter().take_while(|byte| is_name(**byte)).count()
 }
 
-/// Reads the reference whose `${` a text begins with, and counts its bytes.
+/// Reads the reference whose `${` stands at the front of a text, and counts its bytes.
 fn reference_at(text: &[u8]) -> Result<(Unit<'_>, usize), Stop>
     requires { 2 ≤ length text.now }
     ensures value { seen result ≡ reference_at text.now }
@@ -85,7 +85,7 @@ fn reference_at(text: &[u8]) -> Result<(Unit<'_>, usize), Stop>
     }
 }
 
-/// Tells whether a reference begins with the `$` that stands in front of a text, also one of those that are refused.
+/// Tells whether a `$` in front of this text begins a reference, be it one that is refused.
 fn begins_reference(text: &[u8]) -> bool
     ensures { result ≡ begins_reference text.now }
 {
