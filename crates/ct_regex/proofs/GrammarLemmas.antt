@@ -1,4 +1,4 @@
--- What is read is written so: the signs.
+-- What the reader reads is what the grammar writes: the signs.
 use Rattle.std.proofs.Common.{◌≡◌, ◌≤◌, ◌⊎◌, ◌&&◌, ◌==◌, ℕ, zero, suc, ◌+◌, Bool, true, false, not, List, [], ◌∷◌, ◌++◌, length, cond, inl, inr, ⊎_elim, refl, sym, ◌∙◌, ap, subst, append-nil, append_assoc, nat_lt, arith}
 use Rattle.std.proofs.lemmas.Bool.Decides.{nat_tests}
 use Rattle.ct_regex.specs.declared.tree.Span.{Span}
@@ -157,7 +157,7 @@ set_view (suc n) opened negated at items (byte ∷ rest) h =
         })
     by_close false unclosed again = by_good (nat_lt (item_high byte rest) byte) refl unclosed again
 
--- a sign is written so
+-- the text is written as the sign
 pub data IsSign : List ℕ → Sign → Type 0 where
   of_one : {text : List ℕ} {tree : Tree} → IsOne text tree → IsSign text (atom tree)
   of_open : (place : ℕ) → IsSign (40 ∷ []) (opens place)
@@ -179,7 +179,7 @@ pub record SignFault (at : ℕ) (rest : List ℕ) : Type 0 where
   pub why : RegexFault
   pub reads : signs at rest ≡ fault why ∷ []
 
--- the sign that a byte is by itself
+-- a single byte is written as its sign
 plain_view : (at byte : ℕ) → (byte == 91) ≡ false → (byte == 92) ≡ false → IsSign (byte ∷ []) (plain_sign at byte)
 plain_view at byte no91 no92 = by94 (byte == 94) refl
   where
@@ -299,7 +299,7 @@ sign_view at byte rest = by91 (byte == 91) refl
     by91 true h = by_negated (begins_negated rest) refl h
     by91 false h = by92 (byte == 92) refl h
 
--- a sign has a byte
+-- a sign has at least one byte
 pub sign_len : {text : List ℕ} {sign : Sign} → IsSign text sign → 1 ≤ length text
 sign_len (of_one o) = one_len o
   where

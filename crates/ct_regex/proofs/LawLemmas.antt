@@ -97,7 +97,7 @@ plain_reading bytes h few = rw few_is (plain_read bytes 0 (opened_at 0) refl h)
     few_is : nat_lt 65536 (length bytes) ≡ false
     few_is = grind (arith, nat_tests)
 
--- where the parts match from a place on, the text goes on with the bytes
+-- if the parts match from a place on, the text there begins with the bytes
 plain_ends : (bytes text : List ℕ) (place to : ℕ) → place ≤ length text → Among to (ends text (sequence_of (parts_of bytes)) place) →
     (back : List ℕ) × (drop place text ≡ bytes ++ back)
 plain_ends [] text place to within a = (drop place text, refl)
@@ -130,7 +130,7 @@ plain_ends (byte ∷ bytes) text place to within a =
         )
     step again mid m rest (inr past) = absurd (subst (λ v. Among mid (behind (same byte) place v)) (slice_get_past text place past) m)
 
--- where the text goes on with the bytes, the parts match
+-- if the text at a place begins with the bytes, the parts match there
 plain_ends_at : (bytes back text : List ℕ) (place : ℕ) → drop place text ≡ bytes ++ back → (to : ℕ) × Among to (ends text (sequence_of (parts_of bytes)) place)
 plain_ends_at [] back text place e = (place, inl refl)
 plain_ends_at (byte ∷ bytes) back text place e =

@@ -1,10 +1,10 @@
--- The live positions of a pattern, by its tree: for each atom of one byte a mark, in the order of the tree.
+-- The live positions of a pattern, by its tree: one mark for each atom of one byte, in the order of the tree.
 use Rattle.std.specs.Prelude.{ℕ, ◌&&◌, ◌||◌, Bool, false, ◌==◌, List, [], ◌∷◌, ◌++◌, length}
 use Rattle.ct_regex.specs.Tree.{takes, Tree, empty, never, start, end, one, sequence, choice, repeat}
 use Rattle.ct_regex.specs.declared.tree.Quantifier.{Quantifier}
 use Rattle.ct_regex.specs.declared.tree.Quantifier.TheVariants.{ZeroOrOne, ZeroOrMore, OneOrMore}
 
--- what `^` and `$` ask of a place
+-- what `^` and `$` need to know of a place
 pub record Spot : Type 0 where
   pub is_first : Bool
   pub is_last : Bool
@@ -13,19 +13,19 @@ pub record Spot : Type 0 where
 abbrev pub spot_at : List ℕ → ℕ → Spot
 spot_at text place = record { is_first = place == 0; is_last = place == length text }
 
--- whether a repetition is left, where its inner part may be
+-- whether a match leaves a repetition, given whether it enters the repetition and whether it leaves a round
 abbrev pub passes : Quantifier → Bool → Bool → Bool
 passes ZeroOrOne enters comes = enters || comes
 passes ZeroOrMore enters comes = enters || comes
 passes OneOrMore enters comes = comes
 
--- whether a round of a repetition begins, where its inner part may be left
+-- whether a match begins a round of a repetition, given whether it enters and whether it leaves a round
 abbrev pub begins : Quantifier → Bool → Bool → Bool
 begins ZeroOrOne enters comes = enters
 begins ZeroOrMore enters comes = enters || comes
 begins OneOrMore enters comes = enters || comes
 
--- the first mark; where there is none, no match has come
+-- the first mark, or false where there is none
 abbrev pub first_mark : List Bool → Bool
 first_mark [] = false
 first_mark (mark ∷ marks) = mark

@@ -1,4 +1,4 @@
--- The marks say where a match has come to.
+-- The marks say which point of the pattern a match has come to.
 use Rattle.std.proofs.Common.{◌≡◌, ◌≤◌, ◌<◌, ◌⊎◌, ◌||◌, ◌&&◌, ◌==◌, ℕ, zero, suc, ◌+◌, Bool, true, false, not, List, [], ◌++◌, length, get_or, inl, inr, ⊎_elim, refl, sym, ◌∙◌, ap, subst, append_assoc, slice_get, arith}
 use Rattle.std.proofs.lemmas.Option.{slice_get-get_or, slice_get_past}
 use Rattle.ct_regex.specs.Tree.{Test, takes, Tree, empty, never, start, end, one, sequence, choice, repeat}
@@ -18,7 +18,7 @@ Out text tree from place = (origin : ℕ) × from origin × Among place (ends te
 abbrev pub Within : List ℕ → Tree → (ℕ → Type 0) → ℕ → Type 0
 Within text tree from place = from place ⊎ Out text (repeat OneOrMore tree) from place
 
--- the marks of the tree are right at a place, for what begins at the places of the set
+-- the marks of the tree are right at a place, for matches that begin at the places of the set
 abbrev pub Right : List ℕ → Tree → (ℕ → Type 0) → ℕ → List Bool → Type 0
 Right text empty from place marks = Unit {0}
 Right text never from place marks = Unit {0}
@@ -71,7 +71,7 @@ if_among : (b : Bool) (origin place : ℕ) → Among place (place_if b origin) �
 if_among true origin place a = ⊎_elim (λ e. (refl, e)) (λ no. absurd no) a
 if_among false origin place a = absurd a
 
--- what cannot be empty is left through marks alone
+-- a tree that cannot be empty is left through its marks alone
 pub leaves_apart : (tree : Tree) (a b : Bool) (spot : Spot) (marks : List Bool) → is_sound tree ≡ true → can_be_empty tree ≡ false →
     leaves tree a spot marks ≡ leaves tree b spot marks
 leaves_apart empty a b spot marks s h = absurd (let no : true ≡ false = h in cc)
@@ -202,7 +202,7 @@ within_bounded : (text : List ℕ) (tree : Tree) (from : ℕ → Type 0) → IsB
 within_bounded text tree from b place (inl f) = b place f
 within_bounded text tree from b place (inr p) = out_bounded text (repeat OneOrMore tree) from b place p
 
--- one more round behind those of a repetition
+-- one more round behind the other rounds of a repetition
 within_more : (text : List ℕ) (tree : Tree) (from : ℕ → Type 0) (place : ℕ) → IsBounded text from → is_sound tree ≡ true → can_be_empty tree ≡ false →
     Out text tree (Within text tree from) place → Out text (repeat OneOrMore tree) from place
 within_more text tree from place b s h (o, inl f, a) =
@@ -237,7 +237,7 @@ within_last text tree from place b s h (o, f, a) =
         along zero mid place m p = subst (λ (v : ℕ). Out text (repeat OneOrMore tree) from v) p m
         along (suc count) mid place m p = within_more text tree from place b s h (p.0, inr (along count mid p.0 m p.1), p.2)
 
--- a match that leaves by its marks has come to its end
+-- a match that leaves the tree by its marks has come to its end
 pub leaves_sound : (text : List ℕ) (tree : Tree) (from : ℕ → Type 0) (place : ℕ) (enters : Bool) (marks : List Bool) → IsBounded text from → is_sound tree ≡ true →
     Right text tree from place marks → (enters ≡ true → from place) → leaves tree enters (spot_at text place) marks ≡ true → Out text tree from place
 leaves_sound text empty from place enters marks b s r f h = (place, f h, inl refl)
@@ -272,7 +272,7 @@ leaves_sound text (repeat OneOrMore tree) from place enters marks b s r f h =
     within_more text tree from place b both.1 (not_true (can_be_empty tree) both.0)
     (leaves_sound text tree (Within text tree from) place enters marks (within_bounded text tree from b) both.1 r (λ e. inl (f e)) h)
 
--- where a match comes to its end, the marks let it leave
+-- if a match comes to its end, the marks let it leave the tree
 pub leaves_whole : (text : List ℕ) (tree : Tree) (from : ℕ → Type 0) (place : ℕ) (enters : Bool) (marks : List Bool) → IsBounded text from → is_sound tree ≡ true →
     Right text tree from place marks → (from place → enters ≡ true) → Out text tree from place → leaves tree enters (spot_at text place) marks ≡ true
 leaves_whole text empty from place enters marks b s r g (o, f, a) = ⊎_elim (λ e. g (subst from e f)) (λ no. absurd no) a
@@ -311,7 +311,7 @@ leaves_whole text (repeat OneOrMore tree) from place enters marks b s r g out =
     leaves_apart tree enters true (spot_at text place) marks both.1 none
     ∙ leaves_whole text tree (Within text tree from) place true marks (within_bounded text tree from b) both.1 r (λ w. refl) (within_last text tree from place b both.1 none out)
 
--- behind the next marks of a tree stands the rest
+-- behind the next marks of a tree stand the marks of the rest
 pub marks_behind-next : (tree : Tree) (enters : Bool) (spot : Spot) (byte : ℕ) (marks rest : List Bool) → marks_behind tree (next_marks tree enters spot byte marks ++ rest) ≡ rest
 marks_behind-next empty enters spot byte marks rest = refl
 marks_behind-next never enters spot byte marks rest = refl

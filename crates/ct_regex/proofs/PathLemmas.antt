@@ -1,4 +1,4 @@
--- Paths of rounds, and what a repetition reaches.
+-- Paths of rounds, and the places that a repetition reaches.
 use Rattle.std.proofs.Common.{◌≡◌, ◌≤◌, ℕ, zero, suc, List, inl, inr, ⊎_elim, subst, refl, arith}
 use Rattle.ct_regex.specs.Ends.{rounds}
 use Rattle.ct_regex.proofs.AmongLemmas.{Among, among_flat, among_from}

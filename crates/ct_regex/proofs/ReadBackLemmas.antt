@@ -1,4 +1,4 @@
--- What is written so is read, unless it is too large.
+-- A text that the grammar writes is read as its tree, unless it is too large.
 use Rattle.std.proofs.Common.{◌≡◌, ◌≤◌, ◌⊎◌, ◌&&◌, ◌==◌, ℕ, ◌+◌, Bool, true, false, not, List, [], ◌∷◌, ◌++◌, length, cond, inl, inr, ⊎_elim, refl, sym, ◌∙◌, ap, subst, append-nil, append_assoc, nat_lt, Result, Ok, Err, arith}
 use Rattle.std.proofs.lemmas.Bool.Decides.{nat_tests}
 use Rattle.ct_regex.specs.declared.tree.Span.{Span}
@@ -17,7 +17,7 @@ use Rattle.ct_regex.specs.Gives.{Gives, IsReadAs}
 use Rattle.ct_regex.proofs.LawLemmas.{plain_is, bracketed_hits}
 use Rattle.ct_regex.proofs.WrittenLemmas.{reading_written}
 
--- whatever follows, the text of a set's items begins as it does alone
+-- whatever follows, the text of the items of a set begins with `^` only if it does so alone
 items_negated : {first : Bool} {text : List ℕ} {items : List Span} → IsItems first text items → (back : List ℕ) → begins_negated (text ++ back) ≡ begins_negated text
 items_negated grammar.closes back = refl
 items_negated (grammar.range low high c o l i) back = refl
@@ -49,7 +49,7 @@ is_none-push : (items : List Span) (item : Span) → is_none (items ++ item ∷ 
 is_none-push [] item = refl
 is_none-push (x ∷ items) item = refl
 
--- a place from which the signs of what follows go on
+-- the items and the `]` of a set are read, and the signs of the text behind go on from `behind`
 record SetGoes (opened : ℕ) (negated : Bool) (at : ℕ) (items more : List Span) (text back : List ℕ) : Type 0 where
   behind : ℕ
   reads : set_signs opened negated 0 at items (text ++ back) ≡ atom (one (set_of negated (items ++ more))) ∷ signs behind back
@@ -101,13 +101,13 @@ one_read (grammar.of_negated {text = text} i) at back =
     let goes = items_read i at true (at + 1 + 1) [] back refl in
     (goes.behind, goes.reads)
 
--- the reading goes on behind the text with the innermost group as told, or the text is too large
+-- the reading goes on behind the text with an innermost group that meets P, or the text is too large
 abbrev pub GoesOn : Group → List Group → ℕ → List ℕ → List ℕ → (Group → Type 0) → Type 0
 GoesOn inner outer at text back P =
     ((behind : ℕ) × (next : Group) × (read (record { inner = inner; outer = outer }) (signs at (text ++ back)) ≡ read (record { inner = next; outer = outer }) (signs behind back)) × P next)
     ⊎ ((place : ℕ) × (read (record { inner = inner; outer = outer }) (signs at (text ++ back)) ≡ Err (TooLarge place)))
 
--- the group has these parts more
+-- the group has these parts in addition to its others
 abbrev pub AddsParts : Group → List Tree → Group → Type 0
 AddsParts group trees next = (next.branches ≡ group.branches) × (all_parts next ≡ all_parts group ++ trees)
 
@@ -225,7 +225,7 @@ mutual
   atom_read (grammar.group {text = text} {tree = tree} p) inner outer at back =
       group_read inner outer at text back tree (pattern_read p at (inner ∷ outer) (at + 1) (41 ∷ back))
 
--- a text that is written so is read as that tree, or is too large
+-- a text that is written as a tree is read as that tree, or is too large
 pub written_read : (text : List ℕ) (tree : Tree) → IsPattern text tree → (reading text ≡ Ok tree) ⊎ ((place : ℕ) × (reading text ≡ Err (TooLarge place)))
 written_read text tree p = by_len (nat_lt 65536 (length text)) refl
   where
@@ -241,7 +241,7 @@ written_read text tree p = by_len (nat_lt 65536 (length text)) refl
         by_goes h (inl g) = inl (rw h (same_text ∙ g.2 ∙ ap (λ (t : Tree). Ok t) g.3))
         by_goes h (inr g) = inr (g.0, rw h (same_text ∙ g.1))
 
--- so an answer that is the reading is that tree, unless it is too large
+-- a call that returns the reading of a written text returns that tree, unless it is too large
 pub read_as : {X : Type 0} (view : X → Tree) (text : List ℕ) (tree : Tree) (answer : Result X RegexFault) → Gives view answer (reading text) → IsPattern text tree → IsReadAs view tree answer
 read_as {X = X} view text tree answer g p = by_cases answer g (written_read text tree p)
   where
@@ -264,7 +264,7 @@ read_as {X = X} view text tree answer g p = by_cases answer g (written_read text
     by_cases (Err (NestedRepeat place)) g r = differ (NestedRepeat place) g (λ other e. cc) r
     by_cases (Err (EndsInBackslash place)) g r = differ (EndsInBackslash place) g (λ other e. cc) r
 
--- brackets around a whole pattern
+-- a whole pattern between brackets hits the same texts
 pub brackets_alike : (pattern text : List ℕ) (tree : Tree) → reading pattern ≡ Ok tree → HitsAlike tree text (reading (40 ∷ pattern ++ 41 ∷ []))
 brackets_alike pattern text tree h = by_reading (written_read (40 ∷ pattern ++ 41 ∷ []) (choice_of (sequence_of (tree ∷ []) ∷ [])) bracketed)
   where

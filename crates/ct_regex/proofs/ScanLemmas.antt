@@ -162,18 +162,18 @@ pub behind-append : (steps : List Step) (stand : Stand) (front rest : List ℕ) 
 behind-append steps stand [] rest = refl
 behind-append steps stand (byte ∷ front) rest = behind-append steps (behind_byte steps stand byte) front rest
 
--- what is found stays found
+-- a match that is found stays found
 pub found_stays : (steps : List Step) (stand : Stand) (bytes : List ℕ) → stand.found ≡ true → answer (behind_bytes steps stand bytes) ≡ true
 found_stays steps stand [] h = or_one stand.found stand.last h
 found_stays steps stand (byte ∷ bytes) h = found_stays steps (behind_byte steps stand byte) bytes (or_one stand.found _ h)
 
--- two scans that come to one place answer alike from there on
+-- two scans that come to the same stand answer alike from there on
 pub alike_behind : (steps : List Step) (here there : Stand) (rest piece more : List ℕ) → behind_bytes steps here rest ≡ behind_bytes steps there piece →
     answer (behind_bytes steps here (rest ++ more)) ≡ answer (behind_bytes steps there (piece ++ more))
 alike_behind steps here there rest piece more e =
     ap answer (behind-append steps here rest more ∙ ap (λ (s : Stand). behind_bytes steps s more) e ∙ sym (behind-append steps there piece more))
 
--- so do scans at two such places that have found nothing
+-- two scans that have found nothing also answer alike from the same stand on
 pub alike_found : (steps : List Step) (found : Bool) (here there : Stand) (rest piece more : List ℕ) → found ≡ false →
     behind_bytes steps (stand_with false here) rest ≡ behind_bytes steps (stand_with false there) piece →
     answer (behind_bytes steps (stand_with found here) (rest ++ more)) ≡ answer (behind_bytes steps (stand_with found there) (piece ++ more))
@@ -182,7 +182,7 @@ alike_found steps found here there rest piece more f e =
     ∙ alike_behind steps (stand_with false here) (stand_with false there) rest piece more e
     ∙ ap (λ (b : Bool). answer (behind_bytes steps (stand_with b there) (piece ++ more))) (sym f)
 
--- where a scan stands behind a walk in front of which no match has ended
+-- where a scan stands behind a walk, if no match has ended in front of it
 pub walk_stands : (steps : List Step) (stand : Stand) (byte : ℕ) (marks : List Bool) (flow : Flow) → stand.found ≡ false →
     flow ≡ (walked steps byte (a_walk all_flow [] stand.marks)).flow → marks ≡ (walked steps byte (a_walk all_flow [] stand.marks)).marks → flow.now ≡ false →
     behind_byte steps stand byte ≡ a_stand marks flow.last

@@ -1,4 +1,4 @@
--- A walk over the steps of a pattern does to its marks what a byte does to the live positions of its tree.
+-- A walk over the steps of a pattern changes the marks as a byte changes the live positions of the tree.
 use Rattle.std.proofs.Common.{◌≡◌, ℕ, suc, not, ◌+◌, Bool, true, false, ◌&&◌, ◌||◌, List, [], ◌∷◌, ◌++◌, length, slice_set, map, refl, sym, ◌∙◌, ap, subst, append-nil, append_assoc}
 use Rattle.std.proofs.lemmas.List.{length-append, set_at, get_or_at}
 use Rattle.ct_regex.specs.Tree.{Test, Tree, empty, never, start, end, one, sequence, choice, repeat, takes, choice_of}
@@ -13,7 +13,7 @@ use Rattle.ct_regex.specs.Walk.{Step, fork, maybe, or_else, join, back, Walk, wa
 use Rattle.ct_regex.proofs.Live.{Spot, leaves, next_marks, marks_behind, first_mark}
 use Rattle.ct_regex.proofs.LiveLemmas.{leaves_apart, marks_behind-next, marks_behind-none, and_both, not_true}
 
--- the marks of a walk over the tree, where the live positions are these
+-- the marks of a walk over the tree, given the live positions
 abbrev pub slots : Tree → Bool → List Bool → List Bool
 slots empty first marks = []
 slots never first marks = []
@@ -26,7 +26,7 @@ slots (repeat ZeroOrOne tree) first marks = slots tree first marks
 slots (repeat ZeroOrMore tree) first marks = leaves tree false (record { is_first = first; is_last = false }) marks ∷ slots tree first marks
 slots (repeat OneOrMore tree) first marks = leaves tree false (record { is_first = first; is_last = false }) marks ∷ slots tree first marks
 
--- what leaves the tree in front of a byte, and behind it
+-- the flow that leaves the tree, in front of a byte and behind it
 abbrev pub flow_of : Tree → Flow → Bool → List Bool → List Bool → Flow
 flow_of tree flow first marks next = record {
   now = leaves tree flow.now (record { is_first = first; is_last = false }) marks;
@@ -74,7 +74,7 @@ or_assoc : (a b c : Bool) → ((a || b) || c) ≡ (a || (b || c))
 or_assoc true b c = refl
 or_assoc false b c = refl
 
--- nothing leaves a tree by no marks, unless it enters
+-- without marks a match leaves a tree only if it enters it
 no_leaves : (tree : Tree) (spot : Spot) → leaves tree false spot [] ≡ false
 no_leaves empty spot = refl
 no_leaves never spot = refl
@@ -114,7 +114,7 @@ slots_first (repeat OneOrMore tree) =
     ap (λ (b : Bool). b ∷ slots tree true []) (no_leaves tree (record { is_first = true; is_last = false }))
     ∙ ap (λ (xs : List Bool). false ∷ xs) (slots_first tree)
 
--- what can be empty is left at once, where the text is empty
+-- in an empty text, a tree that can be empty is left at once
 pub leaves_empty : (tree : Tree) (enters : Bool) → is_sound tree ≡ true →
     leaves tree enters (record { is_first = true; is_last = true }) [] ≡ (enters && can_be_empty tree)
 leaves_empty empty enters s = sym (and_all enters)
@@ -158,7 +158,7 @@ leaves_empty (repeat OneOrMore tree) enters s =
     let both = and_both (not (can_be_empty tree)) (is_sound tree) s in
     leaves_empty tree enters both.1 ∙ ap (λ (b : Bool). enters && b) (not_true (can_be_empty tree) both.0)
 
--- the steps of a choice that has not one branch
+-- the steps of a choice with no branch or with several
 pub many_steps : (at : ℕ) (nodes : List Node) → (length nodes ≡ 1 → ⊥) →
     steps_of false at (choice_of (map meaning nodes)) ≡ fork ∷ steps_of true at (choice_of (map meaning nodes))
 many_steps at [] h = refl
@@ -171,7 +171,7 @@ a_walk flow opened marks = record { flow = flow; opened = opened; marks = marks 
 abbrev pub before_byte : Bool → Spot
 before_byte first = record { is_first = first; is_last = false }
 
--- a walk over the tree brings its marks up to the byte
+-- a walk over the tree updates its marks by the byte
 abbrev pub Over : Tree → Type 0
 Over tree =
     (at : ℕ) (front behind : List Bool) (opened : List Branches) (flow : Flow) (first : Bool) (marks next more : List Bool) (byte : ℕ) → length front ≡ at →
@@ -179,7 +179,7 @@ Over tree =
     walked (steps_of false at tree) byte (a_walk flow opened (front ++ (slots tree first marks ++ behind)))
     ≡ a_walk (flow_of tree flow first marks next) opened (front ++ (slots tree false next ++ behind))
 
--- so does a walk over it as the last branch of a choice, which it ends
+-- a walk over the tree as the last branch of a choice also ends the choice
 abbrev pub OverLast : Tree → Type 0
 OverLast tree =
     (at : ℕ) (front behind : List Bool) (left : Flow) (opened : List Branches) (flow : Flow) (first : Bool) (marks next more : List Bool) (byte : ℕ) → length front ≡ at →

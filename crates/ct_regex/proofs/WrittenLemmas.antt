@@ -1,4 +1,4 @@
--- What is read is written so: groups, branches and parts.
+-- What the reader reads is what the grammar writes: groups, branches and parts.
 use Rattle.std.proofs.Common.{◌≡◌, ◌≤◌, ℕ, zero, suc, Bool, true, false, List, [], ◌∷◌, ◌++◌, length, ⊎_elim, refl, sym, ◌∙◌, ap, subst, append-nil, append_assoc, nat_lt, Result, Ok, Err, arith}
 use Rattle.std.proofs.lemmas.List.{length-append}
 use Rattle.ct_regex.specs.declared.tree.Quantifier.{Quantifier}
@@ -10,13 +10,13 @@ use Rattle.ct_regex.specs.Grammar as grammar
 use Rattle.ct_regex.specs.Grammar.{IsPattern, IsBranches, IsBranch, IsPart, IsAtom, byte_of}
 use Rattle.ct_regex.proofs.GrammarLemmas.{IsSign, of_one, of_open, of_close, of_bar, of_often, SignRead, SignFault, sign_view, sign_len}
 
--- the last part of a branch is written so
+-- the text is written as the last part of a branch
 abbrev pub IsLast : List ℕ → Last → Type 0
 IsLast text no_part = text ≡ []
 IsLast text (bare tree) = IsAtom text tree
 IsLast text (quantified tree) = IsPart text tree
 
--- a group is written so as far as it is read
+-- the text is written as the part of a group that is read so far
 pub record HasRead (text : List ℕ) (group : Group) : Type 0 where
   pub front : List ℕ
   pub mid : List ℕ
@@ -77,7 +77,7 @@ often_read text group quantifier tree e may r = record {
 closed_read : (text : List ℕ) (group : Group) → HasRead text group → IsPattern text (closed group)
 closed_read text group r = subst (λ (xs : List ℕ). IsPattern xs (closed group)) (sym r.split) (grammar.pattern r.branches (all_written r))
 
--- all open groups are written so as far as they are read
+-- the text is written as the parts of all open groups that are read so far
 abbrev pub HaveRead : List ℕ → Group → List Group → Type 0
 HaveRead text inner [] = HasRead text inner
 HaveRead text inner (around ∷ outer) =

@@ -1,25 +1,25 @@
--- Where a match may end: CMake manual, string(REGEX), Regex Specification.
+-- The places where a match may end. Source: CMake manual, string(REGEX), Regex Specification.
 use Rattle.std.specs.Prelude.{ℕ, zero, suc, ◌+◌, ◌==◌, Bool, true, false, ◌||◌, List, [], ◌∷◌, ◌++◌, length, Option, Some, None, slice_get, if◌then◌else◌}
 use Rattle.std.specs.List.{flat_map}
 use Rattle.ct_regex.specs.Tree.{Test, takes, Tree, empty, never, start, end, one, sequence, choice, repeat}
 use Rattle.ct_regex.specs.declared.tree.Quantifier.TheVariants.{ZeroOrOne, ZeroOrMore, OneOrMore}
 
--- the place alone, where the test holds
+-- the place alone if the condition holds, else no place
 abbrev pub place_if : Bool → ℕ → List ℕ
 place_if holds place = if holds then place ∷ [] else []
 
--- the place behind a byte that the test takes
+-- the place behind a byte, if the test takes that byte
 abbrev pub behind : Test → ℕ → Option ℕ → List ℕ
 behind test place None = []
 behind test place (Some byte) = place_if (takes test byte) (place + 1)
 
--- from a place, at most so many rounds of one step
+-- the places reached from a place by at most so many rounds of one step
 abbrev pub rounds : ℕ → (ℕ → List ℕ) → ℕ → List ℕ
 rounds zero step place = place ∷ []
 rounds (suc most) step place = place ∷ flat_map (rounds most step) (step place)
 
--- The places at which a match from a place on may end. A repetition is taken at most one round more
--- than the text is long.
+-- The places where a match that begins at a place may end.
+-- A repetition takes at most one round more than the text has bytes.
 abbrev pub ends : List ℕ → Tree → ℕ → List ℕ
 ends text empty place = place ∷ []
 ends text never place = []

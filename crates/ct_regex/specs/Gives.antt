@@ -5,35 +5,35 @@ use Rattle.ct_regex.specs.Signs.{Sign, fault, signs}
 use Rattle.ct_regex.specs.declared.fault.RegexFault.{RegexFault}
 use Rattle.ct_regex.specs.declared.fault.RegexFault.TheVariants.{TooLarge, NoMemory}
 
--- the fault is the one that the definition says; want of memory is free
+-- the fault is the one that the definition says; NoMemory is always allowed
 abbrev pub SaysFault : {Y : Type 0} → Result Y RegexFault → RegexFault → Type 0
 SaysFault says NoMemory = Unit {0}
 SaysFault says why = says ≡ Err why
 
--- the answer, seen by the view, is what the definition says
+-- the call returned what the definition says, seen through the view, or NoMemory
 abbrev pub Gives : {X Y : Type 0} → (X → Y) → Result X RegexFault → Result Y RegexFault → Type 0
 Gives view (Ok x) says = says ≡ Ok (view x)
 Gives view (Err why) says = SaysFault says why
 
--- what a text gives that is written as the tree: that tree, or it is too large
+-- a text that is written as the tree was read as that tree, or it was too large, or memory was wanting
 abbrev pub IsReadAs : {X : Type 0} → (X → Tree) → Tree → Result X RegexFault → Type 0
 IsReadAs view tree (Ok x) = view x ≡ tree
 IsReadAs view tree (Err (TooLarge place)) = Unit {0}
 IsReadAs view tree (Err NoMemory) = Unit {0}
 IsReadAs view tree (Err why) = ⊥
 
--- where a sign could not be read, the fault is the one that stands there
+-- the fault is the one that stands there in place of a sign; NoMemory is always allowed
 abbrev pub IsFaultAt : List Sign → RegexFault → Type 0
 IsFaultAt there NoMemory = Unit {0}
 IsFaultAt there why = there ≡ fault why ∷ []
 
--- the sign stands at a place of the text, and behind it the signs go on from a place further on
+-- the sign stands at a place of the text, and the signs behind it go on from `behind`, a place further on
 pub record IsSignAt (text : List ℕ) (place : ℕ) (sign : Sign) (behind : ℕ) : Type 0 where
   pub grows : place < behind
   pub within : behind ≤ length text
   pub there : signs place (drop place text) ≡ sign ∷ signs behind (drop behind text)
 
--- one sign was read, or the fault that stands there
+-- the call read the sign at a place, or returned the fault that stands there
 abbrev pub ReadsSign : {X : Type 0} → (X → Sign) → List ℕ → ℕ → Result (X × ℕ) RegexFault → Type 0
 ReadsSign view text place (Ok found) = IsSignAt text place (view found.0) found.1
 ReadsSign view text place (Err why) = IsFaultAt (signs place (drop place text)) why

@@ -33,14 +33,14 @@ pub data IsOne : List ℕ → Tree → Type 0 where
   of_set : {text : List ℕ} {items : List Span} → begins_negated text ≡ false → IsItems true text items → IsOne (open_set ∷ text) (one (inside items))
   of_negated : {text : List ℕ} {items : List Span} → IsItems true text items → IsOne (open_set ∷ caret ∷ text) (one (outside items))
 
--- the byte by which a quantifier is written
+-- the byte that writes a quantifier
 abbrev pub byte_of : Quantifier → ℕ
 byte_of ZeroOrOne = question
 byte_of ZeroOrMore = star
 byte_of OneOrMore = plus
 
 mutual
-  -- a whole pattern, or the inside of a group: branches with a bar between any two
+  -- a whole pattern, or the inside of a group: branches with a bar between each two
   pub data IsPattern : List ℕ → Tree → Type 0 where
     pattern : {front text : List ℕ} {trees parts : List Tree} → IsBranches front trees → IsBranch text parts →
         IsPattern (front ++ text) (choice_of (trees ++ sequence_of parts ∷ []))
@@ -57,13 +57,13 @@ mutual
     and_part : {front text : List ℕ} {trees : List Tree} {tree : Tree} → IsBranch front trees → IsPart text tree →
         IsBranch (front ++ text) (trees ++ tree ∷ [])
 
-  -- an atom, or an atom and a quantifier that may repeat it
+  -- an atom, or an atom with a quantifier that may repeat it
   pub data IsPart : List ℕ → Tree → Type 0 where
     bare : {text : List ℕ} {tree : Tree} → IsAtom text tree → IsPart text tree
     often : {text : List ℕ} {tree : Tree} (quantifier : Quantifier) → IsAtom text tree → may_repeat quantifier tree ≡ true →
         IsPart (text ++ byte_of quantifier ∷ []) (repeat quantifier tree)
 
-  -- one atom: a group has its brackets
+  -- one atom: an atom that is no group, or a pattern between `(` and `)`
   pub data IsAtom : List ℕ → Tree → Type 0 where
     alone : {text : List ℕ} {tree : Tree} → IsOne text tree → IsAtom text tree
     group : {text : List ℕ} {tree : Tree} → IsPattern text tree → IsAtom (open_group ∷ text ++ close_group ∷ []) tree

@@ -1,4 +1,4 @@
--- What the laws of patterns speak of.
+-- Definitions for the laws of patterns.
 use Rattle.std.specs.Prelude.{◌≡◌, ℕ, ◌==◌, Bool, not, List, ◌++◌, Result, Ok, Err}
 use Rattle.ct_regex.specs.Tree.{Tree}
 use Rattle.ct_regex.specs.Ends.{hits}
@@ -15,13 +15,13 @@ stands_for_itself byte = not (list_any (λ other. byte == other) special)
 abbrev pub are_plain : List ℕ → Bool
 are_plain bytes = list_all stands_for_itself bytes
 
--- the text has the bytes somewhere, one directly behind the other
+-- the text contains the bytes, one directly behind the other
 pub record HasPart (bytes text : List ℕ) : Type 0 where
   pub front : List ℕ
   pub back : List ℕ
   pub there : text ≡ front ++ (bytes ++ back)
 
--- a pattern that was read hits the text where the tree does, or it was too large
+-- the pattern was read and hits the text exactly if the tree does, or it was too large
 abbrev pub HitsAlike : Tree → List ℕ → Result Tree RegexFault → Type 0
 HitsAlike tree text (Ok other) = hits other text ≡ hits tree text
 HitsAlike tree text (Err (TooLarge place)) = Unit {0}

@@ -1,4 +1,4 @@
--- What a memory of steps holds: the machine's own.
+-- What a memory of steps holds. Internal to the matcher.
 use Rattle.std.specs.Prelude.{◌≡◌, ◌<◌, ℕ, ◌+◌, ◌*◌, Bool, false, List, Option, Some, None, slice_get, slice_index_or}
 use Rattle.ct_regex.specs.Walk.{Step}
 use Rattle.ct_regex.specs.Stand.{Stand, a_stand, behind_byte}
@@ -6,27 +6,27 @@ use Rattle.ct_regex.specs.Met.{marks_of}
 use Rattle.ct_regex.specs.declared.memory.Met.{Met}
 use Rattle.ct_regex.specs.declared.memory.Memory.{Memory}
 
--- whether a match ends at a set, where there is one
+-- whether a match ends at a set; no match does where there is no set
 abbrev pub last_of : Option Met → Bool
 last_of None = false
 last_of (Some met) = met.last
 
--- where a scan stands that is at a set
+-- where a scan stands at the set with a number, in a list of sets
 abbrev pub stand_in : List Met → ℕ → Stand
 stand_in sets at = a_stand (marks_of (slice_get sets at)) (last_of (slice_get sets at))
 
--- where a scan stands that is at the set with a number
+-- where a scan stands at the set with a number
 abbrev pub stand_at : Memory → ℕ → Stand
 stand_at memory at = stand_in memory.sets.items at
 
--- the number of the set to which the byte leads from a set, where it is known
+-- the number of the set that the byte leads to from a set, if it is known
 abbrev pub entry_at : Memory → ℕ → ℕ → Option ℕ
 entry_at memory at byte = slice_index_or memory.next.items (at * 256 + byte) None
 
--- one set was met, and the byte leads from it to another one that was met
+-- both sets were met, and the byte leads from the first to the second
 abbrev pub Leads : List Step → Memory → ℕ → ℕ → ℕ → Type 0
 Leads steps memory at byte to = (at < memory.count) × (to < memory.count) × (behind_byte steps (stand_at memory at) byte ≡ stand_at memory to)
 
--- what the memory knows of a byte is what a walk would do
+-- each step that the memory knows is the step that a walk would take
 abbrev pub Remembers : List Step → Memory → Type 0
 Remembers steps memory = (at byte to : ℕ) → byte < 256 → entry_at memory at byte ≡ Some to → Leads steps memory at byte to

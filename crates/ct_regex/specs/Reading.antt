@@ -8,7 +8,7 @@ use Rattle.ct_regex.specs.declared.tree.Quantifier.TheVariants.{ZeroOrOne, ZeroO
 use Rattle.ct_regex.specs.declared.fault.RegexFault.{RegexFault}
 use Rattle.ct_regex.specs.declared.fault.RegexFault.TheVariants.{OpenGroup, StrayClose, NothingToRepeat, EmptyRepeat, NestedRepeat, TooLarge}
 
--- whether the empty text can match, as far as a `*` or `+` behind it asks
+-- whether the tree can match the empty text, by the rule for a `*` or `+` behind it
 abbrev pub can_be_empty : Tree → Bool
 can_be_empty empty = true
 can_be_empty never = false
@@ -27,8 +27,9 @@ pub data Last : Type 0 where
   bare : Tree → Last
   quantified : Tree → Last
 
--- A group that is open, with the place of its `(`: its branches in front, and of its last branch the
--- parts but the last one. The whole pattern counts as the outermost group.
+-- A group that is open: the place of its `(`, its branches in front of the last one,
+-- the parts of the last branch in front of its last part, and that last part.
+-- The whole pattern counts as the outermost group.
 pub record Group : Type 0 where
   pub place : ℕ
   pub branches : List Tree
@@ -39,7 +40,7 @@ pub record Group : Type 0 where
 abbrev pub opened_at : ℕ → Group
 opened_at place = record { place = place; branches = []; parts = []; last = no_part }
 
--- the last part, where there is one
+-- the last part as a list, empty where there is none
 abbrev pub last_parts : Last → List Tree
 last_parts no_part = []
 last_parts (bare tree) = tree ∷ []
@@ -49,7 +50,7 @@ last_parts (quantified tree) = tree ∷ []
 abbrev pub all_parts : Group → List Tree
 all_parts group = group.parts ++ last_parts group.last
 
--- the group with one more atom behind the others
+-- the group with one more atom at its end
 abbrev pub with_atom : Tree → Group → Group
 with_atom tree group = record { place = group.place; branches = group.branches; parts = all_parts group; last = bare tree }
 
@@ -67,29 +68,29 @@ may_repeat ZeroOrOne tree = true
 may_repeat ZeroOrMore tree = not (can_be_empty tree)
 may_repeat OneOrMore tree = not (can_be_empty tree)
 
--- the group behind a quantifier at a place, which repeats the last part, or the fault
+-- the group behind a quantifier at a place, which repeats the last part of the group; or the fault
 abbrev pub with_quantifier : Quantifier → ℕ → Group → Last → Result Group RegexFault
 with_quantifier quantifier place group no_part = Err (NothingToRepeat place)
 with_quantifier quantifier place group (quantified tree) = Err (NestedRepeat place)
 with_quantifier quantifier place group (bare tree) =
     if may_repeat quantifier tree then Ok (record { place = group.place; branches = group.branches; parts = group.parts; last = quantified (repeat quantifier tree) }) else Err (EmptyRepeat place)
 
--- the innermost open group, and those around it from the inside
+-- the innermost open group, and the groups around it from the inside out
 pub record Groups : Type 0 where
   pub inner : Group
   pub outer : List Group
 
--- the answer, changed where it is no fault
+-- the answer with a function applied to its value; a fault stays
 abbrev pub map_ok : {X Y : Type 0} → (X → Y) → Result X RegexFault → Result Y RegexFault
 map_ok f (Ok x) = Ok (f x)
 map_ok f (Err e) = Err e
 
--- the groups behind a `(`, or the fault: at most 200 are open at once
+-- the groups behind a `(`, or the fault; at most 200 groups may be open at once
 abbrev pub with_group : ℕ → Groups → Result Groups RegexFault
 with_group place groups =
     if nat_lt (length groups.outer) 200 then Ok (record { inner = opened_at place; outer = groups.inner ∷ groups.outer }) else Err (TooLarge place)
 
--- the groups behind a `)`: the innermost one is an atom of the one around it, or the fault
+-- the groups behind a `)`: the innermost one becomes an atom of the one around it; or the fault
 abbrev pub with_close : ℕ → Group → List Group → Result Groups RegexFault
 with_close place group [] = Err (StrayClose place)
 with_close place group (around ∷ outer) = Ok (record { inner = with_atom (closed group) around; outer = outer })
@@ -109,12 +110,12 @@ abbrev pub at_end : Group → List Group → Result Tree RegexFault
 at_end group [] = Ok (closed group)
 at_end group (around ∷ outer) = Err (OpenGroup group.place)
 
--- what comes of the answer, or its fault
+-- continues with the value of the answer, or returns its fault
 abbrev pub and_then : {X Y : Type 0} → Result X RegexFault → (X → Result Y RegexFault) → Result Y RegexFault
 and_then (Ok x) f = f x
 and_then (Err e) f = Err e
 
--- the tree that the signs say behind what is open, or the first fault
+-- the tree of the open groups and the signs that follow, or the first fault
 abbrev pub read : Groups → List Sign → Result Tree RegexFault
 read groups [] = at_end groups.inner groups.outer
 read groups (sign ∷ others) = and_then (with_sign groups sign) (λ next. read next others)

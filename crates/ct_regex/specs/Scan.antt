@@ -1,5 +1,5 @@
--- What a scan stands for. The text is not kept: a scan stands for a text if it will answer as the text does,
--- whatever comes behind it.
+-- What a scan stands for. A scan does not keep its text: it stands for a text if it answers as the text does,
+-- whatever bytes follow.
 use Rattle.std.specs.Prelude.{◌≡◌, ℕ, Bool, List, ◌++◌, map}
 use Rattle.ct_regex.specs.Tree.{Tree}
 use Rattle.ct_regex.specs.Ends.{hits}
@@ -12,16 +12,16 @@ use Rattle.ct_regex.specs.declared.scan.Scan.{Scan}
 abbrev pub stand_of : Scan → Stand
 stand_of scan = stand_with scan.found (stand_at scan.memory scan.at)
 
--- what a scan answers once these bytes have come
+-- the answer of a scan once these bytes have come
 abbrev pub answer_behind : Scan → List ℕ → Bool
 answer_behind scan bytes = answer (behind_bytes (map step_of scan.steps.items) (stand_of scan) bytes)
 
--- The scan stands for the text under the pattern: whatever bytes come, its answer then is whether the
--- pattern hits the text followed by them.
+-- The scan stands for the text under the pattern:
+-- whatever bytes follow, the scan then answers whether the pattern hits the text with these bytes behind it.
 abbrev pub StandsFor : Tree → List ℕ → Scan → Type 0
 StandsFor tree text scan = (more : List ℕ) → answer_behind scan more ≡ hits tree (text ++ more)
 
--- whatever bytes come, the scan answers as before of the piece followed by them, where the rest of the
--- piece is still to come
+-- whatever bytes follow: once the rest of the piece has come too, the scan answers
+-- as the scan before answers on the whole piece with the same bytes behind it
 abbrev pub GoesOn : Scan → List ℕ → List ℕ → Scan → Type 0
 GoesOn before piece rest after = (more : List ℕ) → answer_behind after (rest ++ more) ≡ answer_behind before (piece ++ more)

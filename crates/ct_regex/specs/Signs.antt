@@ -17,7 +17,7 @@ pub data Sign : Type 0 where
   often : Quantifier → ℕ → Sign
   fault : RegexFault → Sign
 
--- the sign that a byte is by itself: ^ $ . ( ) | * + ? and else the byte
+-- the sign of a single byte: `^ $ . ( ) | * + ?` have a meaning, any other byte stands for itself
 abbrev pub plain_sign : ℕ → ℕ → Sign
 plain_sign place byte =
     if byte == caret then atom start
@@ -31,36 +31,37 @@ plain_sign place byte =
     else if byte == question then often ZeroOrOne place
     else atom (one (same byte))
 
--- whether the text begins with ^
+-- whether the text begins with `^`
 abbrev pub begins_negated : List ℕ → Bool
 begins_negated [] = false
 begins_negated (byte ∷ rest) = byte == caret
 
--- whether behind the first byte of an item - and a byte other than ] follow
+-- whether a `-` and a byte other than `]` follow the first byte of an item
 abbrev pub is_range : List ℕ → Bool
 is_range [] = false
 is_range (byte ∷ []) = false
 is_range (byte ∷ high ∷ rest) = (byte == dash) && not (high == close_set)
 
--- the second byte, where there is one
+-- the second byte, or 0 where there is none
 abbrev pub second : List ℕ → ℕ
 second [] = 0
 second (byte ∷ []) = 0
 second (byte ∷ next ∷ rest) = next
 
--- the last byte of the item that begins with a byte
+-- the last byte of the item that begins with the byte `low`
 abbrev pub item_high : ℕ → List ℕ → ℕ
 item_high low rest = if is_range rest then second rest else low
 
--- whether no item is there yet
+-- whether the list has no item yet
 abbrev pub is_none : List Span → Bool
 is_none [] = true
 is_none (span ∷ spans) = false
 
--- the set of these items, or of the bytes outside them
+-- the set of these items, or of the bytes outside them if it is negated
 abbrev pub set_of : Bool → List Span → Test
 set_of negated spans = if negated then outside spans else inside spans
 
+-- the signs of a pattern, read outside a set, behind a backslash, and inside a set
 abbrev mutual
   -- the signs from a place on
   pub signs : ℕ → List ℕ → List Sign
@@ -70,13 +71,14 @@ abbrev mutual
       else if byte == escaping_byte then escaped place rest
       else plain_sign place byte ∷ signs (place + 1) rest
 
-  -- behind the backslash at a place: a byte that stands for itself
+  -- the signs behind the backslash at a place: the byte behind it stands for itself
   pub escaped : ℕ → List ℕ → List Sign
   escaped place [] = fault (EndsInBackslash place) ∷ []
   escaped place (byte ∷ rest) = atom (one (same byte)) ∷ signs (place + 2) rest
 
-  -- In the set that opens at a place, behind the items so far: a `]` that is not the first byte ends
-  -- the set, and any other byte begins an item. `skip` bytes belong to what was read before.
+  -- The signs inside the set that opens at a place, behind the items so far.
+  -- A `]` that is not the first byte ends the set, and any other byte begins an item.
+  -- The first `skip` bytes are already read.
   pub set_signs : ℕ → Bool → ℕ → ℕ → List Span → List ℕ → List Sign
   set_signs opened negated skip place items [] = fault (OpenSet opened) ∷ []
   set_signs opened negated (suc skip) place items (byte ∷ rest) = set_signs opened negated skip (place + 1) items rest

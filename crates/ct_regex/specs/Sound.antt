@@ -1,4 +1,5 @@
--- Which patterns repeat only what cannot be empty: this project's choice, which `EmptyRepeat` refuses.
+-- Patterns in which `*` and `+` repeat only what cannot be empty. This project's choice: `EmptyRepeat`
+-- refuses the others.
 use Rattle.std.specs.Prelude.{Bool, true, ◌&&◌, not}
 use Rattle.ct_regex.specs.Tree.{Tree, empty, never, start, end, one, sequence, choice, repeat}
 use Rattle.ct_regex.specs.Reading.{can_be_empty}

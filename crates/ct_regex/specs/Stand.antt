@@ -1,19 +1,19 @@
--- Where a scan stands between two bytes, and what it answers there: the machine's own.
+-- Where a scan stands between two bytes, and what it answers there. Internal to the matcher.
 use Rattle.std.specs.Prelude.{ℕ, Bool, false, ◌||◌, List, [], ◌∷◌}
 use Rattle.ct_regex.specs.Walk.{Walk, Step, walked, all_flow}
 
--- where a scan stands: its marks, whether a match has ended that no later byte takes away, and whether
--- one ends here if the text does
+-- where a scan stands: its marks; whether a match has ended, whatever bytes follow;
+-- and whether a match ends here if the text does
 pub record Stand : Type 0 where
   pub marks : List Bool
   pub found : Bool
   pub last : Bool
 
--- where a scan stands that has found nothing
+-- where a scan stands that has found no match
 abbrev pub a_stand : List Bool → Bool → Stand
 a_stand marks last = record { marks = marks; found = false; last = last }
 
--- the same place, with what was found
+-- the same stand with another value of `found`
 abbrev pub stand_with : Bool → Stand → Stand
 stand_with found stand = record { marks = stand.marks; found = found; last = stand.last }
 
@@ -21,11 +21,11 @@ stand_with found stand = record { marks = stand.marks; found = found; last = sta
 abbrev pub stand_by : Stand → Walk → Stand
 stand_by stand walk = record { marks = walk.marks; found = stand.found || walk.flow.now; last = walk.flow.last }
 
--- where it stands behind one more byte
+-- where a scan stands behind one more byte
 abbrev pub behind_byte : List Step → Stand → ℕ → Stand
 behind_byte steps stand byte = stand_by stand (walked steps byte (record { flow = all_flow; opened = []; marks = stand.marks }))
 
--- where it stands behind these bytes
+-- where a scan stands behind these bytes
 abbrev pub behind_bytes : List Step → Stand → List ℕ → Stand
 behind_bytes steps stand [] = stand
 behind_bytes steps stand (byte ∷ bytes) = behind_bytes steps (behind_byte steps stand byte) bytes

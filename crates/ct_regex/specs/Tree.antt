@@ -4,15 +4,15 @@ use Rattle.std.specs.List.{list_any}
 use Rattle.ct_regex.specs.declared.tree.Span.{Span}
 use Rattle.ct_regex.specs.declared.tree.Quantifier.{Quantifier}
 
--- which bytes an atom of one byte takes: any, that one, one of a set, one outside it
+-- which bytes an atom takes: any byte, that byte alone, the bytes of a set, or the bytes outside a set
 pub data Test : Type 0 where
   any : Test
   same : ℕ → Test
   inside : List Span → Test
   outside : List Span → Test
 
--- a pattern: the empty text, no text at all, `^`, `$`, one byte, one part behind the other, one of
--- two parts, and a part that is repeated
+-- a pattern: the empty text, no text at all, `^`, `$`, one byte, two parts one behind the other,
+-- one of two parts, or a part that is repeated
 pub data Tree : Type 0 where
   empty : Tree
   never : Tree
@@ -34,12 +34,12 @@ takes (same wanted) byte = byte == wanted
 takes (inside spans) byte = has_byte spans byte
 takes (outside spans) byte = not (has_byte spans byte)
 
--- one behind the other; of none the empty text
+-- the trees one behind the other; without trees, the empty text
 abbrev pub sequence_of : List Tree → Tree
 sequence_of [] = empty
 sequence_of (tree ∷ trees) = sequence tree (sequence_of trees)
 
--- one of them; of none nothing matches
+-- one of the trees; without trees, a pattern that matches nothing
 abbrev pub choice_of : List Tree → Tree
 choice_of [] = never
 choice_of (tree ∷ trees) = choice tree (choice_of trees)

@@ -1,4 +1,4 @@
--- What a parsed pattern says.
+-- The tree of a parsed pattern.
 use Rattle.ct_regex.specs.Tree.{Tree}
 use Rattle.ct_regex.specs.Meaning.{meaning}
 use Rattle.ct_regex.specs.declared.pattern.Regex.{Regex}

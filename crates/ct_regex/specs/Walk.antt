@@ -1,5 +1,6 @@
--- The walk of a scan over a pattern, once for each byte: the machine's own. No promise is told by it but
--- what a scan stands for (Scan.antt); what a match is stands in Ends.antt.
+-- The walk of a scan over a pattern, once for each byte. Internal to the matcher.
+-- Of the promises, only what a scan stands for (Scan.antt) is stated by it. Ends.antt defines what a match
+-- is.
 use Rattle.std.specs.Prelude.{ℕ, ◌+◌, Bool, true, false, ◌&&◌, ◌||◌, List, [], ◌∷◌, ◌++◌, length, slice_index_or, slice_set}
 use Rattle.ct_regex.specs.Tree.{Test, takes, Tree, empty, never, start, end, one, sequence, choice, repeat}
 use Rattle.ct_regex.specs.Meaning.{byte_test}
@@ -20,7 +21,7 @@ pub data Step : Type 0 where
   loop : ℕ → Step
   back : ℕ → Step
 
--- the step that one of the code stands for
+-- the step that a step of the code stands for
 abbrev pub step_of : step_type.Step → Step
 step_of (step_type.TheVariants.Start at) = at_start at
 step_of step_type.TheVariants.End = at_end
@@ -32,30 +33,30 @@ step_of step_type.TheVariants.Join = join
 step_of (step_type.TheVariants.Loop at) = loop at
 step_of (step_type.TheVariants.Back at) = back at
 
--- a match has come by either way
+-- two flows together: a match has come if it came by either of them
 abbrev pub merged : Flow → Flow → Flow
 merged left right = record { now = left.now || right.now; next = left.next || right.next; last = left.last || right.last }
 
--- no match has come
+-- the flow by which no match has come
 abbrev pub no_flow : Flow
 no_flow = record { now = false; next = false; last = false }
 
--- a match begins at each place
+-- the flow in front of a pattern: a match begins at each place
 abbrev pub all_flow : Flow
 all_flow = record { now = true; next = true; last = true }
 
--- a walk in its course: what has come, the open choices from the inside, and the marks
+-- the state of a walk: the flow so far, the open choices from the inside out, and the marks
 pub record Walk : Type 0 where
   pub flow : Flow
   pub opened : List Branches
   pub marks : List Bool
 
--- what enters each branch of the innermost choice
+-- the flow that enters each branch of the innermost choice
 abbrev pub entered : List Branches → Flow
 entered [] = no_flow
 entered (branches ∷ others) = branches.entered
 
--- what has left the branches of the innermost choice
+-- the flow that has left the branches of the innermost choice
 abbrev pub left_of : List Branches → Flow
 left_of [] = no_flow
 left_of (branches ∷ others) = branches.left
@@ -65,16 +66,16 @@ abbrev pub around : List Branches → List Branches
 around [] = []
 around (branches ∷ others) = others
 
--- the open choices, once a branch of the innermost one was left
+-- the open choices, once a flow has left a branch of the innermost one
 abbrev pub with_left : Flow → List Branches → List Branches
 with_left flow [] = []
 with_left flow (branches ∷ others) = record { entered = branches.entered; left = merged branches.left flow } ∷ others
 
--- the flow behind an atom of one byte: what the mark says, and what the byte leads to
+-- the flow behind an atom of one byte: what its mark says, and whether the byte was taken
 abbrev pub behind_one : Bool → Bool → Flow
 behind_one came comes = record { now = came; next = comes; last = comes }
 
--- the walk behind one more step
+-- the walk after one more step
 abbrev pub behind_step : Step → ℕ → Walk → Walk
 behind_step (at_start at) byte walk = record {
   flow = record { now = walk.flow.now && slice_index_or walk.marks at false; next = false; last = false };
@@ -98,12 +99,12 @@ behind_step (loop at) byte walk = record {
 }
 behind_step (back at) byte walk = record { flow = walk.flow; opened = walk.opened; marks = slice_set walk.marks at walk.flow.next }
 
--- the walk behind these steps
+-- the walk after these steps
 abbrev pub walked : List Step → ℕ → Walk → Walk
 walked [] byte walk = walk
 walked (first ∷ others) byte walk = walked others byte (behind_step first byte walk)
 
--- the marks of a pattern of which nothing was read
+-- the marks of a pattern before the first byte
 abbrev pub no_marks : Tree → List Bool
 no_marks empty = []
 no_marks never = []
@@ -116,7 +117,7 @@ no_marks (repeat ZeroOrOne tree) = no_marks tree
 no_marks (repeat ZeroOrMore tree) = false ∷ no_marks tree
 no_marks (repeat OneOrMore tree) = false ∷ no_marks tree
 
--- whether nothing matches, since no branch is left
+-- whether the tree matches nothing, since it is a choice without branches
 abbrev pub is_never : Tree → Bool
 is_never never = true
 is_never empty = false
@@ -127,18 +128,19 @@ is_never (sequence first others) = false
 is_never (choice left right) = false
 is_never (repeat quantifier tree) = false
 
--- the steps of a part, which may be the last branch of an open choice
+-- the steps of a part; as the last branch of an open choice, it also ends the branch and the choice
 abbrev pub branch : Bool → List Step → List Step
 branch false steps = steps
 branch true steps = steps ++ (or_else ∷ join ∷ [])
 
--- the steps of a choice by those of its first branch and of the others; a choice of one branch is that branch
+-- the steps of a choice, given those of its first branch and of the others;
+-- a choice of one branch has the steps of that branch
 abbrev pub choice_steps : Bool → Bool → List Step → List Step → List Step
 choice_steps true is_only first others = first ++ (or_else ∷ others)
 choice_steps false true first others = first
 choice_steps false false first others = fork ∷ first ++ (or_else ∷ others)
 
--- the steps of rounds of a part, whose mark stands at a place
+-- the steps of a repeated part, whose mark stands at a place
 abbrev pub rounds_of : ℕ → List Step → List Step
 rounds_of at steps = loop at ∷ steps ++ (back at ∷ [])
 

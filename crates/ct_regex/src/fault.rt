@@ -13,7 +13,7 @@ pub enum RegexFault {
     /// A set that is never closed: the place of its `[`.
     #[error("the set at byte {0} is not closed")]
     OpenSet(u32),
-    /// A range of a set that ends below its begin: the place of its first byte.
+    /// A range of a set whose last byte is below its first one: the place of the first one.
     #[error("the range at byte {0} ends below its begin")]
     BadRange(u32),
     /// A quantifier with no atom in front of it.
@@ -28,7 +28,7 @@ pub enum RegexFault {
     /// A backslash as the last byte, outside a set.
     #[error("the backslash at byte {0} is the last byte")]
     EndsInBackslash(u32),
-    /// More than 65,536 bytes, with that place, or groups more than 200 deep, with the place of the
+    /// More than 65,536 bytes: the place 65,536. Or groups more than 200 deep: the place of the
     /// first `(` that is too deep. Both limits are this project's choice.
     #[error("the pattern is too large at byte {0}")]
     TooLarge(u32),

@@ -8,8 +8,8 @@ ghost use Rattle.ct_regex.specs.Ends.{hits};
 ghost use Rattle.ct_regex.specs.Reading.{reading};
 ghost use Rattle.ct_regex.specs.Laws.{are_plain, HasPart, HitsAlike};
 
-/// A group that only brackets changes nothing: its tree has one branch with one part, and a whole
-/// pattern in brackets, `(` and `)`, hits what it hits without them.
+/// Brackets alone change nothing. A choice of one branch with one part hits what that part hits. A
+/// whole pattern between `(` and `)` hits what it hits without them.
 pub fn brackets_change_nothing()
     ensures trees { (tree : Tree) (text : List ℕ) →
         hits (choice_of (sequence_of (tree ∷ []) ∷ [])) text ≡ hits tree text }

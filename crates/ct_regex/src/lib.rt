@@ -1,10 +1,11 @@
 //! The regular expressions of CMake: parsed exactly, and matched by their definition.
 //!
-//! Hands up: `Regex::parse` reads a pattern or says which fault comes first, `hit` tells whether a
-//! text has a match anywhere, and a `Scan` tells it of a text that comes in pieces.
+//! Hands up: `Regex::parse` reads a pattern or returns its first fault, `hit` tells whether a text
+//! has a match anywhere, and a `Scan` tells the same of a text that comes in pieces.
 //! Stands on: ct_base and `thiserror`.
 //! Read first: `specs/Tree.antt`, `specs/Ends.antt`, `specs/Signs.antt`, `specs/Reading.antt` and
-//! `specs/Scan.antt`. The files that `specs/Lib.antt` lists from `Walk` to `Memory` are the machine's own.
+//! `specs/Scan.antt`. In `specs/Lib.antt`, the files from `Walk` to `Memory` are internal to the
+//! matcher.
 #![tactic(auto)]
 
 mod fault;

@@ -4,25 +4,25 @@ ghost use Rattle.ct_regex.specs.Met.{marks_in};
 use ct_base::NoMemory;
 use std::alloc::Global;
 
-/// A set of live positions that was met.
+/// A set of live positions that a scan has met.
 #[derive(Drop)]
 pub struct Met {
     pub marks: Vec<bool>,
     /// Whether a match ends here, if the text does.
     pub last: bool,
-    /// The `digest` of the marks: it makes the search for a set short.
+    /// The `digest` of the marks, which makes the search for a set fast.
     pub digest: u32,
 }
 
-/// The sets that were met, by number, and where each byte leads from them.
+/// The sets that were met, by number, and the set that each byte leads to from each of them.
 #[derive(Drop)]
 pub struct Memory {
-    /// The first `count` were met; the others are room.
+    /// The first `count` sets were met; the others are room for more.
     pub sets: Vec<Met>,
     pub count: u16,
     /// How many marks a set has.
     pub width: usize,
-    /// For each set and byte the set behind it, where it is known.
+    /// For each set and byte, the set that the byte leads to, if it is known.
     pub next: Vec<Option<u16>>,
     ghost few: { count ≤ vec_len sets },
     ghost some: { 0 < vec_len sets },
@@ -36,7 +36,7 @@ impl Memory {
     ghost use Rattle.ct_regex.specs.Stand.{Stand, a_stand, behind_byte, behind_bytes};
     ghost use Rattle.ct_regex.specs.Memory.{stand_at, entry_at, Remembers, Leads};
 
-    /// Begins with one set, and room for so many.
+    /// Makes a memory with one set, and room for `room` sets.
     pub(crate) fn new(
         alloc: Global,
         room: u16,
@@ -69,7 +69,7 @@ impl Memory {
         })
     }
 
-    /// Where the byte leads from the set, if that is known.
+    /// Returns the set that the byte leads to, if it is known.
     fn next(&self, at: u16, byte: u8) -> Option<u16>
         ensures { result ≡ entry_at self.now at byte }
     {
@@ -79,7 +79,8 @@ impl Memory {
         }
     }
 
-    /// Goes from the set as far as it is known where the bytes lead, and tells how many they were.
+    /// Follows the bytes of a piece from a set, for as long as the next set is known. Returns the
+    /// last set and how many bytes were followed.
     pub(crate) fn follow(&self, from: u16, piece: &[u8]) -> (u16, usize)
         requires within { from < self.now.count }
         ensures behind { (steps : List Step) → Remembers steps self.now →
@@ -104,7 +105,7 @@ impl Memory {
         (at, known)
     }
 
-    /// How many bytes lead from the set to itself, before one that does not.
+    /// Counts the bytes that lead from the set to itself, up to the first byte that does not.
     fn stays(&self, at: u16, piece: &[u8]) -> usize
         ensures behind { (steps : List Step) → Remembers steps self.now →
             behind_bytes steps (stand_at self.now at) (drop result piece.now)
@@ -128,7 +129,7 @@ impl Memory {
         }
     }
 
-    /// Whether a match ends at the set, if the text does.
+    /// Tells whether a match ends at the set, if the text ends there.
     pub(crate) fn last(&self, at: u16) -> bool
         ensures { result ≡ (stand_at self.now at).last }
     {
@@ -146,9 +147,9 @@ impl Memory {
         &self.sets[at as usize].marks
     }
 
-    /// Remembers that the byte leads from one set to another, whose number it gives.
+    /// Remembers the set that the byte leads to, and returns its number.
     ///
-    /// When there is no room for one more set, it forgets all others.
+    /// If there is no room for one more set, it forgets all others.
     pub(crate) fn learn(&mut self, from: u16, byte: u8, marks: &[bool], last: bool) -> u16
         requires met { from < self.old.count }
         requires wide { length marks.now ≡ self.old.width }
@@ -172,7 +173,7 @@ impl Memory {
         to
     }
 
-    /// The number of the set, where it was met.
+    /// Returns the number of the set, if it was met.
     pub(crate) fn find(&self, marks: &[bool], last: bool) -> Option<u16>
         ensures met { IfSome result (λ at. at < self.now.count) }
         ensures same { IfSome result (λ at. stand_at self.now at ≡ a_stand marks.now last) }
@@ -193,7 +194,7 @@ impl Memory {
         self.sets.len() <= self.count as usize
     }
 
-    /// Gives a set that was not met a number.
+    /// Adds a set that was not met, and returns its number.
     pub(crate) fn add(&mut self, marks: &[bool], last: bool) -> u16
         requires room { self.old.count < vec_len self.old.sets }
         requires wide { length marks.now ≡ self.old.width }
@@ -248,7 +249,7 @@ fn is_same(met: &Met, marks: &[bool], last: bool) -> bool
     met.last == last && met.marks.as_slice() == marks
 }
 
-/// A number by which two sets mostly differ, where their marks do. Nothing rests on it but speed.
+/// Computes a number that mostly differs where the marks differ. Only speed depends on it.
 fn digest(marks: &[bool]) -> u32 {
     let mut digest: u32 = 0;
     for i in 0..marks.len() {

@@ -40,7 +40,7 @@ impl Regex {
     /// project's choice.
     pub fn parse(alloc: Global, text: &[u8]) -> Result<Regex, RegexFault>
         ensures exact { Gives regex_tree result (reading text.now) }
-        // The grammar that the tree is written by, apart from how it is read.
+        // The tree is what the grammar writes. The grammar does not depend on how a text is read.
         ensures written { IfOk result (λ regex. IsPattern text.now (regex_tree regex)) }
         ensures read { (tree : Tree) → IsPattern text.now tree → IsReadAs regex_tree tree result }
     {

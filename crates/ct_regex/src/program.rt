@@ -59,7 +59,7 @@ impl Program {
     }
 }
 
-/// Puts the steps of the node behind the others.
+/// Appends the steps of the node.
 #[cycle(add)]
 fn add(alloc: Global, program: Program, node: &Node) -> Result<Program, NoMemory>
     ensures steps { IfOk result (λ all. map step_of all.steps.items
@@ -121,7 +121,7 @@ fn add_parts(alloc: Global, program: Program, parts: &[Node]) -> Result<Program,
     Ok(all)
 }
 
-/// A choice of one branch is that branch.
+/// Appends the steps of a choice. A choice of one branch has the steps of that branch.
 #[cycle(add)]
 fn add_choice(alloc: Global, program: Program, branches: &[Node]) -> Result<Program, NoMemory>
     ensures steps { IfOk result (λ all. map step_of all.steps.items

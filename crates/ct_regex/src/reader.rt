@@ -17,7 +17,7 @@ const MOST_GROUPS: usize = 200;
 #[derive(Drop)]
 pub enum Last {
     Nothing,
-    /// One without a quantifier.
+    /// A part without a quantifier.
     Bare(Node),
     Quantified(Node),
 }
@@ -29,12 +29,12 @@ pub struct Level {
     pub place: u32,
     /// The branches in front of the last one.
     pub branches: Vec<Node>,
-    /// The parts of the last branch in front of its last one.
+    /// The parts of the last branch, without its last part.
     pub parts: Vec<Node>,
     pub last: Last,
 }
 
-/// What is read of a pattern so far.
+/// The part of a pattern that is read so far.
 #[derive(Drop)]
 pub struct Reader {
     /// The innermost open group.
@@ -54,7 +54,7 @@ impl Reader {
         }
     }
 
-    /// Takes the sign that stands at a place.
+    /// Takes the sign at a place.
     pub(crate) fn take(self, alloc: Global, sign: Sign, place: u32) -> Result<Reader, RegexFault>
         ensures { Gives groups_of result (with_sign (groups_of self) (sign_of place sign)) }
     {
@@ -216,7 +216,7 @@ impl Level {
     }
 }
 
-/// Puts the last part of a branch behind the others.
+/// Appends the last part of a branch to its other parts.
 fn all_parts(parts: Vec<Node>, last: Last) -> Result<Vec<Node>, NoMemory>
     ensures { IfOk result (λ all.
         map meaning all.items ≡ map meaning parts.items ++ last_parts (last_of last)) }
@@ -259,7 +259,7 @@ fn may_be_repeated(quantifier: Quantifier, node: &Node) -> bool
     }
 }
 
-/// Tells whether the empty text can match, as far as a quantifier asks.
+/// Tells whether the tree can match the empty text, by the rule for a quantifier behind it.
 #[cycle(can_be_empty)]
 pub(crate) fn can_be_empty(node: &Node) -> bool
     ensures { result ≡ tree_can_be_empty (meaning node.now) }

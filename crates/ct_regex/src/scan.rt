@@ -22,7 +22,7 @@ pub struct Scan {
     memory: Memory,
     /// The set of live positions at which the scan stands.
     at: u16,
-    /// A match has ended that no later byte takes away.
+    /// Whether a match has ended, whatever bytes follow.
     found: bool,
     /// Room for the marks of a walk.
     marks: Vec<bool>,
@@ -41,14 +41,14 @@ impl Scan {
     ghost use Rattle.ct_regex.specs.Ends.{hits};
     ghost use Rattle.ct_regex.specs.Scan.{StandsFor, GoesOn};
 
-    /// Begins with the empty text. All the memory that a scan takes, it takes here.
+    /// Makes a scan of the empty text. It takes here all the memory that it ever takes.
     pub fn new(alloc: Global, regex: &Regex) -> Result<Scan, NoMemory>
         ensures { IfOk result (λ scan. StandsFor (regex_tree regex.now) [] scan) }
     {
         Scan::with_room(alloc, regex, MOST_SETS)
     }
 
-    /// A scan for one text, which meets at most one set more than it has bytes.
+    /// Makes a scan for one text. It meets at most one set more than the text has bytes.
     pub(crate) fn of_text(alloc: Global, regex: &Regex, text: &[u8]) -> Result<Scan, NoMemory>
         ensures { IfOk result (λ scan. StandsFor (regex_tree regex.now) [] scan) }
     {
@@ -56,7 +56,7 @@ impl Scan {
         Scan::with_room(alloc, regex, sets as u16)
     }
 
-    /// A scan that remembers so many sets at most.
+    /// Makes a scan that remembers at most `sets` sets.
     fn with_room(alloc: Global, regex: &Regex, sets: u16) -> Result<Scan, NoMemory>
         requires sets { 0 < sets }
         ensures { IfOk result (λ scan. StandsFor (regex_tree regex.now) [] scan) }
@@ -98,7 +98,8 @@ impl Scan {
         either(self.found, self.memory.last(self.at))
     }
 
-    /// Takes what the memory knows of the piece and a byte more, and gives the rest.
+    /// Takes the bytes of the piece that the memory knows, and one byte more. Returns the rest of
+    /// the piece.
     fn take<'a>(&mut self, piece: &'a [u8]) -> &'a [u8]
         requires some { 0 < length piece.now }
         requires goes { self.old.found ≡ false }
@@ -114,7 +115,7 @@ impl Scan {
         &piece[known + 1..]
     }
 
-    /// Takes a byte by a walk over the pattern, and remembers where it leads.
+    /// Takes a byte by a walk over the pattern, and remembers the set that it leads to.
     fn walk(&mut self, byte: u8)
         requires goes { self.old.found ≡ false }
         ensures { GoesOn self.old (byte ∷ []) [] self.new }
@@ -146,8 +147,8 @@ mod tests {
     use super::*;
     use crate::RegexFault;
 
-    /// A pattern, a text, and for each front of the text, from the empty one on, whether the pattern
-    /// hits it: a row a line, with a space between the cells.
+    /// Each line is a row, with spaces between its cells: a pattern, a text, and for each beginning
+    /// of the text, from the empty one on, whether the pattern hits it.
     const ROWS: &str = "\
 (a|b)*a(a|b)(a|b)(a|b)c bbbbcabcabbbcc -------------++
 x.*y.*z$ yxzxyzzaz ------++-+
@@ -157,8 +158,8 @@ a..$ abaabbba ---+-++--
 ^b|ab*$ cbabcb ---++--
 ";
 
-    /// Tells whether a scan says of a front of the text what the row says, and so does `hit`, which has
-    /// room for each set that it meets.
+    /// Tells whether a scan and `hit` both say of a beginning of the text what the row says. `hit`
+    /// has room for each set that it meets.
     fn agrees(
         alloc: Global,
         scan: &Scan,
@@ -171,8 +172,8 @@ a..$ abaabbba ---+-++--
         Ok(is_said && scan.ended() == regex.hit(alloc, front)?)
     }
 
-    /// Tells whether a scan with room for so many sets is right on the row between pieces of so many
-    /// bytes, and behind the last one.
+    /// Tells whether a scan with room for `sets` sets, which takes pieces of `size` bytes, is right
+    /// on the row between the pieces and behind the last one.
     fn is_right(alloc: Global, row: &str, sets: u16, size: usize) -> Result<bool, RegexFault>
         requires sets { 0 < sets }
         requires size { 0 < size }

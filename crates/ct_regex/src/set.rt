@@ -10,7 +10,7 @@ use crate::tree::{ByteTest, Span};
 use ct_base::NoMemory;
 use std::alloc::Global;
 
-/// Reads the set whose `[` stands at a place, and gives the place behind it.
+/// Reads the set whose `[` stands at a place, and returns the place behind it.
 pub(crate) fn set_at(
     alloc: Global,
     text: &[u8],
@@ -40,7 +40,7 @@ pub(crate) fn set_at(
     Err(RegexFault::OpenSet(opened as u32))
 }
 
-/// How many bytes behind the `[` the first item begins, itself counted.
+/// Returns how many bytes stand in front of the first item of a set, the `[` included.
 fn first_item(negated: bool) -> usize
     ensures value { result ≡ (if negated then 2 else 1) }
     ensures some { 0 < result }
@@ -49,14 +49,14 @@ fn first_item(negated: bool) -> usize
     if negated { 2 } else { 1 }
 }
 
-/// Tells whether the byte is the `]` that ends the set: it is not the first byte.
+/// Tells whether the byte is the `]` that ends the set. The first byte of a set does not end it.
 fn ends_set(byte: u8, items: &[Span]) -> bool
     ensures { result ≡ ((byte == close_set) && not (is_none items.now)) }
 {
     byte == b']' && !items.is_empty()
 }
 
-/// How many bytes the item has.
+/// Returns how many bytes the item has.
 fn item_len(rest: &[u8]) -> usize
     ensures value { result ≡ (if is_range_in rest.now then 3 else 1) }
     ensures some { 0 < result }
@@ -65,7 +65,7 @@ fn item_len(rest: &[u8]) -> usize
     if is_range(rest) { 3 } else { 1 }
 }
 
-/// Tells whether a `^` turns the set round.
+/// Tells whether the set is negated by a `^`.
 fn is_negated(rest: &[u8]) -> bool
     ensures { result ≡ begins_negated rest.now }
 {
@@ -75,14 +75,14 @@ fn is_negated(rest: &[u8]) -> bool
     }
 }
 
-/// Tells whether behind the first byte of an item the rest makes it a range.
+/// Tells whether the bytes behind the first byte of an item make it a range.
 fn is_range(rest: &[u8]) -> bool
     ensures { result ≡ is_range_in rest.now }
 {
     rest.len() > 1 && rest[0] == b'-' && rest[1] != b']'
 }
 
-/// The last byte of the item that begins with `low`.
+/// Returns the last byte of the item that begins with `low`.
 fn high_of(low: u8, rest: &[u8]) -> u8
     ensures { result ≡ item_high low rest.now }
 {

@@ -13,7 +13,7 @@ use std::alloc::Global;
 /// Source: CMake manual, string(REGEX), Regex Specification.
 #[derive(Drop)]
 pub enum Sign {
-    /// `^`, `$`, or what takes one byte.
+    /// `^`, `$`, or an atom that takes one byte.
     Atom(Node),
     /// `(`.
     Opens,
@@ -25,7 +25,7 @@ pub enum Sign {
     Often(Quantifier),
 }
 
-/// Reads the sign at a place, and gives the place behind it.
+/// Reads the sign at a place, and returns the place behind it.
 pub(crate) fn sign_at(alloc: Global, text: &[u8], at: usize) -> Result<(Sign, usize), RegexFault>
     requires within { at < length text.now }
     requires few { length text.now ≤ 65536 }
@@ -45,7 +45,7 @@ pub(crate) fn sign_at(alloc: Global, text: &[u8], at: usize) -> Result<(Sign, us
     Ok((Sign::Atom(Node::One(ByteTest::Same(text[at + 1]))), at + 2))
 }
 
-/// The sign that a byte is by itself.
+/// Returns the sign of a single byte.
 fn plain_sign(byte: u8) -> Sign
     ensures { (place : ℕ) → sign_of place result ≡ plain_sign_at place byte }
 {

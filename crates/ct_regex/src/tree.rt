@@ -42,9 +42,9 @@ pub enum Node {
     End,
     /// One byte.
     One(ByteTest),
-    /// These, one behind the other.
+    /// Parts, one behind the other.
     Sequence(Vec<Node>),
-    /// One of these.
+    /// One of several branches.
     Choice(Vec<Node>),
     Repeat(Quantifier, Box<Node>),
 }

@@ -24,7 +24,7 @@ pub enum Step {
     Join,
     /// Opens a part that may be repeated: the mark says that a round has ended with the last byte.
     Loop(usize),
-    /// Ends a round of such a part.
+    /// Ends a round of a part that may be repeated.
     Back(usize),
 }
 
@@ -46,7 +46,7 @@ pub struct Branches {
     pub left: Flow,
 }
 
-/// Goes over the pattern once for a byte: brings the marks up to it, and tells what leaves.
+/// Walks over the pattern once for a byte: updates the marks, and returns the flow that leaves it.
 pub(crate) fn walk(
     steps: &[Step],
     byte: u8,
@@ -129,7 +129,7 @@ fn at_start(flow: Flow, marks: &mut [bool], at: usize) -> Flow
     }
 }
 
-/// What comes behind an atom of one byte: by its mark, and by the byte.
+/// Returns the flow behind an atom of one byte, from its mark and from the byte.
 fn behind(came: bool, comes: bool) -> Flow
     ensures { result ≡ behind_one came comes }
 {
@@ -150,7 +150,7 @@ fn nothing() -> Flow
     }
 }
 
-/// Opens a choice, of which what `left` says has left already.
+/// Opens a choice that the flow `left` has left already.
 fn open(opened: &mut Vec<Branches>, entered: Flow, left: Flow) -> Flow
     requires room { vec_len opened.old < vec_capacity opened.old }
     ensures flow { result ≡ entered }
@@ -200,7 +200,7 @@ fn next_branch(opened: &mut Vec<Branches>, flow: Flow) -> Flow
     }
 }
 
-/// Ends the innermost choice.
+/// Ends the innermost choice, and returns what has left it.
 fn left(opened: &mut Vec<Branches>) -> Flow
     ensures flow { result ≡ left_of (reverse opened.old.items) }
     ensures opened { reverse opened.new.items ≡ around (reverse opened.old.items) }
