@@ -1,4 +1,4 @@
--- Names that differ stand for all of the names that they are made of: a test has one of them, or none.
+-- The distinct names of a list stand for the whole list: a test has one of them, or none.
 use Rattle.std.proofs.Common.{◌≡◌, ℕ, ◌+◌, ◌<◌, min, Bool, true, false, cond, ◌||◌, bytes_eq, List, [], ◌∷◌, ◌++◌, length, take, get_or, fold, sum_by, count_by, refl, sym, ap, ◌∙◌, arith}
 use Rattle.std.specs.List.{list_any}
 use Rattle.std.proofs.lemmas.Bool.{false≢true}
@@ -26,7 +26,7 @@ bytes_eq-sym xs ys = both (bytes_eq xs ys) (bytes_eq ys xs) (λ e. (bytes_eq-Dec
     both true false f g = sym (f refl)
     both false true f g = g refl
 
--- a name is found among the others either way round
+-- whether a name is among others does not depend on which side it is compared from
 known-among : (names : List (List ℕ)) (name : List ℕ) → list_any (bytes_eq name) names ≡ is_one_of names name
 known-among [] name = refl
 known-among (other ∷ names) name = λ i. bytes_eq-sym name other i || known-among names name i
@@ -43,7 +43,7 @@ among-append (name ∷ names) more asked =
 among-same : (names : List (List ℕ)) (one other : List ℕ) → bytes_eq one other ≡ true → is_one_of names one ≡ is_one_of names other
 among-same names one other e = ap (is_one_of names) ((bytes_eq-Decides one other).0 e)
 
--- one more name, which may be among them
+-- one more name, which may be among the others already
 among-with_new : (names : List (List ℕ)) (name asked : List ℕ) → is_one_of (with_new names name) asked ≡ (is_one_of names asked || bytes_eq name asked)
 among-with_new names name asked = by (list_any (bytes_eq name) names) refl
   where
@@ -76,7 +76,7 @@ among-fold known (name ∷ names) asked =
     ∙ ap (λ a. a || is_one_of names asked) (among-with_new known name asked)
     ∙ or-assoc' (is_one_of known asked) (bytes_eq name asked) (is_one_of names asked)
 
--- the same names are among the distinct ones
+-- the distinct names of a list are the names of the list
 pub among-distinct : (names : List (List ℕ)) (asked : List ℕ) → is_one_of (fold with_new [] names) asked ≡ is_one_of names asked
 among-distinct names asked = among-fold [] names asked
 
@@ -110,7 +110,7 @@ pub Distinct-fold : (known names : List (List ℕ)) → Distinct known → Disti
 Distinct-fold known [] distinct = distinct
 Distinct-fold known (name ∷ names) distinct = Distinct-fold (with_new known name) names (Distinct-with_new known name distinct)
 
--- one name after the other
+-- the tests are changed for one name after the other
 module _ (change : TestDef → TestDef) (kept : (test : TestDef) → (change test).name ≡ test.name) where
   once : (names : List (List ℕ)) (name : List ℕ) (test : TestDef) → is_one_of names name ≡ false → (is : Bool) → bytes_eq name test.name ≡ is → cond (is_one_of names (cond is (change test) test).name) (change (cond is (change test) test)) (cond is (change test) test) ≡ cond (is || is_one_of names test.name) (change test) test
   once names name test absent true is =
@@ -136,7 +136,7 @@ each-same one other change same [] = refl
 each-same one other change same (test ∷ tests) =
     λ i. cond (same test.name i) (change test) test ∷ each-same one other change same tests i
 
--- one name after the other, each once, is all of them
+-- changing the tests for each distinct name in turn changes each test that has one of the names
 pub each-distinct : (change : TestDef → TestDef) → ((test : TestDef) → (change test).name ≡ test.name) → (names : List (List ℕ)) (tests : List TestDef) → fold (of_name change) tests (fold with_new [] names) ≡ each_where (has_name_of names) change tests
 each-distinct change kept names tests =
     each-of_names change kept (fold with_new [] names) tests (Distinct-fold [] names tt)
@@ -180,14 +180,14 @@ count-distinct names tests =
     count-of_names (fold with_new [] names) tests (Distinct-fold [] names tt)
     ∙ count-same (fold with_new [] names) names (among-distinct names) tests
 
--- one more number is counted up to the greatest one
+-- one more number is added, up to the greatest number
 pub capped-more : {X : Type 0} (f : X → ℕ) (xs : List X) (i : ℕ) (x : X) (count now more most : ℕ) → i < length xs → x ≡ get_or xs i x → more ≡ f x → count ≡ min (sum_by f (take i xs)) most → now ≡ min (count + more) most → now ≡ min (sum_by f (take (i + 1) xs)) most
 capped-more f xs i x count now more most within is more_is counted added =
     let whole : sum_by f (take (i + 1) xs) ≡ sum_by f (take i xs) + f x =
     sum_by_more f xs i x within ∙ ap (λ y. sum_by f (take i xs) + f y) (sym is) in
     omega arith
 
--- one item more is folded in
+-- one more item is folded in
 pub fold-next : {A B : Type 0} (f : B → A → B) (start : B) (xs : List A) (i : ℕ) (x : A) (now next : B) → i < length xs → x ≡ get_or xs i x → now ≡ fold f start (take i xs) → next ≡ f now x → next ≡ fold f start (take (i + 1) xs)
 fold-next f start xs i x now next within is so_far made =
     made ∙ (λ j. f (so_far j) (is j)) ∙ sym (fold_more f start xs i x within)

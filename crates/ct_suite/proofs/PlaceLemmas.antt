@@ -1,4 +1,5 @@
--- The places that are kept by a key are those of the tests that have it, and a change at them changes each such test.
+-- The places kept by a key are those of the tests with that key, so a change at these places changes these
+-- tests.
 use Rattle.std.proofs.Common.{◌≡◌, ℕ, zero, suc, ◌+◌, ◌<◌, Bool, true, false, cond, bytes_eq, List, [], ◌∷◌, ◌++◌, map, length, get_or, set, drop, count_by, All, Option, Some, None, refl, sym, ap, ◌∙◌, subst, arith, append_assoc, length-append}
 use Rattle.std.specs.Map.{lookup, set_value}
 use Rattle.std.specs.declared.vec.Vec.{Vec}
@@ -13,7 +14,7 @@ use Rattle.ct_suite.specs.Tests.{each_where}
 use Rattle.ct_suite.specs.declared.places.KeyPlaces.{KeyPlaces}
 use Rattle.ct_suite.specs.Entries.{places_in, places_of, positions, AreIndexed, changed, changed_at}
 
--- what is kept by a key, and nothing where there is no such key
+-- the places that are kept by a key; none where the key is absent
 abbrev pub items_or_none : Option KeyPlaces → List ℕ
 items_or_none None = []
 items_or_none (Some places) = places_of places
@@ -53,7 +54,7 @@ module _ {Y : Type 0} where
       ap (cond (bytes_eq asked entry.0.items) (places_of entry.1)) rest
       ∙ choose_other (bytes_eq asked entry.0.items) (bytes_eq asked key.items) (places_of entry.1) (places_of value) (places_in entries asked) (not_both asked key.items entry.0.items is)
 
-  -- an entry that is put in
+  -- inserting an entry sets the places of its key
   pub places_in-insert_entry : (asked : List ℕ) (entries : List (Vec ℕ Y × KeyPlaces)) (key : Vec ℕ Y) (value : KeyPlaces) → places_in (insert_entry (λ (one other : Vec ℕ Y). bytes_eq one.items other.items) entries key value) asked ≡ cond (bytes_eq asked key.items) (places_of value) (places_in entries asked)
   places_in-insert_entry asked [] key value = refl
   places_in-insert_entry asked (entry ∷ entries) key value =
@@ -72,13 +73,13 @@ module _ {Y : Type 0} where
       ap (cond (bytes_eq asked entry.0.items) (places_of entry.1)) (rest there)
       ∙ choose_other (bytes_eq asked entry.0.items) (bytes_eq asked key) (places_of entry.1) (places_of value) (places_in entries asked) (not_both asked key entry.0.items is)
 
-  -- the places of a key that is there are others now
+  -- the places of a key that is present are replaced
   places_in-set_value : (asked key : List ℕ) (entries : List (Vec ℕ Y × KeyPlaces)) (value old : KeyPlaces) → lookup (λ (k : Vec ℕ Y). bytes_eq key k.items) entries ≡ Some old → places_in (set_value (λ (k : Vec ℕ Y). bytes_eq key k.items) entries value) asked ≡ cond (bytes_eq asked key) (places_of value) (places_in entries asked)
   places_in-set_value asked key [] value old there = cc
   places_in-set_value asked key (entry ∷ entries) value old there =
       set_by asked key value old entry entries (set_value (λ (k : Vec ℕ Y). bytes_eq key k.items) entries value) (lookup (λ (k : Vec ℕ Y). bytes_eq key k.items) entries) (λ found. places_in-set_value asked key entries value old found) (bytes_eq key entry.0.items) refl there
 
-  -- one more place is noted behind those of a key that is there
+  -- one more place is noted behind those of a key that is present
   pub places_in-more : (old now : List (Vec ℕ Y × KeyPlaces)) (asked key : List ℕ) (here pushed : KeyPlaces) (place : ℕ) → now ≡ set_value (λ (k : Vec ℕ Y). bytes_eq key k.items) old pushed → lookup (λ (k : Vec ℕ Y). bytes_eq key k.items) old ≡ Some here → (places_of pushed) ≡ places_of here ++ place ∷ []
       → places_in now asked ≡ cond (bytes_eq asked key) (places_in old asked ++ place ∷ []) (places_in old asked)
   places_in-more old now asked key here pushed place is there put =
@@ -87,7 +88,7 @@ module _ {Y : Type 0} where
       ∙ places_in-set_value asked key old pushed here there
       ∙ noted_by old asked key (places_of pushed) place (put ∙ ap (λ places. places ++ place ∷ []) kept) (bytes_eq asked key) refl
 
-  -- a place is noted of a key that was not there
+  -- a place is noted for a key that was absent
   pub places_in-first : (old now : List (Vec ℕ Y × KeyPlaces)) (asked key : List ℕ) (own : Vec ℕ Y) (pushed : KeyPlaces) (place : ℕ) → own.items ≡ key → lookup (λ (k : Vec ℕ Y). bytes_eq key k.items) old ≡ None → now ≡ insert_entry (λ (k l : Vec ℕ Y). bytes_eq k.items l.items) old own pushed → (places_of pushed) ≡ place ∷ []
       → places_in now asked ≡ cond (bytes_eq asked key) (places_in old asked ++ place ∷ []) (places_in old asked)
   places_in-first old now asked key own pushed place is_own none is put =
@@ -103,14 +104,14 @@ positions-by first key other keys rest rest' true false last e = ap (λ xs. firs
 positions-by first key other keys rest rest' false true last e = e
 positions-by first key other keys rest rest' false false last e = e
 
--- one more key behind the others
+-- one more key at the end
 pub positions-snoc : (first : ℕ) (key : List ℕ) (keys : List (List ℕ)) (last : List ℕ) (place : ℕ) → place ≡ first + length keys → positions first key (keys ++ last ∷ []) ≡ cond (bytes_eq key last) (positions first key keys ++ place ∷ []) (positions first key keys)
 positions-snoc first key [] last place at =
     let here : place ≡ first = omega arith in ap (λ n. cond (bytes_eq key last) (n ∷ []) []) (sym here)
 positions-snoc first key (other ∷ keys) last place at =
     positions-by first key other keys (positions (first + 1) key keys) (positions (first + 1) key (keys ++ last ∷ [])) (bytes_eq key other) (bytes_eq key last) place (positions-snoc (first + 1) key keys last place (omega arith))
 
--- a place that is noted goes behind those of its key
+-- a place that is noted goes behind the other places of its key
 pub AreIndexed-noted : {Y : Type 0} (old now : List (Vec ℕ Y × KeyPlaces)) (keys : List (List ℕ)) (last : List ℕ) (place : ℕ) → place ≡ length keys → ((asked : List ℕ) → places_in now asked ≡ cond (bytes_eq asked last) (places_in old asked ++ place ∷ []) (places_in old asked)) → AreIndexed old keys → AreIndexed now (keys ++ last ∷ [])
 AreIndexed-noted old now keys last place at noted indexed key =
     noted key
@@ -121,7 +122,7 @@ changed-front : {A : Type 0} (change : A → A) (front : List A) (x : A) (xs : L
 changed-front change [] x xs = refl
 changed-front change (y ∷ front) x xs = ap (λ rest. y ∷ rest) (changed-front change front x xs)
 
--- a change at the places of a key changes each item that has it
+-- a change at the places of a key changes each item that has the key
 module _ {A : Type 0} (change : A → A) (key_of : A → List ℕ) (key : List ℕ) where
   abbrev chosen : A → A
   chosen x = cond (bytes_eq key (key_of x)) (change x) x
@@ -148,7 +149,7 @@ changed-by view change zero (x ∷ xs) here now within is made =
 changed-by view change (suc place) (x ∷ xs) here now within is made =
     ap (λ rest. view x ∷ rest) (changed-by view change place xs here now (omega arith) is made)
 
--- the item at a place is another one now
+-- the item at a place is replaced by its changed item
 pub changed-set : {A B : Type 0} (view : A → B) (change : B → B) (place : ℕ) (xs : List A) (here now : A) → place < length xs → here ≡ get_or xs place here → view now ≡ change (view here) → map view (set xs place now) ≡ changed change place (map view xs)
 changed-set = changed-by
 
@@ -179,12 +180,12 @@ chosen-same : {A : Type 0} (key_of : TestDef → A) (change : TestDef → TestDe
 chosen-same key_of change test true same = same
 chosen-same key_of change test false same = refl
 
--- a change that leaves the keys
+-- a change of tests that keeps their keys
 pub keys-each_where : {A : Type 0} (key_of : TestDef → A) (passes : TestDef → Bool) (change : TestDef → TestDef) → ((test : TestDef) → key_of (change test) ≡ key_of test) → (tests : List TestDef) → map key_of (each_where passes change tests) ≡ map key_of tests
 keys-each_where key_of passes change same [] = refl
 keys-each_where key_of passes change same (test ∷ tests) = λ i. chosen-same key_of change test (passes test) (same test) i ∷ keys-each_where key_of passes change same tests i
 
--- as many tests
+-- a change of tests keeps their number
 pub length-each_where : (passes : TestDef → Bool) (change : TestDef → TestDef) (tests : List TestDef) → length (each_where passes change tests) ≡ length tests
 length-each_where passes change tests = length-map tests (λ (test : TestDef). cond (passes test) (change test) test)
 
@@ -199,28 +200,28 @@ changed_at-push change [] last xs = refl
 changed_at-push change (place ∷ front) last xs =
     changed_at-push change front last (changed change place xs)
 
--- the last place is changed behind the others
+-- the last place is changed after the others
 pub changed_at-last : {A : Type 0} (change : A → A) (places front : List ℕ) (last : ℕ) (xs : List A) → places ≡ front ++ last ∷ [] → changed change last (changed_at change front xs) ≡ changed_at change places xs
 changed_at-last change places front last xs whole =
     sym (changed_at-push change front last xs) ∙ ap (λ ps. changed_at change ps xs) (sym whole)
 
--- a change at the places that are kept by a key
+-- a change at the places that are kept by a key changes each test with that key
 pub changed-all : {Y : Type 0} (change : TestDef → TestDef) (key_of : TestDef → List ℕ) (key asked : List ℕ) (entries : List (Vec ℕ Y × KeyPlaces)) (tests : List TestDef) (places : List ℕ) → asked ≡ key → places ≡ places_in entries asked → AreIndexed entries (map key_of tests) → changed_at change places tests ≡ each_where (λ test. bytes_eq key (key_of test)) change tests
 changed-all change key_of key asked entries tests places is found indexed =
     ap (λ ps. changed_at change ps tests) (found ∙ indexed asked ∙ ap (λ k. positions 0 k (map key_of tests)) is)
     ∙ changed_at-positions change key_of key tests
 
--- and each such place is within the tests
+-- each place that is kept by a key is a place of a test
 pub places-within : {Y : Type 0} (key_of : TestDef → List ℕ) (asked : List ℕ) (entries : List (Vec ℕ Y × KeyPlaces)) (tests : List TestDef) (places : List ℕ) (n : ℕ) → places ≡ places_in entries asked → AreIndexed entries (map key_of tests) → length tests ≡ n → All (λ place. place < n) places
 places-within key_of asked entries tests places n found indexed len =
     let P : List ℕ → Type 0 = λ ps. All (λ place. place < n) ps in
     subst P (sym (found ∙ indexed asked)) (positions-within 0 asked (map key_of tests) n (omega (arith, length-map tests key_of)))
 
--- and there are as many as tests that have the key
+-- a key has as many places as there are tests with it
 pub length-places : {Y : Type 0} (key_of : TestDef → List ℕ) (key asked : List ℕ) (entries : List (Vec ℕ Y × KeyPlaces)) (tests : List TestDef) (places : List ℕ) → asked ≡ key → places ≡ places_in entries asked → AreIndexed entries (map key_of tests) → length places ≡ count_by (λ test. bytes_eq key (key_of test)) tests
 length-places key_of key asked entries tests places is found indexed =
     ap length (found ∙ indexed asked ∙ ap (λ k. positions 0 k (map key_of tests)) is) ∙ length-positions 0 key key_of tests
 
--- the keys are still indexed where they stay, and where one more is noted
+-- the index stays right if the keys stay the same
 pub AreIndexed-same : {Y : Type 0} (entries : List (Vec ℕ Y × KeyPlaces)) (keys now : List (List ℕ)) → now ≡ keys → AreIndexed entries keys → AreIndexed entries now
 AreIndexed-same entries keys now same indexed key = indexed key ∙ ap (positions 0 key) (sym same)

@@ -1,4 +1,4 @@
--- What values come of an unquoted argument, byte by byte, and that values which are too long stay so.
+-- The values of an unquoted argument, byte by byte. Values that are too long stay too long.
 use Rattle.std.proofs.Common.{◌≡◌, ℕ, ◌+◌, ◌≤◌, ◌<◌, Bool, true, false, cond, ◌||◌, ◌&&◌, ◌==◌, nat_lt, List, [], ◌∷◌, ◌++◌, length, map, filter, refl, sym, ap, ◌∙◌, arith, append_assoc, append-nil, length-append}
 use Rattle.std.proofs.lemmas.Bool.Decides.{nat_tests}
 use Rattle.std.proofs.lemmas.List.{map-append}
@@ -13,7 +13,7 @@ use Rattle.ct_suite.specs.declared.fault.ValueFault.TheVariants.{TooLong, NoMemo
 use Rattle.ct_suite.specs.declared.limits.ValueLimits.{ValueLimits}
 use Rattle.ct_suite.specs.declared.value.Value.{Value}
 
--- what is said of a stop where more is
+-- a stop that P allows is a stop that Q allows, if Q follows from P
 pub StopsIf-then : {P Q : Type 0} (why : ValueFault) → (P → Q) → StopsIf P why → StopsIf Q why
 StopsIf-then TooLong then is = then is
 StopsIf-then NoMemory then is = tt
@@ -34,7 +34,7 @@ or-true true = refl
 or-true false = refl
 
 module _ (limits : ValueLimits) where
-  -- values that are too long stay so with more behind them
+  -- values that are too long stay too long with more values behind them
   pub too_long-more : (values more : List Value) → are_too_long limits values ≡ true → are_too_long limits (values ++ more) ≡ true
   too_long-more values more is =
       let any = list_any-append (is_too_long limits.value_bytes) values more in
@@ -48,24 +48,24 @@ module _ (limits : ValueLimits) where
   any_front (byte ∷ piece) (part ∷ parts) long =
       ap (λ a. a || list_any (is_too_long limits.value_bytes) (map bare (filter is_entry parts))) (above limits.value_bytes (length (byte ∷ (piece ++ part))) (omega (arith, long, length-append piece part)))
 
-  -- a value of which too much is read already is too long
+  -- a value whose first part is too long already is too long
   pub too_long-front : (values : List Value) (piece : List ℕ) (parts : List (List ℕ)) → limits.value_bytes < length piece → are_too_long limits (values ++ map bare (filter is_entry (with_front piece parts))) ≡ true
   too_long-front values piece parts long =
       let behind = map bare (filter is_entry (with_front piece parts)) in
       ap (λ a. a || nat_lt limits.all_value_bytes (size (values ++ behind))) (list_any-append (is_too_long limits.value_bytes) values behind ∙ ap (λ a. list_any (is_too_long limits.value_bytes) values || a) (any_front piece parts long) ∙ or-true (list_any (is_too_long limits.value_bytes) values))
 
-  -- and so is a value that is read whole
+  -- a whole value that is too long makes the values too long
   pub too_long-value : (values : List Value) (value : Value) → limits.value_bytes < length value.text → are_too_long limits (values ++ value ∷ []) ≡ true
   too_long-value values value long =
       ap (λ a. a || nat_lt limits.all_value_bytes (size (values ++ value ∷ []))) (list_any-append (is_too_long limits.value_bytes) values (value ∷ []) ∙ ap (λ a. list_any (is_too_long limits.value_bytes) values || (a || false)) (above limits.value_bytes (length value.text) long) ∙ or-true (list_any (is_too_long limits.value_bytes) values))
 
-  -- all together are
+  -- values that are too long together are too long
   pub too_long-all : (values : List Value) (value : Value) → limits.all_value_bytes < size values + length value.text → are_too_long limits (values ++ value ∷ []) ≡ true
   too_long-all values value long =
       let sum = sum_by-append (λ (v : Value). length v.text) values (value ∷ []) in
       ap (λ a. list_any (is_too_long limits.value_bytes) (values ++ value ∷ []) || a) (above limits.all_value_bytes (size (values ++ value ∷ [])) (omega (arith, sum, long))) ∙ or-true (list_any (is_too_long limits.value_bytes) (values ++ value ∷ []))
 
--- the size with one value more
+-- the size of the values with one more
 pub size-more : (values : List Value) (value : Value) → size (values ++ value ∷ []) ≡ size values + length value.text
 size-more values value = omega (arith, sum_by-append (λ (v : Value). length v.text) values (value ∷ []))
 
@@ -91,14 +91,14 @@ pub parts-backslash : (rest : List ℕ) → is_ended rest ≡ false → parts_of
 parts-backslash [] free = refl
 parts-backslash (next ∷ rest) free = ap (λ is. cond is (with_front (semicolon ∷ []) (parts_of rest)) (with_front (backslash ∷ []) (parts_of (next ∷ rest)))) free
 
--- and so is each other byte
+-- each other byte is a byte of its part
 pub parts-other : (byte : ℕ) (rest : List ℕ) → (byte == semicolon) ≡ false → (byte == backslash) ≡ false → parts_of (byte ∷ rest) ≡ with_front (byte ∷ []) (parts_of rest)
 parts-other byte [] other plain = ap (λ is. cond is ([] ∷ ([] ∷ [])) (with_front (byte ∷ []) ([] ∷ []))) other
 parts-other byte (next ∷ rest) other plain =
     ap (λ is. cond (is && next == semicolon) (with_front (semicolon ∷ []) (parts_of rest)) (parts_with byte (parts_of (next ∷ rest)))) plain
     ∙ ap (λ is. cond is ([] ∷ parts_of (next ∷ rest)) (with_front (byte ∷ []) (parts_of (next ∷ rest)))) other
 
--- the values with those of an entry that begins with this text, and of these parts
+-- the values followed by those of an entry that begins with this text and goes on with these parts
 abbrev pub with_parts : List Value → List ℕ → List (List ℕ) → List Value
 with_parts values text parts = values ++ map bare (filter is_entry (with_front text parts))
 

@@ -19,7 +19,7 @@ not-true false e = refl
 inner-apart : (byte : ℕ) → is_inner byte ≡ true → ((byte == semicolon) ≡ false) × ((byte == backslash) ≡ false)
 inner-apart byte is = or_parts (byte == semicolon) (byte == backslash) (not-true (byte == semicolon || byte == backslash) is)
 
--- the run at the front of a text
+-- a run at the front of a text has only bytes that belong to an entry wherever they stand
 inner-all : (text : List ℕ) → list_all is_inner (take (prefix_len is_inner text) text) ≡ true
 inner-all [] = refl
 inner-all (byte ∷ rest) = by_inner (is_inner byte) refl (inner-all rest)

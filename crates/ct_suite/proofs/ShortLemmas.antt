@@ -1,4 +1,4 @@
--- What commands take from values that are short is short, and so a test's values stay short.
+-- What commands take from short values is short, so the values of tests stay short.
 use Rattle.std.proofs.Common.{◌≡◌, ℕ, ◌+◌, ◌≤◌, Bool, true, false, cond, ◌==◌, bytes_eq, List, [], ◌∷◌, ◌++◌, length, All, Option, Some, None, IfSome, option_map, sym, subst, arith, length-append}
 use Rattle.std.proofs.lemmas.List.Elements.{All-nil, All-cons, All-head, All-tail, All-append, All-weaker, All-filter, All-push, All-same}
 use Rattle.ct_base.specs.Entries.{entries_of, is_entry, is_escape, parts_of, parts_with, semicolon, with_front}
@@ -50,7 +50,7 @@ labels_by : (most : ℕ) (prop : Pair) (is : Bool) → ShortProp most prop → A
 labels_by most prop true short = entries-short most prop.value short
 labels_by most prop false short = All-nil (Short most)
 
--- labels are no longer than the values of properties that they stand in
+-- labels are no longer than the values of the properties that hold them
 pub labels_of-short : (most : ℕ) (props : List Pair) → HaveShort most props → AreShort most (labels_of props)
 labels_of-short most [] short = All-nil (Short most)
 labels_of-short most (prop ∷ props) short =
@@ -96,7 +96,7 @@ pairs_behind-short most [] short = tt
 pairs_behind-short most (first ∷ values) short =
     behind_by most (pairs_of values) (is_properties first) (pairs_of-short most values (All-tail (Short most) first values short))
 
--- the first of some values, and the others
+-- the first of some short values is short
 pub first-short : (most : ℕ) (values : List (List ℕ)) (first : List ℕ) (rest : List (List ℕ)) → values ≡ first ∷ rest → AreShort most values → length first ≤ most
 first-short most values first rest is short = All-head (Short most) first rest (All-same (Short most) (first ∷ rest) values (sym is) short)
 
@@ -124,7 +124,7 @@ with_props-short most props [] short more_short = short
 with_props-short most props (prop ∷ more) short more_short =
     with_props-short most (with_prop props prop) more (with_prop-short most props prop short (All-head (ShortProp most) prop more more_short)) (All-tail (ShortProp most) prop more more_short)
 
--- a new test, one that takes properties, and one that takes labels
+-- a new test has short values; so has a test that takes properties or labels
 pub new_test-short : (most : ℕ) (dir name : List ℕ) (command : List (List ℕ)) → length name ≤ most → AreShort most command → HasShortValues most (new_test dir name command)
 new_test-short most dir name command short all = record { name = short; command = all; props = All-nil (ShortProp most); labels = All-nil (Short most) }
 
@@ -138,14 +138,14 @@ chosen-short : (most : ℕ) (one other : TestDef) (is : Bool) → HasShortValues
 chosen-short most one other true here there = here
 chosen-short most one other false here there = there
 
--- all tests stay so where each change leaves one so
+-- tests keep short values if each change keeps them short
 pub each_where-short : (most : ℕ) (passes : TestDef → Bool) (change : TestDef → TestDef) → ((test : TestDef) → HasShortValues most test → HasShortValues most (change test)) → (tests : List TestDef) → All (HasShortValues most) tests → All (HasShortValues most) (each_where passes change tests)
 each_where-short most passes change keeps [] all = All-nil (HasShortValues most)
 each_where-short most passes change keeps (test ∷ tests) all =
     let here = All-head (HasShortValues most) test tests all in
     All-cons (HasShortValues most) (cond (passes test) (change test) test) (each_where passes change tests) (chosen-short most (change test) test (passes test) (keeps test here) here) (each_where-short most passes change keeps tests (All-tail (HasShortValues most) test tests all))
 
--- and with one more behind them, and where they are the same
+-- tests keep short values with one more test that has short values
 pub tests-pushed : (most : ℕ) (tests now : List TestDef) (test : TestDef) → now ≡ tests ++ test ∷ [] → All (HasShortValues most) tests → HasShortValues most test → All (HasShortValues most) now
 tests-pushed most tests now test is all here = All-same (HasShortValues most) now (tests ++ test ∷ []) is (All-push (HasShortValues most) tests test all here)
 

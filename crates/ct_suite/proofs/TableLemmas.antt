@@ -18,13 +18,13 @@ value_by : {Z : Type 0} (name : List ℕ) (entry : Vec ℕ Z × Option (List ℕ
 value_by name entry entries rest true = refl
 value_by name entry entries rest false = rest
 
--- a variable's value is what its name is kept with
+-- the value of a variable is the one that is kept by its name
 pub value_of-lookup : {Z : Type 0} (name : List ℕ) (entries : List (Vec ℕ Z × Option (List ℕ))) → option_flatten (lookup (λ (key : Vec ℕ Z). bytes_eq name key.items) entries) ≡ value_of (map variable_of entries) name
 value_of-lookup name [] = refl
 value_of-lookup name (entry ∷ entries) =
     value_by name entry entries (value_of-lookup name entries) (bytes_eq name entry.0.items)
 
--- rows by their names, made of a key and what it is kept with
+-- rows by their names, each made of a key and of the value that is kept by it
 module _ {Z V R : Type 0} (make : List ℕ → V → R) (name : R → List ℕ) (with_row : List R → R → List R)
     (named : (key : List ℕ) (value : V) → name (make key value) ≡ key)
     (none : (row : R) → with_row [] row ≡ row ∷ [])
@@ -40,7 +40,7 @@ module _ {Z V R : Type 0} (make : List ℕ → V → R) (name : R → List ℕ) 
       ap (λ k. make k value ∷ map row_of entries) (sym ((bytes_eq-Decides key.items entry.0.items).0 is))
   by_key entry entries more key value rows rest false is = ap (λ r. row_of entry ∷ r) rest
 
-  -- an entry that is put in is the row of its name
+  -- inserting an entry sets the row of its name
   pub rows-insert_entry : (entries : List (Vec ℕ Z × V)) (key : Vec ℕ Z) (value : V) → map row_of (insert_entry same_key entries key value) ≡ with_row (map row_of entries) (make key.items value)
   rows-insert_entry [] key value = sym (none (make key.items value))
   rows-insert_entry (entry ∷ entries) key value =
@@ -48,12 +48,12 @@ module _ {Z V R : Type 0} (make : List ℕ → V → R) (name : R → List ℕ) 
       ∙ ap (λ test. cond test (make key.items value ∷ map row_of entries) (row_of entry ∷ with_row (map row_of entries) (make key.items value))) (ap (λ k. bytes_eq k entry.0.items) (sym (named key.items value)) ∙ ap (bytes_eq (name (make key.items value))) (sym (named entry.0.items entry.1)))
       ∙ sym (step (row_of entry) (map row_of entries) (make key.items value))
 
--- a variable that is put in
+-- inserting a variable sets it
 pub with_variable-insert_entry : {Z : Type 0} (entries : List (Vec ℕ Z × Option (List ℕ))) (key : Vec ℕ Z) (value : Option (List ℕ)) → map variable_of (insert_entry (λ (one other : Vec ℕ Z). bytes_eq one.items other.items) entries key value) ≡ with_variable (map variable_of entries) (record { name = key.items; value = value })
 with_variable-insert_entry {Z} =
     rows-insert_entry {Z = Z} (λ name value. record { name = name; value = value }) (λ (variable : Variable). variable.name) with_variable (λ key value. refl) (λ row. refl) (λ first rows row. refl)
 
--- a property that is put in
+-- inserting a property sets it
 pub with_prop-insert_entry : {Z : Type 0} (entries : List (Vec ℕ Z × List ℕ)) (key : Vec ℕ Z) (value : List ℕ) → map prop_of (insert_entry (λ (one other : Vec ℕ Z). bytes_eq one.items other.items) entries key value) ≡ with_prop (map prop_of entries) (record { name = key.items; value = value })
 with_prop-insert_entry {Z} =
     rows-insert_entry {Z = Z} (λ name value. record { name = name; value = value }) (λ (prop : Pair). prop.name) with_prop (λ key value. refl) (λ row. refl) (λ first rows row. refl)
@@ -64,7 +64,7 @@ place_by first prop props more n rest false within =
     let next : 1 + n ≡ suc n = omega arith in
     ap (λ k. set (first ∷ props) k prop) next ∙ ap (λ ps. first ∷ ps) (rest (omega arith))
 
--- a property takes the place of the one of its key
+-- a property takes the place of the one with its key
 pub with_prop-place : (props : List Pair) (prop : Pair) → prefix_len (is_other prop.name) props < length props → set props (prefix_len (is_other prop.name) props) prop ≡ with_prop props prop
 with_prop-place [] prop within = absurd (omega arith)
 with_prop-place (first ∷ props) prop within =
@@ -74,13 +74,13 @@ behind_by : (first prop : Pair) (props more : List Pair) (n : ℕ) → (length p
 behind_by first prop props more n rest true within = absurd (omega arith)
 behind_by first prop props more n rest false within = ap (λ ps. first ∷ ps) (rest (omega arith))
 
--- a property goes behind the others where none has its key
+-- a property goes to the end if no other one has its key
 pub with_prop-behind : (props : List Pair) (prop : Pair) → length props ≤ prefix_len (is_other prop.name) props → props ++ prop ∷ [] ≡ with_prop props prop
 with_prop-behind [] prop within = refl
 with_prop-behind (first ∷ props) prop within =
     behind_by first prop props (with_prop props prop) (prefix_len (is_other prop.name) props) (with_prop-behind props prop) (bytes_eq prop.name first.name) within
 
--- one more property that goes behind the others
+-- one more property at the end, with a key of its own
 pub with_props-own : (props : List Pair) (at : ℕ) (prop : Pair) → at < length props → prop ≡ get_or props at prop → at ≤ prefix_len (is_other prop.name) (take at props) → with_props [] (take at props) ≡ take at props → with_props [] (take (at + 1) props) ≡ take (at + 1) props
 with_props-own props at prop within is own so_far =
     let front = take at props in

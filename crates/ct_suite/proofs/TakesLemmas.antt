@@ -1,4 +1,4 @@
--- The steps of a reader: each takes the bytes that it was given, or the values with them are too long.
+-- Each step of a reader takes the bytes that it was given, or the values with them are too long.
 use Rattle.std.proofs.Common.{◌≡◌, ℕ, ◌<◌, Bool, true, false, ◌==◌, List, [], ◌∷◌, ◌++◌, length, map, filter, Result, Ok, Err, OnOk, IfErr, refl, sym, ap, ◌∙◌, subst, append_assoc, append-nil, drop, get_or, ◌+◌}
 use Rattle.std.proofs.lemmas.List.{at_drop_more}
 use Rattle.std.proofs.lemmas.Result.{IfErr-weaker, on_ok_weaker}
@@ -43,7 +43,7 @@ takes-joined limits old new front piece result values counted same joined stoppe
   stopped = IfErr-weaker result (StopsIf (Long limits (old.text.items ++ piece))) (λ why. (rest : List ℕ) → StopsFor limits (entries_with old (front ++ rest)) why) (λ why long rest. StopsIf-then why (joined-long limits old.values old.text.items piece (parts_of (held_bytes old.held ++ (front ++ rest))) (parts_of (held_bytes new.held ++ rest)) (same rest)) long) stopped;
 }
 
--- the backslash behind what was read is one byte more of the entry
+-- a backslash that was held back becomes a byte of the entry
 pub releases-joined : (limits : ValueLimits) (old new : Reader) (result : Result (Unit {0}) ValueFault) → new.values ≡ old.values → IsCounted new → old.held ≡ true → new.held ≡ false
     → OnOk result (new.text.items ≡ old.text.items ++ backslash ∷ []) → IfErr result (StopsIf (Long limits (old.text.items ++ backslash ∷ []))) → Releases limits old new result
 releases-joined limits old new result values counted held free joined stopped =
@@ -56,7 +56,7 @@ releases-joined limits old new result values counted held free joined stopped =
       stopped = IfErr-weaker result (StopsIf (Long limits (old.text.items ++ piece))) (λ why. (rest : List ℕ) → is_ended rest ≡ false → StopsFor limits (entries_with old rest) why) (λ why long rest apart. StopsIf-then why (joined-long limits old.values old.text.items piece (parts_of (held_bytes old.held ++ rest)) (parts_of (held_bytes new.held ++ rest)) (same rest apart)) long) stopped;
     }
 
--- the ways in which a byte is one of an entry: behind no backslash, and a semicolon behind one
+-- with no backslash held back, a byte that is no semicolon and no backslash belongs to the entry
 pub other-same : (byte : ℕ) (held : Bool) → held ≡ false → (byte == semicolon) ≡ false → (byte == backslash) ≡ false → (rest : List ℕ) → parts_of (held_bytes held ++ (byte ∷ rest)) ≡ with_front (byte ∷ []) (parts_of (held_bytes held ++ rest))
 other-same byte held free other plain rest =
     ap (λ h. parts_of (held_bytes h ++ (byte ∷ rest))) free
@@ -106,7 +106,7 @@ takes-ended limits old new byte (Err why) ends free counted values empty held st
   stopped = λ rest. subst (λ vs. StopsFor limits vs why) (with-ended old byte rest ends free) (StopsIf-then why (too_long-more limits (with_entry old) (map bare (filter is_entry (with_front [] (parts_of rest))))) stopped);
 }
 
--- in the middle of the bytes that are to be read: a piece more, and a stop at it
+-- the reader stands in the middle of the bytes: a piece more is read, or it stops there
 abbrev Stands : Reader → Reader → List ℕ → List ℕ → Type 0
 Stands old between whole behind = (rest : List ℕ) → entries_with between (behind ++ rest) ≡ entries_with old (whole ++ rest)
 
@@ -125,7 +125,7 @@ takes-stopped limits old between new whole behind piece more why is stands stops
   stopped = λ rest. subst (λ vs. StopsFor limits vs why) (piece-next old between whole behind piece more is stands rest) (stops (more ++ rest));
 }
 
--- at the end of them
+-- at the end of the bytes all of them are taken
 pub takes-done : (limits : ValueLimits) (old new : Reader) (whole behind : List ℕ) → behind ≡ [] → IsCounted new → Stands old new whole behind → TakesEntries limits old new whole (Ok tt)
 takes-done limits old new whole behind is counted stands = record {
   counted = counted;
@@ -133,7 +133,7 @@ takes-done limits old new whole behind is counted stands = record {
   stopped = tt;
 }
 
--- the part of an argument that comes next
+-- the next part of an argument
 pub texts-next : (variables : List Variable) (parts : List Part) (i : ℕ) (part : Part) (text : List ℕ) → i < length parts → part ≡ get_or parts i part → text ≡ part_text variables part → argument_text variables (drop i parts) ≡ text ++ argument_text variables (drop (i + 1) parts)
 texts-next variables parts i part text within is text_is =
     at_drop_more (argument_text variables) parts i part within
@@ -146,14 +146,14 @@ rest-all old text rest =
     (λ i. with_parts old.values (rest.text i) (parts_of (held_bytes (rest.held i) ++ append-nil text i)))
     ∙ with_parts-all old.values text
 
--- the entry that was begun, behind a backslash that was released first
+-- the last entry, behind a backslash that was released first
 pub entry-last : (old released : Reader) → released.held ≡ false → entries_with released [] ≡ entries_with old [] → with_entry released ≡ entries_with old []
 entry-last old released free same =
     sym (with_parts-nothing released.values released.text.items)
     ∙ ap (λ h. with_parts released.values released.text.items (parts_of (held_bytes h ++ []))) (sym free)
     ∙ same
 
--- behind them
+-- all bytes of an argument, read by a reader that was at rest
 module _ (limits : ValueLimits) (old : Reader) (text : List ℕ) (rest : IsAtRest old) where
   pub entries-stopped : (why : ValueFault) → StopsFor limits (entries_with old (text ++ [])) why → StopsFor limits (old.values ++ map bare (entries_of text)) why
   entries-stopped why stops = subst (λ vs. StopsFor limits vs why) (rest-all old text rest) stops

@@ -1,4 +1,4 @@
--- What the readers of words keep, and the ways in which they go.
+-- What the readers of words keep, case by case.
 use Rattle.std.proofs.Common.{◌≡◌, ℕ, Bool, true, false, cond, bytes_eq, List, [], ◌∷◌, ◌++◌, map, Option, Some, None, option_map, refl, sym, ap, ◌∙◌, ◌||◌, append_assoc, append-nil, slice_get, take, drop, length, fold, ◌-◌, ◌<◌, arith}
 use Rattle.std.proofs.lemmas.List.{map_push, take_all}
 use Rattle.std.specs.List.{list_any, flat_map, join_with_byte}
@@ -8,7 +8,7 @@ use Rattle.ct_base.specs.declared.defs.Pair.{Pair}
 use Rattle.ct_suite.specs.Words.{names_and_pairs, pairs_of, is_properties, list_value}
 use Rattle.ct_suite.specs.Entries.{with_new}
 
--- values with a byte between two are the first one, and each other one behind that byte
+-- joined values are the first value, and then each other one behind the byte
 pub join_with_byte-flat_map : (byte : ℕ) (first : List ℕ) (rest : List (List ℕ)) → join_with_byte byte (first ∷ rest) ≡ first ++ flat_map (λ value. byte ∷ value) rest
 join_with_byte-flat_map byte first [] = sym (append-nil first)
 join_with_byte-flat_map byte first (next ∷ rest) =
@@ -23,7 +23,7 @@ module _ {Z : Type 0} where
   insert_by keys key true = refl
   insert_by keys key false = map_push (λ (k : Vec ℕ Z). k.items) keys key
 
-  -- a key that is put into a set
+  -- inserting a key into a set adds it if it is new
   pub with_new-insert_key : (keys : List (Vec ℕ Z)) (key : Vec ℕ Z) → map (λ (k : Vec ℕ Z). k.items) (insert_key (λ (one other : Vec ℕ Z). bytes_eq one.items other.items) keys key) ≡ with_new (map (λ (k : Vec ℕ Z). k.items) keys) key.items
   with_new-insert_key keys key =
       insert_by keys key (list_any (λ (k : Vec ℕ Z). bytes_eq key.items k.items) keys)
@@ -39,7 +39,7 @@ pairs_by : (pairs : List Pair) (pair : Pair) (read : Option (List Pair)) → opt
 pairs_by pairs pair None = refl
 pairs_by pairs pair (Some more) = ap Some (sym (append_assoc pairs (pair ∷ []) more))
 
--- one more pair behind those that are read
+-- one more pair is read behind the others
 pub pairs_of-more : (pairs : List Pair) (name value : List ℕ) (rest : List (List ℕ)) → option_map (λ more. pairs ++ more) (pairs_of (name ∷ value ∷ rest)) ≡ option_map (λ more. (pairs ++ record { name = name; value = value } ∷ []) ++ more) (pairs_of rest)
 pairs_of-more pairs name value rest = pairs_by pairs (record { name = name; value = value }) (pairs_of rest)
 
@@ -59,7 +59,7 @@ names_by names value false found None not_it = refl
 names_by names value false found (Some read) not_it =
     ap (λ ns. Some (with_pairs ns read.1)) (sym (append_assoc names (value ∷ []) read.0))
 
--- one more name in front of PROPERTIES
+-- one more name is read in front of PROPERTIES
 pub names_and_pairs-more : (names rest : List (List ℕ)) (value : List ℕ) → is_properties value ≡ false → option_map (behind_names names) (names_and_pairs (value ∷ rest)) ≡ option_map (behind_names (names ++ value ∷ [])) (names_and_pairs rest)
 names_and_pairs-more names rest value not_it =
     names_by names value (is_properties value) (option_map (with_pairs []) (pairs_of rest)) (names_and_pairs rest) not_it
@@ -69,12 +69,12 @@ found_by names false more read is_it = cc
 found_by names true more None is_it = refl
 found_by names true more (Some pairs) is_it = ap (λ ns. Some (with_pairs ns pairs)) (append-nil names)
 
--- PROPERTIES, and what stands behind it
+-- PROPERTIES is read, and then what stands behind it
 pub names_and_pairs-found : (names rest : List (List ℕ)) (value : List ℕ) → is_properties value ≡ true → option_map (behind_names names) (names_and_pairs (value ∷ rest)) ≡ option_map (with_pairs names) (pairs_of rest)
 names_and_pairs-found names rest value is_it =
     found_by names (is_properties value) (option_map (behind_names (value ∷ [])) (names_and_pairs rest)) (pairs_of rest) is_it
 
--- the values behind a name, where there is one
+-- the values joined, if there is a first one
 pub list_value-first : (values : List (List ℕ)) (first : List ℕ) → Some first ≡ slice_get values 0 → list_value values ≡ Some (first ++ flat_map (λ value. 59 ∷ value) (take (length values - 1) (drop 1 values)))
 list_value-first [] first is = cc
 list_value-first (value ∷ values) first is =

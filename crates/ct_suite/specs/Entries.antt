@@ -17,30 +17,30 @@ def_of test = record { name = test.name; command = test.command; dir = test.dir;
 abbrev pub variable_of : {Z : Type 0} → Vec ℕ Z × Option (List ℕ) → Variable
 variable_of entry = record { name = entry.0.items; value = entry.1 }
 
--- the places of one key
+-- the places of one key, in order
 abbrev pub places_of : KeyPlaces → List ℕ
 places_of (One place) = place ∷ []
 places_of (Many places) = places.items
 
--- the places that are kept by a key, none where there is no such key
+-- the places that are kept by a key; none where the key is absent
 abbrev pub places_in : {Y : Type 0} → List (Vec ℕ Y × KeyPlaces) → List ℕ → List ℕ
 places_in [] key = []
 places_in (entry ∷ entries) key = if bytes_eq key entry.0.items then places_of entry.1 else places_in entries key
 
--- the places, from the first on, of the keys that are this one
+-- the places, counted from `first`, at which the key stands among these keys
 abbrev pub positions : ℕ → List ℕ → List (List ℕ) → List ℕ
 positions first key [] = []
 positions first key (other ∷ keys) = if bytes_eq key other then first ∷ positions (first + 1) key keys else positions (first + 1) key keys
 
--- the tests' names
+-- the names of the tests
 abbrev pub names_of : List TestDef → List (List ℕ)
 names_of tests = map (λ (test : TestDef). test.name) tests
 
--- the tests' folders
+-- the folders of the tests
 abbrev pub dirs_of : List TestDef → List (List ℕ)
 dirs_of tests = map (λ (test : TestDef). test.dir) tests
 
--- each key is kept with the places of those that are it
+-- each key is kept with all the places at which it stands among these keys
 abbrev pub AreIndexed : {Y : Type 0} → List (Vec ℕ Y × KeyPlaces) → List (List ℕ) → Type 0
 AreIndexed entries keys = (key : List ℕ) → places_in entries key ≡ positions 0 key keys
 
@@ -55,19 +55,19 @@ abbrev pub changed_at : {A : Type 0} → (A → A) → List ℕ → List A → L
 changed_at change [] xs = xs
 changed_at change (place ∷ places) xs = changed_at change places (changed change place xs)
 
--- the first of some values, and the others
+-- the first value and the others, if there is a first one
 abbrev pub taken_apart : List (List ℕ) → Option (List ℕ × List (List ℕ))
 taken_apart [] = None
 taken_apart (first ∷ rest) = Some (first, rest)
 
--- names that differ, with one more where it is not among them
+-- the names with one more at the end, if it is not among them yet
 abbrev pub with_new : List (List ℕ) → List ℕ → List (List ℕ)
 with_new names name = if list_any (bytes_eq name) names then names else names ++ name ∷ []
 
--- the tests after those of a name were changed
+-- the tests, with each test of that name changed
 abbrev pub of_name : (TestDef → TestDef) → List TestDef → List ℕ → List TestDef
 of_name change tests name = each_where (λ (test : TestDef). bytes_eq name test.name) change tests
 
--- how many tests have a name
+-- how many tests have the name
 abbrev pub count_of : List TestDef → List ℕ → ℕ
 count_of tests name = count_by (λ (test : TestDef). bytes_eq name test.name) tests

@@ -10,28 +10,28 @@ use Rattle.ct_lex.specs.declared.call.Part.{Part}
 use Rattle.ct_lex.specs.declared.call.Part.TheVariants.{Bytes, Ref}
 use Rattle.ct_suite.specs.declared.value.Value.{Value}
 
--- a variable that was set, and its value; it has none where it is no longer set
+-- a variable that was set, with its value; None where it is no longer set
 pub record Variable : Type 0 where
   pub name : List ℕ
   pub value : Option (List ℕ)
 
--- the value of the variable of that name, where it is set
+-- the value of the variable of that name, if it is set
 abbrev pub value_of : List Variable → List ℕ → Option (List ℕ)
 value_of [] name = None
 value_of (first ∷ variables) name = if bytes_eq name first.name then first.value else value_of variables name
 
--- the variables with this one in the place of the one of its name, or behind the others
+-- the variables after one was set: it takes the place of the one with its name, or goes to the end
 abbrev pub with_variable : List Variable → Variable → List Variable
 with_variable [] variable = variable ∷ []
 with_variable (first ∷ variables) variable =
     if bytes_eq variable.name first.name then variable ∷ variables else first ∷ with_variable variables variable
 
--- a reference stands for the variable's value, and for nothing where it is not set
+-- the text of a part: its bytes, or the value of its variable; a variable that is not set has no bytes
 abbrev pub part_text : List Variable → Part → List ℕ
 part_text variables (Bytes bytes) = bytes
 part_text variables (Ref name) = unwrap_or (value_of variables name) []
 
--- the text of an argument: that of its parts, joined
+-- the text of an argument: the texts of its parts, joined
 abbrev pub argument_text : List Variable → List Part → List ℕ
 argument_text variables parts = flat_map (part_text variables) parts
 
@@ -43,7 +43,7 @@ quoted text = record { text = text; unquoted = false }
 abbrev pub bare : List ℕ → Value
 bare text = record { text = text; unquoted = true }
 
--- the values that an argument gives: the entries of its text where it is unquoted, and else the text
+-- the values that an argument gives: the entries of its text if it is unquoted, else the text
 abbrev pub values_by : ArgKind → List ℕ → List Value
 values_by Bracket text = quoted text ∷ []
 values_by Quoted text = quoted text ∷ []
@@ -53,7 +53,7 @@ values_by Unquoted text = map bare (entries_of text)
 abbrev pub values_of : List Variable → List Arg → List Value
 values_of variables args = flat_map (λ (arg : Arg). values_by arg.kind (argument_text variables arg.parts)) args
 
--- how many bytes values have together
+-- how many bytes the values have together
 abbrev pub size : List Value → ℕ
 size values = sum_by (λ (value : Value). length value.text) values
 
@@ -61,6 +61,6 @@ size values = sum_by (λ (value : Value). length value.text) values
 abbrev pub texts : List Value → List (List ℕ)
 texts values = map (λ (value : Value). value.text) values
 
--- a value has more bytes than so many
+-- the value has more than `most` bytes
 abbrev pub is_too_long : ℕ → Value → Bool
 is_too_long most value = nat_lt most (length value.text)

@@ -4,29 +4,30 @@ use Rattle.std.specs.Prelude.{ℕ, Bool, bytes_eq, codes, List, [], ◌∷◌, O
 use Rattle.std.specs.List.{join_with_byte}
 use Rattle.ct_base.specs.declared.defs.Pair.{Pair}
 
--- keys and values in turn, where each key has one
+-- the pairs of keys and values in turn; None where the last key has no value
 abbrev pub pairs_of : List (List ℕ) → Option (List Pair)
 pairs_of [] = Some []
 pairs_of (key ∷ []) = None
 pairs_of (key ∷ value ∷ more) = option_map (λ pairs. record { name = key; value = value } ∷ pairs) (pairs_of more)
 
--- the word in front of keys and values
+-- the word PROPERTIES, behind which keys and values stand
 abbrev pub is_properties : List ℕ → Bool
 is_properties value = bytes_eq value (codes "PROPERTIES")
 
--- the values in front of the first PROPERTIES, and the keys and values behind it
+-- the values in front of the first PROPERTIES, and the keys and values behind it;
+-- None without PROPERTIES, or where the last key has no value
 abbrev pub names_and_pairs : List (List ℕ) → Option (List (List ℕ) × List Pair)
 names_and_pairs [] = None
 names_and_pairs (first ∷ values) =
     if is_properties first then option_map (λ pairs. ([], pairs)) (pairs_of values)
     else option_map (λ read. (first ∷ read.0, read.1)) (names_and_pairs values)
 
--- the keys and values behind PROPERTIES, where that comes first
+-- the keys and values behind PROPERTIES, if that is the first value
 abbrev pub pairs_behind : List (List ℕ) → Option (List Pair)
 pairs_behind [] = None
 pairs_behind (first ∷ values) = if is_properties first then pairs_of values else None
 
--- the values behind the name, with `;` between two
+-- the values with `;` between each two; None where there is no value
 abbrev pub list_value : List (List ℕ) → Option (List ℕ)
 list_value [] = None
 list_value (value ∷ values) = Some (join_with_byte 59 (value ∷ values))

@@ -1,7 +1,7 @@
 ghost use Rattle.std.specs.Prelude.{◌≡◌};
 ghost use Rattle.ct_suite.specs.Count.{raised};
 
-/// Adds to a count, where that does not pass the most.
+/// Adds to a count, if the sum is at most `most`.
 pub fn raised(most: u32, count: u64, more: u64) -> Option<u64>
     ensures { result ≡ raised most count more }
 {

@@ -6,7 +6,7 @@ use ct_base::NoMemory;
 /// Why the arguments of a command gave no values.
 #[derive(Clone, Copy, Debug)]
 pub enum ValueFault {
-    /// A value, or all of them together, have more bytes than they may have.
+    /// A value, or all values together, have more bytes than the limits allow.
     TooLong,
     /// Memory was wanting.
     NoMemory,

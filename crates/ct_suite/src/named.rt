@@ -7,7 +7,7 @@ use crate::suite::Suite;
 use ct_base::{List, Name, NoMemory, Pair};
 use std::alloc::Global;
 
-/// Counts the tests of each of these names, up to the greatest number that there is.
+/// Adds up how many tests have each of these names, at most 2^64 - 1.
 pub fn count_named(tests: &Suite, names: &[Name]) -> u64
     ensures { result ≡ min (sum_by (count_of tests.now) names.now) (2 ^ 64 - 1) }
 {
@@ -18,7 +18,8 @@ pub fn count_named(tests: &Suite, names: &[Name]) -> u64
     count
 }
 
-/// Sets properties of the tests of one name after the other: those of the last name take them without a copy.
+/// Sets properties of the tests, one name after the other. The tests of the last name take them
+/// without a copy.
 pub fn set_named(
     alloc: Global,
     tests: Suite,

@@ -30,7 +30,7 @@ impl OpenTest {
         }
     }
 
-    /// Ends the setting of properties.
+    /// Returns the test, whose properties can no longer be set.
     pub(crate) fn define(self, alloc: Global) -> Result<TestDef, NoMemory>
         ensures { IfOk result (λ def. def ≡ def_of self) }
     {

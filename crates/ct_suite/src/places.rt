@@ -6,10 +6,11 @@ use indexmap::IndexMap;
 use std::alloc::Global;
 use std::slice;
 
-/// The places of the tests that have a key, in order: a name, or a folder.
+/// For each key, a name or a folder, the places of the tests that have it, in order.
 pub(crate) type Places = IndexMap<Vec<u8>, KeyPlaces>;
 
-/// The places of the tests that have one key, in order. One alone takes no memory, and most names have one.
+/// The places of the tests that have one key, in order. One place takes no memory, and most names
+/// have one.
 #[derive(Drop)]
 pub(crate) enum KeyPlaces {
     One(usize),
@@ -26,7 +27,7 @@ impl KeyPlaces {
         }
     }
 
-    /// Puts one more place behind the others.
+    /// Appends a place.
     fn add(&mut self, alloc: Global, place: usize) -> Result<(), NoMemory>
         ensures { OnOk result (places_of self.new ≡ places_of self.old ++ place ∷ []) }
     {
@@ -56,7 +57,7 @@ pub(crate) fn places_at<'a>(places: &'a Places, key: &[u8]) -> &'a [usize]
     }
 }
 
-/// Puts one more place behind those of a key.
+/// Appends a place to those of a key.
 pub(crate) fn note_place(
     alloc: Global,
     places: &mut Places,

@@ -18,9 +18,10 @@ type Keyed = IndexMap<Vec<u8>, Name>;
 /// The properties of a test so far. Contracts see one pair for each key, in the order of first use.
 #[derive(Drop)]
 pub(crate) struct Props {
-    /// Those that were set first, by their keys: nothing where there are only a few, as most tests have.
+    /// The properties that were set first, by their keys; `None` if there are few, as in most
+    /// tests.
     keyed: Option<Box<Keyed>>,
-    /// Those that were set behind them, in turn.
+    /// The properties that were set after them, in turn.
     recent: Vec<Pair>,
 }
 
@@ -46,7 +47,7 @@ impl Props {
         }
     }
 
-    /// Sets properties in turn: each takes the place of the one of its key, or goes behind the others.
+    /// Sets properties in turn: each takes the place of the one with its key, or goes to the end.
     pub(crate) fn set(&mut self, alloc: Global, pairs: List<Pair>) -> Result<(), NoMemory>
         ensures { OnOk result (self.new ≡ with_props self.old pairs) }
     {
@@ -63,7 +64,7 @@ impl Props {
         Ok(())
     }
 
-    /// Ends the setting of properties.
+    /// Returns the properties, which can no longer be set.
     pub(crate) fn into_pairs(self, alloc: Global) -> Result<List<Pair>, NoMemory>
         ensures { IfOk result (λ pairs. pairs ≡ self) }
     {
@@ -78,7 +79,7 @@ impl Props {
     }
 }
 
-/// Moves properties behind others.
+/// Appends properties to others.
 fn put_behind(pairs: &mut Vec<Pair>, mut more: Vec<Pair>) -> Result<(), NoMemory>
     ensures { OnOk result (pairs.new.items ≡ pairs.old.items ++ more.items) }
 {
@@ -121,7 +122,8 @@ fn pairs_of(alloc: Global, props: Keyed) -> Result<List<Pair>, NoMemory>
     Ok(pairs)
 }
 
-/// Gives what setting these properties in turn leaves: each is looked up among those before it.
+/// Returns the properties that are left after setting these in turn. Each one is looked up among
+/// those before it.
 fn in_turn(alloc: Global, pairs: Vec<Pair>) -> Result<List<Pair>, NoMemory>
     ensures { IfOk result (λ props. props ≡ with_props [] pairs.items) }
 {
@@ -135,7 +137,8 @@ fn in_turn(alloc: Global, pairs: Vec<Pair>) -> Result<List<Pair>, NoMemory>
     Ok(List::from_vec(props))
 }
 
-/// Tells whether no two properties have one key: setting them in turn then leaves them as they are.
+/// Tells whether no two properties have the same key. Setting them in turn then leaves them as they
+/// are.
 fn have_own_keys(pairs: &[Pair]) -> bool
     ensures { IsTrue result → with_props [] pairs.now ≡ pairs.now }
 {
@@ -159,7 +162,7 @@ fn set_prop(props: &mut Vec<Pair>, pair: Pair) -> Result<(), NoMemory>
     Ok(())
 }
 
-/// Counts the properties in front of the first one of a key: all of them where there is none.
+/// Counts the properties in front of the first one with a key; all of them if no property has it.
 fn others(props: &[Pair], key: &Name) -> usize
     ensures { result ≡ prefix_len (is_other key.now) props.now }
 {
@@ -173,7 +176,7 @@ fn is_other(key: &Name, prop: &Pair) -> bool
     !key.is(&prop.name)
 }
 
-/// Makes second properties of the same keys and values.
+/// Copies properties.
 pub(crate) fn copied(alloc: Global, pairs: &[Pair]) -> Result<List<Pair>, NoMemory>
     ensures { IfOk result (λ copies. copies ≡ pairs.now) }
 {

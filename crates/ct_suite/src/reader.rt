@@ -15,23 +15,23 @@ use ct_lex::{Arg, ArgKind, NextArg, Part};
 use std::alloc::Global;
 use std::mem;
 
-/// The values of a command so far, and what was read of the next one.
+/// The values of a command so far, and the part of the next one that was read.
 ///
-/// Reading stops where a value or all of them are longer than they may be, so no more memory is
-/// taken than that.
+/// Reading stops once a value, or all values together, are too long. So it takes no more memory
+/// than the limits allow.
 #[derive(Drop)]
 pub(crate) struct Reader {
     pub(crate) values: List<Value>,
-    /// The bytes of those values.
+    /// How many bytes the values have.
     pub(crate) bytes: u64,
-    /// What was read of the next value.
+    /// The part of the next value that was read.
     pub(crate) text: Vec<u8>,
-    /// Whether a backslash stands behind that text: the next byte decides what it is.
+    /// Whether a backslash is held back behind that text: the next byte decides what it stands for.
     pub(crate) held: bool,
 }
 
 impl Reader {
-    /// Nothing was read.
+    /// Makes a reader that has read nothing.
     pub(crate) fn new(alloc: Global) -> Reader
         ensures rest { IsAtRest result }
         ensures values { result.values ≡ [] }
@@ -44,7 +44,8 @@ impl Reader {
         }
     }
 
-    /// Reads the values of one more argument, and copies the bytes of one that is lent once, to where they stay.
+    /// Reads the values of one more argument. The bytes of an argument that is lent are copied
+    /// once, to where they stay.
     pub(crate) fn take_next(
         &mut self,
         alloc: Global,
@@ -153,7 +154,7 @@ impl Reader {
         self.end_value(alloc, limits, false)
     }
 
-    /// Joins the texts of an argument's parts behind what was read.
+    /// Appends the texts of an argument's parts to what was read.
     fn join(
         &mut self,
         limits: &ValueLimits,
@@ -249,7 +250,7 @@ impl Reader {
         self.take_own_run(limits, bytes)
     }
 
-    /// Reads a run as `take_run` does, without a copy where it begins an entry.
+    /// Reads a run as `take_run` does, without a copy if it begins an entry.
     fn take_own_run(&mut self, limits: &ValueLimits, run: Name) -> Result<(), ValueFault>
         requires some { 0 < length run }
         requires inner { list_all is_inner run ≡ true }
@@ -284,7 +285,8 @@ impl Reader {
         Ok(())
     }
 
-    /// Reads more bytes of an unquoted argument, of which each is one of an entry wherever it stands.
+    /// Reads a run of an unquoted argument: each of its bytes belongs to an entry wherever it
+    /// stands.
     fn take_run(&mut self, limits: &ValueLimits, run: &[u8]) -> Result<(), ValueFault>
         requires some { 0 < length run.now }
         requires inner { list_all is_inner run.now ≡ true }
@@ -325,7 +327,7 @@ impl Reader {
         join_text(limits, &mut self.text, &[byte])
     }
 
-    /// Takes a backslash for itself, behind which no `;` comes.
+    /// Reads the backslash that is held back as a byte of the entry, since no `;` comes behind it.
     fn release(&mut self, limits: &ValueLimits) -> Result<(), ValueFault>
         requires { IsCounted self.old }
         ensures { Releases limits.now self.old self.new result }
@@ -352,7 +354,7 @@ impl Reader {
         self.end_value(alloc, limits, true)
     }
 
-    /// Puts what was read behind the values.
+    /// Appends what was read to the values.
     fn end_value(
         &mut self,
         alloc: Global,
@@ -377,21 +379,21 @@ impl Reader {
     }
 }
 
-/// Tells whether a byte is one of an entry wherever it stands in an unquoted argument.
+/// Tells whether a byte belongs to an entry wherever it stands in an unquoted argument.
 fn is_inner(byte: u8) -> bool
     ensures { result ≡ is_inner byte }
 {
     !(byte == b';' || byte == b'\\')
 }
 
-/// Tells whether each of these bytes is one of an entry wherever it stands.
+/// Tells whether each of these bytes belongs to an entry wherever it stands.
 fn are_inner(bytes: &[u8]) -> bool
     ensures { result ≡ list_all is_inner bytes.now }
 {
     bytes.iter().all(|byte| is_inner(*byte))
 }
 
-/// Counts the bytes at the front of a text of which each is one of an entry wherever it stands.
+/// Counts the bytes at the front of a text that belong to an entry wherever they stand.
 fn inner_len(text: &[u8]) -> usize
     ensures count { result ≡ prefix_len is_inner text.now }
     ensures within { result ≤ length text.now }
@@ -399,7 +401,7 @@ fn inner_len(text: &[u8]) -> usize
     text.iter().take_while(|byte| is_inner(**byte)).count()
 }
 
-/// Joins the text of a part behind a text, unless a value may not be so long.
+/// Appends the text of a part to a text, unless the value would be too long.
 fn join_part(
     limits: &ValueLimits,
     table: &Table,
@@ -415,7 +417,7 @@ fn join_part(
     }
 }
 
-/// Puts a piece behind a text as `join_text` does, without a copy where the text is empty.
+/// Appends a piece to a text as `join_text` does, without a copy if the text is empty.
 fn join_own(limits: &ValueLimits, text: &mut Vec<u8>, piece: Name) -> Result<(), ValueFault>
     ensures joined { OnOk result (text.new.items ≡ text.old.items ++ piece) }
     ensures stopped { IfErr result (StopsIf (limits.now.value_bytes < length (text.old.items ++ piece))) }
@@ -430,7 +432,7 @@ fn join_own(limits: &ValueLimits, text: &mut Vec<u8>, piece: Name) -> Result<(),
     Ok(())
 }
 
-/// Puts a piece behind a text, unless a value may not be so long.
+/// Appends a piece to a text, unless the value would be too long.
 fn join_text(limits: &ValueLimits, text: &mut Vec<u8>, piece: &[u8]) -> Result<(), ValueFault>
     ensures joined { OnOk result (text.new.items ≡ text.old.items ++ piece.now) }
     ensures stopped { IfErr result (StopsIf (limits.now.value_bytes < length (text.old.items ++ piece.now))) }

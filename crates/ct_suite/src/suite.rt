@@ -14,7 +14,7 @@ use std::marker::Model;
 /// The tests of a tree so far. Contracts see their definitions in order.
 #[derive(Drop)]
 pub struct Suite {
-    /// In a box, since each command hands the suite on.
+    /// In a box, since each command moves the suite.
     kept: Box<Kept>,
 }
 
@@ -40,7 +40,7 @@ impl Model for Suite {
 }
 
 impl Suite {
-    /// Makes the suite without tests.
+    /// Makes a suite without tests.
     pub fn new(alloc: Global) -> Result<Suite, NoMemory>
         ensures { IfOk result (λ suite. suite ≡ []) }
     {
@@ -60,7 +60,7 @@ impl Suite {
         self.kept.tests.len()
     }
 
-    /// Puts a test without properties and labels behind the others.
+    /// Appends a test without properties and labels.
     pub fn with_test(
         self,
         alloc: Global,
@@ -82,7 +82,7 @@ impl Suite {
         Ok(Suite { kept })
     }
 
-    /// Counts the tests of a name.
+    /// Counts the tests with a name.
     pub fn named(&self, name: &Name) -> usize
         ensures { result ≡ count_by (λ (test : TestDef). bytes_eq name.now test.name) self.now }
     {
@@ -96,7 +96,7 @@ impl Suite {
         places_at(&self.kept.by_dir, dir.bytes()).len()
     }
 
-    /// Sets properties of each test of a name.
+    /// Sets properties of each test with a name.
     pub fn with_props(
         self,
         alloc: Global,
@@ -125,7 +125,7 @@ impl Suite {
         Ok(Suite { kept })
     }
 
-    /// Ends the setting of properties.
+    /// Returns the definitions of the tests, whose properties can no longer be set.
     pub fn define(self, alloc: Global) -> Result<List<TestDef>, NoMemory>
         ensures is { IfOk result (λ defs. defs ≡ self) }
         ensures few { IfOk result (λ defs. length defs ≤ most_tests) }
@@ -145,7 +145,7 @@ impl Suite {
     }
 }
 
-/// Sets properties of the tests at these places: the last one takes them without a copy.
+/// Sets properties of the tests at these places. The last test takes them without a copy.
 fn set_each(
     alloc: Global,
     tests: &mut Vec<OpenTest>,

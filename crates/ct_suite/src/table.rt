@@ -25,7 +25,7 @@ impl Model for Table {
 }
 
 impl Table {
-    /// Makes a table in which no variable was set.
+    /// Makes a table without variables.
     pub fn new(alloc: Global) -> Result<Table, NoMemory>
         ensures { IfOk result (λ table. table ≡ []) }
     {
@@ -42,7 +42,7 @@ impl Table {
         value.as_ref()
     }
 
-    /// Sets a variable, or takes its value away.
+    /// Sets a variable, or removes its value.
     pub fn with(self, name: Name, value: Option<Name>) -> Result<Table, NoMemory>
         ensures { IfOk result (λ table. table ≡ with_variable self (record { name = name; value = value })) }
     {

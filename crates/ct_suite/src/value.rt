@@ -14,11 +14,11 @@ use std::alloc::Global;
 #[derive(Debug, Drop)]
 pub struct Value {
     pub text: Name,
-    /// Whether the argument is unquoted that gives it.
+    /// Whether it comes from an unquoted argument.
     pub unquoted: bool,
 }
 
-/// Gives the values of a command's arguments, unless they are longer than they may be.
+/// Returns the values of a command's arguments, unless they are longer than the limits allow.
 ///
 /// Source: CMake manual, cmake-language(7), Command Arguments and Variable References.
 pub fn values_of(
@@ -44,7 +44,7 @@ pub fn values_of(
     Ok(values)
 }
 
-/// Lends the value of a variable: nothing where it is not set.
+/// Lends the value of a variable; no bytes if the variable is not set.
 pub(crate) fn value_text<'a>(table: &'a Table, name: &Name) -> &'a [u8]
     ensures { result.now ≡ unwrap_or (value_of table.entry.now name.now) [] }
 {
@@ -54,7 +54,7 @@ pub(crate) fn value_text<'a>(table: &'a Table, name: &Name) -> &'a [u8]
     }
 }
 
-/// Takes the texts out of values.
+/// Returns the texts of values.
 pub fn texts(alloc: Global, values: List<Value>) -> Result<List<Name>, NoMemory>
     ensures { IfOk result (λ names. names ≡ texts values) }
 {
@@ -65,7 +65,7 @@ pub fn texts(alloc: Global, values: List<Value>) -> Result<List<Name>, NoMemory>
     Ok(names)
 }
 
-/// Counts the bytes of values, up to the greatest number that there is.
+/// Counts the bytes of values, at most 2^64 - 1.
 pub fn size(values: &[Value]) -> u64
     ensures { result ≡ min (size values.now) (2 ^ 64 - 1) }
 {

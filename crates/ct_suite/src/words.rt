@@ -11,7 +11,7 @@ use indexmap::IndexSet;
 use std::alloc::Global;
 use std::vec::IntoIter;
 
-/// Takes the first value off.
+/// Splits off the first value.
 pub fn take_apart(values: List<Name>) -> Option<(Name, List<Name>)>
     ensures { result ≡ taken_apart values }
 {
@@ -65,7 +65,7 @@ pub fn pairs_behind(alloc: Global, values: List<Value>) -> Result<Option<List<Pa
     Ok(None)
 }
 
-/// Reads `key value ..`: nothing where the last key has no value.
+/// Reads `key value ..`; `None` if the last key has no value.
 fn pairs_of(alloc: Global, mut rest: IntoIter<Value>) -> Result<Option<List<Pair>>, NoMemory>
     ensures { IfOk result (λ pairs. pairs ≡ pairs_of (texts (into_iter_items rest))) }
 {
@@ -88,7 +88,7 @@ fn is_properties(value: &Name) -> bool
     value.bytes() == b"PROPERTIES".as_slice()
 }
 
-/// Leaves of names that are equal the first one.
+/// Keeps the first of the names that are equal.
 #[tactic(auto, using(crate::proofs::WordLemmas::few_distinct))]
 pub fn distinct(alloc: Global, names: List<Name>) -> Result<List<Name>, NoMemory>
     ensures { IfOk result (λ distinct. distinct ≡ fold with_new [] names) }
@@ -104,7 +104,7 @@ pub fn distinct(alloc: Global, names: List<Name>) -> Result<List<Name>, NoMemory
     Ok(List::from_vec(distinct))
 }
 
-/// Counts the bytes of the values of properties, up to the greatest number that there is.
+/// Counts the bytes of the values of properties, at most 2^64 - 1.
 pub fn prop_bytes(props: &[Pair]) -> u64
     ensures { result ≡ min (prop_bytes props.now) (2 ^ 64 - 1) }
 {
@@ -121,7 +121,7 @@ fn is_labels(prop: &Pair) -> bool
     prop.name.bytes() == b"LABELS".as_slice()
 }
 
-/// Counts the bytes of the values of LABELS, up to the greatest number that there is.
+/// Counts the bytes of the values of LABELS, at most 2^64 - 1.
 pub fn label_bytes(props: &[Pair]) -> u64
     ensures { result ≡ min (label_bytes props.now) (2 ^ 64 - 1) }
 {
@@ -134,7 +134,7 @@ pub fn label_bytes(props: &[Pair]) -> u64
     bytes
 }
 
-/// Gives the entries of the values of LABELS.
+/// Returns the entries of the values of LABELS.
 pub fn labels_of(alloc: Global, props: &[Pair]) -> Result<List<Name>, NoMemory>
     ensures { IfOk result (λ labels. labels ≡ labels_of props.now) }
 {
@@ -156,7 +156,7 @@ fn push_all(labels: &mut List<Name>, more: List<Name>) -> Result<(), NoMemory>
     Ok(())
 }
 
-/// Joins values with `;` between two: nothing where there is none.
+/// Joins values with `;` between each two; `None` if there is no value.
 ///
 /// Source: CMake manual, set.
 pub fn list_value(alloc: Global, values: &[Name]) -> Result<Option<Name>, NoMemory>

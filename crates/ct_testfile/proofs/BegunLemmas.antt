@@ -1,4 +1,4 @@
--- A command that begins: it leaves the variables, its values are short, and values that are too long are refused.
+-- A command that begins keeps the variables, and its values are short. Values that are too long are refused.
 use Rattle.std.proofs.Common.{◌≡◌, ℕ, ◌+◌, ◌≤◌, Bool, true, false, cond, ◌||◌, nat_lt, List, [], ◌∷◌, length, Option, Some, None, Result, Ok, Err, IfOk, refl, sym, subst, ap, arith}
 use Rattle.std.proofs.lemmas.Bool.Decides.{nat_tests}
 use Rattle.std.proofs.lemmas.List.Elements.{All-nil, All-cons}
@@ -22,7 +22,7 @@ use Rattle.ct_testfile.specs.declared.state.State.{State}
 above_more : (most one other : ℕ) → one ≤ other → nat_lt most one ≡ true → nat_lt most other ≡ true
 above_more most one other up is = grind (arith, nat_tests)
 
--- a command that is counted leaves the variables
+-- the variables of the state, or the given ones where it is refused; counting keeps the variables
 abbrev variables_or : Result State ReadKind → List Variable → List Variable
 variables_or (Ok state) variables = state.variables
 variables_or (Err kind) variables = variables

@@ -39,7 +39,7 @@ pub is_live-none : (ifs : List OpenIf) → length ifs ≤ 0 → is_live ifs ≡ 
 is_live-none [] none = refl
 is_live-none (first ∷ ifs) none = absurd (omega arith)
 
--- two values, and three
+-- values that are not two are no `EXISTS`
 pub not-exists : (values : List Value) → (length values ≡ 2 → ⊥) → false ≡ is_exists values
 not-exists [] other = refl
 not-exists (word ∷ []) other = refl
@@ -66,7 +66,7 @@ matches-is (left ∷ first ∷ []) word three is = absurd (omega arith)
 matches-is (left ∷ first ∷ right ∷ []) word three is = ap (is_bare_word (codes "MATCHES")) is
 matches-is (left ∷ first ∷ right ∷ next ∷ values) word three is = absurd (omega arith)
 
--- what holds of them
+-- whether the condition in these values holds
 module _ (held : Held) (dir : List ℕ) (variables : List Variable) where
   pub holds-exists : (values : List Value) (path : Value) → is_exists values ≡ true → path ≡ get_or values 1 path → holds held dir variables values ≡ Ok (is_some (held (joined dir path.text)))
   holds-exists [] path is at = absurd (false≢true is)

@@ -1,4 +1,4 @@
--- Calls that look at files, one behind the other: what each of them says is said of all.
+-- Calls that look at files, one after the other: what holds of each of them holds of all together.
 use Rattle.std.proofs.Common.{◌≡◌, ◌≤◌, ℕ, List, Option, Some, None, Result, Ok, Err, IfErr, IfSome, refl, sym, ap, ◌∙◌, subst, arith}
 use Rattle.ct_base.specs.Outside.{FilesTell, Held, SameHeld, Becomes, LooksAt}
 use Rattle.ct_base.specs.declared.files.FilesFault.{FilesFault}
@@ -9,14 +9,14 @@ use Rattle.ct_testfile.specs.declared.fault.ReadKind.{ReadKind}
 use Rattle.ct_testfile.specs.declared.fault.ReadFault.{ReadFault}
 use Rattle.ct_testfile.specs.declared.fault.ReadFault.TheVariants.{At, FilesFailed, NoMemory}
 
--- the count stayed, and no fault of the files is answered
+-- the count stayed, and the answer is no fault of the files
 pub cause-still : {A : Type 0} (before now : FilesTell) (result : Result A ReadFault) → Unfailed result → now.faults ≡ before.faults → now.refused ≡ before.refused → HasFilesCause before now result
 cause-still before now (Ok x) unfailed same unrefused = record { later = omega arith; failed = tt; unfailed = same; unrefused = unrefused }
 cause-still before now (Err (At file line kind)) unfailed same unrefused = record { later = omega arith; failed = tt; unfailed = same; unrefused = unrefused }
 cause-still before now (Err (FilesFailed path)) unfailed same unrefused = absurd unfailed
 cause-still before now (Err NoMemory) unfailed same unrefused = record { later = omega arith; failed = tt; unfailed = same; unrefused = unrefused }
 
--- what is said from a moment on, from an earlier one at which the count and the refused path were the same
+-- what holds from a moment on also holds from an earlier one with the same count and refused path
 cause-from : {A : Type 0} (before between now : FilesTell) (result : Result A ReadFault) → between.faults ≡ before.faults → between.refused ≡ before.refused → HasFilesCause between now result → HasFilesCause before now result
 cause-from before between now result same unrefused cause = record {
   later = subst (λ faults. faults ≤ now.faults) same cause.later;
@@ -33,12 +33,12 @@ Over-still tells says result unfailed answer = record {
   cause = cause-still tells tells result unfailed refl refl;
 }
 
--- an answer in other words
+-- an answer by an equal definition
 pub IsAnswerOf-same : {A : Type 0} (one other : Result A ReadFault) (result : Result A ReadFault) → one ≡ other → IsAnswerOf one result → IsAnswerOf other result
 IsAnswerOf-same {A} one other result same answer =
     let P : Result A ReadFault → Type 0 = λ says. IsAnswerOf says result in subst P same answer
 
--- the same call in other words
+-- the same call by an equal definition
 pub Over-same : {A : Type 0} (before now : FilesTell) (one other : Held → Result A ReadFault) (result : Result A ReadFault) → ((held : Held) → one held ≡ other held) → Over before now one result → Over before now other result
 Over-same before now one other result same over = record {
   answer = λ held told. IsAnswerOf-same (one held) (other held) result (same held) (over.answer held told);
@@ -46,7 +46,7 @@ Over-same before now one other result same over = record {
   cause = over.cause;
 }
 
--- a call behind one that gave something
+-- a call after one that returned a value
 pub Over-then : {A B : Type 0} (before between now : FilesTell) (first : Held → Result A ReadFault) (next : Held → A → Result B ReadFault) (x : A) (result : Result B ReadFault) → Over before between first (Ok x) → Over between now (λ held. next held x) result → Over before now (λ held. first held >>= next held) result
 Over-then {B = B} before between now first next x result one two =
     record {
@@ -65,7 +65,7 @@ cause-stopped before now (At file line kind) cause = record { later = cause.late
 cause-stopped before now (FilesFailed path) cause = record { later = cause.later; failed = cause.failed; unfailed = tt; unrefused = tt }
 cause-stopped before now NoMemory cause = record { later = cause.later; failed = tt; unfailed = cause.unfailed; unrefused = cause.unrefused }
 
--- a call that stopped, and nothing behind it
+-- a call that returned a fault, and nothing after it
 pub Over-stopped : {A B : Type 0} (before now : FilesTell) (first : Held → Result A ReadFault) (next : Held → A → Result B ReadFault) (fault : ReadFault) → Over {A = A} before now first (Err fault) → Over {A = B} before now (λ held. first held >>= next held) (Err fault)
 Over-stopped before now first next fault one = record {
   answer = λ held told. refusal-stopped (first held) (next held) fault (one.answer held told);
@@ -73,7 +73,7 @@ Over-stopped before now first next fault one = record {
   cause = cause-stopped before now fault one.cause;
 }
 
--- a call behind which memory was wanting
+-- a call after which memory was wanting
 pub Over-memory : {A B : Type 0} (before now : FilesTell) (first : Held → Result A ReadFault) (says : Held → Result B ReadFault) (x : A) → Over {A = A} before now first (Ok x) → Over {A = B} before now says (Err NoMemory)
 Over-memory before now first says x over = record {
   answer = λ held told. tt;
@@ -81,7 +81,7 @@ Over-memory before now first says x over = record {
   cause = cause-still before now (Err NoMemory) tt over.cause.unfailed over.cause.unrefused;
 }
 
--- a call and what is made of what it gave
+-- a call, and a value that is made of what it returned
 pub Over-made : {A B : Type 0} (before now : FilesTell) (first : Held → Result A ReadFault) (next : A → B) (x : A) (y : B) → Over {A = A} before now first (Ok x) → y ≡ next x → Over {A = B} before now (λ held. first held >>= λ a. Ok (next a)) (Ok y)
 Over-made before now first next x y over made = record {
   answer = λ held told. ap (λ f. f >>= λ a. Ok (next a)) (over.answer held told) ∙ ap Ok (sym made);
@@ -95,12 +95,12 @@ Tells-kept held None now kept told = absurd told
 Tells-kept held (Some before) None kept told = absurd kept
 Tells-kept held (Some before) (Some now) kept told = λ path. kept path ∙ told path
 
--- what is said of the path that is told
+-- a fact about a path, where the files tell what they hold
 pub told-at : {X : Type 0} (held : Held) (told : Option Held) (path : List ℕ) (x : X) (f : Option (List ℕ) → X) → IfSome told (λ files. x ≡ f (files path)) → TellsHeld held told → x ≡ f (held path)
 told-at held None path x f is tells = absurd tells
 told-at held (Some files) path x f is tells = is ∙ ap f (tells path)
 
--- a call that looked at a path: it answered, memory was wanting, or it failed
+-- calls that looked at a path: they answered, memory was wanting, or they failed
 pub looked-ok : {T A : Type 0} (path : List ℕ) (before now : FilesTell) (x : T) (says : Held → Result A ReadFault) (result : Result A ReadFault) → LooksAt path before now (Ok x) → Unfailed result → ((held : Held) → TellsHeld held before.held → IsAnswerOf (says held) result) → Over before now says result
 looked-ok path before now x says result looks unfailed answer = record {
   answer = answer;
@@ -133,7 +133,7 @@ pub on_line-bind : {A B : Type 0} (file : List ℕ) (line : ℕ) (first : Result
 on_line-bind file line (Ok x) next = refl
 on_line-bind file line (Err kind) next = refl
 
--- what was said so far of a walk over files, and what is still to be said
+-- what holds so far of a walk over files, and what is still to be done
 pub record SoFar {A : Type 0} (before now : FilesTell) (start rest : Held → Result A ReadFault) : Type 0 where
   pub same : (held : Held) → TellsHeld held before.held → start held ≡ rest held
   pub kept : (held : Held) → TellsHeld held before.held → TellsHeld held now.held
@@ -143,7 +143,7 @@ pub record SoFar {A : Type 0} (before now : FilesTell) (start rest : Held → Re
 pub SoFar-start : {A : Type 0} (tells : FilesTell) (start : Held → Result A ReadFault) → SoFar tells tells start start
 SoFar-start tells start = record { same = λ held told. refl; kept = λ held told. told; count = refl; refused = refl }
 
--- one call more, which gave something
+-- one more call, which returned a value
 pub SoFar-then : {A B : Type 0} (before between now : FilesTell) (start rest : Held → Result B ReadFault) (first : Held → Result A ReadFault) (next : Held → A → Result B ReadFault) (x : A) → SoFar before between start rest → ((held : Held) → rest held ≡ (first held >>= next held)) → Over between now first (Ok x) → SoFar before now start (λ held. next held x)
 SoFar-then before between now start rest first next x so_far is over = record {
   same = λ held told. so_far.same held told ∙ is held ∙ ap (λ f. f >>= next held) (over.answer held (so_far.kept held told));
@@ -152,7 +152,7 @@ SoFar-then before between now start rest first next x so_far is over = record {
   refused = over.cause.unrefused ∙ so_far.refused;
 }
 
--- the same to be said in other words
+-- the same for an equal definition of the rest
 pub SoFar-same : {A : Type 0} (before now : FilesTell) (start rest other : Held → Result A ReadFault) → ((held : Held) → rest held ≡ other held) → SoFar before now start rest → SoFar before now start other
 SoFar-same before now start rest other same so_far = record {
   same = λ held told. so_far.same held told ∙ same held;

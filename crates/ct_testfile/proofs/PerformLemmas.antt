@@ -1,4 +1,4 @@
--- What commands come to, step by step.
+-- What commands do, step by step.
 use Rattle.std.proofs.Common.{◌≡◌, ℕ, zero, suc, ◌⊎◌, inl, inr, ◌*◌, ◌≤◌, ◌<◌, nat_le, min, Bool, true, false, cond, ◌||◌, ◌==◌, subst, List, [], ◌∷◌, ◌++◌, length, Option, Some, None, Result, Ok, Err, refl, sym, ap, ◌∙◌, arith}
 use Rattle.std.proofs.lemmas.Bool.{cases_lt}
 use Rattle.std.proofs.lemmas.Bool.Decides.{nat_tests}
@@ -21,11 +21,11 @@ use Rattle.ct_testfile.specs.declared.limits.Limits.{Limits}
 use Rattle.ct_testfile.specs.declared.state.State.{State}
 use Rattle.ct_testfile.proofs.SaysLemmas.{Follows-then, Follows-stopped}
 
--- nothing was read
+-- where nothing was read, the refusal is returned
 pub refused-none : {A B : Type 0} (read : Option A) (kind : ReadKind) (then : A → Result B ReadKind) → read ≡ None → (or_refused read kind >>= then) ≡ Err kind
 refused-none read kind then is = ap (λ r. or_refused r kind >>= then) is
 
--- what was read takes so many bytes, and then this comes of it
+-- what was read takes its bytes, and then the command is done
 module _ {A : Type 0} (read : Option A) (x : A) (is : read ≡ Some x) (limits : Limits) (state : State) (bytes : A → ℕ) (done : A → State → State) where
   abbrev goes : Result State ReadKind
   goes = or_refused read BadCall >>= λ y. taken limits (bytes y) state >>= λ next. Ok (done y next)
@@ -40,7 +40,7 @@ module _ {A : Type 0} (read : Option A) (x : A) (is : read ≡ Some x) (limits :
       ∙ ap (λ t. t >>= λ n. Ok (done x n)) took
       ∙ ap Ok (sym is_final)
 
--- a product is counted up to the greatest number, whether its factor was or not
+-- a product up to a greatest number does not depend on whether its factor is limited too
 product-by : (a b most : ℕ) → (most < b) ⊎ (b ≤ most) → min (a * min b most) most ≡ min (a * b) most
 product-by a b most (inr small) =
     let whole : min b most ≡ b = omega arith in ap (λ n. min (a * n) most) whole
@@ -57,12 +57,12 @@ product-by (suc k) b most (inl great) =
 pub capped-product : (a b most : ℕ) → min (a * min b most) most ≡ min (a * b) most
 capped-product a b most = product-by a b most (cases_lt most b)
 
--- and a product of what was counted so
+-- a product up to a greatest number, of a count and of a limited count
 pub product-is : (result tests count counted bytes most : ℕ) → tests ≡ count → counted ≡ min bytes most → result ≡ min (tests * counted) most → result ≡ min (count * bytes) most
 product-is result tests count counted bytes most same capped is =
     is ∙ (λ i. min (same i * capped i) most) ∙ capped-product count bytes most
 
--- the first value and the others
+-- the first value and the others, where they are taken apart
 pub apart-is : (values : List (List ℕ)) (first : List ℕ) (rest : List (List ℕ)) → taken_apart values ≡ Some (first, rest) → values ≡ first ∷ rest
 apart-is [] first rest is = cc
 apart-is (value ∷ values) first rest is =
@@ -72,7 +72,7 @@ pub apart-none : (values : List (List ℕ)) → taken_apart values ≡ None → 
 apart-none [] is = refl
 apart-none (value ∷ values) is = cc
 
--- a test that no command can define, one too many, and one that is defined
+-- a test that no command can define, a test too many, and a test that is defined
 module _ (limits : Limits) (dir name : List ℕ) (command values : List (List ℕ)) (state : State) (is : values ≡ name ∷ command) where
   abbrev when : Bool → Bool → Result State ReadKind → Result State ReadKind
   when bad full done = cond bad (Err BadCall) (cond full (Err TooManyTests) done)
@@ -103,7 +103,7 @@ module _ (limits : Limits) (dir name : List ℕ) (command values : List (List �
       let add : State → Result State ReadKind = λ n. Ok (record n { tests = n.tests ++ new_test dir name command ∷ [] }) in
       room good free ∙ ap (λ t. t >>= add) took ∙ ap Ok (sym made)
 
--- a name alone, or with more behind it
+-- `include` with one value opens the file of that name
 pub included-one : (values rest : List (List ℕ)) (name : List ℕ) (state : State) (opens : Opens) → values ≡ name ∷ rest → rest ≡ [] → opens ≡ files (name ∷ []) → included values state ≡ Ok (state, opens)
 included-one values rest name state opens is none opened =
     let done : Opens → Result (State × Opens) ReadKind = λ o. Ok (state, o) in
@@ -116,7 +116,7 @@ included-more values rest more name next state is some =
 pub included-none : (values : List (List ℕ)) (state : State) → values ≡ [] → included values state ≡ Err BadCall
 included-none values state is = ap (λ vs. included vs state) is
 
--- a variable that is set, or no longer
+-- `set` sets the variable, or removes its value
 pub set-done : (values rest : List (List ℕ)) (name : List ℕ) (state : State) (value : Option (List ℕ)) (variables : List Variable) → values ≡ name ∷ rest → value ≡ list_value rest → variables ≡ with_variable state.variables (record { name = name; value = value }) → set values state ≡ Ok (record state { variables = variables })
 set-done values rest name state value variables is valued made =
     let done : List Variable → Result State ReadKind = λ vs. Ok (record state { variables = vs }) in
@@ -127,7 +127,7 @@ set-done values rest name state value variables is valued made =
 product-flip : (a b most : ℕ) → min (a * b) most ≡ min (b * a) most
 product-flip a b most = let flip : a * b ≡ b * a = omega arith in ap (λ n. min n most) flip
 
--- a product of two that were counted so
+-- a product up to a greatest number, of two limited counts
 pub product-both : (result tests count counted bytes most : ℕ) → tests ≡ min count most → counted ≡ min bytes most → result ≡ min (tests * counted) most → result ≡ min (count * bytes) most
 product-both result tests count counted bytes most one other is =
     is
@@ -137,7 +137,7 @@ product-both result tests count counted bytes most one other is =
     ∙ capped-product bytes count most
     ∙ product-flip bytes count most
 
--- what takes bytes leaves the tests
+-- the tests of the state, or the given ones where it is refused; counting bytes keeps the tests
 abbrev tests_or : Result State ReadKind → List TestDef → List TestDef
 tests_or (Ok state) tests = state.tests
 tests_or (Err kind) tests = tests
@@ -149,7 +149,7 @@ taken-by (Some n) state next took = ap (λ says. tests_or says state.tests) (sym
 below : (m n : ℕ) → nat_le m n ≡ false → n < m
 below m n not_le = grind (arith, nat_tests)
 
--- where a tree is not full, there is room for one test more
+-- if a tree is not full, there is room for one more test
 pub has-room : (limits : Limits) (state next : State) (bytes : ℕ) → limits.tests ≤ most_tests → is_full limits state.tests ≡ false → taken limits bytes state ≡ Ok next → length next.tests < most_tests
 has-room limits state next bytes few free took =
     let same = taken-by (raised limits.all_value_bytes state.value_bytes bytes) state next took in

@@ -14,11 +14,11 @@ use Rattle.ct_testfile.specs.declared.limits.Limits.{Limits}
 use Rattle.ct_testfile.specs.declared.state.State.{State}
 use Rattle.ct_suite.specs.declared.value.Value.{Value}
 
--- the branch of a condition that came out so, with what is known
+-- the branch that a condition leads to, by whether it holds, with the state
 abbrev pub branch_with : State → Bool → Branch × State
 branch_with state is = (if is then Taken else Waiting, state)
 
--- what is left of a condition once its command has begun
+-- the rest of evaluating a condition, once its command has begun
 abbrev pub then_asked : Held → List ℕ → List ℕ → ℕ → List Value × State → Result (Branch × State) ReadFault
 then_asked held dir file line read =
     on_line file line (holds held dir read.1.variables read.0) >>= λ is. Ok (branch_with read.1 is)
@@ -31,7 +31,7 @@ asked-by held dir file line (Ok read) = by (holds held dir read.1.variables read
     by (Ok is) = refl
     by (Err kind) = refl
 
--- a condition is asked in two steps
+-- a condition is evaluated in two steps
 pub asked-on_line : (limits : Limits) (held : Held) (dir file : List ℕ) (line : ℕ) (call : Call) (state : State) → on_line file line (asked limits held dir call state) ≡ (on_line file line (begun limits call.args state) >>= then_asked held dir file line)
 asked-on_line limits held dir file line call state =
     asked-by held dir file line (begun limits call.args state)

@@ -33,7 +33,7 @@ abbrev pub admitted-when : Limits → List ℕ → State → Bool → Result Sta
 admitted-when limits text state long =
     cond long (Err TooLong) (or_refused (raised limits.all_file_bytes state.file_bytes (length text)) TooLong >>= λ n. Ok (record state { file_bytes = n }))
 
--- a text that is too long, and one that is not
+-- a text that is too long is refused
 pub admitted-long : (limits : Limits) (text : List ℕ) (state : State) → limits.file_bytes < length text → admitted limits text state ≡ Err TooLong
 admitted-long limits text state long =
     let test : nat_lt limits.file_bytes (length text) ≡ true = (Decides-ltb limits.file_bytes (length text)).1 long in
@@ -46,13 +46,13 @@ admitted-short limits text state short =
     above : (m n : ℕ) → n ≤ m → m < n → ⊥
     above m n le lt = omega arith
 
--- a fault of a text is that of its file
+-- the fault of a text is a fault of its file
 pub fault-at : (file : List ℕ) (line : ℕ) (kind : ReadKind) (lexed : LexFault) (fault : ReadFault) → fault_in file lexed ≡ At file line kind → IsAt file line kind fault → IsFaultIn file lexed fault
 fault-at file line kind lexed (At f l k) same is = is ∙ sym same
 fault-at file line kind lexed (FilesFailed path) same is = is
 fault-at file line kind lexed NoMemory same is = tt
 
--- what a lexer answers, in the words of a file
+-- what a lexer returns, in terms of a file
 pub next-ok : (file : List ℕ) (old new : Place) (call : Option Call) → ReadsOn old (Ok call) new → (IsSome call → length new.rest < length old.rest) → IsNextOf file old new (Ok call)
 next-ok file old new None read shrinks = read
 next-ok file old new (Some call) read shrinks = (read.0, read.1, shrinks refl)
@@ -79,12 +79,12 @@ ends-unfailed A file place (FilesFailed path) ends = absurd ends
 ends-unfailed A file place NoMemory ends = tt
 
 module _ (limits : Limits) (held : Held) (site : List ℕ) (line : ℕ) (file : TestFile) (state : State) where
-  -- no more file may be open
+  -- if no file may be open, the command that would open one is refused
   pub nested-none : (left : ℕ) (text : List ℕ) → left ≡ 0 → nested limits held left site line file state text ≡ Err (At site line TooDeep)
   unfolding nested
   nested-none left text none = ap (λ n. nested limits held n site line file state text) none
 
-  -- one more may be
+  -- if one more file may be open, its text is read
   pub nested-some : (left more : ℕ) (text : List ℕ) → left ≡ suc more → nested limits held left site line file state text ≡ (on_line file.path 0 (admitted limits text state) >>= λ next. carried (nested limits held more) limits held file [] next (reading (beginning text)).0 (reading (beginning text)).1)
   unfolding nested
   nested-some left more text some = ap (λ n. nested limits held n site line file state text) some
@@ -105,7 +105,7 @@ module _ (limits : Limits) (held : Held) (site : List ℕ) (line : ℕ) (file : 
   taken-cases left text (inr short) =
       ap (nested limits held left site line file state) (take_all (limits.file_bytes + 1) text (omega arith))
 
--- of a file that is too long one byte too many is enough
+-- of a file that is too long, it is enough to read one byte too many
 pub opened_by-taken : (limits : Limits) (held : Held) (left : ℕ) (site : List ℕ) (line : ℕ) (opening : Opening) (state : State) (got : Option (List ℕ)) → opened_by (nested limits held left) site line opening state (option_map (take (limits.file_bytes + 1)) got) ≡ opened_by (nested limits held left) site line opening state got
 opened_by-taken limits held left site line opening state None = refl
 opened_by-taken limits held left site line opening state (Some text) =
@@ -163,7 +163,7 @@ module _ (limits : Limits) (more : ℕ) (file : TestFile) where
   from-refused ifs state old (FilesFailed path) ends held = tt
   from-refused ifs state old NoMemory ends held = tt
 
-  -- what was carried out so far of a text, and a command more
+  -- what was carried out of a text so far, and one more command
   module _ (before between mid : FilesTell) (ifs : List OpenIf) (state : State) (call : Call) (old new : Place) where
     pub stopped-step : (begin : Held → Result State ReadFault) (fault : ReadFault) → SoFar before between begin (from ifs state old) → IsNextOf file.path old new (Ok (Some call)) → Over between mid (step_of ifs state call) (Err fault) → Over before mid begin (Err fault)
     stopped-step begin fault so_far next step =
@@ -181,17 +181,17 @@ module _ (limits : Limits) (more : ℕ) (file : TestFile) where
     once-more now begin step known so_far next over all_opened =
         SoFar-then before mid now begin (λ held. behind_of call.line new held step) (known_of step call.line) (λ held known. from step.ifs known new held) known (stepped-so begin step so_far next over) (λ held. refl) all_opened
 
--- a file that is entered, one more being left
+-- a file is entered, if one more may be open
 pub entered : (limits : Limits) (held : Held) (left more : ℕ) (site : List ℕ) (line : ℕ) (opening : Opening) (state : State) (got : Option (List ℕ)) (text : List ℕ) → left ≡ suc more → got ≡ Some text → (on_line opening.file.path 0 (admitted limits text state) >>= λ next. from limits more opening.file [] next (beginning text) held) ≡ opened_by (nested limits held left) site line opening state got
 entered limits held left more site line opening state got text some is =
     sym (ap (opened_by (nested limits held left) site line opening state) is ∙ nested-some limits held site line opening.file state left more text some)
 
--- a file that would be one too many
+-- a file that would be one too many is refused
 pub too-deep : (limits : Limits) (held : Held) (left : ℕ) (site : List ℕ) (line : ℕ) (opening : Opening) (state : State) (got : Option (List ℕ)) (text : List ℕ) → left ≡ 0 → got ≡ Some text → Err (At site line TooDeep) ≡ opened_by (nested limits held left) site line opening state got
 too-deep limits held left site line opening state got text none is =
     sym (ap (opened_by (nested limits held left) site line opening state) is ∙ nested-none limits held site line opening.file state left text none)
 
--- what is admitted is short
+-- a text that is admitted is short
 pub admitted-is-short : (limits : Limits) (text : List ℕ) (state next : State) (path : List ℕ) → on_line path 0 (admitted limits text state) ≡ Ok next → length text ≤ limits.file_bytes
 admitted-is-short limits text state next path is = by_cases (cases_lt limits.file_bytes (length text))
   where
@@ -200,7 +200,7 @@ admitted-is-short limits text state next path is = by_cases (cases_lt limits.fil
         let refused = sym (ap (on_line path 0) (admitted-long limits text state long)) ∙ is in cc
     by_cases (inr short) = short
 
--- files that are opened one behind the other, from the one at a place on
+-- files that are opened one after the other, from the one at a place on
 module _ (limits : Limits) (left : ℕ) (file : TestFile) (line : ℕ) (opens : Opens) where
   abbrev pub opened_from : List (List ℕ) → State → Held → Result State ReadFault
   opened_from names state held = all_opened (nested limits held left) held file.path line (map (opening_of file.dir opens.required) names) state
@@ -227,12 +227,12 @@ module _ (limits : Limits) (left : ℕ) (file : TestFile) (line : ℕ) (opens : 
   opened-all before now names i state begin past so_far =
       SoFar-end before now now begin (opened_from (drop i names) state) (Ok state) so_far (Over-still now (opened_from (drop i names) state) (Ok state) tt (λ held. at_drop_all (λ ns. opened_from ns state held) names i past))
 
--- the files of a tree, from what is known before the first command
+-- the reading of a tree, from the state before the first command
 pub begun-through : (limits : Limits) (dir config : List ℕ) (state : State) (before now : FilesTell) (result : Result State ReadFault) → state ≡ beginning_with config → Over before now (λ held. opened_by (nested limits held limits.open_files) (test_file dir).path 0 (top dir) state (held (test_file dir).path)) result → Over before now (λ held. read_through limits held dir config) result
 begun-through limits dir config state before now result is over =
     Over-same before now (λ held. opened_by (nested limits held limits.open_files) (test_file dir).path 0 (top dir) state (held (test_file dir).path)) (λ held. read_through limits held dir config) result (λ held. ap (λ s. opened_by (nested limits held limits.open_files) (test_file dir).path 0 (top dir) s (held (test_file dir).path)) is) over
 
--- what is said of files, where they tell what they hold
+-- what a call returns, where the files tell what they hold
 pub told-ok : {A : Type 0} (told : Option Held) (says : Held → Result A ReadFault) (result : Result A ReadFault) → ((held : Held) → TellsHeld held told → IsAnswerOf (says held) result) → IfOk result (λ x. IfSome told (λ held. says held ≡ Ok x))
 told-ok None says (Ok x) answer = tt
 told-ok (Some held) says (Ok x) answer = answer held (λ path. refl)

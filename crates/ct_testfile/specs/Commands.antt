@@ -1,4 +1,5 @@
--- What each command does to what is known, in its folder. The limits and the order of the refusals are this project's own.
+-- What each command does to the state of a tree, in the folder of its file.
+-- The limits and the order of the refusals are this project's own.
 -- Source: CMake manual, add_test, set_tests_properties, set_directory_properties, subdirs, include and set.
 use Rattle.std.specs.Prelude.{ℕ, ◌*◌, Bool, true, false, ◌||◌, ◌==◌, nat_le, bytes_eq, codes, List, [], ◌∷◌, ◌++◌, length, map, count_by, Result, Ok, Err, if◌then◌else◌}
 use Rattle.std.specs.List.{list_any}
@@ -37,29 +38,29 @@ command_of name =
 abbrev pub value_limits : Limits → ValueLimits
 value_limits limits = record { value_bytes = limits.value_bytes; all_value_bytes = limits.all_value_bytes }
 
--- one more command is carried out
+-- the state with one more command counted, or TooManyCommands
 abbrev pub with_command : Limits → State → Result State ReadKind
 with_command limits state = or_refused (raised limits.commands state.commands 1) TooManyCommands >>= λ n. Ok (record state { commands = n })
 
--- so many more bytes are taken by values
+-- the state with so many more bytes of values counted, or TooLong
 abbrev pub taken : Limits → ℕ → State → Result State ReadKind
 taken limits bytes state = or_refused (raised limits.all_value_bytes state.value_bytes bytes) TooLong >>= λ n. Ok (record state { value_bytes = n })
 
--- the values are taken, of which each one and all together may be so long
+-- the values, and the state with their bytes counted; TooLong if one value, or all of the tree, are too long
 abbrev pub evaluated : Limits → List Value → State → Result (List Value × State) ReadKind
 evaluated limits values state =
     if list_any (is_too_long limits.value_bytes) values then Err TooLong
     else (taken limits (size values) state >>= λ next. Ok (values, next))
 
--- a command begins: it is counted, and then its arguments give their values
+-- a command begins: it is counted, and then its arguments are evaluated
 abbrev pub begun : Limits → List Arg → State → Result (List Value × State) ReadKind
 begun limits args state = with_command limits state >>= evaluated limits (values_of state.variables args)
 
--- a test may not have this name: it is empty, or has a line feed
+-- no test may have this name: it is empty, or has a line feed
 abbrev pub is_bad_name : List ℕ → Bool
 is_bad_name name = length name == 0 || list_any (λ (byte : ℕ). byte == 10) name
 
--- there are as many tests as there may be
+-- there is no room for one more test
 abbrev pub is_full : Limits → List TestDef → Bool
 is_full limits tests = nat_le limits.tests (length tests)
 
@@ -71,14 +72,16 @@ add_test limits dir (name ∷ command) state =
     else (if is_full limits state.tests then Err TooManyTests
     else (taken limits (length dir) state >>= λ next. Ok (record next { tests = next.tests ++ new_test dir name command ∷ [] })))
 
--- set_tests_properties(name .. PROPERTIES key value ..): each test takes the bytes of each value
+-- set_tests_properties(name .. PROPERTIES key value ..):
+-- each test with one of the names takes the properties, and the bytes of each value count for each test
 abbrev pub set_tests_properties : Limits → List (List ℕ) → State → Result State ReadKind
 set_tests_properties limits values state =
     or_refused (names_and_pairs values) BadCall >>= λ read.
     taken limits (count_by (has_name_of read.0) state.tests * prop_bytes read.1) state >>= λ next.
     Ok (record next { tests = each_where (has_name_of read.0) (taking_props read.1) next.tests })
 
--- set_directory_properties(PROPERTIES key value ..): each test of the folder takes the bytes of each value of LABELS
+-- set_directory_properties(PROPERTIES key value ..):
+-- each test of the folder takes the labels, and the bytes of each value of LABELS count for each test
 abbrev pub set_directory_properties : Limits → List ℕ → List (List ℕ) → State → Result State ReadKind
 set_directory_properties limits dir values state =
     or_refused (pairs_behind values) BadCall >>= λ pairs.
@@ -91,24 +94,24 @@ set [] state = Err BadCall
 set (name ∷ values) state =
     Ok (record state { variables = with_variable state.variables (record { name = name; value = list_value values }) })
 
--- a command opens nothing
+-- a command that opens nothing
 abbrev pub no_files : Opens
 no_files = record { required = false; names = [] }
 
--- it opens the test files of these folders
+-- a command that opens the test files of these folders
 abbrev pub folders : List (List ℕ) → Opens
 folders names = record { required = false; names = names }
 
--- it opens these files, which have to be there
+-- a command that opens these files, which have to be there
 abbrev pub files : List (List ℕ) → Opens
 files names = record { required = true; names = names }
 
--- include(file)
+-- include(file), which opens the file
 abbrev pub included : List (List ℕ) → State → Result (State × Opens) ReadKind
 included (name ∷ []) state = Ok (state, files (name ∷ []))
 included values state = Err BadCall
 
--- a command came to this, and opens nothing
+-- the outcome of a command that opens nothing
 abbrev pub opening_nothing : Result State ReadKind → Result (State × Opens) ReadKind
 opening_nothing done = done >>= λ state. Ok (state, no_files)
 
@@ -122,7 +125,7 @@ performed limits dir Include values state = included values state
 performed limits dir Set values state = opening_nothing (set values state)
 performed limits dir Unknown values state = Err UnknownCommand
 
--- a command is carried out
+-- a command is carried out: it begins, and then does what it does with its values
 abbrev pub carried_out : Limits → List ℕ → Command → List Arg → State → Result (State × Opens) ReadKind
 carried_out limits dir command args state =
     begun limits args state >>= λ read. performed limits dir command (texts read.0) read.1
@@ -131,7 +134,8 @@ carried_out limits dir command args state =
 abbrev pub test_file : List ℕ → TestFile
 test_file dir = record { path = joined dir (codes "CTestTestfile.cmake"); dir = dir }
 
--- the file that a name means in a folder: the test file of a folder, which may be absent, or a file that has to be there
+-- the file that a name means in a folder: a file that has to be there,
+-- or the test file of a folder, which may be absent
 abbrev pub opening_of : List ℕ → Bool → List ℕ → Opening
 opening_of dir true name = record { file = record { path = joined dir name; dir = dir }; required = true }
 opening_of dir false name = record { file = test_file (joined dir name); required = false }

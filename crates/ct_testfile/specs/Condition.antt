@@ -1,5 +1,5 @@
 -- The conditions of `if` and `elseif`.
--- Source: CMake manual, if, Condition Syntax. That there are these two alone is this project's own.
+-- Source: CMake manual, if, Condition Syntax. This project's own: EXISTS and MATCHES are the only conditions.
 use Rattle.std.specs.Prelude.{ℕ, Bool, false, ◌&&◌, bytes_eq, codes, is_some, List, [], ◌∷◌, unwrap_or, Result, Ok, Err, if◌then◌else◌}
 use Rattle.ct_base.specs.Outside.{Held}
 use Rattle.ct_base.specs.Path.{joined}
@@ -15,15 +15,17 @@ use Rattle.ct_testfile.specs.declared.fault.ReadKind.{ReadKind}
 use Rattle.ct_testfile.specs.declared.fault.ReadKind.TheVariants.{BadCondition, BadPattern}
 use Rattle.ct_suite.specs.declared.value.Value.{Value}
 
--- the value is that word, which only an unquoted argument can give
+-- the value is that word, from an unquoted argument
 abbrev pub is_bare_word : List ℕ → Value → Bool
 is_bare_word word value = value.unquoted && bytes_eq value.text word
 
--- what stands in front of MATCHES: the value of the variable that it names where it is unquoted and that is set, and else itself
+-- the text in front of MATCHES: the value of the variable that it names, if it is unquoted and the variable
+-- is set;
+-- else the text itself
 abbrev pub subject : List Variable → Value → List ℕ
 subject variables value = if value.unquoted then unwrap_or (value_of variables value.text) value.text else value.text
 
--- a text has a match of the pattern
+-- whether the text has a match of the pattern; BadPattern if the pattern was refused
 abbrev pub matched : List ℕ → Result Tree RegexFault → Result Bool ReadKind
 matched text (Ok tree) = Ok (hits tree text)
 matched text (Err fault) = Err BadPattern
@@ -38,7 +40,7 @@ abbrev pub is_matches : List Value → Bool
 is_matches (left ∷ word ∷ right ∷ []) = is_bare_word (codes "MATCHES") word
 is_matches values = false
 
--- whether the condition that these values are holds
+-- whether the condition in these values holds, or its refusal
 abbrev pub holds : Held → List ℕ → List Variable → List Value → Result Bool ReadKind
 holds held dir variables (word ∷ path ∷ []) =
     if is_bare_word (codes "EXISTS") word then Ok (is_some (held (joined dir path.text))) else Err BadCondition
@@ -46,7 +48,7 @@ holds held dir variables (left ∷ word ∷ right ∷ []) =
     if is_bare_word (codes "MATCHES") word then matched (subject variables left) (pattern.reading right.text) else Err BadCondition
 holds held dir variables values = Err BadCondition
 
--- why a pattern was not read: memory was wanting, or it is none
+-- why a pattern was not read: memory was wanting, or it is no regular expression
 abbrev pub bad_pattern : RegexFault → Stop
 bad_pattern regex.NoMemory = stop.NoMemory
 bad_pattern fault = stop.Refused BadPattern

@@ -1,5 +1,5 @@
--- The commands `if`, `elseif`, `else` and `endif`, and which commands they leave to be carried out.
--- Source: CMake manual, if. What is counted and evaluated when is this project's own.
+-- The commands `if`, `elseif`, `else` and `endif`, and which commands between them are carried out.
+-- Source: CMake manual, if. This project's own: when commands are counted and conditions evaluated.
 use Rattle.std.specs.Prelude.{ℕ, Bool, true, false, bytes_eq, codes, List, [], ◌∷◌, Option, Some, None, Result, Ok, Err, if◌then◌else◌}
 use Rattle.ct_base.specs.Outside.{Held}
 use Rattle.ct_lex.specs.declared.call.Call.{Call}
@@ -17,7 +17,7 @@ use Rattle.ct_testfile.specs.declared.limits.Limits.{Limits}
 use Rattle.ct_testfile.specs.declared.state.State.{State}
 use Rattle.ct_testfile.specs.declared.step.Step.{Step}
 
--- the command of an `if` of that name, which is in lower case
+-- the command `if`, `elseif`, `else` or `endif` that a name in lower case means
 abbrev pub flow_of : List ℕ → Option Flow
 flow_of name =
     if bytes_eq name (codes "if") then Some If
@@ -26,7 +26,7 @@ flow_of name =
     else (if bytes_eq name (codes "endif") then Some EndIf
     else None)))
 
--- a branch whose commands are carried out
+-- the commands of the branch are carried out
 abbrev pub is_taken : Branch → Bool
 is_taken Taken = true
 is_taken Waiting = false
@@ -35,28 +35,29 @@ is_taken ElseTaken = true
 is_taken ElseOver = false
 is_taken Idle = false
 
--- commands are carried out here: outside all ifs, or in a branch of the innermost one that is
+-- commands are carried out here: no `if` is open, or those of the innermost open `if` are carried out
 abbrev pub is_live : List OpenIf → Bool
 is_live [] = true
 is_live (inner ∷ outer) = is_taken inner.branch
 
--- the innermost one, and the others
+-- the innermost open `if`, and the others
 abbrev pub innermost : List OpenIf → Option (OpenIf × List OpenIf)
 innermost [] = None
 innermost (inner ∷ outer) = Some (inner, outer)
 
--- a condition comes to be evaluated: its command is counted, and the branch is taken where it holds
+-- a condition is evaluated: its command is counted, and the branch is taken if the condition holds
 abbrev pub asked : Limits → Held → List ℕ → Call → State → Result (Branch × State) ReadKind
 asked limits held dir call state =
     begun limits call.args state >>= λ read.
     holds held dir read.1.variables read.0 >>= λ is. Ok (if is then Taken else Waiting, read.1)
 
--- the branch behind `if`: nothing is asked where the whole `if` is passed over
+-- the branch behind `if`; no condition is evaluated where the whole `if` is passed over
 abbrev pub behind_if : Limits → Held → List ℕ → Call → State → Bool → Result (Branch × State) ReadKind
 behind_if limits held dir call state true = asked limits held dir call state
 behind_if limits held dir call state false = Ok (Idle, state)
 
--- the branch behind `elseif`: its condition is asked where no branch was taken; none comes behind `else`
+-- the branch behind `elseif`: its condition is evaluated if no branch was taken yet;
+-- an `elseif` behind `else` is refused
 abbrev pub behind_elseif : Limits → Held → List ℕ → Call → State → Branch → Result (Branch × State) ReadKind
 behind_elseif limits held dir call state Waiting = asked limits held dir call state
 behind_elseif limits held dir call state Taken = Ok (Over, state)
@@ -65,7 +66,7 @@ behind_elseif limits held dir call state ElseTaken = Err UnpairedIf
 behind_elseif limits held dir call state ElseOver = Err UnpairedIf
 behind_elseif limits held dir call state Idle = Ok (Idle, state)
 
--- the branch behind `else`, which is counted where that branch is taken; none comes behind `else`
+-- the branch behind `else`, which is counted if its commands are carried out; a second `else` is refused
 abbrev pub behind_else : Limits → State → Branch → Result (Branch × State) ReadKind
 behind_else limits state Waiting = with_command limits state >>= λ next. Ok (ElseTaken, next)
 behind_else limits state Taken = Ok (ElseOver, state)
@@ -74,50 +75,50 @@ behind_else limits state ElseTaken = Err UnpairedIf
 behind_else limits state ElseOver = Err UnpairedIf
 behind_else limits state Idle = Ok (Idle, state)
 
--- what there is behind a command of an `if`: the innermost open one has this branch now
+-- the step behind a command of an `if`: the innermost open `if` now has this branch
 abbrev pub in_branch : ℕ → List OpenIf → Branch × State → Step
 in_branch line outer found = record { ifs = record { line = line; branch = found.0 } ∷ outer; state = found.1; opens = no_files }
 
--- what there is behind `if`
+-- the step behind `if`
 abbrev pub begun_if : Limits → Held → List ℕ → Call → List OpenIf → State → Result Step ReadKind
 begun_if limits held dir call ifs state =
     behind_if limits held dir call state (is_live ifs) >>= λ found. Ok (in_branch call.line ifs found)
 
--- what there is behind `elseif`, which belongs to the innermost open `if`
+-- the step behind `elseif`, which belongs to the innermost open `if`
 abbrev pub continued : Limits → Held → List ℕ → Call → List OpenIf → State → Result Step ReadKind
 continued limits held dir call [] state = Err UnpairedIf
 continued limits held dir call (inner ∷ outer) state =
     behind_elseif limits held dir call state inner.branch >>= λ found. Ok (in_branch inner.line outer found)
 
--- what there is behind `else`, which belongs to it too
+-- the step behind `else`, which belongs to the innermost open `if`
 abbrev pub begun_else : Limits → List OpenIf → State → Result Step ReadKind
 begun_else limits [] state = Err UnpairedIf
 begun_else limits (inner ∷ outer) state =
     behind_else limits state inner.branch >>= λ found. Ok (in_branch inner.line outer found)
 
--- what there is behind `endif`, which ends it
+-- the step behind `endif`, which ends the innermost open `if`
 abbrev pub left : List OpenIf → State → Result Step ReadKind
 left [] state = Err UnpairedIf
 left (inner ∷ outer) state = Ok (record { ifs = outer; state = state; opens = no_files })
 
--- what there is behind a command of an `if`
+-- the step behind a command of an `if`
 abbrev pub flowed : Limits → Held → List ℕ → Call → List OpenIf → State → Flow → Result Step ReadKind
 flowed limits held dir call ifs state If = begun_if limits held dir call ifs state
 flowed limits held dir call ifs state ElseIf = continued limits held dir call ifs state
 flowed limits held dir call ifs state Else = begun_else limits ifs state
 flowed limits held dir call ifs state EndIf = left ifs state
 
--- what there is behind another command: it is carried out, or passed over where nothing is
+-- the step behind another command, which is carried out or passed over
 abbrev pub done : Limits → List ℕ → Call → List OpenIf → State → Bool → Result Step ReadKind
 done limits dir call ifs state true =
     carried_out limits dir (command_of call.name) call.args state >>= λ next. Ok (record { ifs = ifs; state = next.0; opens = next.1 })
 done limits dir call ifs state false = Ok (record { ifs = ifs; state = state; opens = no_files })
 
--- what there is behind a command, by whether it is one of an `if`
+-- the step behind a command, given whether it is one of an `if`
 abbrev pub stepped_by : Limits → Held → List ℕ → Call → List OpenIf → State → Option Flow → Result Step ReadKind
 stepped_by limits held dir call ifs state (Some flow) = flowed limits held dir call ifs state flow
 stepped_by limits held dir call ifs state None = done limits dir call ifs state (is_live ifs)
 
--- what there is behind a command of a file whose folder this is
+-- the step behind a command of a file in this folder
 abbrev pub stepped : Limits → Held → List ℕ → List OpenIf → State → Call → Result Step ReadKind
 stepped limits held dir ifs state call = stepped_by limits held dir call ifs state (flow_of call.name)

@@ -23,7 +23,7 @@ use Rattle.ct_testfile.specs.declared.opening.Opening.{Opening}
 use Rattle.ct_testfile.specs.declared.opening.TestFile.{TestFile}
 use Rattle.ct_testfile.specs.declared.state.State.{State}
 
--- a place in a text where it has no reading, as a refusal of the file
+-- the fault of a text, as a refusal of its file
 abbrev pub fault_in : List ℕ → LexFault → ReadFault
 fault_in file (lex.OpenString line) = At file line OpenString
 fault_in file (lex.OpenBracket line) = At file line OpenBracket
@@ -33,59 +33,61 @@ fault_in file (lex.BadChar line) = At file line BadChar
 fault_in file (lex.BadReference line) = At file line BadReference
 fault_in file lex.NoMemory = NoMemory
 
--- behind the last command of a file: a text that ends there has to have ended each `if`
+-- the end of a file: a fault of its text is the refusal; at the end of the text, each `if` has to be ended
 abbrev pub ended : List ℕ → List OpenIf → State → Ending → Result State ReadFault
 ended file ifs state (Some fault) = Err (fault_in file fault)
 ended file [] state None = Ok state
 ended file (inner ∷ outer) state None = Err (At file inner.line UnpairedIf)
 
--- how a text is read that a command on a line of a file opens as another file
+-- how a text is read as a file that a command on a line of another file opens
 abbrev pub FileReading : Type 0
 FileReading = List ℕ → ℕ → TestFile → State → List ℕ → Result State ReadFault
 
--- a file that is absent is passed over, unless it has to be there
+-- a file that is absent: refused if it is required, else passed over
 abbrev pub absent : Opening → State → Result State ReadKind
 absent opening state = if opening.required then Err MissingInclude else Ok state
 
--- a file that a command opens is read where it is there
+-- a file that a command opens: it is read if it is there
 abbrev pub opened_by : FileReading → List ℕ → ℕ → Opening → State → Option (List ℕ) → Result State ReadFault
 opened_by read file line opening state (Some text) = read file line opening.file state text
 opened_by read file line opening state None = on_line file line (absent opening state)
 
--- the files that a command opens are read one behind the other
+-- the files that a command opens are read one after the other
 abbrev pub all_opened : FileReading → Held → List ℕ → ℕ → List Opening → State → Result State ReadFault
 all_opened read held file line [] state = Ok state
 all_opened read held file line (opening ∷ more) state =
     opened_by read file line opening state (held opening.file.path) >>= all_opened read held file line more
 
--- behind one command of a file, with all that it opens
+-- the open ifs and the state behind one command of a file, with all the files that it opens
 abbrev pub behind_call : FileReading → Limits → Held → TestFile → List OpenIf → State → Call → Result (List OpenIf × State) ReadFault
 behind_call read limits held file ifs state call =
     on_line file.path call.line (stepped limits held file.dir ifs state call) >>= λ step.
     all_opened read held file.path call.line (openings file.dir step.opens) step.state >>= λ next.
     Ok (step.ifs, next)
 
--- behind these commands of a file, and the end of its text
+-- the state behind these commands of a file and the end of its text
 abbrev pub carried : FileReading → Limits → Held → TestFile → List OpenIf → State → List Call → Ending → Result State ReadFault
 carried read limits held file ifs state [] ending = ended file.path ifs state ending
 carried read limits held file ifs state (call ∷ calls) ending =
     behind_call read limits held file ifs state call >>= λ next. carried read limits held file next.0 next.1 calls ending
 
--- a text is read as a file: it may be so long, and all files together may
+-- the state with the bytes of a text counted that is read as a file; TooLong if this file, or all files, are
+-- too long
 abbrev pub admitted : Limits → List ℕ → State → Result State ReadKind
 admitted limits text state =
     if nat_lt limits.file_bytes (length text) then Err TooLong
     else (or_refused (raised limits.all_file_bytes state.file_bytes (length text)) TooLong >>= λ n. Ok (record state { file_bytes = n }))
 
--- Behind a text that is read as a file, where so many files may be open, this one and those inside it: where none may,
--- the command is refused that would open it.
+-- The state behind a text that is read as a file. At most so many files may be open, this one and those
+-- inside it.
+-- If no file may be open, the command that would open it is refused.
 unfoldable pub nested : Limits → Held → ℕ → FileReading
 nested limits held zero site line file state text = Err (At site line TooDeep)
 nested limits held (suc more) site line file state text =
     on_line file.path 0 (admitted limits text state) >>= λ next.
     carried (nested limits held more) limits held file [] next (reading (beginning text)).0 (reading (beginning text)).1
 
--- what is known before the first command: the variable CTEST_CONFIGURATION_TYPE has the configuration
+-- the state before the first command: only the variable CTEST_CONFIGURATION_TYPE is set, to the configuration
 abbrev pub beginning_with : List ℕ → State
 beginning_with config = record {
   tests = [];
@@ -95,11 +97,11 @@ beginning_with config = record {
   value_bytes = 0;
 }
 
--- the test file of the folder at the top, which is passed over where it is absent
+-- the test file of the folder at the top, which is passed over if it is absent
 abbrev pub top : List ℕ → Opening
 top dir = record { file = test_file dir; required = false }
 
--- behind all files of the tree
+-- the state behind all files of the tree
 abbrev pub read_through : Limits → Held → List ℕ → List ℕ → Result State ReadFault
 read_through limits held dir config =
     opened_by (nested limits held limits.open_files) (test_file dir).path 0 (top dir) (beginning_with config) (held (test_file dir).path)
@@ -108,6 +110,6 @@ read_through limits held dir config =
 abbrev pub tree_within : Limits → Held → List ℕ → List ℕ → Result (List TestDef) ReadFault
 tree_within limits held dir config = read_through limits held dir config >>= λ state. Ok state.tests
 
--- what it defines for a configuration, or the first refusal in reading order
+-- what the tree defines for a configuration within `LIMITS`, or the first refusal in reading order
 abbrev pub tree_of : Held → List ℕ → List ℕ → Result (List TestDef) ReadFault
 tree_of held dir config = tree_within LIMITS held dir config

@@ -1,12 +1,12 @@
 ghost use Rattle.std.specs.Prelude.{◌≡◌};
 ghost use Rattle.ct_testfile.specs.Ifs.{is_taken};
 
-/// What becomes of the commands behind the last `if`, `elseif` or `else` of an open `if`.
+/// What happens to the commands behind the last `if`, `elseif` or `else` of an open `if`.
 #[derive(Clone, Copy, Debug)]
 pub(crate) enum Branch {
     /// They are carried out.
     Taken,
-    /// They are passed over, and so were those of each branch in front; a later one may be taken.
+    /// They are passed over, as are those of each branch in front; a later branch may be taken.
     Waiting,
     /// They are passed over, since an earlier branch was taken.
     Over,

@@ -2,7 +2,7 @@ ghost use Rattle.std.specs.Prelude.{◌≡◌};
 ghost use Rattle.ct_testfile.specs.Commands.{command_of};
 ghost use Rattle.ct_testfile.specs.Ifs.{flow_of};
 
-/// A command that a test file may use, but for those of `if`.
+/// A command that a test file may use, other than those of `if`.
 #[derive(Clone, Copy, Debug)]
 pub(crate) enum Command {
     AddTest,

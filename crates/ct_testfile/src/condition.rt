@@ -62,7 +62,7 @@ fn is_matches(values: &[Value]) -> bool
     is_word(&values[1], b"MATCHES")
 }
 
-/// Tells whether the files hold the path, seen from a folder.
+/// Tells whether the files hold the path, taken from a folder.
 fn exists<F: Files>(
     alloc: Global,
     files: &mut F,
@@ -85,7 +85,7 @@ fn is_word(value: &Value, word: &[u8]) -> bool
     value.unquoted && value.text.bytes() == word
 }
 
-/// Lends what stands in front of MATCHES: the value of the variable that it names, or itself.
+/// Lends the text in front of MATCHES: the value of the variable that it names, or the text itself.
 fn subject<'a>(table: &'a Table, value: &'a Value) -> &'a [u8]
     ensures { result.now ≡ subject table.entry.now value.entry.now }
 {
@@ -108,7 +108,7 @@ fn matched(alloc: Global, text: &[u8], right: &[u8]) -> Result<bool, Stop>
     }
 }
 
-/// Says why a pattern was not read.
+/// Returns why a pattern was not read.
 fn bad_pattern(fault: RegexFault) -> Stop
     ensures { result ≡ bad_pattern fault }
 {

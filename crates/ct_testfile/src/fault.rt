@@ -17,7 +17,7 @@ pub enum ReadKind {
     OpenCall,
     /// A backslash in front of a byte that it cannot escape.
     BadEscape,
-    /// A byte with which neither a command nor an argument can begin there.
+    /// A byte that can begin neither a command nor an argument at its place.
     BadChar,
     /// A `${` without a name and `}` behind it, or `$ENV{` or `$CACHE{`.
     BadReference,
@@ -33,13 +33,13 @@ pub enum ReadKind {
     BadCondition,
     /// The pattern of a `MATCHES` is no regular expression.
     BadPattern,
-    /// More files are open inside one another than may be.
+    /// More files are open inside one another than the limit allows.
     TooDeep,
-    /// More tests are defined than may be.
+    /// More tests are defined than the limit allows.
     TooManyTests,
-    /// More commands are carried out than may be.
+    /// More commands are carried out than the limit allows.
     TooManyCommands,
-    /// A file, a value, or all of them together have more bytes than they may have.
+    /// A file, a value, or all of them together have more bytes than the limit allows.
     TooLong,
 }
 
@@ -52,7 +52,7 @@ pub enum ReadFault {
         line: u32,
         kind: ReadKind,
     },
-    /// The files could not give what the path holds.
+    /// A call on the files failed for this path.
     FilesFailed {
         path: Name,
     },
@@ -94,7 +94,7 @@ impl From<ValueFault> for Stop {
     }
 }
 
-/// Says why a call on files, about this path, gave no answer.
+/// Returns the fault of a call on files, about this path.
 pub(crate) fn files_fault(path: Name, fault: FilesFault) -> ReadFault
     ensures { result ≡ files_fault path fault }
 {

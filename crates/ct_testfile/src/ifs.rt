@@ -7,7 +7,7 @@ use std::alloc::Global;
 use std::collections::VecDeque;
 use std::marker::Model;
 
-/// The open ifs of a file. Contracts see them from the innermost one on.
+/// The open ifs of a file. Contracts see them from the innermost one outwards.
 #[derive(Drop)]
 pub(crate) struct Ifs {
     items: VecDeque<OpenIf>,
@@ -23,7 +23,7 @@ impl Model for Ifs {
 }
 
 impl Ifs {
-    /// None is open.
+    /// Makes the value without an open `if`.
     pub(crate) fn new(alloc: Global) -> Ifs
         ensures { result ≡ [] }
     {
@@ -32,7 +32,7 @@ impl Ifs {
         }
     }
 
-    /// Opens one inside the others.
+    /// Opens an `if` inside the others.
     pub(crate) fn with(self, inner: OpenIf) -> Result<Ifs, NoMemory>
         ensures { IfOk result (λ ifs. ifs ≡ inner ∷ self) }
     {
@@ -41,7 +41,7 @@ impl Ifs {
         Ok(Ifs { items })
     }
 
-    /// Takes the innermost one off.
+    /// Takes off the innermost `if`.
     pub(crate) fn take_inner(self) -> Option<(OpenIf, Ifs)>
         ensures { result ≡ innermost self }
     {
@@ -52,7 +52,7 @@ impl Ifs {
         }
     }
 
-    /// Tells whether commands are carried out here.
+    /// Tells whether commands are carried out at this point.
     pub(crate) fn is_live(&self) -> bool
         ensures { result ≡ is_live self.now }
     {

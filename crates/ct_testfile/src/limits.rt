@@ -3,20 +3,20 @@ ghost use Rattle.ct_testfile.specs.Commands.{value_limits};
 
 use ct_suite::ValueLimits;
 
-/// How much of a tree of test files may be read. What would pass a limit is refused.
+/// How much of a tree of test files may be read. What is above a limit is refused.
 ///
 /// Source: this project's choice.
 #[derive(Clone, Copy, Debug)]
 pub struct Limits {
-    /// The bytes of one test file. Lines are counted by `u32`, so this is below its last number.
+    /// The bytes of one test file. They are fewer than 2^32 - 1, since lines are counted by `u32`.
     pub file_bytes: u32,
-    /// The bytes of all test files, each as often as it is read.
+    /// The bytes of all test files. A file counts each time that it is read.
     pub all_file_bytes: u32,
     /// The bytes of one value, at most those of `LIMITS`.
     pub value_bytes: u32,
     /// The bytes of all values of arguments, and of the values and folders that tests take.
     pub all_value_bytes: u32,
-    /// The files that are open inside one another, the first counted.
+    /// The files that are open inside one another, the first one included.
     pub open_files: u32,
     /// The commands that are carried out.
     pub commands: u32,
@@ -35,7 +35,7 @@ pub const LIMITS: Limits = Limits {
     tests: 100_000,
 };
 
-/// Gives those of the values of a command.
+/// Returns the limits on the values of a command.
 pub(crate) fn value_limits(limits: &Limits) -> ValueLimits
     ensures { result ≡ value_limits limits.now }
 {

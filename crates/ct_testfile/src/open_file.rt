@@ -8,18 +8,18 @@ use crate::limits::Limits;
 use crate::opening::TestFile;
 use std::alloc::Global;
 
-/// A test file that is open, and within what its commands are carried out.
+/// A test file that is open, and the limits within which its commands are carried out.
 #[derive(Clone, Copy)]
 pub(crate) struct OpenFile<'a> {
     pub(crate) alloc: Global,
     pub(crate) limits: &'a Limits,
     pub(crate) file: &'a TestFile,
-    /// How many files may be open inside this one, each inside the one before it.
+    /// How many more files may be open inside this one, each inside the one before it.
     pub(crate) more: u32,
 }
 
 impl OpenFile<'_> {
-    /// Gives a refusal its place: a line of this file.
+    /// Places a refusal on a line of this file.
     pub(crate) fn at_line<T>(&self, line: u32, given: Result<T, Stop>) -> Result<T, ReadFault>
         ensures says { (says : Result T Kind) → Follows given says
             → IsAnswerOf (on_line self.now.file.now.path line says) result }

@@ -15,20 +15,21 @@ pub(crate) struct TestFile {
 #[derive(Debug, Drop)]
 pub(crate) struct Opening {
     pub(crate) file: TestFile,
-    /// Whether it is refused where it is absent, and else passed over.
+    /// Whether the file is refused if it is absent. If not, it is passed over.
     pub(crate) required: bool,
 }
 
-/// What a command opens behind all else that it does: nothing where there is no name.
+/// What a command opens once it has done all else; nothing if there is no name.
 #[derive(Debug, Drop)]
 pub(crate) struct Opens {
-    /// Whether the names are those of files, which have to be there, and else those of folders.
+    /// Whether the names are those of files, which have to be there. If not, they are those of
+    /// folders.
     pub(crate) required: bool,
     pub(crate) names: List<Name>,
 }
 
 impl Opens {
-    /// Nothing is opened.
+    /// Makes the value that opens nothing.
     pub(crate) fn nothing(alloc: Global) -> Opens
         ensures { result ≡ no_files }
     {
@@ -38,7 +39,7 @@ impl Opens {
         }
     }
 
-    /// The test files of these folders are opened.
+    /// Makes the value that opens the test files of these folders.
     pub(crate) fn folders(names: List<Name>) -> Opens
         ensures { result ≡ folders names }
     {
@@ -48,7 +49,7 @@ impl Opens {
         }
     }
 
-    /// The file of this name is opened.
+    /// Makes the value that opens the file of this name.
     pub(crate) fn file(alloc: Global, name: Name) -> Result<Opens, NoMemory>
         ensures { IfOk result (λ opens. opens ≡ files (name ∷ [])) }
     {
@@ -61,7 +62,7 @@ impl Opens {
     }
 }
 
-/// The file that a name means in a folder.
+/// Returns the file that a name means in a folder.
 pub(crate) fn opening_of(
     alloc: Global,
     dir: &Name,
@@ -82,7 +83,7 @@ pub(crate) fn opening_of(
     Ok(Opening { file, required })
 }
 
-/// The test file of a folder.
+/// Returns the test file of a folder.
 pub(crate) fn test_file(alloc: Global, dir: Name) -> Result<TestFile, NoMemory>
     ensures { IfOk result (λ file. file ≡ test_file dir) }
 {

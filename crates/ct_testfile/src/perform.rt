@@ -20,7 +20,7 @@ use ct_suite::{
 };
 use std::alloc::Global;
 
-/// Carries out a command of a file whose folder this is.
+/// Carries out a command of a file in this folder.
 pub(crate) fn carry_out(
     alloc: Global,
     limits: &Limits,
@@ -117,7 +117,7 @@ fn is_bad_test(name: &[u8], command: &List<Name>) -> bool
     command.is_empty() || is_bad_name(name)
 }
 
-/// Tells whether there are as many tests as there may be.
+/// Tells whether there is no room for one more test.
 fn is_full(limits: &Limits, tests: &Suite) -> bool
     ensures { result ≡ is_full limits.now tests.now }
 {
@@ -143,7 +143,7 @@ fn has_feed(name: &[u8]) -> bool
     name.iter().any(|byte| *byte == b'\n')
 }
 
-/// Sets properties of all tests so far that have one of the names.
+/// Sets properties of all tests so far that have one of these names.
 ///
 /// Source: CMake manual, set_tests_properties. That a name which no test has is passed over is this project's choice.
 fn set_tests_properties(
@@ -194,7 +194,7 @@ fn set_directory_properties(
     })
 }
 
-/// Sets a variable, or takes its value away where the name stands alone.
+/// Sets a variable, or removes its value if the name stands alone.
 ///
 /// Source: CMake manual, set and unset. That all files share one table is this project's choice.
 fn set(alloc: Global, values: List<Name>, state: State) -> Result<State, Stop>

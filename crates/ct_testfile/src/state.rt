@@ -11,7 +11,7 @@ use ct_lex::Args;
 use ct_suite::{Suite, Table, Value, raised, size, values_of};
 use std::alloc::Global;
 
-/// What is known of a tree behind a command: its tests and variables so far, and what is counted.
+/// The state of a tree behind a command: its tests and variables so far, and the counts.
 #[derive(Drop)]
 pub(crate) struct State {
     pub(crate) tests: Suite,
@@ -35,7 +35,7 @@ impl State {
         }
     }
 
-    /// Counts bytes that values take. `bytes` may stand for any more than the greatest number.
+    /// Counts bytes that values take. If `bytes` is 2^64 - 1, the real number may be greater.
     pub(crate) fn taken(self, limits: &Limits, bytes: u64) -> Result<State, Stop>
         ensures { (real : ℕ) → bytes ≡ min real (2 ^ 64 - 1) → Follows result (taken limits.now real self) }
     {
@@ -48,7 +48,7 @@ impl State {
         }
     }
 
-    /// Begins a command: it is counted, and then its arguments give their values.
+    /// Begins a command: it is counted, and then its arguments are evaluated.
     pub(crate) fn begin(
         self,
         alloc: Global,
@@ -62,7 +62,7 @@ impl State {
         state.evaluated(limits, values)
     }
 
-    /// Takes values, of which each one and all together may be so long.
+    /// Counts the bytes of values, unless one value, or all of the tree, are too long.
     fn evaluated(self, limits: &Limits, values: List<Value>) -> Result<(List<Value>, State), Stop>
         ensures { Follows result (evaluated limits.now values self) }
     {
@@ -75,7 +75,7 @@ impl State {
     }
 }
 
-/// Tells whether some value is longer than one may be.
+/// Tells whether a value is longer than one value may be.
 fn some_too_long(limits: &Limits, values: &[Value]) -> bool
     ensures { result ≡ list_any (is_too_long limits.now.value_bytes) values.now }
 {

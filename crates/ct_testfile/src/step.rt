@@ -19,7 +19,7 @@ use ct_base::{Files, NoMemory};
 use ct_lex::Call;
 use std::alloc::Global;
 
-/// What there is behind a command.
+/// The open ifs and the state behind a command, and what the command opens.
 #[derive(Drop)]
 pub(crate) struct Step {
     pub(crate) ifs: Ifs,
@@ -27,7 +27,7 @@ pub(crate) struct Step {
     pub(crate) opens: Opens,
 }
 
-/// Goes on behind a command of a file, but for what it opens.
+/// Carries out a command of a file, except for opening files.
 pub(crate) fn advance<F: Files>(
     files: &mut F,
     here: &OpenFile<'_>,
@@ -51,7 +51,7 @@ pub(crate) fn advance<F: Files>(
     }
 }
 
-/// Carries out a command that is none of an `if`, or passes it over.
+/// Carries out a command other than those of `if`, or passes it over.
 fn do_other(here: &OpenFile<'_>, ifs: Ifs, state: State, call: &Call) -> Result<Step, Stop>
     requires { AreBounded here.now.limits.now }
     ensures { Follows result
@@ -89,7 +89,7 @@ fn do_if<F: Files>(
     Ok(in_branch(here.alloc, call.line, ifs, branch, state)?)
 }
 
-/// Tells which branch stands behind an `if`.
+/// Returns the branch behind an `if`.
 fn behind_if<F: Files>(
     files: &mut F,
     here: &OpenFile<'_>,
@@ -107,7 +107,8 @@ fn behind_if<F: Files>(
     }
 }
 
-/// Begins a later branch of the innermost `if`, whose condition is asked where no branch was taken yet.
+/// Begins a later branch of the innermost `if`. Its condition is evaluated if no branch was taken
+/// yet.
 ///
 /// Source: CMake manual, elseif.
 fn do_elseif<F: Files>(
@@ -127,7 +128,7 @@ fn do_elseif<F: Files>(
     Ok(in_branch(here.alloc, inner.line, outer, branch, state)?)
 }
 
-/// Tells which branch stands behind an `elseif`.
+/// Returns the branch behind an `elseif`.
 fn behind_elseif<F: Files>(
     files: &mut F,
     here: &OpenFile<'_>,
@@ -156,7 +157,7 @@ fn unpaired<T>(here: &OpenFile<'_>, line: u32) -> Result<T, ReadFault>
     here.at_line(line, Err(Stop::Refused(ReadKind::UnpairedIf)))
 }
 
-/// Asks a condition: its command is counted, and the branch is taken where it holds.
+/// Evaluates a condition: its command is counted, and the branch is taken if the condition holds.
 fn asked<F: Files>(
     files: &mut F,
     here: &OpenFile<'_>,
@@ -191,7 +192,7 @@ fn do_else(here: &OpenFile<'_>, ifs: Ifs, state: State) -> Result<Step, Stop>
     Ok(in_branch(here.alloc, inner.line, outer, branch, state)?)
 }
 
-/// Tells which branch stands behind an `else`.
+/// Returns the branch behind an `else`.
 fn behind_else(limits: &Limits, branch: Branch, state: State) -> Result<(Branch, State), Stop>
     ensures { Follows result (behind_else limits.now state branch) }
 {
@@ -219,7 +220,7 @@ fn do_endif(here: &OpenFile<'_>, ifs: Ifs, state: State) -> Result<Step, Stop>
     })
 }
 
-/// Puts a branch of an `if` inside the others.
+/// Puts an open `if` with this branch inside the others.
 fn in_branch(
     alloc: Global,
     line: u32,

@@ -21,9 +21,9 @@ use std::alloc::Global;
 
 /// Reads the tests that the tree of test files under a folder defines.
 ///
-/// An absent test file of a folder defines none. `config` is the configuration that the tests are
-/// built in, or empty. Source: CMake manual, ctest(1). The limits, the order of the refusals and the
-/// part of the language that is read are this project's choice.
+/// A folder without a test file defines no tests. `config` is the configuration that the tests are
+/// built in, or empty. Source: CMake manual, ctest(1). The limits, the order of the refusals and
+/// the part of the language that is read are this project's choice.
 pub fn read_tree<F: Files>(
     alloc: Global,
     files: &mut F,
@@ -40,7 +40,7 @@ pub fn read_tree<F: Files>(
     read_tree_within(alloc, files, &LIMITS, dir, config)
 }
 
-/// Reads the same within these limits.
+/// Reads the tests as `read_tree` does, within these limits.
 pub fn read_tree_within<F: Files>(
     alloc: Global,
     files: &mut F,
@@ -97,7 +97,7 @@ fn open_top<F: Files>(
     open(files, &here, 0, &opening, state)
 }
 
-/// The test file of the folder at the top, which is passed over where it is absent.
+/// Returns the test file of the folder at the top, which is passed over if it is absent.
 fn top(alloc: Global, dir: &Name) -> Result<Opening, NoMemory>
     ensures { IfOk result (λ opening. opening ≡ top dir.now) }
 {
@@ -123,7 +123,7 @@ fn define(alloc: Global, state: State) -> Result<List<TestDef>, NoMemory>
     tests.define(alloc)
 }
 
-/// What is known before the first command: the variable CTEST_CONFIGURATION_TYPE alone.
+/// Returns the state before the first command: only the variable CTEST_CONFIGURATION_TYPE is set.
 ///
 /// Source: CMake manual, ctest(1), `--build-config`.
 fn begin(alloc: Global, config: &Name) -> Result<State, NoMemory>
@@ -140,7 +140,7 @@ fn begin(alloc: Global, config: &Name) -> Result<State, NoMemory>
     })
 }
 
-/// Opens, one behind the other, what a command on a line of a file opens.
+/// Opens, one after the other, the files that a command on a line of a file opens.
 #[cycle(tree)]
 fn open_each<F: Files>(
     files: &mut F,
@@ -181,7 +181,7 @@ fn open<F: Files>(
     enter(files, here, line, opening, state, got)
 }
 
-/// Reads what a path held as a file that a command opens on a line of another one.
+/// Reads what a path held as a file that a command on a line of another file opens.
 #[cycle(tree)]
 fn enter<F: Files>(
     files: &mut F,
@@ -212,7 +212,7 @@ fn enter<F: Files>(
     carry(files, &inner, state, text.bytes())
 }
 
-/// Reads what a path holds: of a file that is longer than `most`, one byte more than that.
+/// Reads what a path holds; of a file longer than `most` bytes, it reads `most + 1` bytes.
 fn fetch<F: Files>(
     alloc: Global,
     files: &mut F,
@@ -228,7 +228,7 @@ fn fetch<F: Files>(
     }
 }
 
-/// Passes over a file that is absent, unless it has to be there.
+/// Passes over a file that is absent, or refuses it if it is required.
 fn absent(opening: &Opening, state: State) -> Result<State, Stop>
     ensures { Follows result (absent opening.now state) }
 {
@@ -296,7 +296,7 @@ fn next_call(alloc: Global, lexer: &mut Lexer<'_>, file: &Name) -> Result<Option
     }
 }
 
-/// Ends a file: each `if` has to be ended in it.
+/// Ends a file. Each `if` has to be ended in the same file.
 fn end(here: &OpenFile<'_>, ifs: Ifs, state: State) -> Result<State, ReadFault>
     ensures says { IsAnswerOf (ended here.now.file.now.path ifs state None) result }
     ensures unfailed { Unfailed result }
@@ -307,7 +307,7 @@ fn end(here: &OpenFile<'_>, ifs: Ifs, state: State) -> Result<State, ReadFault>
     }
 }
 
-/// Gives a fault of a text its file.
+/// Places a fault of a text in its file.
 fn fault_in(alloc: Global, file: &Name, fault: LexFault) -> ReadFault
     ensures { IsFaultIn file.now fault result }
 {
