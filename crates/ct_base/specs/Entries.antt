@@ -32,7 +32,7 @@ parts_of (byte ∷ []) = parts_with byte ([] ∷ [])
 parts_of (byte ∷ next ∷ rest) =
     if is_escape (byte ∷ next ∷ rest) then with_front (semicolon ∷ []) (parts_of rest) else parts_with byte (parts_of (next ∷ rest))
 
--- a part that is an entry: it is not empty
+-- the part is an entry: it is not empty
 abbrev pub is_entry : List ℕ → Bool
 is_entry [] = false
 is_entry (byte ∷ bytes) = true

@@ -31,8 +31,8 @@ number_in text = if is_numeral text then Some (min (digits_value 10 text) most_m
 abbrev pub six_decimals : List ℕ → List ℕ
 six_decimals decimals = take 6 (decimals ++ codes "000000")
 
--- the microseconds of a time, from the digits in front of the point and the decimals behind it, at most
--- 10^15;
+-- the microseconds of a time,
+-- from the digits in front of the point and the decimals behind it, at most 10^15;
 -- decimals behind the sixth are dropped
 abbrev pub micros_of_digits : List ℕ → List ℕ → ℕ
 micros_of_digits whole decimals = min (digits_value 10 (whole ++ six_decimals decimals)) most_micros

@@ -7,8 +7,8 @@ use std::alloc::Global;
 /// Reads a text as a list of entries: a `;` ends an entry, `\;` is a `;` inside an entry, and empty
 /// entries are dropped.
 ///
-/// Source: CMake manual, cmake-language(7), Lists. That square brackets protect nothing is this
-/// project's choice.
+/// Source: CMake manual, cmake-language(7), Lists. This project's choice: square brackets protect
+/// nothing.
 #[tactic(auto, using(crate::proofs::EntryLemmas::reads_all, crate::proofs::EntryLemmas::reads_byte, crate::proofs::EntryLemmas::reads_end, crate::proofs::EntryLemmas::reads_escape, crate::proofs::EntryLemmas::reads_none))]
 pub fn split_list(alloc: Global, text: &[u8]) -> Result<List<Name>, NoMemory>
     ensures { IfOk result (λ entries. entries ≡ entries_of text.now) }

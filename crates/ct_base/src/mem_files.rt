@@ -26,8 +26,7 @@ impl Model for MemFiles {
 
 impl MemFiles {
     /// Makes files that hold these pairs of path and content; if a path has several pairs, the last
-    /// one counts. The calls whose numbers, counted from 1, are in `fail_at` fail and change
-    /// nothing.
+    /// one counts. The calls whose numbers, counted from 1, are in `fail_at` fail and change nothing.
     pub fn new(held: List<Pair>, fail_at: List<u64>) -> MemFiles
         ensures { result ≡ record { pairs = held; counts = no_calls fail_at; refused = None } }
     {
@@ -116,8 +115,8 @@ impl Model for CalmFiles {
 }
 
 impl CalmFiles {
-    /// Makes files that hold these pairs of path and content; if a path has several pairs, the last
-    /// one counts.
+    /// Makes files that hold these pairs of path and content;
+    /// if a path has several pairs, the last one counts.
     pub fn new(held: List<Pair>) -> CalmFiles
         ensures { result ≡ held }
     {

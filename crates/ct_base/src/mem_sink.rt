@@ -25,8 +25,7 @@ impl Model for MemSink {
 }
 
 impl MemSink {
-    /// Makes an empty sink. The puts whose numbers, counted from 1, are in `fail_at` fail and write
-    /// nothing.
+    /// Makes an empty sink. The puts whose numbers, counted from 1, are in `fail_at` fail and write nothing.
     pub fn new(alloc: Global, fail_at: List<u64>) -> MemSink
         ensures { result ≡ record { written = []; pieces = []; counts = no_calls fail_at } }
     {

@@ -4,8 +4,7 @@ ghost use Rattle.ct_base.specs.Path.{is_absolute, joined};
 use crate::{Blob, Name, NoMemory};
 use std::alloc::Global;
 
-/// Joins a folder and a name: the name alone if it begins with `/`, else both with `/` between
-/// them.
+/// Joins a folder and a name: the name alone if it begins with `/`, else both with `/` between them.
 ///
 /// Source: this project's choice.
 pub fn join_path(alloc: Global, dir: &Name, name: &Name) -> Result<Name, NoMemory>

@@ -7,8 +7,7 @@ ghost use Rattle.ct_base.specs.Seconds.{is_numeral as is_digits, most_micros, si
 /// The greatest time, in microseconds.
 const MOST_MICROS: u64 = 1_000_000_000_000_000;
 
-/// Reads a time in seconds as whole microseconds: an optional `-`, digits, and optionally a `.` and
-/// digits.
+/// Reads a time in seconds as whole microseconds: an optional `-`, digits, and optionally a `.` and digits.
 ///
 /// Decimals behind the sixth are dropped. A time below zero becomes 0, and one above 10^15
 /// microseconds becomes 10^15. Any other text is `None`.

@@ -28,8 +28,7 @@ impl From<NoMemory> for SinkFault {
 pub trait Sink {
     ghost tells: { Self → SinkTell };
 
-    /// Writes the piece behind what was written. After a fault, a beginning of the piece was
-    /// written.
+    /// Writes the piece behind what was written. After a fault, a beginning of the piece was written.
     fn put(&mut self, piece: &[u8]) -> Result<(), SinkFault>
         ensures puts { Puts piece.now (tells self.old) (tells self.new) result }
         ensures each { PutsEach (piece.now ∷ []) (tells self.old) (tells self.new) result };

@@ -5,7 +5,7 @@ use Rattle.std.proofs.lemmas.List.{append_assoc}
 use Rattle.ct_groups.specs.declared.fault.GroupsFault.{GroupsFault}
 use Rattle.ct_groups.specs.Description.{reads_on}
 
--- the items read so far followed by those read next, or the fault of these
+-- the items read so far followed by the items read next, or the fault
 abbrev pub behind : {X : Type 0} → List X → Result (List X) GroupsFault → Result (List X) GroupsFault
 behind items (Ok others) = Ok (items ++ others)
 behind items (Err why) = Err why

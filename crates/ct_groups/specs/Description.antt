@@ -1,5 +1,6 @@
 -- One description of resource groups: an optional count, then requirements, with commas between them.
--- Source: CMake manual, cmake-properties(7), RESOURCE_GROUPS. The refusals and the limits are this project's choice.
+-- Source: CMake manual, cmake-properties(7), RESOURCE_GROUPS.
+-- The refusals and the limits are this project's choice.
 use Rattle.std.specs.Prelude.{ℕ, ◌+◌, Bool, false, ◌&&◌, ◌||◌, List, [], ◌∷◌, take, drop, nat_lt, Option, Some, None, Result, Ok, Err, ◌==◌, if◌then◌else◌}
 use Rattle.std.specs.List.{list_all, position, slice_split}
 use Rattle.std.specs.Int.{is_in_range}

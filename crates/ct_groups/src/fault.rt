@@ -20,8 +20,7 @@ pub enum GroupsFault {
     /// A requirement asks for 0 slots.
     #[error("a requirement asks for no slots")]
     ZeroSlots,
-    /// More than 64 groups, more than 64 needs, or more than 1,000,000,000 slots for one
-    /// requirement.
+    /// More than 64 groups, more than 64 needs, or more than 1,000,000,000 slots for one requirement.
     #[error("too much is required")]
     TooMany,
     /// Memory was wanting.

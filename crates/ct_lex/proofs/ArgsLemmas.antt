@@ -1,5 +1,5 @@
--- The arguments of a command as they are kept: their text alone is read as the same arguments, the first one
--- first.
+-- The arguments of a command as they are kept:
+-- their text alone is read as the same arguments, the first one first.
 use Rattle.std.proofs.Common.{◌≡◌, ◌∙◌, inl, inr, ℕ, suc, ◌+◌, ◌<◌, ◌≤◌, Bool, true, false, ◌==◌, List, [], ◌∷◌, ◌++◌, length, take, drop, get_or, Result, Ok, Err, refl, sym, ap, subst, arith, append_assoc, length-append, length-drop}
 use Rattle.std.specs.Result.{is_ok, IsOk}
 use Rattle.std.proofs.lemmas.Bool.{true≢false}

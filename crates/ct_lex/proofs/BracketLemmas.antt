@@ -1,5 +1,5 @@
--- Brackets, comments and blanks: the reader finds at the front of a text exactly what the grammar writes
--- there.
+-- Brackets, comments and blanks:
+-- the reader finds at the front of a text exactly what the grammar writes there.
 use Rattle.std.proofs.Common.{◌≡◌, ◌⊎◌, ℕ, zero, suc, ◌+◌, ◌<◌, ◌≤◌, Bool, true, false, cond, not, ◌||◌, ◌&&◌, ◌==◌, nat_lt, List, [], ◌∷◌, ◌++◌, length, take, drop, get_or, replicate, Option, Some, None, option_map, Result, Ok, inl, inr, ⊎_elim, refl, sym, ap, ◌∙◌, subst, arith, append_assoc, append-nil, length-append, drop-cons}
 use Rattle.std.proofs.lemmas.Bool.Decides.{nat_tests}
 use Rattle.std.proofs.lemmas.Bool.{true≢false, and_parts, and_from, false_from_ne_true}
@@ -273,7 +273,7 @@ pub opening-front : (text back : List ℕ) → opening (text ++ back) ≡ None �
 opening-front text back e begins =
     opening-none (text ++ back) e (begins.0, begins.1 ++ back, ap (λ t. t ++ back) begins.2 ∙ append_assoc (opens_with begins.0) begins.1 back)
 
--- a gap at the front of a text: what it is by the grammar, and what stands behind it
+-- a gap at the front of a text, by the grammar, and how many bytes it has
 pub data IsGapAt : List ℕ → ℕ → Type 0 where
   no_gap : {byte : ℕ} {rest : List ℕ} → is_gap byte ≡ false → (byte == 35) ≡ false → IsGapAt (byte ∷ rest) 0
   space : {front : List ℕ} (back : List ℕ) → IsSpace front → IsGapAt (front ++ back) (length front)

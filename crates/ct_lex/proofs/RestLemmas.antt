@@ -26,8 +26,8 @@ use Rattle.ct_lex.proofs.BracketLemmas.{IsGapAt, no_gap, space, feed, line_comme
 use Rattle.ct_lex.proofs.CommandLemmas.{command-is, command-read}
 use Rattle.ct_lex.proofs.ArgumentsLemmas.{space-some}
 
--- the gaps in front of the next command, by the grammar: they may stand in front of any commands from there
--- on
+-- the gaps in front of the next command, by the grammar:
+-- they may stand in front of any commands from there on
 pub record StartRead (behind : Bool) (line : ℕ) (text : List ℕ) (n : ℕ) : Type 0 where
   pub front : List ℕ
   pub byte : ℕ

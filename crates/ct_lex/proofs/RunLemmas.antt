@@ -1,5 +1,5 @@
--- A run of bytes that stand for themselves at the front of the text of an argument, and the reading behind
--- it.
+-- A run of bytes that stand for themselves at the front of the text of an argument,
+-- and the reading behind it.
 use Rattle.std.proofs.Common.{◌≡◌, ℕ, suc, ◌+◌, ◌<◌, ◌≤◌, Bool, true, false, ◌||◌, ◌==◌, List, [], ◌∷◌, ◌++◌, length, get_or, take, drop, Result, Ok, Err, refl, sym, ap, subst, ◌∙◌, arith, add-zero, length-drop}
 use Rattle.std.proofs.lemmas.Bool.{or_parts}
 use Rattle.std.proofs.lemmas.List.{get_or-drop, drop-drop}

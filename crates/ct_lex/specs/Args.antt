@@ -13,8 +13,8 @@ arguments_in text = list_read (arguments_from 0 text)
 abbrev pub BeginsArguments : List ℕ → Type 0
 BeginsArguments text = IsOk (arguments_from 0 text)
 
--- the call returns the first item that is left and removes it, or None where no item is left; an Err changes
--- nothing
+-- the call returns the first item that is left and removes it,
+-- or None where no item is left; an Err changes nothing
 abbrev pub TakesFirst : {A E : Type 0} → List A → Result (Option A) E → List A → Type 0
 TakesFirst old (Ok (Some item)) new = old ≡ item ∷ new
 TakesFirst old (Ok None) new = (old ≡ []) × (new ≡ [])

@@ -1,4 +1,5 @@
--- What the text of an argument stands for (cmake-language(7), Command Arguments, Escape Sequences, Variable References).
+-- What the text of an argument stands for
+-- (cmake-language(7), Command Arguments, Escape Sequences, Variable References).
 use Rattle.std.specs.Prelude.{ℕ, Bool, false, not, ◌||◌, ◌&&◌, ◌==◌, if◌then◌else◌, List, [], ◌∷◌, ◌++◌, drop, Option, Some, None, codes}
 use Rattle.std.specs.Char.{is_ascii_alphanumeric}
 use Rattle.std.specs.List.{starts_with}

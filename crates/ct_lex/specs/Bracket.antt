@@ -46,8 +46,8 @@ comment_by text (Some n) = bracket_comment text n (closing n (drop (n + 3) text)
 abbrev pub comment : List ℕ → Result ℕ Stop
 comment text = comment_by text (opening (drop 1 text))
 
--- how many bytes the blank, line feed or comment at the front of a text has; 0 where something else stands
--- there
+-- how many bytes the blank, line feed or comment at the front of a text has;
+-- 0 where something else stands there
 abbrev pub gap_at : List ℕ → Result ℕ Stop
 gap_at [] = Ok 0
 gap_at (byte ∷ rest) = if is_gap byte then Ok 1 else (if byte == char "#" then comment (byte ∷ rest) else Ok 0)

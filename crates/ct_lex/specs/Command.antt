@@ -22,8 +22,8 @@ paren_at text = word_len text + prefix_len is_space (drop (word_len text) text)
 abbrev pub CommandRead : Type 0
 CommandRead = List ℕ × List Arg × ℕ
 
--- the command of that name with the arguments that were read, or their fault; `front` bytes stand in front of
--- them
+-- the command of that name with the arguments that were read,
+-- or their fault; `front` bytes stand in front of them
 abbrev pub named : List ℕ → ℕ → Result (List Arg × ℕ) Stop → Result CommandRead Stop
 named name front read = read >>= λ x. Ok (name, x.0, x.1 + front)
 
@@ -46,8 +46,8 @@ shifted n read = read >>= λ start. Ok (option_map (λ k. k + n) start)
 abbrev pub stays_behind : Bool → ℕ → Bool
 stays_behind behind first = behind && not (first == char "\n")
 
--- How many bytes of blanks, line feeds and comments stand in front of the next command; None at the end of
--- the text.
+-- How many bytes of blanks, line feeds and comments stand in front of the next command;
+-- None at the end of the text.
 -- Behind a command, the next one begins only after a line feed outside a comment.
 -- The first `skip` bytes belong to a gap that is already read.
 abbrev pub start_from : Bool → ℕ → List ℕ → Result (Option ℕ) Stop

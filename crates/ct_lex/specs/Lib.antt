@@ -6,8 +6,7 @@ pub mod Written
 pub mod Place
 pub mod Reads
 pub mod Files
--- How the reader reads it, byte by byte: what the contracts of its own functions cite, and where a refusal
--- stands.
+-- How the reader reads a test file, byte by byte: what its own contracts cite, and where a refusal stands.
 pub mod Stop
 pub mod Bracket
 pub mod Unit

@@ -39,11 +39,11 @@ abbrev pub reading_within : ℕ → Place → List Call × Ending
 reading_within zero place = ([], None)
 reading_within (suc n) place = reading_by (next_of place) (λ after. reading_within n after)
 
--- the whole reading from a place on, the calls and the ending; it has fewer calls than the text has bytes
+-- the whole reading from a place on, the calls and the ending; it has at most as many calls as bytes are left
 unfoldable pub reading : Place → List Call × Ending
 reading place = reading_within (suc (length place.rest)) place
 
--- one reading from a place on: one list of calls, and then the end of the text or one first fault
+-- there is one reading from a place on: one list of calls, and then the end of the text or one first fault
 pub record HasOneReading (place : Place) : Type 0 where
   pub read : ReadsFrom place (reading place).0 (reading place).1
   pub only : (calls : List Call) (ending : Ending) → ReadsFrom place calls ending → (calls ≡ (reading place).0) × (ending ≡ (reading place).1)

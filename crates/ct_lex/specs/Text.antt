@@ -58,14 +58,14 @@ abbrev pub argument_by : List ℕ → Option ℕ → Result (Arg × ℕ) Stop
 argument_by text None = plain_argument text
 argument_by text (Some n) = bracket_by text n (closing n (drop (n + 2) text))
 
--- the text may stand directly behind an argument: it begins with a blank, a line feed, `)` or `#`, or it is
--- empty
+-- the text may stand directly behind an argument:
+-- it begins with a blank, a line feed, `)` or `#`, or it is empty
 abbrev pub may_follow : List ℕ → Bool
 may_follow [] = true
 may_follow (byte ∷ rest) = is_gap byte || byte == char ")" || byte == char "#"
 
--- the text begins with no gap: it is empty, or begins with a `)`, or with a byte that may not follow an
--- argument
+-- the text begins with no gap: it is empty, or begins with a `)`,
+-- or with a byte that may not follow an argument
 abbrev pub HasNoGap : List ℕ → Type 0
 HasNoGap text = (text ≡ []) ⊎ (stands (char ")") 0 text ≡ true) ⊎ (may_follow text ≡ false)
 

@@ -1,4 +1,5 @@
--- What the text of a quoted or unquoted argument is made of (cmake-language(7), Escape Sequences, Variable References).
+-- What the text of a quoted or unquoted argument is made of
+-- (cmake-language(7), Escape Sequences, Variable References).
 use Rattle.std.specs.Prelude.{ℕ, ◌+◌, ◌&&◌, ◌==◌, nat_lt, if◌then◌else◌, List, [], ◌∷◌, length, take, drop, Option, Some, None, Result, Ok, Err, codes}
 use Rattle.std.specs.List.{prefix_len, starts_with}
 use Rattle.ct_lex.specs.Argument.{escaped, begins_reference}

@@ -49,20 +49,20 @@ written_args (arg ∷ args) = written_arg arg.kind arg.parts ++ (codes " " ++ wr
 abbrev pub written_call : Call → List ℕ
 written_call call = call.name ++ (codes "(" ++ (written_args call.args ++ codes ")\n"))
 
--- commands, one behind another
+-- commands as they are written, one behind another
 abbrev pub written : List Call → List ℕ
 written [] = []
 written (call ∷ calls) = written_call call ++ written calls
 
--- parts as a reading returns them: no part of bytes is empty or beside another one, and each reference has a
--- name
+-- parts as a reading returns them:
+-- no part of bytes is empty or beside another one, and each reference has a name
 abbrev pub AreParts : List Part → Type 0
 AreParts [] = ⊤
 AreParts (Bytes bytes ∷ parts) = (with_bytes bytes parts ≡ Bytes bytes ∷ parts) × AreParts parts
 AreParts (Ref name ∷ parts) = IsVariable name × AreParts parts
 
--- bytes that a bracket with one `=` can hold: no line feed at their front is dropped, and they do not close
--- it
+-- bytes that a bracket with one `=` can hold:
+-- no line feed at their front is dropped, and they do not close it
 pub record IsInBracket (bytes : List ℕ) : Type 0 where
   pub front : without_feed bytes ≡ bytes
   pub closed : IsInside 1 bytes

@@ -13,8 +13,7 @@ use std::marker::Model;
 
 /// The arguments of a command, in order. Contracts see the list of them.
 ///
-/// The text is kept as it is written, at one byte for each byte. The arguments are made from it one
-/// by one.
+/// The text is kept as it is written, at one byte for each byte. The arguments are made from it one by one.
 #[derive(Debug, Drop)]
 pub struct Args {
     /// The text behind the `(` of the command, up to and with the `)`.
@@ -91,8 +90,7 @@ impl<'a> ArgReader<'a> {
         }
     }
 
-    /// Lends the next argument, or makes it if it is more than one run; `None` exactly if none is
-    /// left.
+    /// Lends the next argument, or makes it if it is more than one run; `None` exactly if none is left.
     ///
     /// An `Err` changes nothing.
     pub fn lend_next(&mut self, alloc: Global) -> Result<Option<NextArg<'a>>, NoMemory>

@@ -76,8 +76,8 @@ fn comment(text: &[u8]) -> Result<usize, Stop>
     }
 }
 
-/// Counts the bytes of the blank, line feed or comment at the front of a text; 0 if something else
-/// stands there.
+/// Counts the bytes of the blank, line feed or comment at the front of a text;
+/// 0 if something else stands there.
 pub fn gap_at(text: &[u8]) -> Result<usize, Stop>
     ensures value { result ≡ gap_at text.now }
     ensures within { IfOk result (λ taken. taken ≤ length text.now) }

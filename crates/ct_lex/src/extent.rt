@@ -93,8 +93,7 @@ fn may_follow(text: &[u8]) -> bool
     }
 }
 
-/// Counts the bytes of the text of a quoted or unquoted argument, in front of the byte that ends
-/// it.
+/// Counts the bytes of the text of a quoted or unquoted argument, in front of the byte that ends it.
 fn text_len(kind: ArgKind, text: &[u8]) -> Result<usize, Stop>
     ensures value { result ≡ bytes_read (text_from kind 0 text.now) }
     ensures within { IfOk result (λ inside. inside < length text.now) }

@@ -10,12 +10,12 @@ pub enum LexFault {
     /// The text ends in a bracket argument or a bracket comment that began on that line.
     #[error("line {line}: unclosed bracket")]
     OpenBracket { line: u32 },
-    /// The text ends inside a command whose name stands on that line, outside a quoted argument and
-    /// a bracket.
+    /// The text ends inside a command whose name stands on that line,
+    /// outside a quoted argument and a bracket.
     #[error("line {line}: unclosed command")]
     OpenCall { line: u32 },
-    /// A backslash in front of a letter or digit other than `t`, `r`, `n`, or of a line feed in an unquoted
-    /// argument.
+    /// A backslash in front of a letter or digit other than `t`, `r`, `n`, or of a line feed in an
+    /// unquoted argument.
     #[error("line {line}: bad escape")]
     BadEscape { line: u32 },
     /// A byte that can begin neither a command nor an argument at its place.

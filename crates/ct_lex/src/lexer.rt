@@ -41,8 +41,7 @@ impl<'a> Lexer<'a> {
         ensures place { result ≡ beginning text.now }
         // A text has one list of calls, and then its end or one first fault.
         ensures one { HasOneReading (beginning text.now) }
-        // The reading is what the grammar writes. The grammar does not depend on how a text is
-        // read.
+        // The reading is what the grammar writes. The grammar does not depend on how a text is read.
         ensures grammar { ReadsFiles text.now }
         // Commands that are written as CMake writes them are read back.
         ensures again { ReadsWritten text.now }
@@ -58,8 +57,8 @@ impl<'a> Lexer<'a> {
     ///
     /// An `Err` changes nothing, so a refusal is returned again at each further call.
     ///
-    /// Source: CMake manual, cmake-language(7), Syntax. Which forms are left out, and that a bracket comment may
-    /// stand beside a command on its line, is this project's choice.
+    /// Source: CMake manual, cmake-language(7), Syntax. This project's choice: which forms are left out,
+    /// and that a bracket comment may stand beside a command on its line.
     pub fn next(&mut self, alloc: Global) -> Result<Option<Call>, LexFault>
         ensures answer { AnswersNext self.old result self.new }
         // The answer in terms of the whole reading.

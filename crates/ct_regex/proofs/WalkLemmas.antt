@@ -114,7 +114,7 @@ slots_first (repeat OneOrMore tree) =
     ap (λ (b : Bool). b ∷ slots tree true []) (no_leaves tree (record { is_first = true; is_last = false }))
     ∙ ap (λ (xs : List Bool). false ∷ xs) (slots_first tree)
 
--- in an empty text, a tree that can be empty is left at once
+-- in an empty text and without marks, a tree is left exactly if it is entered and can be empty
 pub leaves_empty : (tree : Tree) (enters : Bool) → is_sound tree ≡ true →
     leaves tree enters (record { is_first = true; is_last = true }) [] ≡ (enters && can_be_empty tree)
 leaves_empty empty enters s = sym (and_all enters)

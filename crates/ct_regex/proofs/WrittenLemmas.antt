@@ -97,7 +97,7 @@ close_read outer around inner text h =
     (inner_read outer h.0 (40 ∷ h.1 ++ 41 ∷ []) around (with_atom (closed inner) around)
     (λ t r. atom_read t (40 ∷ h.1 ++ 41 ∷ []) around (closed inner) (grammar.group (closed_read h.1 inner h.4)) r) h.3)
 
--- one more sign was taken
+-- one more sign was taken: the groups behind it are written so far, and the reading goes on from them
 record Taken (text : List ℕ) (tree : Tree) (rest : Groups → Result Tree RegexFault) : Type 0 where
   next : Groups
   read_on : rest next ≡ Ok tree

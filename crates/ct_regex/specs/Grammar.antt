@@ -10,7 +10,7 @@ use Rattle.ct_regex.specs.declared.tree.Span.{Span}
 use Rattle.ct_regex.specs.declared.tree.Quantifier.{Quantifier}
 use Rattle.ct_regex.specs.declared.tree.Quantifier.TheVariants.{ZeroOrOne, ZeroOrMore, OneOrMore}
 
--- only the first item of a set may begin with `]`
+-- the byte may begin an item of a set; a `]` begins only the first item
 abbrev pub MayBegin : Bool → ℕ → Type 0
 MayBegin first byte = (first ≡ true) ⊎ ((byte == close_set) ≡ false)
 

@@ -1,6 +1,6 @@
 -- The walk of a scan over a pattern, once for each byte. Internal to the matcher.
--- Of the promises, only what a scan stands for (Scan.antt) is stated by it. Ends.antt defines what a match
--- is.
+-- Of the promises, only what a scan stands for (Scan.antt) is stated by it.
+-- Ends.antt defines what a match is.
 use Rattle.std.specs.Prelude.{ℕ, ◌+◌, Bool, true, false, ◌&&◌, ◌||◌, List, [], ◌∷◌, ◌++◌, length, slice_index_or, slice_set}
 use Rattle.ct_regex.specs.Tree.{Test, takes, Tree, empty, never, start, end, one, sequence, choice, repeat}
 use Rattle.ct_regex.specs.Meaning.{byte_test}

@@ -1,11 +1,10 @@
 //! The regular expressions of CMake: parsed exactly, and matched by their definition.
 //!
 //! Hands up: `Regex::parse` reads a pattern or returns its first fault, `hit` tells whether a text
-//! has a match anywhere, and a `Scan` tells the same of a text that comes in pieces.
+//! has a match anywhere, and a `Scan` tells the same of a text in pieces.
 //! Stands on: ct_base and `thiserror`.
 //! Read first: `specs/Tree.antt`, `specs/Ends.antt`, `specs/Signs.antt`, `specs/Reading.antt` and
-//! `specs/Scan.antt`. In `specs/Lib.antt`, the files from `Walk` to `Memory` are internal to the
-//! matcher.
+//! `specs/Scan.antt`. In `specs/Lib.antt`, the files from `Walk` to `Memory` are internal to the matcher.
 #![tactic(auto)]
 
 mod fault;

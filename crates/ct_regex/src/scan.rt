@@ -98,8 +98,7 @@ impl Scan {
         either(self.found, self.memory.last(self.at))
     }
 
-    /// Takes the bytes of the piece that the memory knows, and one byte more. Returns the rest of
-    /// the piece.
+    /// Takes the bytes of the piece that the memory knows, and one byte more. Returns the rest of the piece.
     fn take<'a>(&mut self, piece: &'a [u8]) -> &'a [u8]
         requires some { 0 < length piece.now }
         requires goes { self.old.found ≡ false }

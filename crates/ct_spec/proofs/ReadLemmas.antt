@@ -36,7 +36,7 @@ more_items [] many = absurd (omega arith)
 more_items (one ∷ []) many = absurd (omega arith)
 more_items (one ∷ other ∷ items) many = refl
 
--- the resources read so far followed by those read next, or the fault of these
+-- the resources read so far followed by the resources read next, or the fault
 abbrev pub behind : List Resource → Result (List Resource) SpecFault → Result (List Resource) SpecFault
 behind found (Ok others) = Ok (found ++ others)
 behind found (Err why) = Err why
@@ -49,7 +49,7 @@ behind_one found one (Err why) = refl
 abbrev pub ids_of : List Resource → List (List ℕ)
 ids_of resources = map (λ (r : Resource). r.id) resources
 
--- the resources so far followed by those of the entries from a place on, or the fault of these
+-- the resources so far followed by those of the entries from a place on, or the first fault
 abbrev pub from_place : List ℕ → List Value → ℕ → List Resource → Result (List Resource) SpecFault
 from_place kind entries place found = behind found (entries_from kind place (ids_of found) (items_view (drop place entries)))
 

@@ -1,5 +1,5 @@
--- One entry of a resource specification. Source: CMake manual, ctest(1), Resource Specification File. The refusals are
--- this project's choice.
+-- One entry of a resource specification. Source: CMake manual, ctest(1), Resource Specification File.
+-- The refusals are this project's choice.
 use Rattle.std.specs.Prelude.{ℕ, Bool, false, not, ◌&&◌, ◌||◌, List, [], ◌∷◌, length, codes, bytes_eq, nat_le, Option, Some, None, option_and_then, Result, Ok, Err, ◌==◌, if◌then◌else◌}
 use Rattle.std.specs.List.{list_all, list_any}
 use Rattle.std.specs.Int.{is_in_range}

@@ -1,5 +1,5 @@
--- The places kept by a key are those of the tests with that key, so a change at these places changes these
--- tests.
+-- The places kept by a key are those of the tests with that key,
+-- so a change at these places changes these tests.
 use Rattle.std.proofs.Common.{◌≡◌, ℕ, zero, suc, ◌+◌, ◌<◌, Bool, true, false, cond, bytes_eq, List, [], ◌∷◌, ◌++◌, map, length, get_or, set, drop, count_by, All, Option, Some, None, refl, sym, ap, ◌∙◌, subst, arith, append_assoc, length-append}
 use Rattle.std.specs.Map.{lookup, set_value}
 use Rattle.std.specs.declared.vec.Vec.{Vec}

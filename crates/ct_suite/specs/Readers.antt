@@ -40,8 +40,8 @@ held_bytes held = if held then backslash ∷ [] else []
 abbrev pub entries_with : Reader → List ℕ → List Value
 entries_with reader rest = reader.values ++ map bare (filter is_entry (with_front reader.text.items (parts_of (held_bytes reader.held ++ rest))))
 
--- the reader has read these bytes of an unquoted argument; or it stopped, since the values with them are too
--- long
+-- the reader has read these bytes of an unquoted argument;
+-- or it stopped, since the values with them are too long
 -- or memory was wanting
 pub record TakesEntries (limits : ValueLimits) (old new : Reader) (piece : List ℕ) (result : Result (Unit {0}) ValueFault) : Type 0 where
   pub counted : OnOk result (IsCounted new)

@@ -9,8 +9,7 @@ use std::slice;
 /// For each key, a name or a folder, the places of the tests that have it, in order.
 pub(crate) type Places = IndexMap<Vec<u8>, KeyPlaces>;
 
-/// The places of the tests that have one key, in order. One place takes no memory, and most names
-/// have one.
+/// The places of the tests that have one key, in order. One place takes no memory, and most names have one.
 #[derive(Drop)]
 pub(crate) enum KeyPlaces {
     One(usize),

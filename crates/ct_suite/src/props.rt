@@ -18,8 +18,7 @@ type Keyed = IndexMap<Vec<u8>, Name>;
 /// The properties of a test so far. Contracts see one pair for each key, in the order of first use.
 #[derive(Drop)]
 pub(crate) struct Props {
-    /// The properties that were set first, by their keys; `None` if there are few, as in most
-    /// tests.
+    /// The properties that were set first, by their keys; `None` if there are few, as in most tests.
     keyed: Option<Box<Keyed>>,
     /// The properties that were set after them, in turn.
     recent: Vec<Pair>,
@@ -137,8 +136,7 @@ fn in_turn(alloc: Global, pairs: Vec<Pair>) -> Result<List<Pair>, NoMemory>
     Ok(List::from_vec(props))
 }
 
-/// Tells whether no two properties have the same key. Setting them in turn then leaves them as they
-/// are.
+/// Tells whether no two properties have the same key. Setting them in turn then leaves them as they are.
 fn have_own_keys(pairs: &[Pair]) -> bool
     ensures { IsTrue result → with_props [] pairs.now ≡ pairs.now }
 {

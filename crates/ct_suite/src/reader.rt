@@ -285,8 +285,7 @@ impl Reader {
         Ok(())
     }
 
-    /// Reads a run of an unquoted argument: each of its bytes belongs to an entry wherever it
-    /// stands.
+    /// Reads a run of an unquoted argument: each of its bytes belongs to an entry wherever it stands.
     fn take_run(&mut self, limits: &ValueLimits, run: &[u8]) -> Result<(), ValueFault>
         requires some { 0 < length run.now }
         requires inner { list_all is_inner run.now ≡ true }

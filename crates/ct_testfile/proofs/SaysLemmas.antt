@@ -1,5 +1,5 @@
--- A step after another one: what it returns if the first step returned a value, and if the first step
--- stopped.
+-- A step after another one:
+-- what it returns if the first step returned a value, and if the first step stopped.
 use Rattle.std.proofs.Common.{◌≡◌, Result, Ok, Err, ap, subst, sym}
 use Rattle.ct_testfile.specs.Outcome.{◌>>=◌}
 use Rattle.ct_testfile.specs.Says.{Follows}

@@ -73,7 +73,8 @@ add_test limits dir (name ∷ command) state =
     else (taken limits (length dir) state >>= λ next. Ok (record next { tests = next.tests ++ new_test dir name command ∷ [] })))
 
 -- set_tests_properties(name .. PROPERTIES key value ..):
--- each test with one of the names takes the properties, and the bytes of each value count for each test
+-- each test with one of the names takes the properties;
+-- the bytes of a value count once for each of these tests
 abbrev pub set_tests_properties : Limits → List (List ℕ) → State → Result State ReadKind
 set_tests_properties limits values state =
     or_refused (names_and_pairs values) BadCall >>= λ read.
@@ -81,7 +82,7 @@ set_tests_properties limits values state =
     Ok (record next { tests = each_where (has_name_of read.0) (taking_props read.1) next.tests })
 
 -- set_directory_properties(PROPERTIES key value ..):
--- each test of the folder takes the labels, and the bytes of each value of LABELS count for each test
+-- each test of the folder takes the labels; the bytes of a value of LABELS count once for each of these tests
 abbrev pub set_directory_properties : Limits → List ℕ → List (List ℕ) → State → Result State ReadKind
 set_directory_properties limits dir values state =
     or_refused (pairs_behind values) BadCall >>= λ pairs.

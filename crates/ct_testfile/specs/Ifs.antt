@@ -35,7 +35,7 @@ is_taken ElseTaken = true
 is_taken ElseOver = false
 is_taken Idle = false
 
--- commands are carried out here: no `if` is open, or those of the innermost open `if` are carried out
+-- commands are carried out here: no `if` is open, or the branch of the innermost open `if` is carried out
 abbrev pub is_live : List OpenIf → Bool
 is_live [] = true
 is_live (inner ∷ outer) = is_taken inner.branch

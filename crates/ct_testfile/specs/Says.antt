@@ -27,7 +27,7 @@ Follows (Ok x) says = says ≡ Ok x
 Follows (Err (stop.Refused kind)) says = says ≡ Err kind
 Follows (Err stop.NoMemory) says = ⊤
 
--- why a command is not carried out whose arguments gave no values
+-- why a command is not carried out, if its arguments gave no values
 abbrev pub stop_for : ValueFault → Stop
 stop_for Values.TooLong = stop.Refused TooLong
 stop_for Values.NoMemory = stop.NoMemory
@@ -92,8 +92,8 @@ pub record Over {A : Type 0} (before now : FilesTell) (says : Held → Result A 
   pub kept : (held : Held) → TellsHeld held before.held → TellsHeld held now.held
   pub cause : HasFilesCause before now result
 
--- a call for a command of an open file: it returns what `says` says, within the limits and in the folder of
--- that file;
+-- a call for a command of an open file:
+-- it returns what `says` says, within the limits and in the folder of that file;
 -- a refusal is on the line of the command
 abbrev pub OverCall : {A : Type 0} → FilesTell → FilesTell → OpenFile → Call → (Limits → Held → List ℕ → Result A ReadKind) → Result A ReadFault → Type 0
 OverCall before now here call says result = Over before now (λ held. on_line here.file.now.path call.line (says here.limits.now held here.file.now.dir)) result

@@ -1,5 +1,6 @@
 -- What a tree of test files defines, or its first refusal in reading order.
--- Source: CMake manual, ctest(1), subdirs and include. The limits and the order of the refusals are this project's own.
+-- Source: CMake manual, ctest(1), subdirs and include.
+-- The limits and the order of the refusals are this project's own.
 use Rattle.std.specs.Prelude.{ℕ, zero, suc, false, nat_lt, codes, List, [], ◌∷◌, length, Option, Some, None, Result, Ok, Err, if◌then◌else◌}
 use Rattle.ct_base.specs.Outside.{Held}
 use Rattle.ct_base.specs.declared.defs.TestDef.{TestDef}
@@ -71,15 +72,15 @@ carried read limits held file ifs state [] ending = ended file.path ifs state en
 carried read limits held file ifs state (call ∷ calls) ending =
     behind_call read limits held file ifs state call >>= λ next. carried read limits held file next.0 next.1 calls ending
 
--- the state with the bytes of a text counted that is read as a file; TooLong if this file, or all files, are
--- too long
+-- the state with the bytes of a text counted that is read as a file;
+-- TooLong if this file, or all files, are too long
 abbrev pub admitted : Limits → List ℕ → State → Result State ReadKind
 admitted limits text state =
     if nat_lt limits.file_bytes (length text) then Err TooLong
     else (or_refused (raised limits.all_file_bytes state.file_bytes (length text)) TooLong >>= λ n. Ok (record state { file_bytes = n }))
 
--- The state behind a text that is read as a file. At most so many files may be open, this one and those
--- inside it.
+-- The state behind a text that is read as a file.
+-- At most so many files may be open, this one and those inside it.
 -- If no file may be open, the command that would open it is refused.
 unfoldable pub nested : Limits → Held → ℕ → FileReading
 nested limits held zero site line file state text = Err (At site line TooDeep)

@@ -22,8 +22,7 @@ pub(crate) struct Opening {
 /// What a command opens once it has done all else; nothing if there is no name.
 #[derive(Debug, Drop)]
 pub(crate) struct Opens {
-    /// Whether the names are those of files, which have to be there. If not, they are those of
-    /// folders.
+    /// Whether the names are those of files, which have to be there. If not, they are those of folders.
     pub(crate) required: bool,
     pub(crate) names: List<Name>,
 }

@@ -81,7 +81,7 @@ fn opening_nothing(alloc: Global, done: Result<State, Stop>) -> Result<(State, O
 
 /// Defines a test of this folder.
 ///
-/// Source: CMake manual, add_test. That a name may not be empty nor have a line feed is this project's choice.
+/// Source: CMake manual, add_test. This project's choice: a name is not empty and has no line feed.
 fn add_test(
     alloc: Global,
     limits: &Limits,
@@ -110,7 +110,7 @@ fn add_test(
     })
 }
 
-/// Tells whether no test can have this name and command.
+/// Tells whether a test may not have this name and command.
 fn is_bad_test(name: &[u8], command: &List<Name>) -> bool
     ensures { result ≡ (length command.now == 0 || is_bad_name name.now) }
 {
@@ -145,7 +145,8 @@ fn has_feed(name: &[u8]) -> bool
 
 /// Sets properties of all tests so far that have one of these names.
 ///
-/// Source: CMake manual, set_tests_properties. That a name which no test has is passed over is this project's choice.
+/// Source: CMake manual, set_tests_properties. This project's choice: a name that no test has is
+/// passed over.
 fn set_tests_properties(
     alloc: Global,
     limits: &Limits,
@@ -170,7 +171,8 @@ fn set_tests_properties(
 
 /// Adds labels to all tests so far of this folder.
 ///
-/// Source: CMake manual, set_directory_properties. That LABELS alone has an effect is this project's choice.
+/// Source: CMake manual, set_directory_properties. This project's choice: LABELS alone has an
+/// effect.
 fn set_directory_properties(
     alloc: Global,
     limits: &Limits,
@@ -196,7 +198,7 @@ fn set_directory_properties(
 
 /// Sets a variable, or removes its value if the name stands alone.
 ///
-/// Source: CMake manual, set and unset. That all files share one table is this project's choice.
+/// Source: CMake manual, set and unset. This project's choice: all files share one table.
 fn set(alloc: Global, values: List<Name>, state: State) -> Result<State, Stop>
     ensures { Follows result (set values state) }
 {

@@ -107,8 +107,7 @@ fn behind_if<F: Files>(
     }
 }
 
-/// Begins a later branch of the innermost `if`. Its condition is evaluated if no branch was taken
-/// yet.
+/// Begins a later branch of the innermost `if`. Its condition is evaluated if no branch was taken yet.
 ///
 /// Source: CMake manual, elseif.
 fn do_elseif<F: Files>(

@@ -24,8 +24,8 @@ has_skip_code (Some skip) code = int_eq skip code
 abbrev pub is_skipped_exit : Rules → Seen → ℤ → Bool
 is_skipped_exit rules seen code = has_skip_code rules.skip_code code || seen.skip_hit
 
--- an exit is good: no fail pattern hits; and a pass pattern hits or, where the test has none, the exit code
--- is 0
+-- an exit is good: no fail pattern hits;
+-- and a pass pattern hits or, where the test has none, the exit code is 0
 abbrev pub is_good_exit : Rules → Seen → ℤ → Bool
 is_good_exit rules seen code = not seen.fail_hit && (if rules.pass_wanted then seen.pass_hit else int_eq code (pos 0))
 
