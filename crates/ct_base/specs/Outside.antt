@@ -59,8 +59,8 @@ pub record FilesTell : Type 0 where
   pub refused : Option (Option (List ℕ))
   pub faults : ℕ
 
--- every call on files: if it failed, its path is the refused path, where that is told, and the count rose;
--- if it did not fail, both stay
+-- every call on files: on Failed, its path is the refused path, where that is told, and the count rose;
+-- on any other answer both stay
 pub record Asks {T : Type 0} (path : List ℕ) (before now : FilesTell) (result : Result T FilesFault) : Type 0 where
   pub refused : IsErrOf result Files.Failed → IfSome now.refused (λ last. last ≡ Some path)
   pub unrefused : (IsErrOf result Files.Failed → ⊥) → now.refused ≡ before.refused

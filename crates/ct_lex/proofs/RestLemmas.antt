@@ -147,7 +147,7 @@ start-is (suc fuel) behind line (byte ∷ rest) found fits e = by_gap (gap_at (b
         by_word g behind (not behind && begins_word byte) refl refl (sym here ∙ e)
     by_gap (Ok (suc k)) g again = start-gap (gap-is byte rest (suc k) g) behind line found (omega arith) g e again
 
--- what comes next at a place; first: nothing comes next where no command begins
+-- what comes next at a place; first: where nothing comes next, no command begins
 next-none : (place : Place) → next_of place ≡ Ok None → start_from place.behind 0 place.rest ≡ Ok None
 next-none place e = by_start (start_from place.behind 0 place.rest) refl e
   where
@@ -254,7 +254,7 @@ gap-shift front back line behind after calls some gap goes read =
     reads-shift (record { rest = back; line = line + feeds front; behind = after }) (record { rest = front ++ back; line = line; behind = behind }) calls
     (λ x e. ap (λ r. next_by (record { rest = front ++ back; line = line; behind = behind }) r) step ∙ shift-next front back line behind after (start_from after 0 back) x e) read
 
--- a byte that begins a command begins no gap
+-- a byte that begins a command begins no gap, so the command begins there
 start-name : (byte : ℕ) (rest : List ℕ) → begins_word byte ≡ true → start_from false 0 (byte ∷ rest) ≡ Ok (Some 0)
 start-name byte rest begins =
     rw (is-other begins_word byte 32 begins refl, is-other begins_word byte 9 begins refl, is-other begins_word byte 13 begins refl, is-other begins_word byte 10 begins refl, is-other begins_word byte 35 begins refl, begins) refl

@@ -27,7 +27,7 @@ with_bytes-join byte (next ∷ bytes) [] = refl
 with_bytes-join byte (next ∷ bytes) (Bytes more ∷ parts) = refl
 with_bytes-join byte (next ∷ bytes) (Ref name ∷ parts) = refl
 
--- putting bytes in front of parts in two pieces is putting them there in one
+-- putting bytes in front of parts at once, or in two pieces, is the same
 pub bytes_joined : (front back : List ℕ) (parts : List Part) → with_bytes (front ++ back) parts ≡ with_bytes front (with_bytes back parts)
 bytes_joined [] back parts = refl
 bytes_joined (byte ∷ front) back parts =

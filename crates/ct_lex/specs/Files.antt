@@ -22,7 +22,7 @@ ReadsFiles text = (calls : List Call) → Reads text calls ↔ IsFile text calls
 
 -- What an answer of `next` means in terms of the grammar, by cases:
 -- a command stands in front of what stands from the new place on; None: no command is left;
--- a refusal: the text from the old place on is no list of commands; want of memory: nothing.
+-- a refusal: the text from the old place on is no list of commands; NoMemory says nothing.
 abbrev pub WritesOn : Place → Result (Option Call) LexFault → Place → Type 0
 WritesOn old (Ok (Some call)) new = (calls : List Call) → IsRestFrom old (call ∷ calls) ↔ IsRestFrom new calls
 WritesOn old (Ok None) new = IsRestFrom old []

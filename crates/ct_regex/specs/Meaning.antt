@@ -13,7 +13,7 @@ use Rattle.ct_regex.specs.declared.tree.Node.{Node}
 use Rattle.ct_regex.specs.declared.tree.Node.TheOpen.{Node-F}
 use Rattle.ct_regex.specs.declared.tree.Node.TheFolds.{fold-Node}
 
--- the test that a test of the code stands for
+-- the test that a `ByteTest` of the code stands for
 abbrev pub byte_test : ByteTest → Test
 byte_test Any = any
 byte_test (Same byte) = same byte
@@ -33,7 +33,7 @@ node_meaning (Node-F.Repeat quantifier inner) = repeat quantifier inner.value
 abbrev pub meaning : Node → Tree
 meaning = fold-Node Tree node_meaning
 
--- the sign that a sign of the code stands for, at a place
+-- the sign that a `Sign` of the code stands for, at a place
 abbrev pub sign_of : ℕ → sign_type.Sign → Sign
 sign_of place (sign_type.TheVariants.Atom node) = atom (meaning node)
 sign_of place sign_type.TheVariants.Opens = opens place
@@ -41,7 +41,7 @@ sign_of place sign_type.TheVariants.Closes = closes place
 sign_of place sign_type.TheVariants.Bar = bar
 sign_of place (sign_type.TheVariants.Often quantifier) = often quantifier place
 
--- the last part that a last part of the code stands for
+-- the last part that a `Last` of the code stands for
 abbrev pub last_of : last_type.Last → Last
 last_of last_type.TheVariants.Nothing = no_part
 last_of (last_type.TheVariants.Bare node) = bare (meaning node)

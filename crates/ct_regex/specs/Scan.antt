@@ -21,7 +21,7 @@ answer_behind scan bytes = answer (behind_bytes (map step_of scan.steps.items) (
 abbrev pub StandsFor : Tree → List ℕ → Scan → Type 0
 StandsFor tree text scan = (more : List ℕ) → answer_behind scan more ≡ hits tree (text ++ more)
 
--- whatever bytes follow: once the rest of the piece has come too, the scan answers
--- as the scan before answers on the whole piece with the same bytes behind it
+-- whatever bytes follow, `after` answers on the rest of the piece and these bytes
+-- as `before` answers on the whole piece and these bytes
 abbrev pub GoesOn : Scan → List ℕ → List ℕ → Scan → Type 0
 GoesOn before piece rest after = (more : List ℕ) → answer_behind after (rest ++ more) ≡ answer_behind before (piece ++ more)

@@ -21,7 +21,7 @@ pub data Step : Type 0 where
   loop : ℕ → Step
   back : ℕ → Step
 
--- the step that a step of the code stands for
+-- the step that a `Step` of the code stands for
 abbrev pub step_of : step_type.Step → Step
 step_of (step_type.TheVariants.Start at) = at_start at
 step_of step_type.TheVariants.End = at_end

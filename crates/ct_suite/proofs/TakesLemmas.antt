@@ -106,7 +106,7 @@ takes-ended limits old new byte (Err why) ends free counted values empty held st
   stopped = λ rest. subst (λ vs. StopsFor limits vs why) (with-ended old byte rest ends free) (StopsIf-then why (too_long-more limits (with_entry old) (map bare (filter is_entry (with_front [] (parts_of rest))))) stopped);
 }
 
--- the reader stands in the middle of the bytes: a piece more is read, or it stops there
+-- `between` has read the bytes of `whole` up to `behind`, which is still to be read
 abbrev Stands : Reader → Reader → List ℕ → List ℕ → Type 0
 Stands old between whole behind = (rest : List ℕ) → entries_with between (behind ++ rest) ≡ entries_with old (whole ++ rest)
 

@@ -41,8 +41,7 @@ abbrev pub entries_with : Reader → List ℕ → List Value
 entries_with reader rest = reader.values ++ map bare (filter is_entry (with_front reader.text.items (parts_of (held_bytes reader.held ++ rest))))
 
 -- the reader has read these bytes of an unquoted argument;
--- or it stopped, since the values with them are too long
--- or memory was wanting
+-- or it stopped, since the values with them are too long or memory was wanting
 pub record TakesEntries (limits : ValueLimits) (old new : Reader) (piece : List ℕ) (result : Result (Unit {0}) ValueFault) : Type 0 where
   pub counted : OnOk result (IsCounted new)
   pub taken : OnOk result ((rest : List ℕ) → entries_with new rest ≡ entries_with old (piece ++ rest))

@@ -126,7 +126,7 @@ performed limits dir Include values state = included values state
 performed limits dir Set values state = opening_nothing (set values state)
 performed limits dir Unknown values state = Err UnknownCommand
 
--- a command is carried out: it begins, and then does what it does with its values
+-- a command is carried out: it begins, and then acts on the texts of its values
 abbrev pub carried_out : Limits → List ℕ → Command → List Arg → State → Result (State × Opens) ReadKind
 carried_out limits dir command args state =
     begun limits args state >>= λ read. performed limits dir command (texts read.0) read.1

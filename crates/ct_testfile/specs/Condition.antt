@@ -20,8 +20,7 @@ abbrev pub is_bare_word : List ℕ → Value → Bool
 is_bare_word word value = value.unquoted && bytes_eq value.text word
 
 -- the text in front of MATCHES: the value of the variable that it names,
--- if it is unquoted and the variable is set;
--- else the text itself
+-- if it is unquoted and the variable is set; else the text itself
 abbrev pub subject : List Variable → Value → List ℕ
 subject variables value = if value.unquoted then unwrap_or (value_of variables value.text) value.text else value.text
 

@@ -72,8 +72,8 @@ carried read limits held file ifs state [] ending = ended file.path ifs state en
 carried read limits held file ifs state (call ∷ calls) ending =
     behind_call read limits held file ifs state call >>= λ next. carried read limits held file next.0 next.1 calls ending
 
--- the state with the bytes of a text counted that is read as a file;
--- TooLong if this file, or all files, are too long
+-- the state that also counts the bytes of a text, which is read as a file;
+-- TooLong if this file, or all files together, are too long
 abbrev pub admitted : Limits → List ℕ → State → Result State ReadKind
 admitted limits text state =
     if nat_lt limits.file_bytes (length text) then Err TooLong
