@@ -96,7 +96,7 @@ pairs_behind-short most [] short = tt
 pairs_behind-short most (first ∷ values) short =
     behind_by most (pairs_of values) (is_properties first) (pairs_of-short most values (All-tail (Short most) first values short))
 
--- the first of some short values is short
+-- the first of some short values is short; then: so are the others
 pub first-short : (most : ℕ) (values : List (List ℕ)) (first : List ℕ) (rest : List (List ℕ)) → values ≡ first ∷ rest → AreShort most values → length first ≤ most
 first-short most values first rest is short = All-head (Short most) first rest (All-same (Short most) (first ∷ rest) values (sym is) short)
 
@@ -145,7 +145,7 @@ each_where-short most passes change keeps (test ∷ tests) all =
     let here = All-head (HasShortValues most) test tests all in
     All-cons (HasShortValues most) (cond (passes test) (change test) test) (each_where passes change tests) (chosen-short most (change test) test (passes test) (keeps test here) here) (each_where-short most passes change keeps tests (All-tail (HasShortValues most) test tests all))
 
--- tests keep short values with one more test that has short values
+-- tests keep short values with one more test that has short values; then: so do the same tests
 pub tests-pushed : (most : ℕ) (tests now : List TestDef) (test : TestDef) → now ≡ tests ++ test ∷ [] → All (HasShortValues most) tests → HasShortValues most test → All (HasShortValues most) now
 tests-pushed most tests now test is all here = All-same (HasShortValues most) now (tests ++ test ∷ []) is (All-push (HasShortValues most) tests test all here)
 

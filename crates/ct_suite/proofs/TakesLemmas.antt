@@ -56,7 +56,8 @@ releases-joined limits old new result values counted held free joined stopped =
       stopped = IfErr-weaker result (StopsIf (Long limits (old.text.items ++ piece))) (λ why. (rest : List ℕ) → is_ended rest ≡ false → StopsFor limits (entries_with old rest) why) (λ why long rest apart. StopsIf-then why (joined-long limits old.values old.text.items piece (parts_of (held_bytes old.held ++ rest)) (parts_of (held_bytes new.held ++ rest)) (same rest apart)) long) stopped;
     }
 
--- with no backslash held back, a byte that is no semicolon and no backslash belongs to the entry
+-- with no backslash held back, a byte that is no semicolon and no backslash belongs to the entry;
+-- then: so does a semicolon behind a backslash that was held back
 pub other-same : (byte : ℕ) (held : Bool) → held ≡ false → (byte == semicolon) ≡ false → (byte == backslash) ≡ false → (rest : List ℕ) → parts_of (held_bytes held ++ (byte ∷ rest)) ≡ with_front (byte ∷ []) (parts_of (held_bytes held ++ rest))
 other-same byte held free other plain rest =
     ap (λ h. parts_of (held_bytes h ++ (byte ∷ rest))) free

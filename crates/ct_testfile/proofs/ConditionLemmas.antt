@@ -39,7 +39,7 @@ pub is_live-none : (ifs : List OpenIf) → length ifs ≤ 0 → is_live ifs ≡ 
 is_live-none [] none = refl
 is_live-none (first ∷ ifs) none = absurd (omega arith)
 
--- values that are not two are no `EXISTS`
+-- values that are not two are no `EXISTS`, and two are by their first; then the same of three and `MATCHES`
 pub not-exists : (values : List Value) → (length values ≡ 2 → ⊥) → false ≡ is_exists values
 not-exists [] other = refl
 not-exists (word ∷ []) other = refl

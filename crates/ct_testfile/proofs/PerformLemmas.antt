@@ -103,7 +103,7 @@ module _ (limits : Limits) (dir name : List ℕ) (command values : List (List �
       let add : State → Result State ReadKind = λ n. Ok (record n { tests = n.tests ++ new_test dir name command ∷ [] }) in
       room good free ∙ ap (λ t. t >>= add) took ∙ ap Ok (sym made)
 
--- `include` with one value opens the file of that name
+-- `include` with one value opens the file of that name; then: with more values it is refused
 pub included-one : (values rest : List (List ℕ)) (name : List ℕ) (state : State) (opens : Opens) → values ≡ name ∷ rest → rest ≡ [] → opens ≡ files (name ∷ []) → included values state ≡ Ok (state, opens)
 included-one values rest name state opens is none opened =
     let done : Opens → Result (State × Opens) ReadKind = λ o. Ok (state, o) in

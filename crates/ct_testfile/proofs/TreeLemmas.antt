@@ -33,7 +33,7 @@ abbrev pub admitted-when : Limits → List ℕ → State → Bool → Result Sta
 admitted-when limits text state long =
     cond long (Err TooLong) (or_refused (raised limits.all_file_bytes state.file_bytes (length text)) TooLong >>= λ n. Ok (record state { file_bytes = n }))
 
--- a text that is too long is refused
+-- a text that is too long is refused; then: one that is not goes on to be counted
 pub admitted-long : (limits : Limits) (text : List ℕ) (state : State) → limits.file_bytes < length text → admitted limits text state ≡ Err TooLong
 admitted-long limits text state long =
     let test : nat_lt limits.file_bytes (length text) ≡ true = (Decides-ltb limits.file_bytes (length text)).1 long in
