@@ -39,7 +39,8 @@ pub is_live-none : (ifs : List OpenIf) → length ifs ≤ 0 → is_live ifs ≡ 
 is_live-none [] none = refl
 is_live-none (first ∷ ifs) none = absurd (omega arith)
 
--- values that are not two are no `EXISTS`, and two are by their first; then the same of three and `MATCHES`
+-- values that are not two are no `EXISTS`, and the first of two decides;
+-- then: values that are not three are no `MATCHES`, and the second of three decides
 pub not-exists : (values : List Value) → (length values ≡ 2 → ⊥) → false ≡ is_exists values
 not-exists [] other = refl
 not-exists (word ∷ []) other = refl
