@@ -15,7 +15,7 @@ use Rattle.ct_props.specs.Numbered.{is_in}
 use Rattle.ct_graph.specs.Found.{AreMarked, AreFound, bytes_of, names_cmp, KnowsIn}
 use Rattle.ct_graph.proofs.NameLemmas.{or_same}
 
--- nothing is marked among new marks
+-- new marks are false
 none_new : (count at : ℕ) → get_or (replicate count false) at false ≡ false
 none_new count at =
     ⊎_elim (λ within. get_or-replicate count at false false within)
@@ -45,7 +45,7 @@ found_before marks tests test are is n = by (eqb test n) refl
         here ∙ sym (or_right (is_in tests n) true refl)
     by false other = or_same (is_in tests n)
 
--- one test more
+-- what is in a list with one more test
 pub is_in-push : (tests : List ℕ) (test n : ℕ) → is_in (tests ++ test ∷ []) n ≡ (is_in tests n || eqb test n)
 is_in-push tests test n = list_any-append (λ m. eqb m n) tests (test ∷ []) ∙ ap (λ b. is_in tests n || b) (sym (or_same (eqb test n)))
 
@@ -65,7 +65,7 @@ pub first_within : (marks : List Bool) (tests : List ℕ) (at d : ℕ) → at < 
 first_within marks tests at d inside are =
     All-head (λ n. n < length marks) (get_or tests at d) (drop (at + 1) tests) (subst (AreMarked marks) (drop_more tests at d inside) are).within
 
--- one mark less
+-- where the mark of the first test is cleared, the rest of the tests are marked
 unmarks_first : (marks : List Bool) (test : ℕ) (rest : List ℕ) → AreMarked marks (test ∷ rest) → AreMarked (set marks test false) rest
 unmarks_first marks test rest are = record {
   within = subst (λ count. All (λ n. n < count) rest) (sym (length-set marks test false)) (All-tail (λ n. n < length marks) test rest are.within);
@@ -106,18 +106,18 @@ same_names (n ∷ ns) (o ∷ os) is =
     ap (λ name. name ∷ bytes_of ns) ((bytes_eq-Decides n.now o.now).0 (sym (is_eq-slice_cmp n.now o.now) ∙ both.0))
     ∙ ap (λ rest. o.now ∷ rest) (same_names ns os both.1)
 
--- nothing is known
+-- an empty map knows of no list
 pub knows_none : {Y : Type 0} (find : List ℕ → List ℕ) (entries : List (Vec (Bor (List ℕ)) Y × List ℕ)) → entries ≡ [] → KnowsIn find entries
 knows_none {Y} find entries none = λ names tests is.
     absurd (true≢false (sym (ap is_some is) ∙ ap (λ es. is_some (lookup (λ (key : Vec (Bor (List ℕ)) Y). is_eq (names_cmp names.items key.items)) es)) none))
 
--- what is looked up is what the names find
+-- the tests that are known for a list of names are those that the names find
 pub known_found : {Y : Type 0} (names : Vec (Bor (List ℕ)) Y) (entries : List (Vec (Bor (List ℕ)) Y × List ℕ)) (result : Option (Bor (List ℕ))) → option_copied result ≡ lookup (λ (key : Vec (Bor (List ℕ)) Y). is_eq (names_cmp names.items key.items)) entries
     → IfSome result (λ tests. (find : List ℕ → List ℕ) → KnowsIn find entries → AreFound find (bytes_of names.items) tests.now)
 known_found names entries None value = tt
 known_found names entries (Some tests) value = λ find knows. knows names tests.now (sym value)
 
--- one list of names more
+-- a map with one more list of names still keeps the tests that the names find
 pub knows_more : {Y : Type 0} (find : List ℕ → List ℕ) (names : Vec (Bor (List ℕ)) Y) (tests : List ℕ) (before now : BTreeMap (Vec (Bor (List ℕ)) Y) (List ℕ)) → KnowsIn find before.entries → AreFound find (bytes_of names.items) tests
     → UpdatesBy (λ (x y : Vec (Bor (List ℕ)) Y). names_cmp x.items y.items) (λ (key : Vec (Bor (List ℕ)) Y). names_cmp names.items key.items) before now (Some tests) → KnowsIn find now.entries
 knows_more {Y} find names tests before now was are updates = λ others found is. by others found is (is_eq (names_cmp names.items others.items)) refl

@@ -17,7 +17,7 @@ use Rattle.ct_graph.specs.declared.index.Index.{Index}
 use Rattle.ct_graph.proofs.TestLemmas.{is_in-filter, same_increasing, all_in}
 use Rattle.ct_graph.proofs.NameLemmas.{bytes_eq_comm}
 
--- one number more, which has what another one has
+-- whether the number that was just added has what is asked
 more_here : (a o : Bool) → ((a && o) || (o && true)) ≡ ((a || true) && o)
 more_here true true = refl
 more_here true false = refl
@@ -31,7 +31,7 @@ more_there true false false = refl
 more_there false o true = refl
 more_there false o false = refl
 
--- a kind of name is indexed for one member more
+-- the tests of one kind of name, with one more member indexed
 pub one_more : (members : List ℕ) (at d : ℕ) → at < length members → (has : ℕ → Bool) (before now : ℕ → Bool) → ((n : ℕ) → before n ≡ (is_in (take at members) n && has n)) → ((n : ℕ) → now n ≡ (before n || (has (get_or members at d) && eqb (get_or members at d) n))) → (n : ℕ) → now n ≡ (is_in (take (at + 1) members) n && has n)
 one_more members at d within has before now old new n =
     new n
@@ -57,7 +57,7 @@ indexes_more defs props members at d within names setups users names' setups' us
   by_user = λ fixture. one_more members at d within (λ n. has_required fixture (at_number props n)) (λ n. is_in (users fixture) n) (λ n. is_in (users' fixture) n) (index.by_user fixture) (by_user fixture);
 }
 
--- what all names of a list are found with comes out in front
+-- the common part of two conjunctions comes out in front
 both_or : (m a b : Bool) → ((m && a) || (m && b)) ≡ (m && (a || b))
 both_or true a b = refl
 both_or false a b = refl
@@ -83,7 +83,7 @@ module _ (defs : List TestDef) (props : List Props) (members : List ℕ) (names 
   found_users : (fixtures : List (List ℕ)) → is_found_in users fixtures n ≡ (is_in members n && list_any (λ fixture. has_required fixture (at_number props n)) fixtures)
   found_users fixtures = in_front (is_in members n) (λ fixture. is_in (users fixture) n) (λ fixture. has_required fixture (at_number props n)) (λ fixture. index.by_user fixture n) fixtures
 
--- a test that is there has these names
+-- whether a test has one of these names, by its own name
 named : (depends : List (List ℕ)) (def : TestDef) (earlier : Props) → list_any (λ name. has_name name (Some def) (Some earlier)) depends ≡ (not earlier.disabled && is_among def.name depends)
 named depends def earlier =
     in_front (not earlier.disabled) (λ name. has_name name (Some def) (Some earlier)) (λ name. bytes_eq def.name name)
@@ -126,7 +126,7 @@ no_way : (e r : Bool) → ((e && false) && r) ≡ false
 no_way true r = refl
 no_way false r = refl
 
--- four kinds of tests, each with a test of its own
+-- a member that one of four kinds of names finds
 abbrev any_of : Bool → Bool → Bool → Bool → Bool → Bool
 any_of m a b c d = (((m && a) || (m && b)) || (m && c)) || (m && d)
 
@@ -209,7 +209,7 @@ module _ (defs : List TestDef) (props : List Props) (members : List ℕ) (names 
           ∙ ap (λ on. (on && shares_name later.required earlier.0.setup) && true) (and_true (not earlier.0.disabled) ∙ ap (λ off. not earlier.0.disabled && not off) (sym enabled))))
       by false is = and_false (sets_up (at_number props n) (at_number props number))
 
-  -- nothing sets a test up that is disabled
+  -- no test sets up a test that is disabled
   pub no_setup : later.disabled ≡ true → (n : ℕ) → false ≡ (sets_up (at_number props n) (at_number props number) && is_in members n)
   no_setup off n = by (is_in members n) refl
     where
@@ -221,7 +221,7 @@ module _ (defs : List TestDef) (props : List Props) (members : List ℕ) (names 
           (ap (λ b. b && true) (sym (ap (λ d. (not earlier.0.disabled && not d) && shares_name later.required earlier.0.setup) off ∙ no_way (not earlier.0.disabled) (shares_name later.required earlier.0.setup)))))
       by false is = and_false (sets_up (at_number props n) (at_number props number))
 
-  -- tests in order that come before are all that do
+  -- tests in order that are exactly those that come before are `before_of`
   pub same_before : (tests : List ℕ) → IsStrictlyIncreasing tests → ((n : ℕ) → is_in tests n ≡ (comes_before (at_number defs n) (at_number props n) (at_number props number) && is_in members n)) → tests ≡ before_of defs props members number
   same_before tests up are =
       same_increasing tests (before_of defs props members number) up
@@ -234,11 +234,11 @@ module _ (defs : List TestDef) (props : List Props) (members : List ℕ) (names 
       (IsStrictlyIncreasing-filter (λ j. sets_up (at_number props j) (at_number props number)) members ascending)
       (λ n. are n ∙ sym (is_in-filter (λ j. sets_up (at_number props j) (at_number props number)) members n))
 
-  -- nothing is in order
+  -- the empty list is in order
   nothing_up : IsStrictlyIncreasing []
   nothing_up place less = absurd (let none : place + 1 < 0 = less in omega arith)
 
-  -- what is found in order for a test is what comes before it, and what sets it up
+  -- what is found in order for a test are the tests that come before it
   pub row_before : (tests : List ℕ) → later.disabled ≡ false → IsStrictlyIncreasing tests → FindsBefore names setups users later [] tests → tests ≡ before_of defs props members number
   row_before tests enabled up finds = same_before tests up (is_before tests enabled finds)
 

@@ -13,7 +13,7 @@ use Rattle.ct_props.specs.Numbered.{is_in}
 use Rattle.ct_graph.specs.ByName.{or_none, tests_at}
 use Rattle.ct_graph.proofs.TestLemmas.{same_truth}
 
--- names are the same either way round
+-- the comparison of two names is symmetric
 pub bytes_eq_comm : (name other : List ℕ) → bytes_eq name other ≡ bytes_eq other name
 bytes_eq_comm name other =
     same_truth (bytes_eq name other) (bytes_eq other name)
@@ -61,7 +61,7 @@ dedup_any same p alike k [] = refl
 dedup_any same p alike k (x ∷ xs) =
     dedup_by same p k x xs (alike x k) (dedup_any same p alike k xs) (dedup_any same p alike x xs) (same x k) refl
 
--- a test that treats what is the same alike finds as much once repeats are gone
+-- without repeats, some element passes a test exactly where one did, if the test treats equal elements alike
 pub list_any-dedup : {X : Type 0} (same : X → X → Bool) (p : X → Bool) → ((x y : X) → same x y ≡ true → p x ≡ p y) → (xs : List X) → list_any p (dedup same xs) ≡ list_any p xs
 list_any-dedup same p alike [] = refl
 list_any-dedup same p alike (x ∷ xs) = dedup_any same p alike x xs

@@ -193,7 +193,7 @@ ends_order most defs props tests members rows (Cycle cycle) few are ends =
 ends_order most defs props tests members rows TooManyEdges few are ends = absurd ends
 ends_order most defs props tests members rows NoMemory few are ends = tt
 
--- too many edges, or want of memory
+-- where no rows are made, the answer is too many edges or want of memory
 pub ends_rows : (most : ℕ) (index : Index) (fault : GraphFault) → EndsRows most index fault → IsAnswer most index.defs.now index.props.now index.members.now (Err fault)
 ends_rows most index (Cycle cycle) ends = absurd ends
 ends_rows most index TooManyEdges ends = ends

@@ -64,7 +64,7 @@ pub members_within : (before : ℕ → List ℕ) (tests : ℕ) (members : List �
 members_within before tests members rows inside are =
     All-weaker (λ j. (0 < j) × (j ≤ tests)) (λ j. j < length rows) (λ j both. let few : j ≤ tests = both.1 in let long : length rows ≡ tests + 1 = are.count in omega arith) members inside
 
--- what stands in a row comes before the test, and that is a member
+-- each test in the row of a test comes before that test
 pub in_row : (before : ℕ → List ℕ) (tests : ℕ) (members : List ℕ) (rows : List (List ℕ)) → AreRows before tests members rows → (i j : ℕ) → is_in (row_of rows i) j ≡ true → is_in (before i) j ≡ true
 in_row before tests members rows are i j is = by (is_in members i) (sym (ap (λ row. is_in row j) (are.rows_are i)) ∙ is)
   where

@@ -1,4 +1,4 @@
--- Lists of numbers of tests: what is in them, and that two of them which ascend and have the same numbers are one.
+-- Lists of numbers of tests: what is in them, and that two ascending lists with the same numbers are equal.
 use Rattle.std.proofs.Common.{ℕ, ◌≡◌, ◌<◌, Bool, true, false, ◌&&◌, List, [], ◌∷◌, length, take, get_or, filter, All, refl, sym, ap, ◌∙◌, subst, ⊎_elim, arith, eqb, ◌⊎◌}
 use Rattle.std.specs.List.{list_all, AllByRecursion}
 use Rattle.std.specs.List.Sorted.{IsStrictlySortedBy, IsStrictlyIncreasing}
@@ -14,13 +14,13 @@ use Rattle.std.proofs.lemmas.Map.Views.{any-filter_same}
 use Rattle.std.proofs.lemmas.Map.Keys.{sorted_from_strictly_increasing, sorted_head, sorted_tail}
 use Rattle.ct_props.specs.Numbered.{is_in}
 
--- two truths that follow from each other are one
+-- two truth values that follow from each other are equal
 pub same_truth : (b c : Bool) → (b ≡ true → c ≡ true) → (c ≡ true → b ≡ true) → b ≡ c
 same_truth true c to from = sym (to refl)
 same_truth false true to from = from refl
 same_truth false false to from = refl
 
--- what passes a test passes a weaker one
+-- where all elements pass a test, all pass a weaker one
 pub list_all-weaker : {X : Type 0} (p q : X → Bool) → ((x : X) → p x ≡ true → q x ≡ true) → (xs : List X) → list_all p xs ≡ true → list_all q xs ≡ true
 list_all-weaker p q more [] all = refl
 list_all-weaker p q more (x ∷ xs) all =
@@ -39,7 +39,7 @@ is_in-filter p numbers n = any-filter_same (λ m. eqb m n) p (p n) (λ m same. a
 less_from_cmp : (x y : ℕ) → nat_cmp x y ≡ Less → x < y
 less_from_cmp x y less = grind (arith, nat_tests)
 
--- each number of a list that is above another one
+-- each number behind the first of an ascending list is above it
 above_all : (x : ℕ) (xs : List ℕ) → AllByRecursion (λ y. nat_cmp x y ≡ Less) xs → (n : ℕ) → is_in xs n ≡ true → x < n
 above_all x [] all n is = absurd (false≢true is)
 above_all x (y ∷ ys) all n is =
@@ -51,7 +51,7 @@ above_all x (y ∷ ys) all n is =
 pub has_first : (x : ℕ) (xs : List ℕ) → is_in (x ∷ xs) x ≡ true
 has_first x xs = or_left (eqb x x) (is_in xs x) (eq-eqb x x refl)
 
--- the first numbers of two lists that ascend and have the same numbers are one
+-- two ascending lists with the same numbers have the same first number
 same_first : (x : ℕ) (xs : List ℕ) (y : ℕ) (ys : List ℕ) → IsStrictlySortedBy nat_cmp (x ∷ xs) → IsStrictlySortedBy nat_cmp (y ∷ ys) → ((n : ℕ) → is_in (x ∷ xs) n ≡ is_in (y ∷ ys) n) → x ≡ y
 same_first x xs y ys up ups same =
     let x_there = or_cases (eqb y x) (is_in ys x) (sym (same x) ∙ has_first x xs) in
@@ -69,7 +69,7 @@ same_first x xs y ys up ups same =
 other_than : (x n : ℕ) (b : Bool) → x < n → (eqb x n ≡ true) ⊎ (b ≡ true) → b ≡ true
 other_than x n b less either = ⊎_elim (λ same. absurd (let e : x ≡ n = eqb-true x n same in omega arith)) (λ is. is) either
 
--- behind the same first number they have the same numbers
+-- behind the same first number, two ascending lists have the same numbers
 same_rest : (x : ℕ) (xs ys : List ℕ) → IsStrictlySortedBy nat_cmp (x ∷ xs) → IsStrictlySortedBy nat_cmp (x ∷ ys) → ((n : ℕ) → is_in (x ∷ xs) n ≡ is_in (x ∷ ys) n) → (n : ℕ) → is_in xs n ≡ is_in ys n
 same_rest x xs ys up ups same n =
     same_truth (is_in xs n) (is_in ys n)
@@ -87,7 +87,7 @@ same_sorted (x ∷ xs) (y ∷ ys) up ups same =
     ap (λ rest. x ∷ rest) (same_sorted xs ys (sorted_tail nat_cmp x xs up) (sorted_tail nat_cmp x ys ups_x) (same_rest x xs ys up ups_x same_x))
     ∙ ap (λ f. f ∷ ys) e
 
--- two lists that ascend and have the same numbers are one
+-- two ascending lists with the same numbers are equal
 pub same_increasing : (xs ys : List ℕ) → IsStrictlyIncreasing xs → IsStrictlyIncreasing ys → ((n : ℕ) → is_in xs n ≡ is_in ys n) → xs ≡ ys
 same_increasing xs ys up ups same = same_sorted xs ys (sorted_from_strictly_increasing xs up) (sorted_from_strictly_increasing ys ups) same
 
@@ -97,7 +97,7 @@ all_in numbers P all n is =
     let one = Any-from_list_any (λ m. eqb m n) numbers is in
     subst P (eqb-true one.1 n one.4) (All-contains P numbers one.1 all (one.0, one.2, one.3))
 
--- a test that each number of a list passes
+-- where each number of a list passes a test, all numbers do
 pub list_all-from : (p : ℕ → Bool) (numbers : List ℕ) → ((n : ℕ) → is_in numbers n ≡ true → p n ≡ true) → list_all p numbers ≡ true
 list_all-from p [] each = refl
 list_all-from p (x ∷ xs) each =

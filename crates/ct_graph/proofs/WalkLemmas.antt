@@ -19,7 +19,7 @@ taken_from_below rank Unseen is = absurd (false≢true is)
 taken_from_below rank Open is = absurd (false≢true is)
 taken_from_below rank (Taken other) is = refl
 
--- a test that is taken, with ranks below this one given to all that are
+-- a taken test is taken with a rank below one that is above all given ranks
 below_from_taken : (most : ℕ) (mark : Mark) → ((rank : ℕ) → mark ≡ Taken rank → rank < most) → is_taken mark ≡ true → is_taken_below most mark ≡ true
 below_from_taken most Unseen below is = absurd (false≢true is)
 below_from_taken most Open below is = absurd (false≢true is)
@@ -31,7 +31,7 @@ not_open mark unseen open_mark = true≢false (sym (ap is_unseen unseen) ∙ ap 
 same_rank : (rank other : ℕ) → Taken rank ≡ Taken other → rank ≡ other
 same_rank rank other is = cc
 
--- one test gets a mark, which was not taken before
+-- one test that was not taken gets a mark
 module _ (rows : List (List ℕ)) (marks : List Mark) (test : ℕ) (mark : Mark) (free : is_taken (mark_of marks test) ≡ false) where
   pub kept_if_taken : (j : ℕ) → is_taken (mark_of marks j) ≡ true → mark_of (set marks test mark) j ≡ mark_of marks j
   kept_if_taken j is =
@@ -70,7 +70,7 @@ on_rest : (s : Step) (trail : List Step) (test : ℕ) → (test ≡ s.test → �
 on_rest s trail test other on =
     ⊎_elim (λ is. absurd (other (sym (eqb-true s.test test is)))) (λ is. is) (or_cases (eqb s.test test) (is_on trail test) on)
 
--- how many a mark counts for among those that are unseen
+-- what a mark adds to the count of unseen tests
 abbrev unseen_weight : Bool → ℕ
 unseen_weight b = cond b 1 0
 
@@ -140,7 +140,7 @@ module _ (rows : List (List ℕ)) (marks : List Mark) (s : Step) (trail : List S
         omega arith;
   }
 
-  -- so many tests are taken before it
+  -- fewer tests are taken than there are rows
   pub room_to_take : taken + 1 ≤ length rows
   room_to_take = let old : taken + count_by is_unseen marks + length (s ∷ trail) ≡ length rows = walk.count in omega arith
 
@@ -261,7 +261,7 @@ taken_at_end rows marks taken test walk seen = by (mark_of marks test) refl
     by Open is = absurd (false≢true (walk.on_trail test is))
     by (Taken rank) is = ap is_taken is
 
--- what holds of a walk holds of what is the same
+-- what holds of a walk holds of an equal one
 pub same_walk : (rows : List (List ℕ)) (marks now : List Mark) (trail on : List Step) (taken count : ℕ) → now ≡ marks → on ≡ trail → count ≡ taken → IsWalk rows marks trail taken → IsWalk rows now on count
 same_walk rows marks now trail on taken count same_marks same_trail same_count walk =
     subst (λ ms. IsWalk rows ms on count) (sym same_marks)
@@ -287,12 +287,12 @@ module _ (rows : List (List ℕ)) (marks : List Mark) (s : Step) (trail : List S
   pub next_inside : get_or (row_of rows s.test) at 0 < length marks
   next_inside = subst (λ n. get_or (row_of rows s.test) at 0 < n) (sym walk.marked) (next_within rows s.test at within walk.is_trail.0.within few)
 
-  -- an open one closes a cycle
+  -- where that test is open, it closes a cycle
   pub finds_cycle : mark_of marks (get_or (row_of rows s.test) at 0) ≡ Open → is_cycle (row_of rows) (back_to (get_or (row_of rows s.test) at 0) (s ∷ trail) []) ≡ true
   finds_cycle is =
       closes rows marks (get_or (row_of rows s.test) at 0) s trail [] walk.is_trail (walk.on_trail (get_or (row_of rows s.test) at 0) is) (is_in-get_or (row_of rows s.test) at 0 few)
 
-  -- an unseen one is opened
+  -- where that test is unseen, it is opened
   module _ (looked : are_taken marks (take at (row_of rows s.test)) ≡ true) (untaken : is_taken (mark_of marks (get_or (row_of rows s.test) at 0)) ≡ false) (closed : mark_of marks (get_or (row_of rows s.test) at 0) ≡ Open → ⊥) where
     unseen : mark_of marks (get_or (row_of rows s.test) at 0) ≡ Unseen
     unseen = unseen_from (mark_of marks (get_or (row_of rows s.test) at 0)) untaken closed

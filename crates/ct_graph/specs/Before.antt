@@ -1,5 +1,5 @@
--- Which tests come before a test. Source: CMake manual, cmake-properties(7), DEPENDS, FIXTURES_SETUP, FIXTURES_REQUIRED,
--- FIXTURES_CLEANUP. That a cleanup waits for the setups too is this project's choice.
+-- Which tests come before a test. Source: CMake manual, cmake-properties(7), DEPENDS, FIXTURES_SETUP,
+-- FIXTURES_REQUIRED, FIXTURES_CLEANUP. That a cleanup waits for the setups too is this project's choice.
 use Rattle.std.specs.Prelude.{ℕ, Bool, false, not, ◌&&◌, ◌||◌, List, filter, Option, Some}
 use Rattle.std.specs.List.{list_any}
 use Rattle.ct_base.specs.declared.defs.TestDef.{TestDef}
@@ -26,7 +26,8 @@ cleans_behind earlier later = shares_name later.cleanup earlier.required || shar
 abbrev pub are_enabled : Props → Props → Bool
 are_enabled earlier later = not earlier.disabled && not later.disabled
 
--- a test that is not disabled comes before another: that one depends on its name, requires what it sets up, or cleans behind it
+-- one test comes before another: neither is disabled, and the later one depends on the earlier one's name,
+-- requires a fixture that it sets up, or cleans behind it
 abbrev pub comes_before : Option TestDef → Option Props → Option Props → Bool
 comes_before (Some def) (Some earlier) (Some later) =
     are_enabled earlier later && (depends_on def later || is_set_up_by earlier later || cleans_behind earlier later)

@@ -9,7 +9,7 @@ use Rattle.std.specs.declared.vec.Vec.{Vec}
 use Rattle.ct_props.specs.Numbered.{is_in}
 use Rattle.ct_graph.specs.declared.by_name.ByName.{ByName}
 
--- the numbers, where there are any
+-- the numbers of a vector, or none where there is no vector
 abbrev pub or_none : {Y : Type 0} → Option (Vec ℕ Y) → List ℕ
 or_none None = []
 or_none (Some tests) = tests.items

@@ -1,8 +1,8 @@
--- What a cycle is, of tests that each have some tests before them. Source: this project's choice.
+-- What a cycle is, where each test has some tests before it. Source: this project's choice.
 use Rattle.std.specs.Prelude.{◌≡◌, ℕ, Bool, true, false, ◌&&◌, List, [], ◌∷◌}
 use Rattle.ct_props.specs.Numbered.{is_in}
 
--- each test has the next one before it, and the last one has the first before it
+-- a list of tests that is not empty: each has the next one before it, and the last has `first` before it
 abbrev pub leads_to : (ℕ → List ℕ) → ℕ → List ℕ → Bool
 leads_to before first [] = false
 leads_to before first (last ∷ []) = is_in (before last) first

@@ -26,7 +26,7 @@ pub record IsEmpty (found : Found) : Type 0 where
   pub marked : IsMarked found
   pub none : found.tests.items ≡ []
 
--- these are the tests that the names find, in order
+-- these are the tests that the names find, in order and without repeats
 pub record AreFound (find : List ℕ → List ℕ) (names : List (List ℕ)) (tests : List ℕ) : Type 0 where
   pub ascending : IsStrictlyIncreasing tests
   pub same : (n : ℕ) → is_in tests n ≡ is_found_in find names n
@@ -39,11 +39,11 @@ bytes_of names = map (λ (name : Bor (List ℕ)). name.now) names
 abbrev pub names_cmp : List (Bor (List ℕ)) → List (Bor (List ℕ)) → Ordering
 names_cmp names others = slice_cmp (λ (x y : Bor (List ℕ)). slice_cmp nat_cmp x.now y.now) names others
 
--- what stands in a map with a list of names is what the names find
+-- the tests that a map keeps for a list of names are those that the names find
 abbrev pub KnowsIn : {Y : Type 0} → (List ℕ → List ℕ) → List (Vec (Bor (List ℕ)) Y × List ℕ) → Type 0
 KnowsIn {Y} find entries =
     (names : Vec (Bor (List ℕ)) Y) (tests : List ℕ) → lookup (λ (key : Vec (Bor (List ℕ)) Y). is_eq (names_cmp names.items key.items)) entries ≡ Some tests → AreFound find (bytes_of names.items) tests
 
--- what is known of lists of names is what they find
+-- the tests that are known for a list of names are those that the names find
 abbrev pub Knows : (List ℕ → List ℕ) → Known → Type 0
 Knows find known = KnowsIn find known.tests.entries

@@ -30,7 +30,7 @@ pub record IsIndex (defs : List TestDef) (props : List Props) (members : List �
   pub by_setup : (fixture : List ℕ) (n : ℕ) → is_in (setups fixture) n ≡ (is_in members n && has_setup fixture (at_number props n))
   pub by_user : (fixture : List ℕ) (n : ℕ) → is_in (users fixture) n ≡ (is_in members n && has_required fixture (at_number props n))
 
--- numbers of tests, of which there are so many
+-- each member is the number of one of `most` tests
 abbrev pub AreMembers : ℕ → List ℕ → Type 0
 AreMembers most members = All (λ number. (0 < number) × (number ≤ most)) members
 
@@ -41,14 +41,14 @@ pub record Indexed (index : Index) : Type 0 where
   pub ascending : IsStrictlyIncreasing index.members.now
   pub found : IsIndex index.defs.now index.props.now index.members.now (tests_of index.names) (tests_of index.setups) (tests_of index.users)
 
--- an index over these members, which has some of them
+-- an index over these tests and members, in which `some` of the members are found
 pub record IsIndexAt (defs : List TestDef) (props : List Props) (members some : List ℕ) (index : Index) : Type 0 where
   pub defs_are : index.defs.now ≡ defs
   pub props_are : index.props.now ≡ props
   pub members_are : index.members.now ≡ members
   pub indexed : IsIndex defs props some (tests_of index.names) (tests_of index.setups) (tests_of index.users)
 
--- the index has one test more, unless that is disabled
+-- the index has one more test, unless that test is disabled
 pub record AddsTest (number : ℕ) (old new : Index) : Type 0 where
   pub same_defs : new.defs ≡ old.defs
   pub same_props : new.props ≡ old.props
@@ -57,7 +57,8 @@ pub record AddsTest (number : ℕ) (old new : Index) : Type 0 where
   pub by_setup : (fixture : List ℕ) (n : ℕ) → is_in (tests_of new.setups fixture) n ≡ (is_in (tests_of old.setups fixture) n || (has_setup fixture (at_number old.props.now number) && number == n))
   pub by_user : (fixture : List ℕ) (n : ℕ) → is_in (tests_of new.users fixture) n ≡ (is_in (tests_of old.users fixture) n || (has_required fixture (at_number old.props.now number) && number == n))
 
--- the tests that come before one with these properties stand among those that were found
+-- the found tests are the old ones and those found for these properties: by the names that it depends on, the
+-- fixtures that it requires, and the users and the setups of the fixtures that it cleans
 abbrev pub FindsBefore : (List ℕ → List ℕ) → (List ℕ → List ℕ) → (List ℕ → List ℕ) → Props → List ℕ → List ℕ → Type 0
 FindsBefore names setups users props old new = (n : ℕ) → is_in new n ≡ (is_in old n || is_found_in names props.depends n || is_found_in setups props.required n || is_found_in users props.cleanup n || is_found_in setups props.cleanup n)
 

@@ -1,5 +1,5 @@
--- The order of the tests of a run, or why there is none. Source: CMake manual, cmake-properties(7), DEPENDS and
--- FIXTURES_REQUIRED. The limit and what is told of a cycle are this project's choice.
+-- The order of the tests of a run, or why there is none. Source: CMake manual, cmake-properties(7), DEPENDS
+-- and FIXTURES_REQUIRED. The limit, and which cycle is told, are this project's choice.
 use Rattle.std.specs.Prelude.{◌≡◌, ℕ, ◌<◌, ◌≤◌, ⊤, Bool, true, false, List, length, map, find, sum_by, nat_lt, Option, Some, None, Result, Ok, Err, ◌==◌}
 use Rattle.std.specs.List.{list_all}
 use Rattle.ct_base.specs.declared.defs.TestDef.{TestDef}
@@ -19,7 +19,7 @@ edges_of defs props members = sum_by (λ number. length (before_of defs props me
 abbrev pub links_at : List Links → ℕ → Option Links
 links_at links number = find (λ (l : Links). l.number == number) links
 
--- a test that is ordered has a lesser rank
+-- the links are there, and their rank is below this one
 abbrev pub ranks_below : ℕ → Option Links → Bool
 ranks_below rank None = false
 ranks_below rank (Some l) = nat_lt l.rank rank
@@ -35,7 +35,8 @@ pub record IsOrder (defs : List TestDef) (props : List Props) (members : List �
   pub setups : map (λ (l : Links). l.setups) links ≡ map (setups_of props members) members
   pub ranks : list_all (ranks_above_all links) links ≡ true
 
--- what is answered where so many edges are allowed: an order; a cycle; that there are more; or want of memory, which is free
+-- what is answered where at most `most` edges are allowed: an order; a cycle; that there are more edges; or
+-- want of memory, which may be answered at any time
 abbrev pub IsAnswer : ℕ → List TestDef → List Props → List ℕ → Result Ordered GraphFault → Type 0
 IsAnswer most defs props members (Ok ordered) = (edges_of defs props members ≤ most) × IsOrder defs props members ordered.links
 IsAnswer most defs props members (Err (Cycle tests)) =

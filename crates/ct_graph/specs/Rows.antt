@@ -1,4 +1,4 @@
--- The graph of the members: at each number of a test, the members that come before it. This project's own.
+-- The graph of the members: at the number of each test, the members before it. This project's own.
 use Rattle.std.specs.Prelude.{◌≡◌, ℕ, ◌+◌, ◌<◌, ⊤, List, [], length, if◌then◌else◌}
 use Rattle.ct_graph.specs.Before.{before_of, setups_of}
 use Rattle.ct_props.specs.Numbered.{is_in}
@@ -22,12 +22,12 @@ setups_in index = setups_of index.props.now index.members.now
 abbrev pub edges_in : Index → ℕ
 edges_in index = edges_of index.defs.now index.props.now index.members.now
 
--- each member has its row, and what is no member has an empty one; place 0 is of no test
+-- each member has its row, and each other number has an empty one, place 0 included
 pub record AreRows (before : ℕ → List ℕ) (tests : ℕ) (members : List ℕ) (rows : List (List ℕ)) : Type 0 where
   pub count : length rows ≡ tests + 1
   pub rows_are : (number : ℕ) → row_of rows number ≡ (if is_in members number then before number else [])
 
--- why the rows are not made
+-- why the rows are not made: too many edges, or want of memory
 abbrev pub EndsRows : ℕ → Index → GraphFault → Type 0
 EndsRows most index (Cycle tests) = ⊥
 EndsRows most index TooManyEdges = most < edges_in index

@@ -1,4 +1,5 @@
--- A walk from each test to those before it, which takes a test once all before it are taken. This project's own.
+-- A walk from each test to the tests before it. It takes a test once all before it are taken. This project's
+-- own.
 use Rattle.std.specs.Prelude.{◌≡◌, ℕ, ◌+◌, ◌*◌, ◌<◌, ◌≤◌, ⊤, Bool, true, false, List, [], ◌∷◌, length, take, reverse, slice_index_or, All, count_by, nat_lt, ◌==◌, if◌then◌else◌}
 use Rattle.std.specs.List.{list_any, list_all}
 use Rattle.ct_props.specs.Numbered.{is_in}
@@ -22,11 +23,13 @@ AreWithin rows = All (λ row. All (λ j. j < length rows) row) rows
 abbrev pub mark_of : List Mark → ℕ → Mark
 mark_of marks test = slice_index_or marks test Unseen
 
+-- the walk has not come to the test
 abbrev pub is_unseen : Mark → Bool
 is_unseen Unseen = true
 is_unseen Open = false
 is_unseen (Taken rank) = false
 
+-- the walk has taken the test
 abbrev pub is_taken : Mark → Bool
 is_taken Unseen = false
 is_taken Open = false
@@ -38,7 +41,7 @@ rank_of Unseen = 0
 rank_of Open = 0
 rank_of (Taken rank) = rank
 
--- a test that was taken with a rank below this one
+-- the test is taken with a rank below this one
 abbrev pub is_taken_below : ℕ → Mark → Bool
 is_taken_below rank Unseen = false
 is_taken_below rank Open = false
@@ -61,7 +64,7 @@ abbrev pub is_before_last : List (List ℕ) → List Step → ℕ → Bool
 is_before_last rows [] test = true
 is_before_last rows (s ∷ trail) test = is_in (row_of rows s.test) test
 
--- a step of the trail: an open test, with those of its row that were looked at and are taken
+-- a step of the trail: an open test, whose first tests of the row were looked at and are taken
 pub record IsStep (rows : List (List ℕ)) (marks : List Mark) (s : Step) : Type 0 where
   pub within : s.test < length rows
   pub open_mark : mark_of marks s.test ≡ Open
@@ -78,7 +81,8 @@ IsTrail rows marks (s ∷ trail) =
 abbrev pub AreRanked : List (List ℕ) → List Mark → Type 0
 AreRanked rows marks = (test rank : ℕ) → mark_of marks test ≡ Taken rank → are_taken_below marks rank (row_of rows test) ≡ true
 
--- what holds throughout the walk: so many tests are taken, and the others are unseen or stand on the trail
+-- what holds throughout the walk: the taken tests are ranked and counted, and each other test is unseen or on
+-- the trail
 pub record IsWalk (rows : List (List ℕ)) (marks : List Mark) (trail : List Step) (taken : ℕ) : Type 0 where
   pub marked : length marks ≡ length rows
   pub ranked : AreRanked rows marks
@@ -95,7 +99,7 @@ trail_of walk = reverse walk.path.items
 abbrev pub Keeps : List (List ℕ) → Walk → Type 0
 Keeps rows walk = IsWalk rows walk.marks.items (trail_of walk) walk.taken
 
--- how much is left of a walk at most: to open each test that is unseen, and to take each that is not taken
+-- how many steps are left at most: one to open each unseen test, and one to take each test that is not taken
 abbrev pub steps_left : List Mark → List Step → ℕ
 steps_left marks trail = 2 * count_by is_unseen marks + length trail
 

@@ -18,7 +18,7 @@ pub(crate) struct ByName<'a> {
 }
 
 impl<'a> ByName<'a> {
-    /// Makes the list without a name.
+    /// Makes an index in which no name has a test.
     pub(crate) fn new(alloc: Global) -> ByName<'a>
         ensures { (name : Bytes ℕ) → tests_of result name ≡ [] }
     {
@@ -51,7 +51,7 @@ impl<'a> ByName<'a> {
         Ok(())
     }
 
-    /// Puts a test behind the others of some names.
+    /// Puts a test behind the others of each of these names.
     pub(crate) fn add_all(
         &mut self,
         alloc: Global,
@@ -66,7 +66,8 @@ impl<'a> ByName<'a> {
         Ok(())
     }
 
-    /// Finds the tests of some names, in order. What is known of the same names is not looked up.
+    /// Finds the tests of some names, in order. A list of names that is known is not looked up
+    /// again.
     pub(crate) fn find(
         &self,
         alloc: Global,
@@ -125,7 +126,7 @@ fn copied(alloc: Global, tests: &List<u32>) -> Result<List<u32>, NoMemory>
     Ok(List::from_vec(Vec::from_slice(alloc, tests.as_slice())?))
 }
 
-/// Gives the bytes of each name.
+/// Returns the bytes of each name.
 fn all_bytes(alloc: Global, names: &[Name]) -> Result<Vec<&[u8]>, NoMemory>
     ensures { IfOk result (λ all. bytes_of all.items ≡ names.now) }
 {
@@ -136,7 +137,7 @@ fn all_bytes(alloc: Global, names: &[Name]) -> Result<Vec<&[u8]>, NoMemory>
     Ok(all)
 }
 
-/// Gives the names in order of bytes, a repeated one once.
+/// Returns the names in order of their bytes, without repeats.
 fn each_once(alloc: Global, names: &[Name]) -> Result<Vec<&[u8]>, NoMemory>
     ensures { IfOk result (λ sorted. (p : Bytes ℕ → Bool) → list_any (λ name. p name.now) sorted.items ≡ list_any p names.now) }
 {
@@ -146,7 +147,7 @@ fn each_once(alloc: Global, names: &[Name]) -> Result<Vec<&[u8]>, NoMemory>
     Ok(sorted)
 }
 
-/// Puts numbers of tests in order, a repeated one once.
+/// Sorts numbers of tests, and drops repeats.
 pub(crate) fn in_order(tests: Vec<u32>) -> List<u32>
     ensures ascending { IsStrictlyIncreasing result }
     ensures same { (n : ℕ) → is_in result n ≡ is_in tests.items n }

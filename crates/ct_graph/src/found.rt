@@ -7,7 +7,7 @@ use crate::by_name::in_order;
 use ct_base::{List, NoMemory};
 use std::alloc::Global;
 
-/// Tests that were found. Each of them is marked, so that it stands once among them.
+/// Tests that were found. Each of them is marked, so that none is listed twice.
 #[derive(Drop)]
 pub(crate) struct Found {
     /// At the number of a test, whether it was found.
@@ -16,7 +16,7 @@ pub(crate) struct Found {
 }
 
 impl Found {
-    /// Makes the list without a test.
+    /// Makes a list of no tests.
     pub(crate) fn new(alloc: Global) -> Found
         ensures { IsEmpty result }
     {
@@ -54,7 +54,7 @@ impl Found {
         Ok(())
     }
 
-    /// Gives the tests in order. None is found then.
+    /// Returns the found tests in order. After that no test is found or marked.
     pub(crate) fn take(&mut self, alloc: Global) -> Result<List<u32>, NoMemory>
         requires { IsMarked self.old }
         ensures empty { OnOk result (IsEmpty self.new) }
@@ -68,7 +68,7 @@ impl Found {
     }
 }
 
-/// Makes the marks reach a place. What is new is not marked.
+/// Makes the marks reach a place. New marks are false.
 fn reach(marks: &mut Vec<bool>, place: usize) -> Result<(), NoMemory>
     requires few { place < 2 ^ 32 }
     ensures reached { OnOk result (place < length marks.new.items) }
@@ -82,7 +82,7 @@ fn reach(marks: &mut Vec<bool>, place: usize) -> Result<(), NoMemory>
     Ok(())
 }
 
-/// Takes the marks of the tests that were found away.
+/// Clears the marks of the tests that were found.
 fn unmark(marks: &mut Vec<bool>, tests: &[u32])
     requires { AreMarked marks.old.items tests.now }
     ensures { AreMarked marks.new.items [] }

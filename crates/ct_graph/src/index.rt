@@ -12,7 +12,7 @@ use ct_base::{List, NoMemory, TestDef};
 use ct_props::Props;
 use std::alloc::Global;
 
-/// The members that are not disabled, by the names that others wait for them by.
+/// The members that are not disabled, by the names through which other tests wait for them.
 #[derive(Drop)]
 pub(crate) struct Index<'a> {
     defs: &'a [TestDef],
@@ -51,7 +51,7 @@ impl<'a> Index<'a> {
         Ok(index)
     }
 
-    /// Puts a member in, unless it is disabled.
+    /// Adds a member, unless it is disabled.
     fn add(&mut self, alloc: Global, number: u32) -> Result<(), NoMemory>
         requires above { 0 < number }
         requires within { number ≤ length self.old.defs.now }
@@ -103,7 +103,7 @@ impl<'a> Index<'a> {
         Ok(Row { before, setups })
     }
 
-    /// Finds the members that come before a test with these properties and these setups.
+    /// Finds the members that come before a test with these properties, whose setups these are.
     fn before(
         &self,
         alloc: Global,
@@ -146,14 +146,14 @@ pub(crate) struct Row {
 #[derive(Drop)]
 pub(crate) struct Search<'a> {
     found: Found,
-    /// What fixtures find among those that are set up.
+    /// The tests found so far that set fixtures up, by the list of fixtures.
     setups: Known<'a>,
-    /// What fixtures find among those that are required.
+    /// The tests found so far that require fixtures, by the list of fixtures.
     users: Known<'a>,
 }
 
 impl<'a> Search<'a> {
-    /// Makes the search that has found nothing.
+    /// Makes a search that has found nothing.
     pub(crate) fn new(alloc: Global) -> Search<'a>
         ensures empty { IsEmpty result.found }
         ensures setups { (find : Bytes ℕ → Bytes ℕ) → Knows find result.setups }

@@ -5,14 +5,14 @@ use ct_base::{List, NoMemory};
 use std::alloc::Global;
 use std::collections::BTreeMap;
 
-/// The tests that lists of names find, so that none is looked up twice.
+/// The tests that lists of names find, so that no list is looked up twice.
 #[derive(Drop)]
 pub(crate) struct Known<'a> {
     tests: BTreeMap<Vec<&'a [u8]>, List<u32>>,
 }
 
 impl<'a> Known<'a> {
-    /// Knows nothing.
+    /// Makes a table that knows of no list.
     pub(crate) fn new(alloc: Global) -> Known<'a>
         ensures { (find : Bytes ℕ → Bytes ℕ) → Knows find result }
     {

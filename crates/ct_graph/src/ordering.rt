@@ -42,11 +42,12 @@ pub struct Ordered {
     pub links: List<Links>,
 }
 
-/// Finds what each member waits for, and a rank for it, or tells a cycle.
+/// Finds what each member waits for, and a rank for it, or returns a cycle.
 ///
 /// A member that is disabled waits for nothing, and nothing waits for it. A test waits for each
-/// test of a name that it depends on, and for the setups of a fixture that it requires; a cleanup
-/// waits for the setups and the users of its fixture. What is no member is not waited for.
+/// test of a name that it depends on, and for the setups of each fixture that it requires. A
+/// cleanup waits for the setups and the users of its fixture. No test waits for one that is no
+/// member.
 ///
 /// Source: CMake manual, cmake-properties(7), DEPENDS, FIXTURES_SETUP, FIXTURES_REQUIRED and
 /// FIXTURES_CLEANUP. That a cleanup waits for the setups too, and that a cycle is refused, is this
@@ -68,7 +69,7 @@ pub fn order(
     order_within(alloc, &index, MOST_EDGES)
 }
 
-/// Finds the order where so many edges are allowed.
+/// Finds the order, where at most `most` edges are allowed.
 fn order_within(alloc: Global, index: &Index, most: u32) -> Result<Ordered, GraphFault>
     requires indexed { Indexed index.now }
     requires few { length index.now.props.now < 2 ^ 32 - 1 }
@@ -81,7 +82,7 @@ fn order_within(alloc: Global, index: &Index, most: u32) -> Result<Ordered, Grap
     })
 }
 
-/// Gives each member its links, in order.
+/// Returns the links of each member, in order.
 fn links_in_order(
     alloc: Global,
     index: &Index,

@@ -9,7 +9,8 @@ use std::alloc::Global;
 
 /// What each member waits for.
 ///
-/// The place of a test is its number: place 0 is of no test. What is no member waits for nothing.
+/// The place of a test is its number, and place 0 is of no test. A test that is no member waits for
+/// nothing.
 #[derive(Drop)]
 pub(crate) struct Graph {
     /// The members that come before each member, in order.
@@ -18,7 +19,7 @@ pub(crate) struct Graph {
     pub setups: Vec<List<u32>>,
 }
 
-/// Finds what each member waits for, where so many tests at most come before the members.
+/// Finds what each member waits for, where at most `most` tests come before the members.
 pub(crate) fn rows(alloc: Global, index: &Index, most: u32) -> Result<Graph, GraphFault>
     requires { Indexed index.now }
     ensures before { IfOk result (λ graph. AreRows (before_in index.now) (length index.now.props.now) index.now.members.now graph.before.items) }

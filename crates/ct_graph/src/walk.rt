@@ -11,14 +11,14 @@ use std::alloc::Global;
 pub(crate) enum Mark {
     /// It has not come to the test.
     Unseen,
-    /// It is on the way to what is before the test.
+    /// It has come to the test, and has not yet taken all tests before it.
     Open,
-    /// All that is before the test is taken, and so is the test.
+    /// It has taken all tests before the test, and then the test.
     Taken { rank: u32 },
 }
 
 impl Mark {
-    /// Gives the rank of a test that is taken.
+    /// Returns the rank of a test that is taken.
     pub(crate) fn rank(self) -> u32
         requires { is_taken self ≡ true }
         ensures { result ≡ rank_of self }
@@ -30,26 +30,26 @@ impl Mark {
     }
 }
 
-/// A test on the path of a walk, and how many of those before it were looked at and are taken.
+/// A test on the path of a walk, with how many tests before it were looked at and are taken.
 #[derive(Clone, Copy)]
 pub(crate) struct Step {
     pub test: u32,
     pub looked: usize,
 }
 
-/// A walk from tests to those before them. It takes each test behind all that are before it.
+/// A walk from tests to the tests before them. It takes a test once all tests before it are taken.
 #[derive(Drop)]
 pub(crate) struct Walk {
     pub marks: Vec<Mark>,
-    /// The open tests: each one is before the one in front of it.
+    /// The open tests: each one comes before the test in front of it.
     pub path: Vec<Step>,
     /// How many tests were taken.
     pub taken: u32,
 }
 
-/// Takes the members, each behind all that are before it, or finds a cycle.
+/// Takes each member once all tests before it are taken, or finds a cycle.
 ///
-/// `rows` has at a test's number what is before the test.
+/// `rows` has at a test's number the tests before the test.
 pub(crate) fn marks(
     alloc: Global,
     rows: &[List<u32>],
@@ -84,7 +84,7 @@ impl Walk {
         })
     }
 
-    /// Takes a test, and in front of it all that is to be taken before it.
+    /// Takes all tests before a test, and then the test.
     fn take_all_before(
         &mut self,
         alloc: Global,
@@ -130,8 +130,8 @@ impl Walk {
         Ok(())
     }
 
-    /// Goes on at the newest test of the path, which was lifted off it: opens the first test before
-    /// it that is not taken or, where there is none, takes it.
+    /// Goes on at the newest test of the path, which the caller has popped. It opens the first test
+    /// before it that is not taken. Where there is none, it takes the test itself.
     fn advance(&mut self, alloc: Global, rows: &[List<u32>], step: Step) -> Result<(), GraphFault>
         requires few { length rows.now < 2 ^ 32 }
         requires within { AreWithin rows.now }
@@ -185,7 +185,7 @@ impl Walk {
         self.taken += 1;
     }
 
-    /// Gives the tests of the path from this one on. The path is spent.
+    /// Returns the tests of the path from this one on, and pops them. Without this one, pops all.
     fn cycle(&mut self, alloc: Global, first: u32) -> Result<List<u32>, NoMemory>
         ensures { IfOk result (λ tests. tests ≡ back_to first (trail_of self.old) []) }
     {

@@ -29,7 +29,7 @@ pub no_last_of_empty : {A : Type 0} (xs : List A) → length xs ≡ 0 → IsNone
 no_last_of_empty [] empty = refl
 no_last_of_empty (x ∷ xs) empty = absurd (omega arith)
 
--- a count that stands still at the greatest number is zero where the list is empty
+-- where a count that stops at 2^32 - 1 is zero, the list is empty
 pub zero_of_few : {A : Type 0} (xs : List A) → min (length xs) (2 ^ 32 - 1) ≡ 0 → length xs ≡ 0
 zero_of_few xs is = omega arith
 
@@ -39,7 +39,7 @@ few_of_zero xs empty is = omega arith
 lt_few : (n times : ℕ) → times < 2 ^ 32 → nat_lt (min n (2 ^ 32 - 1)) times ≡ nat_lt n times
 lt_few n times small = grind (arith, nat_tests)
 
--- such a count tells as well whether one more attempt follows
+-- a count that stops at 2^32 - 1 tells as well as the full one whether one more attempt follows
 pub repeated_few : (repeat : Repeat) (n : ℕ) (last : Option Verdict) → repeat.times < 2 ^ 32 → is_repeated repeat (min n (2 ^ 32 - 1)) last ≡ is_repeated repeat n last
 repeated_few repeat n None small = refl
 repeated_few repeat n (Some last) small = ap (λ b. b && asks_again repeat.mode last) (lt_few n repeat.times small)

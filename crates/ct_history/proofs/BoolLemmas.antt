@@ -30,7 +30,7 @@ pub and_false : (b : Bool) → (b && false) ≡ false
 and_false true = refl
 and_false false = refl
 
--- a test that each element passes is passed at a place
+-- where each element passes a test, the element at each place passes it
 pub all_at : {A : Type 0} (p : A → Bool) (xs : List A) (at : ℕ) (d : A) → list_all p xs ≡ true → at < length xs → p (get_or xs at d) ≡ true
 all_at p xs at d all within = elim (cases_Bool (p (get_or xs at d))) [
   | inl passes ↦ passes

@@ -35,7 +35,7 @@ ending_snoc es e test =
     let last = ap last_of_list (filter_map-append (seen_at_end test) es (e ∷ [])) ∙ last_snoc None (filter_map (seen_at_end test) es) (seen_at_end test e) in
     λ i. record { settled = settled i; last = last i }
 
--- one more entry is noted
+-- a map with one more entry noted tells the endings of one more entry
 pub endings_more : {S : Type 0} (old new : IndexMap ℕ Ending S) (es : List Entry) (at : ℕ) (e : Entry) → at < length es → e ≡ get_or es at e → AreEndings old (take at es)
     → ((test : ℕ) → ending_at new test ≡ ending_after test (ending_at old test) e) → AreEndings new (take (at + 1) es)
 endings_more old new es at e within is so_far noted =
@@ -69,7 +69,7 @@ verdict_from true settled attempted last ended same = refl
 verdict_from false None attempted last ended same = same ended
 verdict_from false (Some cause) attempted last ended same = refl
 
--- a test that is final has the verdict of how it ended
+-- the verdict of a final test follows from how it ended
 pub final_verdict : (repeat : Repeat) (t : PlanTest) (es : List Entry) → is_final_in repeat t es ≡ true → verdict_by t (ending_in es t.number) ≡ verdict_in repeat t es
 final_verdict repeat t es ended =
     verdict_from t.disabled (settled_cause t.number es) (attempted_verdict repeat t es) (option_map (verdict_of t.rules) (last_seen t.number es)) ended

@@ -7,7 +7,7 @@ use Rattle.std.proofs.lemmas.Slice.Eq.{bytes_eq-Decides}
 use Rattle.ct_history.specs.declared.plan.PlanTest.{PlanTest}
 use Rattle.ct_history.specs.Rules.{exclude, is_among, is_serial, locks_of, shares_name}
 
--- nothing is shared with nobody
+-- no name is shared with an empty list
 shares_none : (names : List (List ℕ)) → shares_name names [] ≡ false
 shares_none [] = refl
 shares_none (name ∷ names) = shares_none names
@@ -16,7 +16,7 @@ serial_alone : (b : Bool) → b ≡ (false || b || false)
 serial_alone true = refl
 serial_alone false = refl
 
--- a test excludes what is no test of the plan where it is serial
+-- a test excludes a number that is of no test, exactly where it is serial
 pub exclude_none : (t : PlanTest) → t.serial ≡ exclude (Some t) None
 unfolding exclude
 exclude_none t = serial_alone t.serial ∙ ap (λ (b : Bool). b || t.serial || false) (sym (shares_none t.locks))

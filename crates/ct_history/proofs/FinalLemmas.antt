@@ -38,7 +38,7 @@ first-append : {A : Type 0} (xs ys : List A) (x : A) → first_of_list xs ≡ So
 first-append [] ys x is = cc
 first-append (y ∷ xs) ys x is = is
 
--- a settled test stays settled so
+-- a settled test keeps its cause, whatever follows
 settled_stays : (n : ℕ) (es more : List Entry) (c : Cause) → settled_cause n es ≡ Some c → settled_cause n (es ++ more) ≡ Some c
 settled_stays n es more c is =
     ap first_of_list (filter_map-append (settled_by n) es more) ∙ first-append (filter_map (settled_by n) es) (filter_map (settled_by n) more) c is
@@ -65,7 +65,7 @@ any_filter p q (x ∷ xs) none = elim (cases_Bool (q x)) [
 any_one : {A : Type 0} (p : A → Bool) (xs : List A) (o : Option A) → list_any p xs ≡ false → list_any p (cons_option o []) ≡ false → list_any p (xs ++ cons_option o []) ≡ false
 any_one p xs o none here = list_any-append p xs (cons_option o []) ∙ ap (λ (b : Bool). b || list_any p (cons_option o [])) none ∙ here
 
--- what an entry leaves as it is for one test, unless it is this test's own
+-- the parts of a test's verdict that an entry about another test leaves as they are
 pub record Leaves (t : PlanTest) (es : List Entry) (e : Entry) : Type 0 where
   pub settled : settled_cause t.number (es ++ e ∷ []) ≡ settled_cause t.number es
   pub attempts : attempts_of t.number t.rules (es ++ e ∷ []) ≡ attempts_of t.number t.rules es
@@ -107,7 +107,7 @@ leaves-stop t es = record {
   closed = λ none. ap (λ (rs : List Running). list_any (λ (r : Running). r.test == t.number) rs) (open_starts-snoc es Stop refl ∙ append-nil (open_starts es)) ∙ none;
 }
 
--- a test that was not disabled and has this verdict: it was settled, or it is closed and its attempts are over
+-- a verdict by attempts stays behind an entry that leaves the test as it is, while the test is not open
 attempted_stays : (repeat : Repeat) (t : PlanTest) (es : List Entry) (e : Entry) (v : Verdict) → Leaves t es e → is_open_in t.number es ≡ false → attempted_verdict repeat t es ≡ Some v → attempted_verdict repeat t (es ++ e ∷ []) ≡ Some v
 attempted_stays repeat t es e v leaves closed is =
     ap (λ (b : Bool). if not b && is_over repeat (attempts_of t.number t.rules (es ++ e ∷ [])) then last_of_list (attempts_of t.number t.rules (es ++ e ∷ [])) else None) (leaves.closed closed)
@@ -130,7 +130,7 @@ undisabled_stays repeat t es e v leaves is =
     by_cause None has = attempted_stays repeat t es e v leaves (closed_by_verdict repeat t es v has) has
     by_cause (Some c) has = has
 
--- what leaves a test as it is leaves its verdict
+-- an entry that leaves a test as it is leaves its verdict
 pub verdict_left : (repeat : Repeat) (t : PlanTest) (es : List Entry) (e : Entry) (v : Verdict) → Leaves t es e → verdict_in repeat t es ≡ Some v → verdict_in repeat t (es ++ e ∷ []) ≡ Some v
 verdict_left repeat t es e v leaves is = by_disabled t.disabled is
   where
@@ -138,7 +138,7 @@ verdict_left repeat t es e v leaves is = by_disabled t.disabled is
     by_disabled true has = has
     by_disabled false has = undisabled_stays repeat t es e v leaves has
 
--- a held start is one of its test
+-- where a start of a test is held, a start of the test is open
 open_by_hold : (n a w : ℕ) (rs : List Running) → list_any (λ (r : Running). r.test == n && r.attempt == a && r.worker == w) rs ≡ true → list_any (λ (r : Running). r.test == n) rs ≡ true
 open_by_hold n a w [] is = is
 open_by_hold n a w (r ∷ rs) is =
@@ -148,7 +148,7 @@ open_by_hold n a w (r ∷ rs) is =
     by_test true y z rest more later has = refl
     by_test false y z rest more later has = later has
 
--- a final test has no entry more, and so the entry is about another test
+-- a final test gets no further entry, so that each allowed entry is about another test
 module _ (plan : PlanParts) (t : PlanTest) (at : test_at plan.tests t.number ≡ Some t) (es : List Entry) (v : Verdict) (final : verdict_in plan.repeat t es ≡ Some v) where
   final_is : is_final_in plan.repeat t es ≡ true
   final_is = ap is_some final

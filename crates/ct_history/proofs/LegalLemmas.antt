@@ -33,7 +33,7 @@ allowed_behind-snoc plan front (x ∷ xs) e so_far allowed =
     and_from (is_allowed plan front x) (are_allowed_behind plan (front ++ x ∷ []) (xs ++ e ∷ [])) both.0
     (allowed_behind-snoc plan (front ++ x ∷ []) xs e both.1 (subst (λ (es : List Entry). is_allowed plan es e ≡ true) (sym (append_assoc front (x ∷ []) xs)) allowed))
 
--- one allowed entry more
+-- a history that is allowed so far, with one more allowed entry
 pub allowed-snoc : (plan : PlanParts) (es : List Entry) (e : Entry) → is_allowed_so_far plan es ≡ true → is_allowed plan es e ≡ true → is_allowed_so_far plan (es ++ e ∷ []) ≡ true
 allowed-snoc plan es e so_far allowed = allowed_behind-snoc plan [] es e so_far allowed
 
@@ -74,7 +74,7 @@ any_found p (x ∷ xs) any = elim (cases_Bool (p x)) [
       (later.0, ap (λ (b : Bool). cond b (Some x) (find p xs)) not_here ∙ later.1)
 ]
 
--- what was found by one test is found by some test that it passes
+-- where an element that one test finds passes another test, some element passes that one
 found_any : {A : Type 0} (p q : A → Bool) (xs : List A) (x : A) → find p xs ≡ Some x → q x ≡ true → list_any q xs ≡ true
 found_any p q [] x is passes = cc
 found_any p q (y ∷ ys) x is passes = elim (cases_Bool (p y)) [
@@ -136,7 +136,7 @@ failing_not_due plan es e failing =
     none true false = refl
     none false b = refl
 
--- a due Stop may stand, and none is due behind it
+-- where a Stop is due, a failing verdict is final
 pub due_failing : (plan : PlanParts) (es : List Entry) → is_stop_due plan es ≡ true → has_failing plan es ≡ true
 due_failing plan es due =
     let on = and_parts plan.stop_on_failure (ends_in_first_failure plan es) due in
@@ -151,7 +151,7 @@ pub stop-snoc : (es : List Entry) (e : Entry) → has_stop (es ++ e ∷ []) ≡ 
 stop-snoc es e = list_any-append is_stop es (e ∷ [])
 
 module _ (plan : PlanParts) (ascends : IsAscendingFrom 1 (map (λ (t : PlanTest). t.number) plan.tests)) where
-  -- where a Stop stands, a failing verdict does
+  -- a history with a Stop has a failing verdict
   stop_failed-snoc : (es : List Entry) (e : Entry) → is_allowed plan es e ≡ true → (has_stop es ≡ true → has_failing plan es ≡ true) → has_stop (es ++ e ∷ []) ≡ true → has_failing plan (es ++ e ∷ []) ≡ true
   stop_failed-snoc es e allowed before stop = elim (cases_Bool (has_stop es)) [
     | inl stands ↦ failing_stays plan ascends es e allowed (before stands)

@@ -1,4 +1,4 @@
--- What it says that a test may start, or may be settled.
+-- What follows where a test may start, or may be settled.
 use Rattle.std.proofs.Common.{◌≡◌, Bool, true, false, ℕ, List, refl}
 use Rattle.std.specs.Prelude.{Option, Some, None, not, ◌&&◌, if◌then◌else◌}
 use Rattle.std.proofs.lemmas.Bool.{and_parts, not-true}
@@ -49,7 +49,7 @@ pending-parts plan t es pending =
     let both = and_parts (not (is_final_in plan.repeat t es)) (not (is_open_in t.number es)) pending in
     record { unfinished = not-true (is_final_in plan.repeat t es) both.0; closed = not-true (is_open_in t.number es) both.1 }
 
--- a test that starts so
+-- the test that was looked up, which may start with this placement as this attempt
 pub record StartsAs (plan : PlanParts) (es : List Entry) (attempt : ℕ) (placement : Option Placement) (looked_up : Option PlanTest) : Type 0 where
   pub test : PlanTest
   pub found : looked_up ≡ Some test
@@ -70,7 +70,7 @@ settled_pending plan t es cause is = by_pending (is_pending plan t es) (if has_s
     by_pending true rest c has = refl
     by_pending false rest c has = cc
 
--- a test that is settled so
+-- the test that was looked up, which may be settled with this cause
 pub record SettlesAs (plan : PlanParts) (es : List Entry) (cause : Cause) (looked_up : Option PlanTest) : Type 0 where
   pub test : PlanTest
   pub found : looked_up ≡ Some test

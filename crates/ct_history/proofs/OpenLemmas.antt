@@ -61,7 +61,7 @@ is_of t a r = r.test == t && r.attempt == a
 true_is_false : true ≡ false → ⊥
 true_is_false is = cc
 
--- an End closes what it ends, and leaves the rest
+-- an End closes the start that it ends, and leaves the others
 closes : (x : Entry) (es : List Entry) (t a w : ℕ) (s : Seen) → ((opened x (es ++ End t a w s ∷ []) ≡ opened x es) × (IsSomeAnd (opened x es) (λ r. is_of t a r ≡ true) → ⊥)) ⊎ ((opened x (es ++ End t a w s ∷ []) ≡ None) × IsSomeAnd (opened x es) (λ r. is_of t a r ≡ true))
 closes (Start u b v p) es t a w s = elim (cases_Bool (list_any (is_end_of u b) es)) [
   | inl ended ↦
@@ -130,7 +130,7 @@ length_some : (o : Option Running) (t a : ℕ) (ys : List Running) → IsSomeAnd
 length_some None t a ys some = absurd some
 length_some (Some r) t a ys some = omega arith
 
--- an End of what is open leaves one less open
+-- the End of an open attempt leaves at least one open start less
 pub one_less_open : (es : List Entry) (t a w : ℕ) (s : Seen) → list_any (is_of t a) (open_starts es) ≡ true → length (open_starts (es ++ End t a w s ∷ [])) + 1 ≤ length (open_starts es)
 one_less_open [] t a w s any = absurd (true_is_false (sym any))
 one_less_open (x ∷ xs) t a w s any = elim (closes x xs t a w s) [
@@ -155,7 +155,7 @@ any_held t a w (r ∷ rs) any = elim (cases_Bool (is_of t a r)) [
       ap (λ (b : Bool). b || list_any (is_of t a) rs) other ∙ any_held t a w rs later
 ]
 
--- the End of a held start leaves one less open
+-- the End of a held start leaves at least one open start less
 pub one_less_held : (es : List Entry) (t a w v : ℕ) (s : Seen) → holds_start t a w es ≡ true → length (open_starts (es ++ End t a v s ∷ [])) + 1 ≤ length (open_starts es)
 one_less_held es t a w v s holds = one_less_open es t a v s (any_held t a w (open_starts es) holds)
 
@@ -201,7 +201,7 @@ closed_stays (End t a w s) es more is = refl
 closed_stays (Settle t c) es more is = refl
 closed_stays Stop es more is = refl
 
--- where nothing is open, what is open behind it is what comes behind it opens
+-- where a history has no open start, the open starts with entries added are those of the added entries
 pub open_starts-append : (es more : List Entry) → open_starts es ≡ [] → open_starts (es ++ more) ≡ open_starts more
 open_starts-append [] more closed = refl
 open_starts-append (e ∷ es) more closed =

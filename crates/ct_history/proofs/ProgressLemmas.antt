@@ -21,7 +21,7 @@ use Rattle.ct_history.specs.Verdicts.{are_all_final, is_final_in, settled_cause,
 use Rattle.ct_history.specs.Rules.{CanStart, cause_behind, exclude, first_unpassed, follows_finals, has_processors, has_room, is_excluded, is_idle, is_pending, is_placed, is_ready, may_start_at, settle_cause, settle_cause_at, settle_cause_of_test}
 use Rattle.ct_history.proofs.PlanLemmas.{found_at}
 
--- nothing open is an empty list of open starts
+-- where nothing is open, the list of open starts is empty
 pub idle_empty : (es : List Entry) → is_idle es ≡ true → open_starts es ≡ []
 idle_empty es idle = by_list (open_starts es) idle
   where
@@ -29,7 +29,7 @@ idle_empty es idle = by_list (open_starts es) idle
     by_list [] is = refl
     by_list (r ∷ rs) is = cc
 
--- a placement for what may start while nothing is used
+-- while no slot is used, a test without a fixed cause has a right placement
 placed_somehow : (resources : Option (List Resource)) (t : PlanTest) (used : ℕ → ℕ) → used ≡ (λ place. 0) → IfSome resources (λ rs. IsPlaceable rs t) → t.fixed ≡ None → (p : Option Placement) × (is_placed resources t.needs used p ≡ true)
 placed_somehow None t used none placeable free = (None, refl)
 placed_somehow (Some rs) t used none placeable free =
@@ -45,7 +45,7 @@ placed_somehow (Some rs) t used none placeable free =
               (ap (λ (u : ℕ → ℕ). fits_beside rs u fits.picks) none ∙ fits.fits),
         )
 
--- an element that does not pass
+-- where not all elements pass, the first that does not is found
 not_all : {A : Type 0} (p : A → Bool) (xs : List A) → list_all p xs ≡ false → (x : A) × (find (λ y. not (p y)) xs ≡ Some x) × (p x ≡ false)
 not_all p [] is = cc
 not_all p (x ∷ xs) is = elim (cases_Bool (p x)) [
@@ -55,7 +55,7 @@ not_all p (x ∷ xs) is = elim (cases_Bool (p x)) [
   | inr fails ↦ (x, ap (λ (b : Bool). cond (not b) (Some x) (find (λ y. not (p y)) xs)) fails, fails)
 ]
 
--- what is found passes where all do
+-- where all elements pass, one that is found passes
 pub all_found : {A : Type 0} (p q : A → Bool) (xs : List A) (x : A) → list_all p xs ≡ true → find q xs ≡ Some x → p x ≡ true
 all_found p q [] x all is = cc
 all_found p q (y ∷ ys) x all is = elim (cases_Bool (q y)) [
@@ -154,7 +154,7 @@ module _ (plan : PlanParts) (sound : IsSound plan) (es : List Entry) (idle : ope
       and_from (has_processors plan t es) (not (is_excluded plan.tests t es)) (le-leb (t.processors + used_processors plan.tests es) plan.level (omega arith))
       (ap (λ (rs : List Running). not (list_any (λ (r : Running). exclude (Some t) (test_at plan.tests r.test)) rs)) idle)
 
-  -- a test may start that is ready and not stopped
+  -- a test that is ready may start, where there is no Stop
   pub can_start : (t : PlanTest) → IsLeft plan es t → has_stop es ≡ false → is_ready plan t es ≡ true → t.fixed ≡ None → CanStart plan es t.number
   can_start t left on ready free =
       let place = placed_somehow plan.resources t (used_slots es) no_slots (placeable t left) free in
@@ -171,7 +171,7 @@ module _ (plan : PlanParts) (sound : IsSound plan) (es : List Entry) (idle : ope
       let queued = Contains-permutation numbers plan.queue t.number (IsPermutation-sym plan.queue numbers sound.queue) (enabled_number (λ (x : PlanTest). x.number == t.number) plan.tests t (not_disabled plan t es left.unfinished) left.found) in
       starts_on t.number queued (can_start t left on ready free)
 
-  -- its predecessors are final, so that it may be settled or may start
+  -- a test whose predecessors are final may be settled or may start
   ripe : (t : PlanTest) → IsLeft plan es t → has_stop es ≡ false → follows_finals plan t es ≡ true → (setup : Option ℕ) → first_unpassed plan t es ≡ setup → (fixed : Option Cause) → t.fixed ≡ fixed → GoesOn plan es
   ripe t left on follows (Some s) is fixed free =
       settled_here t (Fixture s) left (behind t left on follows ∙ ap (λ (o : Option ℕ). cause_behind o t.fixed) is)
@@ -187,7 +187,7 @@ module _ (plan : PlanParts) (sound : IsSound plan) (es : List Entry) (idle : ope
     ltb-true u.rank rank (and_parts (not u.disabled) (nat_lt u.rank rank) lesser).1,
   )
 
-  -- a predecessor that is not final
+  -- where a test waits for a predecessor, a test of lesser rank is not final
   earlier : (t : PlanTest) → IsLeft plan es t → follows_finals plan t es ≡ false → (u : PlanTest) × IsLeft plan es u × (u.rank < t.rank)
   earlier t left waits =
       let found = not_all (λ j. is_some (verdict_of_test plan es j)) t.before waits in

@@ -57,12 +57,12 @@ open_there rs (End t a w s) behind p there is = cc
 open_there rs (Settle t c) behind p there is = cc
 open_there rs Stop behind p there is = cc
 
--- what an entry opens, where all behind it is looked at
+-- what an entry opens, by all entries behind it
 pub opened-rest : (es : List Entry) (at : ℕ) (e : Entry) (o : Option Placement) → at < length es → o ≡ opened_placement e (take (length es - (at + 1)) (drop (at + 1) es)) → opened_placement e (drop (at + 1) es) ≡ o
 opened-rest es at e o lt is =
     ap (λ (xs : List Entry). opened_placement e xs) (sym (take_all (length es - (at + 1)) (drop (at + 1) es) (omega (arith, length-drop (at + 1) es)))) ∙ sym is
 
--- what one entry more in front adds
+-- the slots that one more entry in front adds
 used_slots-cons : (e : Entry) (es : List Entry) (place : ℕ) → used_slots (e ∷ es) place ≡ placed_slots place (opened_placement e es) + used_slots es place
 used_slots-cons e es place = by_opened (opened e es)
   where
@@ -114,7 +114,7 @@ module _ (plan : PlanParts) (rs : List Resource) (given : plan.resources ≡ Som
       let there = all_at (is_start_there rs) es at e (starts_there [] es allowed) lt in
       open_there rs e (drop (at + 1) es) p (ap (λ (x : Entry). is_start_there rs x) is ∙ there) opens
 
-  -- and fits beside the open starts in front of it
+  -- picks fit beside used slots, where both together are at most what the open starts use
   pub placement_fits : (es : List Entry) → is_allowed_so_far plan es ≡ true → (used : ℕ → ℕ) (p : Placement) → ((place : ℕ) → used place + slots_at place p.picks ≤ used_slots es place) → fits_beside rs used p.picks ≡ true
   placement_fits es allowed used p le =
       let within = subst (λ (xs : List Entry). IsWithin plan xs) (take_all (length es) es (omega arith)) (stays_within plan es allowed (length es)) in

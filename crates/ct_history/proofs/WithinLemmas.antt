@@ -35,7 +35,7 @@ fits_at k (r ∷ rs) used picks fits (suc place) at is =
     let both = and_parts (nat_le (used k + slots_at k picks) r.slots) (fits_from (k + 1) rs used picks) fits in
     fits_at (k + 1) rs used picks both.1 place at (omega arith)
 
--- the slots of each resource, as they are used
+-- no more slots of a resource are used than it has
 abbrev HasSlots : Option (List Resource) → (ℕ → ℕ) → Type 0
 HasSlots resources used = IfSome resources (λ rs. (place : ℕ) → IfSome (slice_get rs place) (λ (r : Resource). used place ≤ r.slots))
 
@@ -86,7 +86,7 @@ one_sum f rs r = let one : sum_by f (r ∷ []) ≡ f r = omega arith in sum_by-a
 true_is_false : true ≡ false → ⊥
 true_is_false is = cc
 
--- one start more
+-- a history with one more Start
 module _ (plan : PlanParts) (es : List Entry) (n a w : ℕ) (p : Option Placement) where
   abbrev begun : Running
   begun = record { test = n; attempt = a; worker = w; placement = p }
@@ -121,7 +121,7 @@ module _ (plan : PlanParts) (es : List Entry) (n a w : ℕ) (p : Option Placemen
 within-other : (plan : PlanParts) (es : List Entry) (e : Entry) → open_starts (es ++ e ∷ []) ≡ open_starts es ++ [] → IsWithin plan es → IsWithin plan (es ++ e ∷ [])
 within-other plan es e is within = within_from plan (es ++ e ∷ []) (open_starts es) (is ∙ append-nil (open_starts es)) (opened_from plan es within)
 
--- one allowed entry more
+-- a history within the plan stays within it with one more allowed entry
 pub within-snoc : (plan : PlanParts) (es : List Entry) (e : Entry) → IsWithin plan es → is_allowed plan es e ≡ true → IsWithin plan (es ++ e ∷ [])
 within-snoc plan es (Start n a w p) within allowed =
     let most = and_parts (not (is_stop_due plan es) && starts plan es a p (test_at plan.tests n)) (not (is_busy_in w es)) allowed in

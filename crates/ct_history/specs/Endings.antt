@@ -1,4 +1,4 @@
--- How the tests of a history ended, kept by their numbers, and the verdicts that this gives. This project's own.
+-- How the tests of a history ended, kept by their numbers, and the verdicts that follow. This project's own.
 use Rattle.std.specs.Prelude.{◌≡◌, ℕ, true, List, filter_map, nat_eq, Option, Some, None, option_map, ◌==◌, if◌then◌else◌}
 use Rattle.std.specs.Option.{unwrap_or}
 use Rattle.ct_verdict.specs.declared.attempt.Seen.{Seen}
@@ -14,7 +14,7 @@ use Rattle.ct_history.specs.History.{settled_by}
 use Rattle.ct_history.specs.Verdicts.{is_final_in, last_of_list, settled_cause, settled_or, verdict_in}
 use Rattle.indexmap.specs.IndexMap.{IndexMap, get}
 
--- what was seen of the attempt that the entry ends, where it is one of the test
+-- what was seen of the attempt that the entry ends, if that is an attempt of the test
 abbrev pub seen_at_end : ℕ → Entry → Option Seen
 seen_at_end test (Start t a worker placement) = None
 seen_at_end test (End t a worker seen) = if t == test then Some seen else None
@@ -25,19 +25,19 @@ seen_at_end test Stop = None
 abbrev pub last_seen : ℕ → List Entry → Option Seen
 last_seen test entries = last_of_list (filter_map (seen_at_end test) entries)
 
--- a test of which no entry speaks
+-- the ending of a test that has neither a Settle nor an End
 abbrev pub unended : Ending
 unended = record { settled = None; last = None }
 
--- how a test ended, by what is kept
+-- how a test ended, as the map of endings tells it
 abbrev pub ending_at : {S : Type 0} → IndexMap ℕ Ending S → ℕ → Ending
 ending_at endings test = unwrap_or (get nat_eq endings test) unended
 
--- how a test ended, by the history
+-- how a test ended, as the history tells it
 abbrev pub ending_in : List Entry → ℕ → Ending
 ending_in entries test = record { settled = settled_cause test entries; last = last_seen test entries }
 
--- the first of two, where it is there
+-- the first of two values if it is there, else the second
 abbrev pub first_there : {A : Type 0} → Option A → Option A → Option A
 first_there None other = other
 first_there (Some x) other = Some x
@@ -50,10 +50,10 @@ ending_after test ending entry = record { settled = first_there ending.settled (
 abbrev pub verdict_by : PlanTest → Ending → Option Verdict
 verdict_by t ending = if t.disabled then Some Disabled else settled_or ending.settled (option_map (verdict_of t.rules) ending.last)
 
--- what is kept says how each test ended
+-- the map tells of each test how it ended in the history
 abbrev pub AreEndings : {S : Type 0} → IndexMap ℕ Ending S → List Entry → Type 0
 AreEndings endings entries = (test : ℕ) → ending_at endings test ≡ ending_in entries test
 
--- a test that is final has the verdict that how it ended gives
+-- each final test's verdict by the ending that the map tells is its verdict in the history
 abbrev pub TellVerdicts : {S : Type 0} → IndexMap ℕ Ending S → List Entry → Type 0
 TellVerdicts endings entries = (repeat : Repeat) (t : PlanTest) → is_final_in repeat t entries ≡ true → verdict_by t (ending_at endings t.number) ≡ verdict_in repeat t entries

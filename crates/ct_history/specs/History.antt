@@ -26,7 +26,7 @@ is_end_of test attempt (End t a worker seen) = t == test && a == attempt
 is_end_of test attempt (Settle t cause) = false
 is_end_of test attempt Stop = false
 
--- the start that the entry makes, where no End of it stands behind
+-- the start that the entry makes, unless an End behind the entry closes it
 abbrev pub opened : Entry → List Entry → Option Running
 opened (Start t a w p) behind = if list_any (is_end_of t a) behind then None else Some (record { test = t; attempt = a; worker = w; placement = p })
 opened (End t a worker seen) behind = None
@@ -37,7 +37,7 @@ opened Stop behind = None
 abbrev pub opened_placement : Entry → List Entry → Option Placement
 opened_placement e behind = option_and_then (λ (r : Running). r.placement) (opened e behind)
 
--- the open starts: those behind which no End of the same test and attempt stands
+-- the open starts: each Start with no End of the same test and attempt behind it
 abbrev pub open_starts : List Entry → List Running
 open_starts [] = []
 open_starts (e ∷ es) = cons_option (opened e es) (open_starts es)
@@ -90,7 +90,7 @@ settled_by test (End t a worker seen) = None
 settled_by test (Settle t cause) = if t == test then Some cause else None
 settled_by test Stop = None
 
--- the verdict of the attempt that the entry ends, where it is one of the test
+-- the verdict of the attempt that the entry ends, if that is an attempt of the test
 abbrev pub attempt_by : ℕ → Rules → Entry → Option Verdict
 attempt_by test rules (Start t a worker placement) = None
 attempt_by test rules (End t a worker seen) = if t == test then Some (verdict_of rules seen) else None

@@ -1,4 +1,4 @@
--- Which histories are legal for a plan, and when no more is given than is declared.
+-- Which histories are legal for a plan, and when the open starts use no more than is declared.
 -- Source: CMake manual, cmake-properties(7), PROCESSORS, RESOURCE_LOCK, RUN_SERIAL; ctest(1), Resource Allocation,
 -- --stop-on-failure. The order of entries is this project's choice.
 use Rattle.std.specs.Prelude.{◌≡◌, ℕ, ◌+◌, ◌-◌, ◌≤◌, Bool, true, false, not, ◌&&◌, List, [], ◌∷◌, ◌++◌, length, take, IfSome, AllPairs, Option, Some, None, slice_get, ◌==◌}
@@ -28,11 +28,12 @@ without_last entries = take (length entries - 1) entries
 abbrev pub ends_in_first_failure : PlanParts → List Entry → Bool
 ends_in_first_failure plan entries = has_failing plan entries && not (has_failing plan (without_last entries))
 
--- a Stop is due directly behind these entries: the option is on, and the last of them made the first failing verdict final
+-- a Stop is due directly behind these entries: the plan stops on failure, and the last entry made the first
+-- failing verdict final
 abbrev pub is_stop_due : PlanParts → List Entry → Bool
 is_stop_due plan entries = plan.stop_on_failure && ends_in_first_failure plan entries
 
--- a test may be settled with some cause, and it is this one
+-- the cause that a test may be settled with is there, and is this cause
 abbrev pub same_cause : Cause → Option Cause → Bool
 same_cause Unstarted (Some Unstarted) = true
 same_cause (Lacks j) (Some (Lacks k)) = j == k
@@ -48,24 +49,26 @@ same_cause _ _ = false
 abbrev pub is_next_attempt : PlanTest → ℕ → List Entry → Bool
 is_next_attempt t attempt front = attempt == length (attempts_of t.number t.rules front) + 1
 
--- the test that was looked up may start so: with this placement, as its next attempt
+-- the test that was looked up is there, and may start with this placement as this attempt
 abbrev pub starts : PlanParts → List Entry → ℕ → Option Placement → Option PlanTest → Bool
 starts plan front attempt placement None = false
 starts plan front attempt placement (Some t) = may_start plan t placement front && is_next_attempt t attempt front
 
--- the test that was looked up may be settled with this cause
+-- the test that was looked up is there, and may be settled with this cause
 abbrev pub settles : PlanParts → List Entry → Cause → Option PlanTest → Bool
 settles plan front cause None = false
 settles plan front cause (Some t) = same_cause cause (settle_cause plan t front)
 
--- the entry is allowed by the entries in front of it: a Stop exactly where one is due
+-- the entry is allowed by the entries in front of it. Where a Stop is due, only a Stop is. Else allowed are a
+-- Start that may be made by a worker that is not busy, the End of an open start of its worker, and a Settle
+-- with the right cause
 abbrev pub is_allowed : PlanParts → List Entry → Entry → Bool
 is_allowed plan front (Start t a w p) = not (is_stop_due plan front) && starts plan front a p (test_at plan.tests t) && not (is_busy_in w front)
 is_allowed plan front (End t a w seen) = not (is_stop_due plan front) && holds_start t a w front
 is_allowed plan front (Settle t cause) = not (is_stop_due plan front) && settles plan front cause (test_at plan.tests t)
 is_allowed plan front Stop = is_stop_due plan front
 
--- each of these entries, behind those in front, is allowed by all that stand in front of it
+-- each of these entries is allowed by the entries in front of it, those of `front` included
 abbrev pub are_allowed_behind : PlanParts → List Entry → List Entry → Bool
 are_allowed_behind plan front [] = true
 are_allowed_behind plan front (e ∷ es) = is_allowed plan front e && are_allowed_behind plan (front ++ e ∷ []) es
@@ -87,12 +90,12 @@ pub record IsComplete (plan : PlanParts) (entries : List Entry) : Type 0 where
 abbrev pub GetAlong : List PlanTest → Running → Running → Type 0
 GetAlong tests one other = exclude (test_at tests one.test) (test_at tests other.test) ≡ false
 
--- no more is given to the open starts than is declared
+-- the open starts use at most the declared processors and slots, and no two of their tests exclude each other
 pub record IsWithin (plan : PlanParts) (entries : List Entry) : Type 0 where
   pub processors : used_processors plan.tests entries ≤ plan.level
   pub slots : IfSome plan.resources (λ rs. (place : ℕ) → IfSome (slice_get rs place) (λ (r : Resource). used_slots entries place ≤ r.slots))
   pub apart : AllPairs (GetAlong plan.tests) (open_starts entries)
 
--- at no moment was more given than is declared: each beginning of the history is within the plan
+-- the limits held at each moment: each beginning of the history is within the plan
 abbrev pub StaysWithin : PlanParts → List Entry → Type 0
 StaysWithin plan entries = (n : ℕ) → IsWithin plan (take n entries)

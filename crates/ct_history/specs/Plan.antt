@@ -12,12 +12,12 @@ use Rattle.ct_history.specs.declared.plan.PlanParts.{PlanParts}
 abbrev pub test_at : List PlanTest → ℕ → Option PlanTest
 test_at tests number = find (λ (t : PlanTest). t.number == number) tests
 
--- the numbers ascend without repeats, from this one on
+-- the numbers ascend without repeats, and the first is at least this one
 abbrev pub IsAscendingFrom : ℕ → List ℕ → Type 0
 IsAscendingFrom least [] = Unit {0}
 IsAscendingFrom least (n ∷ ns) = (least ≤ n) × IsAscendingFrom (n + 1) ns
 
--- each test's predecessors, or its setups, ascend without repeats
+-- the links of each test, which are its predecessors or its setups, ascend without repeats
 abbrev pub AllAscend : (PlanTest → List ℕ) → List PlanTest → Type 0
 AllAscend links [] = Unit {0}
 AllAscend links (t ∷ ts) = IsAscendingFrom 1 (links t) × AllAscend links ts
@@ -26,7 +26,7 @@ AllAscend links (t ∷ ts) = IsAscendingFrom 1 (links t) × AllAscend links ts
 abbrev pub enabled : List PlanTest → List PlanTest
 enabled tests = filter (λ (t : PlanTest). not t.disabled) tests
 
--- a test of the plan that is not disabled, with a lesser rank
+-- the test is there, is not disabled, and has a rank below this one
 abbrev pub is_before_rank : ℕ → Option PlanTest → Bool
 is_before_rank rank None = false
 is_before_rank rank (Some t) = not t.disabled && nat_lt t.rank rank
@@ -36,7 +36,8 @@ abbrev pub has_sound_links : List PlanTest → PlanTest → Bool
 has_sound_links tests t =
     list_all (λ j. is_before_rank t.rank (test_at tests j)) t.before && list_all (λ s. list_any (λ j. j == s) t.before) t.setups
 
--- a cause that stands before the run; resources can be insufficient only where some are given
+-- no cause, or one that is known before the run: NotAvailable, BadOperation, or Insufficient where resources
+-- are given
 abbrev pub is_fixed_cause : Option (List Resource) → Option Cause → Bool
 is_fixed_cause resources None = true
 is_fixed_cause resources (Some NotAvailable) = true
@@ -48,11 +49,11 @@ is_fixed_cause resources (Some _) = false
 abbrev pub has_sound_processors : ℕ → PlanTest → Bool
 has_sound_processors level t = nat_le 1 t.processors && nat_le t.processors level
 
--- a test that nothing keeps from running has needs that fit while nothing is used
+-- a test without a fixed cause has needs that fit while no slot is used
 abbrev pub IsPlaceable : List Resource → PlanTest → Type 0
 IsPlaceable resources t = t.fixed ≡ None → SomeFits resources t.needs (λ place. 0)
 
--- what holds of each plan
+-- what holds of each plan that is made
 pub record IsSound (plan : PlanParts) : Type 0 where
   pub numbers : IsAscendingFrom 1 (map (λ (t : PlanTest). t.number) plan.tests)
   pub before : AllAscend (λ t. t.before) plan.tests

@@ -15,7 +15,7 @@ pub use Rattle.ct_history.specs.Plan.{test_at}
 use Rattle.ct_history.specs.History.{Running, open_starts, is_open_in, used_processors, used_slots, has_stop}
 pub use Rattle.ct_history.specs.Verdicts.{is_final_in, verdict_of_test, is_passed_verdict}
 
--- the name is one of these
+-- the name is one of these names
 abbrev pub is_among : List ℕ → List (List ℕ) → Bool
 is_among name others = list_any (λ other. bytes_eq name other) others
 
@@ -37,7 +37,7 @@ is_serial (Some t) = t.serial
 unfoldable pub exclude : Option PlanTest → Option PlanTest → Bool
 exclude one other = shares_name (locks_of one) (locks_of other) || is_serial one || is_serial other
 
--- an open test and this one exclude each other
+-- this test and some open test exclude each other
 abbrev pub is_excluded : List PlanTest → PlanTest → List Entry → Bool
 is_excluded tests t entries = list_any (λ (r : Running). exclude (Some t) (test_at tests r.test)) (open_starts entries)
 
@@ -53,23 +53,23 @@ follows_finals plan t entries = list_all (λ j. is_some (verdict_of_test plan en
 abbrev pub first_unpassed : PlanParts → PlanTest → List Entry → Option ℕ
 first_unpassed plan t entries = find (λ s. not (is_passed_verdict (verdict_of_test plan entries s))) t.setups
 
--- the placement is right for the test: one for its needs that fits beside what is used, where it has needs
--- and resources are given, and otherwise none
+-- the placement is right for the test: where it has needs and resources are given, a placement for the needs
+-- that fits beside the used slots; else none
 abbrev pub is_placed : Option (List Resource) → List Need → (ℕ → ℕ) → Option Placement → Bool
 is_placed None needs used placement = is_none placement
 is_placed (Some resources) [] used placement = is_none placement
 is_placed (Some resources) (need ∷ needs) used None = false
 is_placed (Some resources) (need ∷ needs) used (Some p) = is_placement resources (need ∷ needs) p.picks && fits_beside resources used p.picks
 
--- neither final nor open
+-- the test is pending: neither final nor open
 abbrev pub is_pending : PlanParts → PlanTest → List Entry → Bool
 is_pending plan t entries = not (is_final_in plan.repeat t entries) && not (is_open_in t.number entries)
 
--- predecessors are final, setups have passed, and nothing keeps the test from running at all
+-- the test is ready: its predecessors are final, its setups have passed, and it has no fixed cause
 abbrev pub is_ready : PlanParts → PlanTest → List Entry → Bool
 is_ready plan t entries = follows_finals plan t entries && is_none (first_unpassed plan t entries) && is_none t.fixed
 
--- the test's processors and the used ones are at most the level
+-- the test's processors and the used ones are together at most the level
 abbrev pub has_processors : PlanParts → PlanTest → List Entry → Bool
 has_processors plan t entries = nat_le (t.processors + used_processors plan.tests entries) plan.level
 
@@ -82,12 +82,12 @@ abbrev pub may_start : PlanParts → PlanTest → Option Placement → List Entr
 may_start plan t placement entries =
     not (has_stop entries) && is_pending plan t entries && is_ready plan t entries && has_room plan t entries && is_placed plan.resources t.needs (used_slots entries) placement
 
--- the test may start wherever its needs are met: all of `may_start` but the placement
+-- the test may start as soon as its needs are met: all of `may_start` but the placement
 abbrev pub may_start_if_placed : PlanParts → PlanTest → List Entry → Bool
 may_start_if_placed plan t entries =
     not (has_stop entries) && is_pending plan t entries && is_ready plan t entries && has_room plan t entries
 
--- the test that was looked up may start with this placement
+-- the test that was looked up is there, and may start with this placement
 abbrev pub may_start_at : PlanParts → List Entry → Option Placement → Option PlanTest → Bool
 may_start_at plan entries placement None = false
 may_start_at plan entries placement (Some t) = may_start plan t placement entries
@@ -97,17 +97,18 @@ pub record CanStart (plan : PlanParts) (entries : List Entry) (number : ℕ) : T
   pub placement : Option Placement
   pub may : may_start_at plan entries placement (test_at plan.tests number) ≡ true
 
--- the cause that a test is settled with once its predecessors are final: a setup that did not pass, or the fixed one
+-- the cause that a test is settled with once its predecessors are final: its first setup that did not pass,
+-- else its fixed cause
 abbrev pub cause_behind : Option ℕ → Option Cause → Option Cause
 cause_behind None fixed = fixed
 cause_behind (Some setup) fixed = Some (Fixture setup)
 
--- the cause that a test may be settled with, where there is one
+-- the cause that a test may be settled with, if there is one
 abbrev pub settle_cause : PlanParts → PlanTest → List Entry → Option Cause
 settle_cause plan t entries =
     if not (is_pending plan t entries) then None else (if has_stop entries then Some Stopped else (if follows_finals plan t entries then cause_behind (first_unpassed plan t entries) t.fixed else None))
 
--- the cause that the test that was looked up may be settled with
+-- the cause that the test that was looked up may be settled with, if it is there
 abbrev pub settle_cause_at : PlanParts → List Entry → Option PlanTest → Option Cause
 settle_cause_at plan entries None = None
 settle_cause_at plan entries (Some t) = settle_cause plan t entries

@@ -1,4 +1,5 @@
--- The verdict that a history gives to a test. Source: CMake manual, ctest(1), --repeat; this project's own for settled tests.
+-- The verdict that a history gives to a test. Source: CMake manual, ctest(1), --repeat; this project's own
+-- for settled tests.
 use Rattle.std.specs.Prelude.{ℕ, Bool, true, false, not, ◌&&◌, List, [], ◌∷◌, length, filter_map, Option, Some, None, is_some, if◌then◌else◌}
 use Rattle.std.specs.List.{list_all}
 use Rattle.ct_verdict.specs.declared.verdict.Cause.{Cause}
@@ -12,17 +13,17 @@ use Rattle.ct_history.specs.declared.history.Entry.{Entry}
 use Rattle.ct_history.specs.Plan.{test_at}
 use Rattle.ct_history.specs.History.{settled_by, attempts_of, is_open_in}
 
--- the first element
+-- the first element of a list, if there is one
 abbrev pub first_of_list : {A : Type 0} → List A → Option A
 first_of_list [] = None
 first_of_list (x ∷ xs) = Some x
 
--- the last element, or what was found before
+-- the last element of a list, or `found` where the list is empty
 abbrev pub last_behind : {A : Type 0} → Option A → List A → Option A
 last_behind found [] = found
 last_behind found (x ∷ xs) = last_behind (Some x) xs
 
--- the last element
+-- the last element of a list, if there is one
 abbrev pub last_of_list : {A : Type 0} → List A → Option A
 last_of_list xs = last_behind None xs
 
@@ -30,21 +31,21 @@ last_of_list xs = last_behind None xs
 abbrev pub settled_cause : ℕ → List Entry → Option Cause
 settled_cause test entries = first_of_list (filter_map (settled_by test) entries)
 
--- no further attempt follows these; no attempt at all is never enough
+-- no further attempt follows these; where there is none yet, one follows
 abbrev pub is_over : Repeat → List Verdict → Bool
 is_over repeat attempts = not (is_repeated repeat (length attempts) (last_of_list attempts))
 
--- the verdict of a test that was not settled: its last attempt, where none is open and none follows
+-- the verdict of a test that was not settled: that of its last attempt, where none is open and none follows
 abbrev pub attempted_verdict : Repeat → PlanTest → List Entry → Option Verdict
 attempted_verdict repeat t entries =
     if not (is_open_in t.number entries) && is_over repeat (attempts_of t.number t.rules entries) then last_of_list (attempts_of t.number t.rules entries) else None
 
--- the verdict of a test that was settled so, or else of its attempts
+-- NotRun with the cause that the test was settled with, else the verdict of its attempts
 abbrev pub settled_or : Option Cause → Option Verdict → Option Verdict
 settled_or None attempted = attempted
 settled_or (Some cause) attempted = Some (NotRun cause)
 
--- the verdict of a test: Disabled, or what it was settled with, or what its attempts came to
+-- the verdict of a test: Disabled, else NotRun with the cause that settled it, else that of its attempts
 abbrev pub verdict_in : Repeat → PlanTest → List Entry → Option Verdict
 verdict_in repeat t entries =
     if t.disabled then Some Disabled else settled_or (settled_cause t.number entries) (attempted_verdict repeat t entries)
@@ -57,12 +58,12 @@ is_final_in repeat t entries = is_some (verdict_in repeat t entries)
 abbrev pub are_all_final : PlanParts → List Entry → Bool
 are_all_final plan entries = list_all (λ t. is_final_in plan.repeat t entries) plan.tests
 
--- the verdict of the test that was looked up
+-- the verdict of the test that was looked up, if it is there and final
 abbrev pub verdict_at : PlanParts → List Entry → Option PlanTest → Option Verdict
 verdict_at plan entries None = None
 verdict_at plan entries (Some t) = verdict_in plan.repeat t entries
 
--- the verdict of the test with this number
+-- the verdict of the test with this number, if it is there and final
 abbrev pub verdict_of_test : PlanParts → List Entry → ℕ → Option Verdict
 verdict_of_test plan entries number = verdict_at plan entries (test_at plan.tests number)
 

@@ -5,14 +5,14 @@ ghost use Rattle.ct_history.specs.declared.board.Base.{Base};
 
 use ct_base::Blob;
 
-/// What a board's sink was like when the board was opened. Clauses speak of it; none is made.
+/// The state of a board's sink when the board was opened. Only clauses use it: no value is made.
 #[derive(Debug, Drop)]
 pub struct Base {
     /// The bytes written so far, where the sink tells them.
     pub written: Option<Blob>,
     /// The pieces that were taken whole so far, put by put, where the sink tells them.
     pub pieces: Option<ct_base::List<Blob>>,
-    /// The faults so far.
+    /// The sink's count of faults at that time.
     pub faults: u64,
 }
 

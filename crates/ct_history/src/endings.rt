@@ -8,7 +8,7 @@ use ct_verdict::{Cause, Seen, Verdict, one};
 use indexmap::IndexMap;
 use std::alloc::Global;
 
-/// How a test ended: what it was settled with, and what was seen of its last attempt.
+/// How a test ended: the cause that it was settled with, and what was seen of its last attempt.
 #[derive(Clone, Copy)]
 pub struct Ending {
     pub settled: Option<Cause>,
@@ -18,9 +18,9 @@ pub struct Ending {
 /// How the tests of a history ended, by their numbers.
 pub type Endings = IndexMap<u32, Ending>;
 
-/// Goes over a history once, and notes how each of its tests ended.
+/// Reads a history once, and notes how each of its tests ended.
 ///
-/// From that each test that is final has its verdict by `verdict_by`.
+/// From a test's ending `verdict_by` returns its verdict, if the test is final.
 pub fn endings_of(alloc: Global, entries: &[Entry]) -> Result<Endings, NoMemory>
     ensures ended { IfOk result (λ endings. AreEndings endings entries.now) }
     ensures verdicts { IfOk result (λ endings. TellVerdicts endings entries.now) }
@@ -74,7 +74,7 @@ pub fn ending_at(endings: &Endings, test: u32) -> Ending
     }
 }
 
-/// Gives the verdict of a test that is final.
+/// Returns the verdict of a test that is final, by how it ended.
 pub fn verdict_by(test: &PlanTest, ending: Ending) -> Option<Verdict>
     ensures { result ≡ verdict_by test.now ending }
 {

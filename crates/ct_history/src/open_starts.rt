@@ -10,7 +10,7 @@ use crate::{Entry, PlanTest};
 use ct_alloc::Placement;
 use ct_base::Name;
 
-/// A start behind which no End of it stands.
+/// A start that no End behind it closes.
 #[derive(Clone, Copy)]
 struct OpenStart {
     test: u32,
@@ -18,7 +18,7 @@ struct OpenStart {
     worker: u32,
 }
 
-/// Gives the start that an entry opens, where no End of it stands behind.
+/// Returns the start that an entry opens, unless an End behind the entry closes it.
 fn opened(entry: &Entry, behind: &[Entry]) -> Option<OpenStart>
     ensures { result ≡ option_map (λ r. record { test = r.test; attempt = r.attempt; worker = r.worker })
         (opened_in entry.now behind.now) }
@@ -44,7 +44,7 @@ fn opened(entry: &Entry, behind: &[Entry]) -> Option<OpenStart>
     }
 }
 
-/// Lends the placement of the start that an entry opens, where no End of it stands behind.
+/// Lends the placement of the start that an entry opens, unless an End behind the entry closes it.
 pub(crate) fn open_placement<'a>(entry: &'a Entry, behind: &[Entry]) -> Option<&'a Placement>
     ensures { option_copied result ≡ opened_placement entry.now behind.now }
 {
@@ -107,7 +107,7 @@ pub fn holds_start(entries: &[Entry], test: u32, attempt: u32, worker: u32) -> b
     false
 }
 
-/// Tells whether an open test and this one exclude each other.
+/// Tells whether this test and some open test exclude each other.
 pub(crate) fn is_excluded(tests: &[PlanTest], test: &PlanTest, entries: &[Entry]) -> bool
     ensures { result ≡ Rules.is_excluded tests.now test.now entries.now }
 {
@@ -147,7 +147,7 @@ fn is_among(name: &Name, others: &[Name]) -> bool
     others.iter().any(|other| name.is(other))
 }
 
-/// Adds up the processors of the open starts, up to the greatest number.
+/// Adds up the processors of the open starts. A greater sum counts as 2^64 - 1.
 pub(crate) fn used_processors(tests: &[PlanTest], entries: &[Entry]) -> u64
     ensures { result ≡ min (History.used_processors tests.now entries.now) (2 ^ 64 - 1) }
 {

@@ -9,8 +9,8 @@ use crate::{Entry, PlanParts, PlanTest};
 use ct_alloc::{Pick, Placement};
 use ct_base::{Need, Resource};
 
-/// Tells whether a placement is right for a test: one for its needs that fits beside what is used,
-/// where it has needs and resources are given, and otherwise none.
+/// Tells whether a placement is right for a test. Where the test has needs and resources are given,
+/// it is a placement for the needs that fits beside the used slots. Otherwise there is none.
 pub(crate) fn is_placed(
     plan: &PlanParts,
     test: &PlanTest,
@@ -105,7 +105,7 @@ fn has_slots(resource: &Resource, place: usize, entries: &[Entry], picks: &[Pick
     used <= slots && slots_at(place, picks) <= slots - used
 }
 
-/// Adds up the slots of a resource that the open starts use, up to the greatest number.
+/// Adds up the slots of a resource that the open starts use. A greater sum counts as 2^64 - 1.
 fn used_slots(entries: &[Entry], place: usize) -> u64
     ensures { result ≡ min (History.used_slots entries.now place) (2 ^ 64 - 1) }
 {
@@ -118,7 +118,7 @@ fn used_slots(entries: &[Entry], place: usize) -> u64
     used
 }
 
-/// Adds up the slots that picks take of a resource, up to the greatest number.
+/// Adds up the slots that picks take of a resource. A greater sum counts as 2^64 - 1.
 fn slots_at(place: usize, picks: &[Pick]) -> u64
     ensures { result ≡ min (Placing.slots_at place picks.now) (2 ^ 64 - 1) }
 {

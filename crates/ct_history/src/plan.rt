@@ -8,7 +8,7 @@ use std::marker::Model;
 /// What a run has to know of one of its tests.
 #[derive(Debug, Drop)]
 pub struct PlanTest {
-    /// From 1, in the order of definition over the whole tree.
+    /// The number of the test, from 1, in the order of definition over the whole tree.
     pub number: u32,
     pub name: Name,
     pub disabled: bool,
@@ -18,13 +18,13 @@ pub struct PlanTest {
     pub serial: bool,
     pub rules: Rules,
     pub needs: List<Need>,
-    /// The tests that have to be final before it starts.
+    /// The numbers of the tests that have to be final before it starts.
     pub before: List<u32>,
-    /// Those of them that have to pass.
+    /// The numbers of the tests in `before` that have to pass.
     pub setups: List<u32>,
-    /// Greater than the ranks of all in `before`.
+    /// Greater than the rank of each test in `before`.
     pub rank: u32,
-    /// Why it can't run at all, where that is known before the run.
+    /// Why it can't run at all, if that is known before the run.
     pub fixed: Option<Cause>,
     pub labels: List<Name>,
 }
@@ -34,7 +34,7 @@ pub struct PlanTest {
 pub struct PlanParts {
     /// The folder that the report names.
     pub dir: Name,
-    /// In order of their numbers.
+    /// The tests, in order of their numbers.
     pub tests: List<PlanTest>,
     /// The numbers of the tests that are not disabled, in the order in which they start.
     pub queue: List<u32>,

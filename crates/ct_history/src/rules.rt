@@ -26,7 +26,7 @@ pub(crate) fn may_start(
     may_start_if_placed(plan, test, entries) && is_placed(plan, test, placement, entries)
 }
 
-/// Tells whether a test may start wherever its needs are met.
+/// Tells whether a test may start as soon as its needs are met.
 fn may_start_if_placed(plan: &PlanParts, test: &PlanTest, entries: &[Entry]) -> bool
     ensures { result ≡ may_start_if_placed plan.now test.now entries.now }
 {
@@ -36,7 +36,7 @@ fn may_start_if_placed(plan: &PlanParts, test: &PlanTest, entries: &[Entry]) -> 
         && has_room(plan, test, entries)
 }
 
-/// Gives the cause that a test may be settled with, where there is one.
+/// Returns the cause that a test may be settled with, if there is one.
 ///
 /// Source: CMake manual, cmake-properties(7), FIXTURES_REQUIRED; ctest(1), --stop-on-failure.
 pub(crate) fn settle_cause(plan: &PlanParts, test: &PlanTest, entries: &[Entry]) -> Option<Cause>

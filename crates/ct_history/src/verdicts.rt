@@ -10,7 +10,8 @@ use crate::plan::test_at;
 use crate::{Entry, History, Plan, PlanParts, PlanTest};
 use ct_verdict::{Cause, Repeat, Rules, Verdict, one};
 
-/// Gives a test's verdict: Disabled, or what it was settled with, or what its attempts came to.
+/// Returns a test's verdict: Disabled, else NotRun with the cause that settled it, else the verdict
+/// of its last attempt.
 ///
 /// It is `None` as long as the test is not final.
 pub fn final_verdict(plan: &Plan, history: &History, test: u32) -> Option<Verdict>
@@ -20,7 +21,7 @@ pub fn final_verdict(plan: &Plan, history: &History, test: u32) -> Option<Verdic
     verdict_of(plan.parts(), history.entries.as_slice(), test)
 }
 
-/// Gives the verdict of the test with this number.
+/// Returns the verdict of the test with this number, if there is one and it is final.
 pub fn verdict_of(plan: &PlanParts, entries: &[Entry], number: u32) -> Option<Verdict>
     ensures { result ≡ verdict_of_test plan.now entries.now number }
 {
@@ -66,7 +67,7 @@ pub(crate) fn is_final(repeat: &Repeat, test: &PlanTest, entries: &[Entry]) -> b
     verdict(repeat, test, entries).is_some()
 }
 
-/// Gives the verdict of a test of the plan, where it is final.
+/// Returns the verdict of a test of the plan, if it is final.
 pub fn verdict(repeat: &Repeat, test: &PlanTest, entries: &[Entry]) -> Option<Verdict>
     ensures { result ≡ verdict_in repeat.now test.now entries.now }
 {
@@ -125,7 +126,7 @@ fn is_tried_again(
     repeat.again(count_attempts(test, entries), last)
 }
 
-/// Counts the attempts of a test that have ended, up to the greatest number.
+/// Counts the attempts of a test that have ended. A greater count counts as 2^32 - 1.
 pub(crate) fn count_attempts(test: &PlanTest, entries: &[Entry]) -> u32
     ensures { result ≡
         min (length (attempts_of test.now.number test.now.rules entries.now)) (2 ^ 32 - 1) }

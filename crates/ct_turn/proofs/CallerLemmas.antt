@@ -60,7 +60,7 @@ found_last p r (x ∷ xs) none is = elim (cases_Bool (p x)) [
   | inr other ↦ ap (λ (b : Bool). cond b (Some x) (find p (xs ++ r ∷ []))) other ∙ found_last p r xs (sym (ap (λ (b : Bool). cond b (Some x) (find p xs)) other) ∙ none) is
 ]
 
--- behind a Start its worker holds it
+-- a worker holds the start that it has just added
 pub start_holds : (es : List Entry) (r : Running) → open_start r.worker es ≡ None → open_start r.worker (es ++ Start r.test r.attempt r.worker r.placement ∷ []) ≡ Some r
 start_holds es r none =
     ap (λ (rs : List Running). find (λ (q : Running). q.worker == r.worker) rs) (open_starts-snoc es (Start r.test r.attempt r.worker r.placement) refl)
@@ -107,7 +107,7 @@ end_leaves w r (x ∷ xs) all is =
           ]
     ]
 
--- behind the End of the start that it held a worker holds none
+-- a worker holds no start behind the End of the start that it held
 pub end_holds_none : (plan : PlanParts) (w : ℕ) (r : Running) (es : List Entry) → is_legal plan es ≡ true → open_start w es ≡ Some r → (e : Entry) → open_starts (es ++ e ∷ []) ≡ filter (λ q. not (is_of r.test r.attempt q)) (open_starts es) → open_start w (es ++ e ∷ []) ≡ None
 end_holds_none plan w r es legal is e closes =
     ap (λ (rs : List Running). find (λ (q : Running). q.worker == w) rs) closes ∙ end_leaves w r (open_starts es) (starts_apart plan es (legal_allowed plan es legal)).workers is

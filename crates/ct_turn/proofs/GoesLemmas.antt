@@ -23,14 +23,14 @@ own_by v w (End t a u s) ne own = other_number v w u ne own
 own_by v w (Settle t c) ne own = refl
 own_by v w Stop ne own = refl
 
--- among a worker's own entries are none of another worker
+-- a worker's own entries hold none of another worker
 pub own_none : (v w : ℕ) (es : List Entry) → v ≢ w → list_all (is_own v) es ≡ true → list_any (is_by w) es ≡ false
 own_none v w [] ne own = refl
 own_none v w (e ∷ es) ne own =
     let both = and_parts (is_own v e) (list_all (is_own v) es) own in
     or_from (is_by w e) (list_any (is_by w) es) (own_by v w e ne both.0) (own_none v w es ne both.1)
 
--- another worker's entries behind a history leave what was seen of it
+-- a history that goes on from what a worker has seen still does so with another worker's entries added
 pub goes_further : (v w : ℕ) (seen now later : List Entry) → v ≢ w → GoesOn w seen now → AddsOwn v now later → GoesOn w seen later
 goes_further v w seen now later ne goes adds = record {
   more = goes.more ++ adds.more;
@@ -41,7 +41,7 @@ goes_further v w seen now later ne goes adds = record {
 pub goes_nowhere : (w : ℕ) (now : List Entry) → GoesOn w now now
 goes_nowhere w now = record { more = []; is = sym (append-nil now); others = refl }
 
--- what was seen by one, beside what was seen by another
+-- of two beginnings of a list, the longer one begins with the shorter one
 prefix_of : (a b x y : List Entry) → a ++ x ≡ b ++ y → length a ≤ length b → (z : List Entry) × (b ≡ a ++ z) × (x ≡ z ++ y)
 prefix_of [] b x y e le = (b, refl, e)
 prefix_of (p ∷ ps) [] x y e le = absurd (omega (arith, le))
@@ -51,7 +51,7 @@ prefix_of (p ∷ ps) (q ∷ qs) x y e le =
     let t = prefix_of ps qs x y rest (omega (arith, le)) in
     (t.0, (λ i. sym first i ∷ t.1 i), t.2)
 
--- one that has seen a beginning, and one that has seen a longer one
+-- of two seen beginnings, the longer one goes on from the shorter one, and the history from the longer one
 pub goes_between : (w v : ℕ) (a b now : List Entry) → GoesOn w a now → GoesOn v b now → length a ≤ length b → GoesOn w a b × GoesOn w b now
 goes_between w v a b now one other le =
     let t = prefix_of a b one.more other.more (sym one.is ∙ other.is) le in
@@ -70,7 +70,7 @@ goes_longer w v a b now one other = elim (cases_Bool (nat_lt (length a) (length 
   | inr not_less ↦ subst (λ (c : Bool). GoesOn w a (if c then b else a) × GoesOn w (if c then b else a) now) (sym not_less) (goes_nowhere w a, one)
 ]
 
--- who has seen as much as there is has seen all
+-- a seen history that is as long as the whole one is the whole one
 pub goes_whole : (w : ℕ) (a now : List Entry) → GoesOn w a now → length now ≤ length a → a ≡ now
 goes_whole w a now goes le = by_more goes.more goes.is
   where
@@ -88,7 +88,7 @@ length-longer a b = elim (cases_Bool (nat_lt (length a) (length b))) [
       subst (λ (c : Bool). (length a ≤ length (if c then b else a)) × (length b ≤ length (if c then b else a))) (sym not_less) (omega arith, le)
 ]
 
--- where one of two has seen all, so has who has seen the longer
+-- where one of two workers has seen all, the longer of their histories is the whole one
 pub longer_whole : (w v : ℕ) (a b now : List Entry) → GoesOn w a now → GoesOn v b now → (a ≡ now) ⊎ (b ≡ now) → longer a b ≡ now
 longer_whole w v a b now one other all =
     let sizes = length-longer a b in

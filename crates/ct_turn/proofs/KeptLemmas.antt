@@ -25,7 +25,7 @@ use Rattle.ct_turn.proofs.GoesLemmas.{goes_further, goes_nowhere, noted_is, own_
 use Rattle.ct_turn.proofs.SeatLemmas.{only_one, set_there}
 use Rattle.ct_turn.proofs.StartLemmas.{open_start-own, opened_by, or_from, or_parts, start_stays}
 
--- some seat knows something still where one that is out has changed
+-- what some seat that is out knows still has a property, where one seat that is out has changed and kept it
 pub some_set : (P : Known → Type 0) (seats : List Known) (id : ℕ) (k l : Known) → get_elem? seats id ≡ some k → l.is_out ≡ true → (P k → P l) → SomeOut P seats → SomeOut P (set seats id l)
 some_set P seats id k l here out same (j, u, at_j, out_u, holds) = dite (ℕ_discrete j id)
     (λ e. let is : u ≡ k = some-injective u k (sym at_j ∙ ap (λ (n : ℕ). get_elem? seats n) e ∙ here) in (id, l, set_there seats id k l here, out, same (subst P is holds)))
@@ -88,7 +88,7 @@ module _ (plan : PlanParts) (base : Base) (now : Moment) (seats : List Known) (i
     | inr (inr (j, u, at_j, out, is)) ↦ let lt = (kept.numbered j u at_j out).1 w is in absurd (omega (arith, lt, le))
   ]
 
-  -- what a worker may rest on
+  -- what a worker may rely on holds
   pub assures : AllAgree plan base now seats → get_elem? seats id ≡ some k → k.is_out ≡ true → Assures k
   assures kept here out = record {
     notes = λ i d lt. (kept.noted id k here out i d lt).kept;

@@ -30,7 +30,7 @@ use Rattle.ct_turn.proofs.StartLemmas.{or_from, or_parts, start_stays}
 true_is_false : true ≡ false → ⊥
 true_is_false is = cc
 
--- a seat stands behind the others, and some seat knows something still
+-- what some seat that is out knows still has a property, with one more seat behind the others
 some_behind : (P : Known → Type 0) (seats : List Known) (l : Known) → SomeOut P seats → SomeOut P (seats ++ l ∷ [])
 some_behind P seats l (j, u, at_j, out, holds) = (j, u, at_longer seats (l ∷ []) j u at_j, out, holds)
 
@@ -232,7 +232,7 @@ module _ (plan : PlanParts) (base : Base) (now : Moment) (seats : List Known) (i
           whole = one_fewer ∙ kept.whole;
         }
 
--- what one seat stands for is among all passes
+-- a seat stands for at most as many passes as all seats do
 one_pass : (seats : List Known) (j : ℕ) (k : Known) → get_elem? seats j ≡ some k → passes_at k ≤ sum_by passes_at seats
 one_pass [] j k e = absurd (some-ne-none k (sym e))
 one_pass (x ∷ xs) zero k e =
@@ -240,7 +240,7 @@ one_pass (x ∷ xs) zero k e =
     omega (arith, same, sum_by-cons passes_at x xs)
 one_pass (x ∷ xs) (suc j) k e = omega (arith, sum_by-cons passes_at x xs, one_pass xs j k e)
 
--- and so is what two seats stand for
+-- two seats stand for at most as many passes as all seats do
 two_passes : (seats : List Known) (i j : ℕ) (k l : Known) → get_elem? seats i ≡ some k → get_elem? seats j ≡ some l → i ≢ j → passes_at k + passes_at l ≤ sum_by passes_at seats
 two_passes [] i j k l at_i at_j ne = absurd (some-ne-none k (sym at_i))
 two_passes (x ∷ xs) zero zero k l at_i at_j ne = absurd (ne refl)
@@ -299,12 +299,12 @@ module _ (plan : PlanParts) (base : Base) (now : Moment) (seats : List Known) (i
       by_holder : (r : Running) → SomeOut (λ u. (u.worker ≡ r.worker) × (held_start u ≡ Some r)) seats → ⊥
       by_holder r (j, u, at_j, out_u, holds) = let never : None ≡ Some r = sym idle ∙ ap held_start (sym (only_known j u at_j out_u)) ∙ holds.1 in cc
 
--- what the keeper has seen when a pass was joined away
+-- where a pass was joined away, its note is kept by the keeper
 pub as_noted : (k l : Known) → Assures (with_joined k l) → IsKeptBy k.worker (note_of k l)
 as_noted k l assures =
     All-contains (IsKeptBy k.worker) (with_joined k l).notes (note_of k l) assures.notes
     (Contains-append_right k.notes (note_of k l ∷ []) (note_of k l) (0, omega arith, refl))
 
--- a new pass holds nothing
+-- a new pass holds no start
 pub split_idle : (k : Known) → k.worker ≡ 0 → Assures k → held_start (split_off k) ≡ None
 split_idle k first assures = none_open k.made k.seen.entries (assures.unmade first k.made (omega arith))

@@ -14,17 +14,17 @@ set_there [] i a b e = absurd (some-ne-none a (sym e))
 set_there (x ∷ xs) zero a b e = refl
 set_there (x ∷ xs) (suc i) a b e = set_there xs i a b e
 
--- a seat that knows the same changes nothing of what is known
+-- a seat that is replaced by one that knows the same leaves what the seats know
 pub same_known : (views : List View) (id : ℕ) (v w : View) → get_elem? views id ≡ some v → w.known ≡ v.known → map known_at (set views id w) ≡ map known_at views
 same_known views id v w here same =
     map-set known_at views id w ∙ ap (λ k. set (map known_at views) id k) same ∙ set_again (map known_at views) id v.known (at_map known_at views id v here)
 
--- the one place of a list
+-- a list of one element has place 0 alone
 pub only_one : {A : Type 0} (a b : A) (j : ℕ) → get_elem? (a ∷ []) j ≡ some b → (j ≡ 0) × (a ≡ b)
 only_one a b zero e = (refl, some-injective a b e)
 only_one a b (suc j) e = absurd (some-ne-none b (sym e))
 
--- what is behind the first
+-- a list is its first element and the rest
 pub headed : {S : Type 0} (l ls : List (ℕ × S)) (a : ℕ × S) → l ≡ a ∷ ls → l ≡ a ∷ rest l
 headed {S = S} l ls a e = e ∙ ap (λ (r : List (ℕ × S)). a ∷ rest r) (sym e)
 

@@ -18,7 +18,7 @@ use Rattle.ct_turn.specs.Seen.{GoesOn, is_by, open_start}
 true_is_false : true ≡ false → ⊥
 true_is_false is = cc
 
--- neither is true
+-- where a disjunction is false, both parts are false
 pub or_parts : (a b : Bool) → (a || b) ≡ false → (a ≡ false) × (b ≡ false)
 or_parts true b is = absurd (true_is_false is)
 or_parts false b is = (refl, is)

@@ -90,7 +90,7 @@ module _ {T : Type 0} (see : T → Sight) (opened : T) where
     not_free : get_or s.words 0 0 ≢ 0
     not_free e = none_some v.taken t (g.idle e id v me) has
 
-    -- the holder's note of the slot changes, or where the slot is, with words that say the same of the turn
+    -- the rule stays where the holder's `is_lent` or the place of the slot changes, and word 0 does not
     slot-keeps : (words : List ℕ) (homes : List (Maybe (Option T))) (lent : Bool) → length words ≡ 2 → get_or words 0 0 ≡ get_or s.words 0 0 → (lent ≡ true → get_elem? homes 0 ≡ some (some None))
         → IsOrderly see opened (record { words = words; homes = homes; views = set s.views id (record v { is_lent = lent }) })
     slot-keeps words homes lent two same slot =
@@ -184,7 +184,7 @@ pub was-held : {T : Type 0} (see : T → Sight) (m : Me (Option T) View) (found 
 was-held see m found n tried held = ⊎_elim (λ hit. absurd (held hit.0)) (λ miss. miss.1) tried
 
 module _ {T : Type 0} (see : T → Sight) (opened : T) where
-  -- who has the turn is as before, and what the workers know is true
+  -- the rule stays where the same seat has the turn, and what the workers know is true
   turn-keeps : (s : State (Option T) View) (views : List View) → (g : IsOrderly see opened s)
       → ((j : ℕ) (u : View) (m : Moment) → get_elem? views j ≡ some u → u.taken ≡ Some m → (t : View) × (get_elem? s.views j ≡ some t) × (t.taken ≡ Some m) × (u.is_lent ≡ true → t.is_lent ≡ true) × (t.known.is_out ≡ true → u.known.is_out ≡ true))
       → ((j : ℕ) (u : View) (m : Moment) → get_elem? s.views j ≡ some u → u.taken ≡ Some m → (t : View) × (get_elem? views j ≡ some t) × (t.taken ≡ Some m))
@@ -278,7 +278,7 @@ opens see x none going =
       kept = kept-open (see x).plan (see x).base (see x).now none going;
     }
 
--- what is there, with what is known of it
+-- an optional value with a property: it is there, and it has the property
 pub some_of : {A : Type 0} (o : Option A) (P : A → Type 0) → IsSomeAnd o P → (a : A) × (o ≡ Some a) × P a
 some_of None P never = absurd never
 some_of (Some a) P holds = (a, refl, holds)

@@ -16,12 +16,12 @@ pub record PassValue : Type 0 where
 abbrev pub away : Known → Option Moment → View
 away known taken = record { known = known; taken = taken; is_lent = is_some taken }
 
--- what is known at the seat in a place that may be empty
+-- what the seat in a place knows; an empty place knows what `nobody` does
 abbrev pub known_in : List View → Known
 known_in [] = nobody
 known_in (v ∷ vs) = v.known
 
--- when the turn was taken by the seat in a place that may be empty
+-- when the seat in a place took the turn; an empty place has no turn
 abbrev pub taken_in : List View → Option Moment
 taken_in [] = None
 taken_in (v ∷ vs) = v.taken

@@ -20,19 +20,19 @@ use Rattle.ct_turn.specs.Seen.{GoesOn, IsKeptBy, IsTrueNote, Sight, Suits, has_s
 abbrev pub known_at : View → Known
 known_at v = v.known
 
--- the seat of the worker 0, which opens the turn
+-- the seat of worker 0, which opens the turn
 abbrev pub first_view : Sight → View
 first_view state = record { known = opener state.plan state.base; taken = None; is_lent = false }
 
--- each seat that is out knows something
+-- what each seat that is out knows has this property
 abbrev pub EachOut : (Known → Type 0) → List Known → Type 0
 EachOut P seats = (j : ℕ) (k : Known) → get_elem? seats j ≡ some k → k.is_out ≡ true → P k
 
--- the seat in this place knows something, if it is out
+-- what the seat in this place knows has this property, if the seat is out
 abbrev pub EachOutAt : List Known → ℕ → (Known → Type 0) → Type 0
 EachOutAt seats j P = (k : Known) → get_elem? seats j ≡ some k → k.is_out ≡ true → P k
 
--- some seat that is out knows something
+-- what some seat that is out knows has this property
 abbrev pub SomeOut : (Known → Type 0) → List Known → Type 0
 SomeOut P seats = (j : ℕ) × (k : Known) × (get_elem? seats j ≡ some k) × (k.is_out ≡ true) × P k
 
@@ -40,7 +40,7 @@ SomeOut P seats = (j : ℕ) × (k : Known) × (get_elem? seats j ≡ some k) × 
 abbrev pub IsOwned : List Entry → List Known → ℕ → Type 0
 IsOwned now seats w = (list_any (is_by w) now ≡ false) ⊎ (SomeOut (λ k. k.worker ≡ w) seats ⊎ SomeOut (λ k. is_noted w k.notes ≡ true) seats)
 
--- the passes that a seat stands for: its own, where it is out, and those that were joined into it
+-- how many passes a seat stands for: where it is out, its own and those joined into it; else none
 abbrev pub passes_at : Known → ℕ
 passes_at k = if k.is_out then 1 + length k.notes else 0
 
@@ -63,8 +63,8 @@ pub record AllAgree (plan : PlanParts) (base : Base) (now : Moment) (seats : Lis
   pub plain : EachOut (λ k. k.worker ≢ 0 → k.notes ≡ []) seats
   pub whole : sum_by passes_at seats ≡ made
 
--- what a worker may rest on: its notes are as it saw them, and in what the worker 0 has seen, a worker whose
--- pass was not made yet has no entry
+-- what a worker may rely on: its notes are kept by it, and, if it is worker 0, no worker whose pass was not
+-- made yet has an entry in what it has seen
 pub record Assures (known : Known) : Type 0 where
   pub notes : All (IsKeptBy known.worker) known.notes
   pub unmade : known.worker ≡ 0 → (w : ℕ) → known.made ≤ w → list_any (is_by w) known.seen.entries ≡ false
@@ -78,8 +78,8 @@ abbrev pub without_turn : View → Moment → View
 without_turn v now = record { known = has_seen v.known now; taken = None; is_lent = false }
 
 module _ {T : Type 0} (see : T → Sight) where
-  -- the rule: the turn is free, with the state at home, or one seat has it; and what the workers know is true
-  -- of the state as it is while the turn is free, or was when it was taken
+  -- the rule: the turn is free and the state is at home, or exactly one seat has the turn. What the workers
+  -- know is true of the state as it was when the turn was last free.
   pub record IsOrderly (opened : T) (s : State (Option T) View) : Type 0 where
     pub words : length s.words ≡ 2
     pub now : Moment
@@ -117,7 +117,7 @@ module _ {T : Type 0} where
   abbrev pub Counted : Me (Option T) View → Me (Option T) View → Type 0
   Counted m n = n ≡ (record m.0 { is_lent = false }, (0, None) ∷ m.1)
 
-  -- a look leaves the seat as it was, and tells what is true of what it knows
+  -- a look leaves the seat as it was, and tells what its worker may rely on
   abbrev pub Looked : Me (Option T) View → Me (Option T) View → Type 0
   Looked m n = (n ≡ m) × Assures m.0.known
 

@@ -16,7 +16,7 @@ use Rattle.ct_turn.specs.declared.view.Note.{Note}
 abbrev pub moment : List Entry → Bool → Moment
 moment entries halted = record { entries = entries; halted = halted }
 
--- what is seen of a state by who has the turn
+-- what the holder of the turn sees of a state
 pub record Sight : Type 0 where
   pub plan : PlanParts
   pub base : Base
@@ -26,7 +26,7 @@ pub record Sight : Type 0 where
 abbrev pub sight : {T : Type 0} → (T → PlanParts) → (T → Base) → (T → List Entry) → (T → Bool) → T → Sight
 sight plan base history halted x = record { plan = plan x; base = base x; now = moment (history x) (halted x) }
 
--- what the worker 0 knows, which opens the turn: nothing has happened, and one pass was made
+-- what worker 0 knows when it opens the turn: nothing has happened, and one pass was made
 abbrev pub opener : PlanParts → Base → Known
 opener plan base = record { plan = plan; base = base; worker = 0; seen = moment [] false; is_out = true; made = 1; notes = [] }
 
@@ -38,11 +38,11 @@ no_plan = record { dir = []; tests = []; queue = []; resources = None; level = 0
 abbrev pub nobody : Known
 nobody = record (opener no_plan (record { written = None; pieces = None; faults = 0 })) { is_out = false }
 
--- the worker has then seen this moment
+-- what a worker knows once it has seen this moment
 abbrev pub has_seen : Known → Moment → Known
 has_seen known now = record known { seen = now }
 
--- the worker 0 knows that one pass more was made
+-- what worker 0 knows once one more pass was made
 abbrev pub one_more : Known → Known
 one_more known = record known { made = known.made + 1 }
 
@@ -55,12 +55,12 @@ split_off known = record known { worker = known.made; made = 0; notes = [] }
 abbrev pub longer : List Entry → List Entry → List Entry
 longer one other = if nat_lt (length one) (length other) then other else one
 
--- what is noted of the other worker
+-- the note of another worker: its number, what it has seen, and what the keeper of the note had seen
 abbrev pub note_of : Known → Known → Note
 note_of keeper other = record { worker = other.worker; seen = other.seen.entries; before = keeper.seen.entries }
 
--- what the keeper knows when the other's pass was joined away: the longer history, a halt that either had
--- seen, and a note more
+-- what the keeper knows once another pass was joined away: the longer history, a halt that either has seen,
+-- and one more note
 abbrev pub with_joined : Known → Known → Known
 with_joined keeper other =
     record keeper { seen = moment (longer keeper.seen.entries other.seen.entries) (keeper.seen.halted || other.seen.halted); notes = keeper.notes ++ note_of keeper other ∷ [] }
@@ -89,7 +89,7 @@ pub record GoesOn (worker : ℕ) (seen now : List Entry) : Type 0 where
   pub is : now ≡ seen ++ more
   pub others : list_any (is_by worker) more ≡ false
 
--- entries of the worker, or of none, were added
+-- the history adds entries, each of this worker or of none
 pub record AddsOwn (worker : ℕ) (before now : List Entry) : Type 0 where
   pub more : List Entry
   pub is : now ≡ before ++ more
@@ -99,13 +99,13 @@ pub record AddsOwn (worker : ℕ) (before now : List Entry) : Type 0 where
 abbrev pub open_start : ℕ → List Entry → Option Running
 open_start worker entries = find (λ (r : Running). r.worker == worker) (open_starts entries)
 
--- the start that a worker holds: the one of its own that is open in what it has seen
+-- the start that a worker holds: its own open start in what it has seen
 abbrev pub held_start : Known → Option Running
 held_start known = open_start known.worker known.seen.entries
 
--- the state fits what the worker knows: it has the plan and the base, its legal history goes on from what the
--- worker has seen, with none of its own entries, it is halted where the worker has seen it halted, and the
--- worker's open start is the one that it holds
+-- the state fits what the worker knows: it has the plan and the base, and its history is legal. The history
+-- goes on from what the worker has seen, with none of its own entries. The state is halted where the worker
+-- has seen it halted. The worker's open start is the one that it holds.
 pub record Suits (known : Known) (state : Sight) : Type 0 where
   pub plan : state.plan ≡ known.plan
   pub base : state.base ≡ known.base
@@ -114,8 +114,9 @@ pub record Suits (known : Known) (state : Sight) : Type 0 where
   pub halted : known.seen.halted ≡ true → state.now.halted ≡ true
   pub start : open_start known.worker state.now.entries ≡ held_start known
 
--- the state may come back: it has the plan and the base that the worker knows, its legal history adds own
--- entries to what was taken, and it is halted where it was when it was taken
+-- the state may come back: it has the plan and the base that the worker knows, and its history is legal. The
+-- history adds only entries of the worker, or of none, to what was taken. The state is halted where it was
+-- when it was taken.
 pub record Continues (known : Known) (taken : Moment) (state : Sight) : Type 0 where
   pub plan : state.plan ≡ known.plan
   pub base : state.base ≡ known.base
@@ -123,22 +124,23 @@ pub record Continues (known : Known) (taken : Moment) (state : Sight) : Type 0 w
   pub history : AddsOwn known.worker taken.entries state.now.entries
   pub halted : taken.halted ≡ true → state.now.halted ≡ true
 
--- what the keeper of a note saw when the pass was joined into its own goes on from what it had seen, with
--- none of its entries, so that it holds what it held
+-- the longer history of a note goes on from what its keeper had seen, with none of the keeper's entries, and
+-- so the keeper holds the same start in both
 pub record IsKeptBy (keeper : ℕ) (note : Note) : Type 0 where
   pub own : GoesOn keeper note.before (longer note.before note.seen)
   pub held : open_start keeper (longer note.before note.seen) ≡ open_start keeper note.before
 
--- what is noted of a worker is true: the history goes on from what it had seen, with none of its entries, and
--- it held no start
+-- what is noted of a worker is true: the history goes on from what the worker had seen, with none of its
+-- entries. The worker held no start, and the note is kept by its keeper.
 pub record IsTrueNote (now : List Entry) (keeper : ℕ) (note : Note) : Type 0 where
   pub history : GoesOn note.worker note.seen now
   pub idle : open_start note.worker note.seen ≡ None
   pub kept : IsKeptBy keeper note
 
--- the state at the end is what the one worker that is left has seen: it has the plan and the base, is halted
--- where that worker has seen it halted, goes on from what was noted of each other worker with none of its
--- entries, has no entries of workers that were not noted, and nothing is open
+-- the state at the end is what the one worker that is left has seen. It has the plan and the base, its
+-- history is legal, and it is halted where that worker has seen it halted. The history goes on from what was
+-- noted of each other worker, with none of that worker's entries. No other worker without a note has an
+-- entry, and nothing is open.
 pub record Closes (known : Known) (state : Sight) : Type 0 where
   pub plan : state.plan ≡ known.plan
   pub base : state.base ≡ known.base

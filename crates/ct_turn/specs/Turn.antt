@@ -2,7 +2,7 @@
 use Rattle.std.specs.Prelude.{ℕ}
 use Rattle.atomic_table.specs.Seated.{TableId}
 
--- which turn it is, and how many passes it may have
+-- the id of a turn, and how many passes it may have
 pub record TurnValue : Type 0 where
   pub id : TableId
   pub seats : ℕ

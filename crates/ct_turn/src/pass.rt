@@ -15,7 +15,7 @@ pub struct Pass {
     pub(crate) badge: Badge<View>,
     /// What the last `give` left in the round word, in its low 32 bits.
     pub(crate) round: u32,
-    /// How long the history was that it took.
+    /// The length of the history that it took.
     pub(crate) length: usize,
     /// Whether the state that it took was halted.
     pub(crate) halted: bool,
@@ -29,7 +29,7 @@ impl Model for Pass {
     ghost invariant = { λ p. IsAway p.badge.views };
 }
 
-/// Takes the seat out of a pass, which has to get one back.
+/// Takes the seat out of a pass. The caller has to put a seat back.
 pub(crate) fn sit<S>(badge: &mut Badge<View>) -> Seat<S, View>
     requires { IsAway badge.old.views }
     ensures { (result.table_id ≡ badge.old.table_id)

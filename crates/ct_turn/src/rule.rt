@@ -18,7 +18,7 @@ impl<T: Board> TableRule<Option<T>, View, Snapshot<T>> for Rule<T> {
     ghost first = { λ key. first_view (sight T.plan T.base T.history T.halted key.value) };
 }
 
-/// A try to take the turn.
+/// The step that tries to take the turn.
 pub(crate) struct Take<T> {
     marker: PhantomData<T>,
 }
@@ -30,7 +30,7 @@ impl<T: Board> Play<Option<T>, View> for Take<T> {
     ghost then = { λ st m found n. Tried (sight T.plan T.base T.history T.halted) m found n };
 }
 
-/// The emptied slot is put back, while the turn is held.
+/// The step that puts the emptied slot back, while the turn is held.
 pub(crate) struct Lend;
 
 impl<T> Play<Option<T>, View> for Lend {
@@ -39,7 +39,7 @@ impl<T> Play<Option<T>, View> for Lend {
     ghost then = { λ st m found n. Lent m n };
 }
 
-/// The round is counted, and the empty slot taken, before the state comes back.
+/// The step that counts the round and takes the empty slot, before the state comes back.
 pub(crate) struct Count;
 
 impl<T> Play<Option<T>, View> for Count {
@@ -48,7 +48,7 @@ impl<T> Play<Option<T>, View> for Count {
     ghost then = { λ st m found n. Counted m n };
 }
 
-/// The turn becomes free.
+/// The step that frees the turn.
 pub(crate) struct Free<T> {
     marker: PhantomData<T>,
 }
@@ -60,7 +60,7 @@ impl<T: Board> Play<Option<T>, View> for Free<T> {
     ghost then = { λ st m found n. Given (sight T.plan T.base T.history T.halted) m n };
 }
 
-/// A look that changes nothing.
+/// The step that looks and changes nothing.
 pub(crate) struct Look;
 
 impl<T> Play<Option<T>, View> for Look {
@@ -69,7 +69,7 @@ impl<T> Play<Option<T>, View> for Look {
     ghost then = { λ st m found n. Looked m n };
 }
 
-/// A pass is made.
+/// The step that makes a pass.
 pub(crate) struct Part;
 
 impl Split<View> for Part {
@@ -81,7 +81,7 @@ impl Split<View> for Part {
     ghost right = { λ v. new_view v };
 }
 
-/// A pass is joined away.
+/// The step that joins a pass away.
 pub(crate) struct Unite;
 
 impl Join<View> for Unite {

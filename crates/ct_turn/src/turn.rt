@@ -19,10 +19,10 @@ const ROUND: usize = 1;
 
 const FREE: u64 = 0;
 
-/// A pass has it, and no taker sleeps.
+/// The value of the turn word while a pass has the turn and no taker sleeps.
 const HELD: u64 = 1;
 
-/// A pass has it, and a taker may sleep until it is free.
+/// The value of the turn word while a pass has the turn and a taker may sleep until it is free.
 const AWAITED: u64 = 2;
 
 /// The slot with the state.
@@ -31,7 +31,7 @@ const STATE: usize = 0;
 /// How often a taker looks again before it sleeps.
 const SPINS: u32 = 64;
 
-/// There was no memory for a turn, and the state comes back.
+/// There was no memory for a turn; the state is returned.
 #[derive(Drop)]
 pub struct OpenRefused<T> {
     pub state: T,
@@ -39,7 +39,7 @@ pub struct OpenRefused<T> {
 
 /// One state that workers take in turn.
 ///
-/// Contracts see which turn it is, and how many passes it may have.
+/// Contracts see the turn's id, and how many passes it may have.
 #[derive(Drop)]
 pub struct Turn<T: Board> {
     table: Table<Option<T>, View, Snapshot<T>, Rule<T>, Global>,
@@ -62,7 +62,7 @@ impl<T: Board> Turn<T> {
     ghost use Rattle.ct_turn.specs.Pass.{idle_pass};
     ghost use Rattle.ct_turn.specs.Rule.{Taken};
 
-    /// Opens a turn with this state, for so many passes at most, and gives the pass of worker 0.
+    /// Opens a turn with this state, for at most `seats` passes, and returns the pass of worker 0.
     pub fn open(alloc: Global, state: T, seats: u32) -> Result<(Turn<T>, Pass), OpenRefused<T>>
         requires seats { 1 ≤ seats }
         requires empty { T.history state ≡ [] }
@@ -130,7 +130,7 @@ impl<T: Board> Turn<T> {
                 spins += 1;
                 spin_loop();
             } else {
-                // Who slept says that others may sleep: it cannot know that it was the only one.
+                // A woken taker sets the word to AWAITED, since other takers may still sleep.
                 if shared.swap::<Take<T>>(seat, TURN, AWAITED) == FREE {
                     return;
                 }
@@ -140,7 +140,7 @@ impl<T: Board> Turn<T> {
         unreachable!()
     }
 
-    /// Gives the turn back with this state, and wakes one that waits for it, if any does.
+    /// Gives the turn back with this state, and wakes one waiting taker, if there is one.
     pub fn give(&self, pass: &mut Pass, state: T)
         requires turn { pass.old.turn ≡ self.now.id }
         requires continues { IsSomeAnd pass.old.taken (λ taken.
@@ -179,7 +179,7 @@ impl<T: Board> Turn<T> {
         self.table.shared.park(rt, ROUND, pass.round);
     }
 
-    /// Makes a pass for the next worker, which has seen the same and holds nothing.
+    /// Makes a pass for the next worker, which has seen the same history and holds no start.
     pub fn split(&self, pass: &mut Pass) -> Pass
         requires turn { pass.old.turn ≡ self.now.id }
         requires opener { pass.old.known.worker ≡ 0 }
@@ -225,7 +225,7 @@ impl<T: Board> Turn<T> {
         pass.badge = seat.into_badge();
     }
 
-    /// Ends the turn, where one pass is left, and gives the state back.
+    /// Ends the turn, once one pass is left, and returns the state.
     pub fn close(self, pass: Pass) -> T
         requires turn { pass.turn ≡ self.id }
         requires opener { pass.known.worker ≡ 0 }
@@ -248,7 +248,7 @@ impl<T: Board> Turn<T> {
     }
 }
 
-/// Takes the one item out.
+/// Returns the one item of the slots.
 fn first_of<T>(mut slots: Vec<Option<T>>) -> T
     requires { (x : T) × (slots.items ≡ Some x ∷ []) }
     ensures { slots.items ≡ Some result ∷ [] }
@@ -262,7 +262,7 @@ fn first_of<T>(mut slots: Vec<Option<T>>) -> T
     }
 }
 
-/// The low 32 bits.
+/// Returns the low 32 bits of a round.
 fn low_half(round: u64) -> u32 {
     (round % (1 << 32)) as u32
 }

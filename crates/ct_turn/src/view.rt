@@ -1,6 +1,7 @@
 use ct_history::{Base, Entry, PlanParts};
 
-// Of these types no value is made: clauses speak of them. A clause reads an array as a list of any length.
+// No value of these types is made: only clauses use them. A clause reads an array as a list of any
+// length.
 
 /// A history, and whether the run was given up then.
 pub struct Moment {
@@ -27,7 +28,7 @@ pub struct Known {
     pub worker: u32,
     /// The last moment that it saw.
     pub seen: Moment,
-    /// Whether it is out with its worker, and was not joined away.
+    /// Whether the seat is with its worker, and was not joined away.
     pub is_out: bool,
     /// How many passes were made on this turn, where this is the one of worker 0.
     pub made: u32,
