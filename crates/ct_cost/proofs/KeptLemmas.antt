@@ -67,12 +67,12 @@ named_by : (first : CostLine) (name : List ℕ) (found : Option CostLine) → If
 named_by first name found rest true is = sym ((bytes_eq-Decides name first.name).0 is)
 named_by first name found rest false is = rest
 
--- the line of a name has it
+-- the line that is found by a name has the name
 pub line_of-named : (lines : List CostLine) (name : List ℕ) → IfSome (line_of lines name) (λ (l : CostLine). l.name ≡ name)
 line_of-named [] name = tt
 line_of-named (first ∷ lines) name = named_by first name (line_of lines name) (line_of-named lines name) (bytes_eq name first.name) refl
 
--- no counts
+-- the counts of a name without a run
 abbrev pub no_counts : Counts
 no_counts = record { runs = 0; micros = 0 }
 
@@ -93,7 +93,7 @@ run-line lines name micros before counts is runs mean =
     (runs ∙ ap (λ (b : Counts). min (b.runs + 1) most_runs) is)
     (mean ∙ ap (λ (b : Counts). (b.runs * b.micros + micros) / (b.runs + 1)) is))
 
--- a line that is read behind the others
+-- a line that was read, and whose name has no line yet, goes behind the others
 pub new_read : (lines : List CostLine) (line : CostLine) (said : Option CostLine) → Some line ≡ said → is_some (line_of lines line.name) ≡ false → with_line lines line ≡ with_read lines said
 new_read lines line said is none =
     new_line lines line none ∙ ap (λ b. cond b lines (lines ++ line ∷ [])) (sym none) ∙ ap (with_read lines) is
@@ -108,7 +108,7 @@ same_bytes [] (y ∷ ys) all = absurd all
 same_bytes (x ∷ xs) [] all = absurd all
 same_bytes (x ∷ xs) (y ∷ ys) all = λ i. all.0 i ∷ same_bytes xs ys all.1 i
 
--- copies of lines
+-- copies of kept lines are the same lines
 pub copied : {Z : Type 0} (C : Vec ℕ Z → Vec ℕ Z → Type 0) (D : Counts → Counts → Type 0) → ((k l : Vec ℕ Z) → C k l → l.items ≡ k.items) → ((x y : Counts) → D x y → y ≡ x) → (entries copies : List (Vec ℕ Z × Counts)) → AllZip (λ p q. C p.0 q.0 × D p.1 q.1) entries copies
     → map kept_line copies ≡ map kept_line entries
 copied C D key counts [] [] all = refl

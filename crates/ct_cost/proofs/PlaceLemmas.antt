@@ -34,7 +34,7 @@ found_by : (b : Bool) (place at : ℕ) → Some at ≡ cond b (Some place) None 
 found_by true place at is = cc
 found_by false place at is = cc
 
--- a place that is found is the length of the line
+-- where a line feed is found, its place is the length of the line
 pub len_found : (text : List ℕ) (at : ℕ) → Some at ≡ position ends_line text → at ≡ position_or_len ends_line text
 len_found text at is = found_by (nat_lt (position_or_len ends_line text) (length text)) (position_or_len ends_line text) at is
 
@@ -42,7 +42,7 @@ none_by : (b : Bool) (place len : ℕ) → nat_lt place len ≡ b → place ≤ 
 none_by true place len less most is = cc
 none_by false place len less most is = grind (arith, nat_tests)
 
--- without one the line is all
+-- where no line feed is found, the line is the whole text
 pub len_none : (text : List ℕ) → None ≡ position ends_line text → length text ≡ position_or_len ends_line text
 len_none text is = none_by (nat_lt (position_or_len ends_line text) (length text)) (position_or_len ends_line text) (length text) refl (prefix_len-le-length (λ byte. not (ends_line byte)) text) is
 
@@ -55,7 +55,7 @@ within text at h =
     let no : nat_lt (length text) at ≡ false = grind (arith, nat_tests) in
     ap (λ b. cond b [] (lines_in (drop at text))) no
 
--- behind the last line
+-- behind the end of the text there is no line
 pub no_more : (text : List ℕ) (at : ℕ) → length text < at → lines_from text at ≡ []
 no_more text at h =
     let yes : nat_lt (length text) at ≡ true = grind (arith, nat_tests) in

@@ -1,4 +1,4 @@
--- What reading line by line comes to.
+-- The result of reading line by line.
 use Rattle.std.proofs.Common.{◌≡◌, ℕ, ◌+◌, ◌≤◌, length, suc, Bool, true, false, cond, not, List, [], ◌∷◌, take, drop, filter, filter_map, fold, Option, Some, None, refl, sym, ap, ◌∙◌, arith}
 use Rattle.std.specs.List.{cons_option, before_first, after_first, prefix_len, position_or_len}
 use Rattle.std.proofs.lemmas.List.Sums.{take_while-cons}
@@ -15,7 +15,7 @@ use Rattle.ct_cost.specs.Reading.{after_line, after_cost, unread}
 abbrev with_text : List CostLine → List ℕ → List CostLine
 with_text lines text = with_read lines (line_in text)
 
--- so much was read
+-- the reading with these lines and failed names
 abbrev state : List CostLine → List (List ℕ) → Bool → Reading
 state lines failed is_behind = record { lines = lines; failed = failed; is_behind = is_behind }
 
@@ -72,7 +72,7 @@ texts_by : (lines : List CostLine) (found : Option CostLine) (texts : List (List
 texts_by lines None texts rest = rest lines
 texts_by lines (Some line) texts rest = rest (with_new_line lines line)
 
--- the lines that texts say
+-- reading texts one by one adds the lines that they hold
 texts : (lines : List CostLine) (texts : List (List ℕ)) → fold with_text lines texts ≡ fold with_new_line lines (filter_map line_in texts)
 texts lines [] = refl
 texts lines (text ∷ more) = texts_by lines (line_in text) more (λ ls. texts ls more)
@@ -82,7 +82,7 @@ named_by : (failed : List (List ℕ)) (line : List ℕ) (more : List (List ℕ))
 named_by failed line more rest true = rest (with_new_name failed line)
 named_by failed line more rest false = rest failed
 
--- the names that lines say
+-- reading lines one by one adds the names that they hold
 named : (failed lines : List (List ℕ)) → fold with_named failed lines ≡ fold with_new_name failed (filter is_named lines)
 named failed [] = refl
 named failed (line ∷ more) = named_by failed line more (λ names. named names more) (is_named line)

@@ -1,4 +1,5 @@
--- What a run says of its tests for the next one, and the log of its failed tests. Source: this project's choice, after what ctest does.
+-- What a run says of its tests for the next one, and the log of its failed tests. Source: this project's
+-- choice, after what ctest does.
 use Rattle.std.specs.Prelude.{ℕ, min, List, ◌++◌, filter, flat_map, codes, decimal, Option, Some, None}
 use Rattle.ct_base.specs.Seconds.{most_micros}
 use Rattle.ct_verdict.specs.declared.attempt.Seen.{Seen}
@@ -9,7 +10,7 @@ use Rattle.ct_history.specs.Endings.{last_seen}
 use Rattle.ct_history.specs.Verdicts.{verdict_in, is_passed_verdict, is_failing_in}
 use Rattle.ct_cost.specs.CostLine.{CostLine, after_run}
 
--- the microseconds of an attempt that count, up to 10^15
+-- the microseconds that an attempt counts for, at most 10^15
 abbrev pub counted_micros : Option Seen → ℕ
 counted_micros None = 0
 counted_micros (Some seen) = min seen.micros most_micros
@@ -22,11 +23,11 @@ passed_tests plan entries = filter (λ (t : PlanTest). is_passed_verdict (verdic
 abbrev pub failed_tests : PlanParts → List Entry → List PlanTest
 failed_tests plan entries = filter (λ (t : PlanTest). is_failing_in (verdict_in plan.repeat t entries)) plan.tests
 
--- the lines after one more test that passed: its name gets one more run, of its last attempt
+-- the lines after one more test that passed: its name has one more run, the test's last attempt
 abbrev pub after_test : List Entry → List CostLine → PlanTest → List CostLine
 after_test entries lines t = after_run lines t.name (counted_micros (last_seen t.number entries))
 
--- a failed test in the log
+-- the line of a test in the log
 abbrev pub logged : PlanTest → List ℕ
 logged t = decimal t.number ++ codes ":" ++ t.name ++ codes "\n"
 

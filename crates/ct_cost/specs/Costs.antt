@@ -1,5 +1,5 @@
--- Cost data: read from a text, after a run, and as a text. Source: CMake manual, cmake-properties(7), COST. The file is this
--- project's choice, after the one that ctest writes.
+-- Cost data: read from a text, after a run, and as a text. Source: CMake manual, cmake-properties(7), COST.
+-- The file is this project's choice, after the one that ctest writes.
 use Rattle.std.specs.Prelude.{List, [], ℕ, ◌++◌, map, filter, filter_map, flat_map, fold, codes}
 use Rattle.std.specs.List.{before_first, after_first}
 use Rattle.ct_history.specs.declared.plan.PlanTest.{PlanTest}
@@ -19,7 +19,8 @@ costs_from lines =
 abbrev pub costs_in : List ℕ → CostData
 costs_in text = costs_from (lines_in text)
 
--- the cost data after a run: each test that passed counts for its name, and the failed names are those of this run
+-- the cost data after a run: each test that passed counts for its name, and the failed names are those of
+-- this run
 abbrev pub costs_after : PlanParts → List Entry → CostData → CostData
 costs_after plan entries costs =
     record { lines = fold (after_test entries) costs.lines (passed_tests plan entries); failed = each_once (map (λ (t : PlanTest). t.name) (failed_tests plan entries)) }

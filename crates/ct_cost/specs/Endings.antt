@@ -8,7 +8,7 @@ use Rattle.indexmap.specs.IndexMap.{IndexMap}
 use Rattle.ct_cost.specs.CostLine.{CostLine, after_run, with_new_name}
 use Rattle.ct_cost.specs.After.{counted_micros, logged}
 
--- the microseconds that a test that passed counts for
+-- the microseconds that a test counts for, if it passed, by how it ended
 abbrev pub passed_micros : PlanTest → Ending → Option ℕ
 passed_micros t ending = if is_passed_verdict (verdict_by t ending) then Some (counted_micros ending.last) else None
 
@@ -16,7 +16,7 @@ passed_micros t ending = if is_passed_verdict (verdict_by t ending) then Some (c
 abbrev pub fails_by : PlanTest → Ending → Bool
 fails_by t ending = is_failing_in (verdict_by t ending)
 
--- the lines after a run of a name that took so long, where there was one
+-- the lines after a run of a name that took this long, or as they were where no run passed
 abbrev pub after_passed : List CostLine → List ℕ → Option ℕ → List CostLine
 after_passed lines name None = lines
 after_passed lines name (Some micros) = after_run lines name micros

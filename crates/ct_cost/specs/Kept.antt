@@ -14,7 +14,7 @@ line_for name counts = record { name = name; runs = counts.runs; micros = counts
 abbrev pub kept_line : {Z : Type 0} → Vec ℕ Z × Counts → CostLine
 kept_line entry = line_for entry.0.items entry.1
 
--- a line that was read, where it stands
+-- a line that was read in a text, as contracts see it
 abbrev pub seen_line : Line → CostLine
 seen_line line = line_for line.name.now line.counts
 
@@ -22,11 +22,11 @@ seen_line line = line_for line.name.now line.counts
 abbrev pub counts_of : CostLine → Counts
 counts_of line = record { runs = line.runs; micros = line.micros }
 
--- the lines with what was read behind them, where it is a line
+-- the lines with the one that was read behind them, if one was read
 abbrev pub with_read : List CostLine → Option CostLine → List CostLine
 with_read lines None = lines
 with_read lines (Some line) = with_new_line lines line
 
--- the names with that of a line behind them, where it has one
+-- the names with the one of a line behind them, if the line has one
 abbrev pub with_named : List (List ℕ) → List ℕ → List (List ℕ)
 with_named names line = if is_named line then with_new_name names line else names

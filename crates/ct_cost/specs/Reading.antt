@@ -4,18 +4,18 @@ use Rattle.ct_cost.specs.declared.reading.Reading.{Reading}
 use Rattle.ct_cost.specs.Text.{is_divider, line_in}
 use Rattle.ct_cost.specs.Kept.{with_read, with_named}
 
--- before the first line
+-- the reading before the first line
 abbrev pub unread : Reading
 unread = record { lines = []; failed = []; is_behind = false }
 
--- after one more line that stands behind the one that is `---`
+-- the reading after one more line behind the line that is `---`
 abbrev pub after_failed : Reading → List ℕ → Reading
 after_failed reading line = record { lines = reading.lines; failed = with_named reading.failed line; is_behind = true }
 
--- after one more line that stands in front of the one that is `---`, or is it
+-- the reading after one more line in front of the line that is `---`, or after that line
 abbrev pub after_cost : Reading → List ℕ → Reading
 after_cost reading line = record { lines = if is_divider line then reading.lines else with_read reading.lines (line_in line); failed = reading.failed; is_behind = is_divider line }
 
--- after one more line
+-- the reading after one more line
 abbrev pub after_line : Reading → List ℕ → Reading
 after_line reading line = if reading.is_behind then after_failed reading line else after_cost reading line

@@ -27,8 +27,7 @@ impl CostData {
     /// Reads cost data: lines of a name, a space, runs, a space and a cost in seconds up to a line
     /// `---`, and behind it the names of failed tests.
     ///
-    /// Every other line is passed over, and so is a further line of a name, so that no text is
-    /// refused.
+    /// No text is refused: every other line is passed over, and so is a second line of a name.
     pub fn read(alloc: Global, text: &[u8]) -> Result<CostData, NoMemory>
         ensures { IfOk result (λ costs. costs ≡ costs_in text.now) }
     {
@@ -68,7 +67,7 @@ impl CostData {
         Ok(CostData { lines, failed })
     }
 
-    /// Writes the text that `read` reads, costs as seconds with six decimals.
+    /// Writes the text that `read` reads, with costs as seconds with six decimals.
     pub fn text(&self, alloc: Global) -> Result<Blob, NoMemory>
         ensures { IfOk result (λ text. text ≡ costs_text self.now) }
     {

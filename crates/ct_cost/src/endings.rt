@@ -5,10 +5,10 @@ ghost use Rattle.ct_cost.specs.Endings.{passed_micros as passed_for, fails_by as
 use ct_history::{Ending, PlanTest, verdict_by};
 use ct_verdict::{Seen, Verdict};
 
-/// The most microseconds of a run that count. This project's choice.
+/// The greatest number of microseconds that a run counts for. This project's choice.
 const MOST_MICROS: u64 = 1_000_000_000_000_000;
 
-/// Gives the microseconds that a test that passed counts for.
+/// Returns the microseconds that a test counts for, if it passed.
 pub(crate) fn passed_micros(test: &PlanTest, ending: Ending) -> Option<u64>
     ensures { result ≡ passed_for test.now ending }
 {

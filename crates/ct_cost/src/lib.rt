@@ -1,7 +1,7 @@
 //! What a run leaves for the next one: the costs of the tests, and which of them failed.
 //!
-//! Hands up: `CostData`, which is read from a text, taken on after a run and written, and
-//! `failed_log`.
+//! Hands up: `CostData`, which is read from a text, brought up to date after a run, and written;
+//! and `failed_log`.
 //! Stands on: ct_base, ct_verdict, ct_history and `indexmap`.
 //! Read first: `specs/CostLine.antt`, `specs/Text.antt`, `specs/After.antt`, then `cost_data.rt`.
 #![tactic(auto)]

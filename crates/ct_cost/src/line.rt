@@ -9,14 +9,14 @@ use ct_base::{micros, number};
 /// How many runs are counted at most. This project's choice.
 const MOST_RUNS: u32 = 1_000_000;
 
-/// How many runs of a name passed, and what they cost in the mean, in microseconds.
+/// How many runs of a name passed, and their mean cost in microseconds.
 #[derive(Clone, Copy)]
 pub(crate) struct Counts {
     pub runs: u32,
     pub micros: u64,
 }
 
-/// A line of cost data, where it stands.
+/// A line of cost data, with its name in the text that was read.
 #[derive(Clone, Copy)]
 pub(crate) struct Line<'a> {
     pub name: &'a [u8],
@@ -54,7 +54,7 @@ fn line_from<'a>(name: &'a [u8], runs: Option<u64>, cost: Option<u64>) -> Option
     })
 }
 
-/// Finds the last place of a space, from 0.
+/// Finds the place of the last space, from 0.
 #[tactic(auto, using(crate::proofs::PlaceLemmas::finds_space, crate::proofs::PlaceLemmas::passes_byte))]
 fn last_space(text: &[u8]) -> Option<usize>
     ensures is { result ≡ rfind_below space text.now (length text.now) }
@@ -71,7 +71,7 @@ fn last_space(text: &[u8]) -> Option<usize>
 }
 
 impl Counts {
-    /// Counts one more run that took so many microseconds: the mean of all, rounded down.
+    /// Counts one more run, which took `micros` microseconds. The mean of all runs is rounded down.
     pub(crate) fn with_run(self, micros: u64) -> Counts
         ensures runs { result.runs ≡ min (self.runs + 1) most_runs }
         ensures mean { result.micros ≡ (self.runs * self.micros + micros) / (self.runs + 1) }

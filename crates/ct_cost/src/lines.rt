@@ -31,7 +31,7 @@ impl Model for Lines {
 }
 
 impl Lines {
-    /// Makes the list without a line.
+    /// Makes a list of no lines.
     pub(crate) fn new(alloc: Global) -> Lines
         ensures { result ≡ [] }
     {
@@ -56,7 +56,7 @@ impl Lines {
         }
     }
 
-    /// Puts the counts of a name in the place of its others, or behind all.
+    /// Replaces the counts of a name, or adds them behind the others where the name has none.
     fn with(self, alloc: Global, name: &[u8], counts: Counts) -> Result<Lines, NoMemory>
         ensures { IfOk result (λ lines. lines ≡ with_line_of self (line_for name.now counts)) }
     {
@@ -67,7 +67,8 @@ impl Lines {
         Ok(Lines { counts: entries })
     }
 
-    /// Reads one more line, which is passed over where it is none or its name has one.
+    /// Reads one more line. It is passed over where it is no line of cost data, or its name has a
+    /// line.
     pub(crate) fn with_line(self, alloc: Global, text: &[u8]) -> Result<Lines, NoMemory>
         ensures { IfOk result (λ lines. lines ≡ with_read self (line_read text.now)) }
     {

@@ -58,7 +58,7 @@ fn append_logged(alloc: Global, text: &mut Blob, test: &PlanTest) -> Result<(), 
     Ok(())
 }
 
-/// Gives the names of the tests of the failing class, in order, a repeated one once.
+/// Returns the names of the tests of the failing class, in order and without repeats.
 pub(crate) fn failed_names(
     alloc: Global,
     tests: &[PlanTest],

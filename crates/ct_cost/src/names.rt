@@ -24,7 +24,7 @@ impl Model for Names {
 }
 
 impl Names {
-    /// Makes the list without a name.
+    /// Makes a list of no names.
     pub(crate) fn new(alloc: Global) -> Names
         ensures { result ≡ [] }
     {
@@ -39,7 +39,7 @@ impl Names {
         self.names.contains(name)
     }
 
-    /// Puts a name behind the others, where it is not among them.
+    /// Adds a name behind the others, unless it is among them.
     pub(crate) fn with(self, alloc: Global, name: &[u8]) -> Result<Names, NoMemory>
         ensures { IfOk result (λ names. names ≡ with_new_name self name.now) }
     {
@@ -48,7 +48,7 @@ impl Names {
         Ok(Names { names })
     }
 
-    /// Reads one more line, which is passed over where it is empty.
+    /// Reads one more line. It is passed over where it is empty.
     pub(crate) fn with_line(self, alloc: Global, line: &[u8]) -> Result<Names, NoMemory>
         ensures { IfOk result (λ names. names ≡ with_named self line.now) }
     {

@@ -8,7 +8,7 @@ use crate::names::Names;
 use ct_base::{NoMemory, first_place};
 use std::alloc::Global;
 
-/// What is read of a text of cost data so far.
+/// What was read of a text of cost data so far.
 #[derive(Drop)]
 pub(crate) struct Reading {
     pub lines: Lines,
@@ -36,7 +36,7 @@ impl Reading {
         Ok(reading)
     }
 
-    /// Reads one line more.
+    /// Reads one more line.
     fn with(self, alloc: Global, line: &[u8]) -> Result<Reading, NoMemory>
         ensures { IfOk result (λ reading. reading ≡ after_line self line.now) }
     {
@@ -75,7 +75,7 @@ fn is_divider(line: &[u8]) -> bool
     line == b"---".as_slice()
 }
 
-/// Tells how long the first line of a text is.
+/// Returns the length of the first line of a text.
 #[tactic(auto, using(crate::proofs::PlaceLemmas::len_found, crate::proofs::PlaceLemmas::len_none))]
 fn line_len(text: &[u8]) -> usize
     ensures is { result ≡ position_or_len ends_line text.now }

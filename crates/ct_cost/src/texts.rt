@@ -60,7 +60,7 @@ fn exact_seconds(alloc: Global, micros: u64) -> Result<Blob, NoMemory>
     Ok(text)
 }
 
-/// The digit of a number at a decimal place.
+/// Returns the digit of a number at a decimal place.
 fn digit(number: u64, place: u64) -> u8
     requires { 0 < place }
     ensures { result ≡ 48 + number / place % 10 }

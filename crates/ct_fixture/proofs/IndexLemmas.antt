@@ -34,7 +34,7 @@ module _ {Y Z : Type 0} where
     updated_by before now fixture asked tests updates true is = ap (tests_of now) ((bytes_eq-Decides asked fixture).0 is) ∙ ap found updates.1
     updated_by before now fixture asked tests updates false is = ap found (kept_apart fixture asked before.entries now.entries is updates.3)
 
-    -- those of one fixture were changed
+    -- the tests of one fixture were changed
     pub updated : (before now : IndexMap (Vec ℕ Y) (Vec ℕ Z) S) (fixture : List ℕ) (tests : Option (Vec ℕ Z)) → UpdatesBy (λ (one other : Vec ℕ Y). bytes_eq one.items other.items) (λ (name : Vec ℕ Y). bytes_eq fixture name.items) before now tests → (asked : List ℕ) → tests_of now asked ≡ cond (bytes_eq asked fixture) (found tests) (tests_of before asked)
     updated before now fixture tests updates asked = updated_by before now fixture asked tests updates (bytes_eq asked fixture) refl
 

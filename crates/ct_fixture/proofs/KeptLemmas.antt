@@ -16,11 +16,11 @@ use Rattle.ct_fixture.specs.Kept.{AddsTests, AreLeft, AreNamed, Draws, Extends, 
 use Rattle.ct_fixture.proofs.MemberLemmas.{adds_same, extends_on, or_behind, or_none}
 use Rattle.ct_props.proofs.NumberedLemmas.{at_number_here, number_within}
 
--- what is said of each number in a list
+-- what holds of each number in a list holds of all its numbers
 pub all_in : (P : ℕ → Type 0) (numbers : List ℕ) → ((number : ℕ) → is_in numbers number ≡ true → P number) → All P numbers
 all_in P numbers each = λ k d within. each (get_or numbers k d) (list_any_at (λ n. eqb n (get_or numbers k d)) numbers k d within (eq-eqb (get_or numbers k d) (get_or numbers k d) refl))
 
--- what holds of all is said of each number in the list
+-- what holds of all numbers of a list holds of each number in it
 pub in_all : (P : ℕ → Type 0) (numbers : List ℕ) → All P numbers → (number : ℕ) → is_in numbers number ≡ true → P number
 in_all P [] all number there = absurd (false≢true there)
 in_all P (first ∷ numbers) all number there =
@@ -77,7 +77,7 @@ drawn_by_side true named false false tests number is sound left = is ∙ sym (ap
 drawn_by_side false true false false tests number is sound left = absurd (false≢true (left refl refl))
 drawn_by_side false false false false tests number is sound left = is
 
--- what is said of the tests of a fixture is said of those that are given
+-- what holds of the tests of a fixture holds of those that are given
 pub given_all : (P : ℕ → Type 0) (kept : Bool) (tests : List ℕ) → All P tests → All P (given kept tests)
 given_all P true tests all = All-nil P
 given_all P false tests all = all
@@ -87,7 +87,7 @@ module _ {Y Z S : Type 0} where
   abbrev pub AreNamedTo : ℕ → (Props → List (List ℕ)) → List Props → IndexMap (Vec ℕ Y) (Vec ℕ Z) S → Type 0
   AreNamedTo at property props tests = (fixture : List ℕ) (number : ℕ) → is_in (tests_of tests fixture) number ≡ (leb number at && names property fixture (at_number props number))
 
-  -- one more test that is not disabled
+  -- with one more test that is not disabled
   pub named_more : (property : Props → List (List ℕ)) (props : List Props) (at number : ℕ) (own : Props) (fixtures : List (List ℕ)) (before now : IndexMap (Vec ℕ Y) (Vec ℕ Z) S) → at < length props → own ≡ get_or props at own → own.disabled ≡ false → number ≡ at + 1 → fixtures ≡ property own
       → ((asked : List ℕ) (test : ℕ) → is_in (tests_of now asked) test ≡ (is_in (tests_of before asked) test || (eqb number test && is_among asked fixtures))) → AreNamedTo at property props before → AreNamedTo (at + 1) property props now
   named_more property props at number own fixtures before now within is enabled is_number are_fixtures noted named = λ fixture test.
@@ -97,7 +97,7 @@ module _ {Y Z S : Type 0} where
       ∙ ap (λ was. was || (eqb (at + 1) test && is_among fixture (property own))) (named fixture test)
       ∙ step_by at test (names property fixture (at_number props test)) (is_among fixture (property own)) (λ same. ap (λ n. names property fixture (at_number props n)) same ∙ ap (names property fixture) (at_number_here props at own within is) ∙ names_here property fixture own false enabled)
 
-  -- one more test that is disabled
+  -- with one more test that is disabled
   pub named_still : (property : Props → List (List ℕ)) (props : List Props) (at : ℕ) (own : Props) (tests : IndexMap (Vec ℕ Y) (Vec ℕ Z) S) → at < length props → own ≡ get_or props at own → own.disabled ≡ true → AreNamedTo at property props tests → AreNamedTo (at + 1) property props tests
   named_still property props at own tests within is disabled named = λ fixture number.
       named fixture number
@@ -105,25 +105,24 @@ module _ {Y Z S : Type 0} where
       ∙ ap (λ none. (leb number at && names property fixture (at_number props number)) || none) (sym (and_none (eqb (at + 1) number)))
       ∙ step_by at number (names property fixture (at_number props number)) false (λ same. ap (λ n. names property fixture (at_number props n)) same ∙ ap (names property fixture) (at_number_here props at own within is) ∙ names_here property fixture own true disabled)
 
-  -- the same tests
+  -- what holds of a map of tests holds of an equal one
   pub named_as : (at : ℕ) (property : Props → List (List ℕ)) (props : List Props) (tests others : IndexMap (Vec ℕ Y) (Vec ℕ Z) S) → others ≡ tests → AreNamedTo at property props tests → AreNamedTo at property props others
   named_as at property props tests others same named = subst (AreNamedTo at property props) (sym same) named
 
-  -- all tests
+  -- once all tests are looked at, each fixture has the tests that name it
   pub named_all : (property : Props → List (List ℕ)) (props : List Props) (at : ℕ) (tests : IndexMap (Vec ℕ Y) (Vec ℕ Z) S) → at ≡ length props → AreNamedTo at property props tests → AreNamed property props tests
   named_all property props at tests end named = λ fixture number.
       named fixture number
       ∙ low_within at number (names property fixture (at_number props number)) (λ is. let there = named_number property props fixture number is in omega (arith, there.1, end))
 
-  -- ---- taking
-  -- before anything is taken
+  -- before a test is taken, all tests are left
   pub left_first : (property : Props → List (List ℕ)) (keeps : List ℕ → Bool) (props : List Props) (tests : IndexMap (Vec ℕ Y) (Vec ℕ Z) S) (members : Members) → AreNamed property props tests → IsLeft property keeps props tests members
   left_first property keeps props tests members are = record {
     named = λ fixture number there. sym (are fixture number) ∙ there;
     left = λ fixture number named kept. or_left (is_in (tests_of tests fixture) number) (is_member members number) (are fixture number ∙ named);
   }
 
-  -- with more tests that are in
+  -- what is left stays left with more tests that are in
   pub left_on : (property : Props → List (List ℕ)) (keeps : List ℕ → Bool) (props : List Props) (tests : IndexMap (Vec ℕ Y) (Vec ℕ Z) S) (before now : Members) → Extends before now → IsLeft property keeps props tests before → IsLeft property keeps props tests now
   left_on property keeps props tests before now more is = record {
     named = is.named;
@@ -154,14 +153,14 @@ module _ {Y Z S : Type 0} where
         | inr before_now ↦ or_right (is_in (tests_of tests asked) number) (is_member now number) (is number ∙ or_left (is_member before number) (is_in (given (keeps fixture) (tests_of tests fixture)) number) before_now)
       ]
 
-  -- where the tests of a fixture are taken out, and are in now unless they are kept out
+  -- what is left where the tests of a fixture are taken out, and are in now unless they are kept out
   pub left_taken : (property : Props → List (List ℕ)) (keeps : List ℕ → Bool) (props : List Props) (tests rest : IndexMap (Vec ℕ Y) (Vec ℕ Z) S) (fixture : List ℕ) (before now : Members) → ((asked : List ℕ) → tests_of rest asked ≡ cond (bytes_eq asked fixture) [] (tests_of tests asked)) → AddsTests (given (keeps fixture) (tests_of tests fixture)) before now → IsLeft property keeps props tests before → IsLeft property keeps props rest now
   left_taken property keeps props tests rest fixture before now taken added is = record {
     named = λ asked number there. taken_named property props tests asked number (bytes_eq asked fixture) (ap (λ tests. is_in tests number) (sym (taken asked)) ∙ there) (is.named asked number);
     left = λ asked number named kept. ap (λ numbers. is_in numbers number || is_member now number) (taken asked) ∙ taken_left keeps tests fixture asked number before now (bytes_eq asked fixture) refl kept added.is (is.left asked number named kept);
   }
 
-  -- what one side of a fixture draws in is what names it and is not kept out
+  -- the tests that one side of a fixture draws in are those that name it and are not kept out
   pub side_drawn : (property : Props → List (List ℕ)) (keeps : List ℕ → Bool) (props : List Props) (tests : IndexMap (Vec ℕ Y) (Vec ℕ Z) S) (members : Members) (fixture : List ℕ) (number : ℕ) → IsLeft property keeps props tests members → (is_member members number || is_in (given (keeps fixture) (tests_of tests fixture)) number) ≡ (is_member members number || (names property fixture (at_number props number) && not (keeps fixture)))
   side_drawn property keeps props tests members fixture number is =
       drawn_by_side (is_in (tests_of tests fixture) number) (names property fixture (at_number props number)) (is_member members number) (keeps fixture) (tests_of tests fixture) number refl (is.named fixture number) (is.left fixture number)
@@ -190,7 +189,8 @@ both_sides : (choice : Choice) (fixture : List ℕ) (member : Bool) (own : Optio
 both_sides choice fixture member None = sym (none_joined (member || false))
 both_sides choice fixture member (Some own) = joined member own.disabled (is_among fixture own.setup) (keeps_setups choice fixture) (is_among fixture own.cleanup) (keeps_cleanups choice fixture)
 
--- the setups and then the cleanups of a fixture are taken out and added: what it draws in is in now
+-- where the setups and then the cleanups of a fixture are taken out and added, the tests that it draws in are
+-- in
 pub drawn_one : (choice : Choice) (props : List Props) (fixture : List ℕ) (before now : Fixtures) (setups cleanups : List ℕ) (first second third : Members) → AreLeft choice props before first
     → ((asked : List ℕ) → tests_of now.setups asked ≡ cond (bytes_eq asked fixture) [] (tests_of before.setups asked)) → setups ≡ given (keeps_setups choice fixture) (tests_of before.setups fixture) → AddsTests setups first second
     → ((asked : List ℕ) → tests_of now.cleanups asked ≡ cond (bytes_eq asked fixture) [] (tests_of before.cleanups asked)) → cleanups ≡ given (keeps_cleanups choice fixture) (tests_of before.cleanups fixture) → AddsTests cleanups second third
@@ -226,7 +226,7 @@ drawn_by_more choice fixtures at fixture (Some own) within is =
     ∙ ap (λ f. is_drawn choice (take at fixtures) (Some own) || draws choice own f) is
     ∙ sym (list_any_more (draws choice own) fixtures at fixture within)
 
--- one fixture more
+-- what fixtures draw in, with one more fixture
 pub drawn_more : (choice : Choice) (props : List Props) (fixtures : List (List ℕ)) (at : ℕ) (fixture : List ℕ) (first second third : Members) → at < length fixtures → fixture ≡ get_or fixtures at fixture → Draws choice props (take at fixtures) first second → Draws choice props (fixture ∷ []) second third → Draws choice props (take (at + 1) fixtures) first third
 drawn_more choice props fixtures at fixture first second third within is one two = record {
   extends = extends_on first second third one.extends two.extends;
@@ -237,6 +237,6 @@ drawn_more choice props fixtures at fixture first second third within is one two
       ∙ ap (λ drawn. is_member first number || drawn) (drawn_by_more choice fixtures at fixture (at_number props number) within is);
 }
 
--- the same fixtures
+-- what fixtures draw in is what equal ones draw in
 pub drawn_same : (choice : Choice) (props : List Props) (fixtures others : List (List ℕ)) (first second : Members) → fixtures ≡ others → Draws choice props fixtures first second → Draws choice props others first second
 drawn_same choice props fixtures others first second same drawn = subst (λ fs. Draws choice props fs first second) same drawn

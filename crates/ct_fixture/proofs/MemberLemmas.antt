@@ -9,21 +9,21 @@ use Rattle.ct_fixture.specs.declared.members.Members.{Members}
 use Rattle.ct_props.specs.Numbered.{is_in}
 use Rattle.ct_fixture.specs.Kept.{AddsTests, Extends, is_member}
 
--- what false adds to a test
+-- a disjunction with false is its other part
 pub or_none : (a : Bool) → (a || false) ≡ a
 or_none true = refl
 or_none false = refl
 
--- tests are joined from either end
+-- a disjunction may be grouped from either end
 pub or_behind : (a b c : Bool) → ((a || b) || c) ≡ (a || (b || c))
 or_behind true b c = refl
 or_behind false b c = refl
 
--- what waits, with one test more
+-- which tests wait, with one more test
 pub waits_more : (waiting : List ℕ) (number : ℕ) (test : ℕ) → is_in (waiting ++ number ∷ []) test ≡ (is_in waiting test || (eqb number test || false))
 waits_more waiting number test = list_any-append (λ n. eqb n test) waiting (number ∷ [])
 
--- two additions, one behind the other
+-- two additions in a row are one
 pub extends_on : (first second third : Members) → Extends first second → Extends second third → Extends first third
 extends_on first second third one two = record {
   long = two.long ∙ one.long;
@@ -37,7 +37,7 @@ extends_on first second third one two = record {
   count = two.count ∙ one.count;
 }
 
--- one more test of a list
+-- tests of a list are added, with one more test
 pub adds_more : (tests : List ℕ) (at : ℕ) (first second third : Members) → at < length tests → AddsTests (take at tests) first second → AddsTests (get_or tests at 0 ∷ []) second third → AddsTests (take (at + 1) tests) first third
 adds_more tests at first second third within one two = record {
   extends = extends_on first second third one.extends two.extends;
@@ -59,14 +59,14 @@ listed_more test number low =
     ∙ filter_of_map_range_with_len_more test (λ n. n) 1 (number - 1) number here
     ∙ ap (λ numbers. filter test numbers ++ cond (test number) (number ∷ []) []) (map-id (range_with_len 1 (number - 1)))
 
--- a test that is in is listed
+-- a test that is in is listed next
 pub listed : (test : ℕ → Bool) (number : ℕ) (members : List ℕ) → 1 ≤ number → members ≡ filter test (range_with_len 1 (number - 1)) → test number ≡ true → members ++ number ∷ [] ≡ filter test (range_with_len 1 (number + 1 - 1))
 listed test number members low is passes = ap (λ numbers. numbers ++ number ∷ []) is ∙ sym (listed_more test number low ∙ ap (λ b. filter test (range_with_len 1 (number - 1)) ++ cond b (number ∷ []) []) passes)
 
--- one that is not is passed over
+-- a test that is not in is passed over
 pub passed_over : (test : ℕ → Bool) (number : ℕ) (members : List ℕ) → 1 ≤ number → members ≡ filter test (range_with_len 1 (number - 1)) → test number ≡ false → members ≡ filter test (range_with_len 1 (number + 1 - 1))
 passed_over test number members low is fails = is ∙ sym (listed_more test number low ∙ ap (λ b. filter test (range_with_len 1 (number - 1)) ++ cond b (number ∷ []) []) fails ∙ append-nil (filter test (range_with_len 1 (number - 1))))
 
--- the same tests
+-- an addition of tests is one of equal tests
 pub adds_same : (tests others : List ℕ) (before now : Members) → tests ≡ others → AddsTests tests before now → AddsTests others before now
 adds_same tests others before now same added = subst (λ ts. AddsTests ts before now) same added

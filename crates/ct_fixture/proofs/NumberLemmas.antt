@@ -6,14 +6,14 @@ use Rattle.std.proofs.lemmas.List.Folds.{list_any-append}
 use Rattle.std.proofs.lemmas.List.Sums.{sum_by-cons}
 use Rattle.ct_props.specs.Numbered.{is_in}
 
--- two tests that are true together are the same
+-- two truth values that follow from each other are equal
 pub same_bool : (a b : Bool) → (a ≡ true → b ≡ true) → (b ≡ true → a ≡ true) → a ≡ b
 same_bool true true there back = refl
 same_bool true false there back = sym (there refl)
 same_bool false true there back = back refl
 same_bool false false there back = refl
 
--- a number in the list that passes settles the answer
+-- where a number of the list passes, some number does
 pub any_at : (test : ℕ → Bool) (number : ℕ) (numbers : List ℕ) → is_in numbers number ≡ true → test number ≡ true → list_any test numbers ≡ true
 any_at test number [] there passes = absurd (false≢true there)
 any_at test number (first ∷ numbers) there passes =
@@ -22,7 +22,7 @@ any_at test number (first ∷ numbers) there passes =
       | inr later ↦ or_right (test first) (list_any test numbers) (any_at test number numbers later passes)
     ]
 
--- where some number passes there is one
+-- where some number passes, one is found that does
 pub some_passes : (test : ℕ → Bool) (numbers : List ℕ) → list_any test numbers ≡ true → (number : ℕ) × (is_in numbers number ≡ true) × (test number ≡ true)
 some_passes test [] passes = absurd (false≢true passes)
 some_passes test (first ∷ numbers) passes =
@@ -31,17 +31,17 @@ some_passes test (first ∷ numbers) passes =
       | inr later ↦ let found = some_passes test numbers later in (found.0, or_right (eqb first found.0) (is_in numbers found.0) found.1, found.2)
     ]
 
--- an element of what numbers give passes where that of one does
+-- some element of a flattened list passes, where some element of one of its lists does
 pub any-flat_map : (test : List ℕ → Bool) (f : ℕ → List (List ℕ)) (numbers : List ℕ) → list_any test (flat_map f numbers) ≡ list_any (λ number. list_any test (f number)) numbers
 any-flat_map test f [] = refl
 any-flat_map test f (first ∷ numbers) = list_any-append test (f first) (flat_map f numbers) ∙ ap (λ later. list_any test (f first) || later) (any-flat_map test f numbers)
 
--- no number passes the test that none passes
+-- no number passes the test that is always false
 pub never_any : (numbers : List ℕ) → false ≡ list_any (λ number. false) numbers
 never_any [] = refl
 never_any (first ∷ numbers) = never_any numbers
 
--- ---- numbers in a row
+-- a number between the ends of a row is in the row
 pub in_row : (number first count : ℕ) → first ≤ number → number < first + count → is_in (range_with_len first count) number ≡ true
 in_row number first zero from below = absurd (omega (arith, from, below))
 in_row number first (suc count) from below =
@@ -58,7 +58,7 @@ from_row number first (suc count) there =
       | inr later ↦ let row = from_row number (first + 1) count later in (omega (arith, row.0), omega (arith, row.1))
     ]
 
--- what a number that a filter of a row keeps has: it passes, and stands in the row
+-- a number that a filter of a row keeps passes, and stands in the row
 abbrev pub PassesInRow : (ℕ → Bool) → ℕ → ℕ → ℕ → Type 0
 PassesInRow test number first count = (test number ≡ true) × (first ≤ number) × (number < first + count)
 
@@ -70,7 +70,7 @@ kept_by test number first count numbers later true passes there =
     ]
 kept_by test number first count numbers later false passes there = let kept = later there in (kept.0, omega (arith, kept.1), omega (arith, kept.2))
 
--- a number that a filter of a row keeps
+-- a number that a filter of a row keeps passes, and stands in the row
 pub kept_passes : (test : ℕ → Bool) (number first count : ℕ) → is_in (filter test (range_with_len first count)) number ≡ true → PassesInRow test number first count
 kept_passes test number first zero there = absurd (false≢true there)
 kept_passes test number first (suc count) there = kept_by test number first count (filter test (range_with_len (first + 1) count)) (kept_passes test number (first + 1) count) (test first) refl there
@@ -96,7 +96,7 @@ same_kept test other first (suc count) same =
     ap (λ passes. cond passes (first ∷ filter test (range_with_len (first + 1) count)) (filter test (range_with_len (first + 1) count))) (same first (omega arith) (omega arith))
     ∙ ap (λ numbers. cond (other first) (first ∷ numbers) numbers) (same_kept test other (first + 1) count (λ number from below. same number (omega (arith, from)) (omega (arith, below))))
 
--- ---- how many pass
+-- a count with one more number in front
 counted : (test : ℕ → Bool) (first : ℕ) (numbers : List ℕ) → count_by test (first ∷ numbers) ≡ cond (test first) 1 0 + count_by test numbers
 counted test first numbers = sum_by-cons (λ number. cond (test number) 1 0) first numbers
 

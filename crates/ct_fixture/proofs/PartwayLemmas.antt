@@ -13,11 +13,12 @@ use Rattle.ct_fixture.proofs.KeptLemmas.{in_all, left_first}
 use Rattle.ct_fixture.proofs.MemberLemmas.{waits_more}
 use Rattle.ct_fixture.proofs.RoundLemmas.{IsNumber, chosen_member, draws_test, member_number, members_closed, members_listed}
 
--- each chosen test is one
+-- each chosen number is that of a test
 abbrev pub AreNumbers : List Props → List ℕ → Type 0
 AreNumbers props chosen = All (λ number. (1 ≤ number) × (number ≤ length props)) chosen
 
--- the chosen tests are in, and members alone; what waits is in; and each test that is in waits, or what it draws in is in
+-- the state between two tests: the chosen tests are in, and only members are; each test that waits is in; and
+-- each test that is in waits, or the tests that it draws in are in
 pub record IsPartway (choice : Choice) (props : List Props) (chosen : List ℕ) (fixtures : Fixtures) (members : Members) : Type 0 where
   pub left : AreLeft choice props fixtures members
   pub started : (number : ℕ) → is_in chosen number ≡ true → is_member members number ≡ true
@@ -29,7 +30,7 @@ named_so : (test number : ℕ) → (eqb number test || false) ≡ true → test 
 named_so test number here = elim (or_cases (eqb number test) false here) [ inl is ↦ sym (eqb-true number test is) | inr never ↦ absurd (false≢true never) ]
 
 module _ (choice : Choice) (props : List Props) (chosen : List ℕ) where
-  -- the chosen tests are added
+  -- the state once the chosen tests are added
   pub begun : (fixtures : Fixtures) (none now : Members) → AreNumbers props chosen → AreWhole props fixtures → length none.marks.items ≡ length props + 1 → ((number : ℕ) → is_member none number ≡ false) → none.waiting.items ≡ [] → AddsTests chosen none now → IsPartway choice props chosen fixtures now
   begun fixtures none now numbers whole long out waits added = record {
     left = record {
@@ -46,14 +47,14 @@ module _ (choice : Choice) (props : List Props) (chosen : List ℕ) where
     done = λ test is. inl (added.extends.waits test is (out test));
   }
 
-  -- the next test is one
+  -- the next test has the number of a test
   pub next_number : (fixtures : Fixtures) (members : Members) (rest : List ℕ) (number : ℕ) → AreNumbers props chosen → members.waiting.items ≡ rest ++ number ∷ [] → IsPartway choice props chosen fixtures members → IsNumber props number
   next_number fixtures members rest number numbers waits partway =
       let here : is_in members.waiting.items number ≡ true =
       ap (λ tests. is_in tests number) waits ∙ waits_more rest number number ∙ or_right (is_in rest number) (eqb number number || false) (or_left (eqb number number) false (eq-eqb number number refl)) in
       member_number choice props chosen (in_all (IsNumber props) chosen numbers) number (partway.sound number (partway.waits_in number here))
 
-  -- a test is taken, and what it draws in is added
+  -- the state stays where a test is taken, and the tests that it draws in are added
   pub stepped : (fixtures later : Fixtures) (members taken now : Members) (number : ℕ) → taken.marks ≡ members.marks → members.waiting.items ≡ taken.waiting.items ++ number ∷ [] → AreLeft choice props later now → Draws choice props (required_by (at_number props number)) taken now → IsPartway choice props chosen fixtures members → IsPartway choice props chosen later now
   stepped fixtures later members taken now number marks waits left drawn partway =
       let same = λ (test : ℕ). ap (λ ms. get_or ms.items test false) marks in
@@ -80,7 +81,7 @@ module _ (choice : Choice) (props : List Props) (chosen : List ℕ) where
         ];
       }
 
-  -- nothing waits any more
+  -- where no test waits any more, the tests that are in are the members
   pub ended : (fixtures : Fixtures) (members taken : Members) → AreNumbers props chosen → taken.marks ≡ members.marks → members.waiting.items ≡ [] → IsPartway choice props chosen fixtures members → filter (is_member taken) (range_with_len 1 (length taken.marks.items - 1)) ≡ members_of choice props chosen
   ended fixtures members taken numbers marks waits partway =
       let count : length members.marks.items - 1 ≡ length props = omega (arith, partway.left.long) in

@@ -1,5 +1,5 @@
--- The rounds of drawing in: what is in after as many rounds as there are tests draws in nothing more, and stands in each set
--- that has the chosen tests and draws in nothing more.
+-- The rounds of drawing in. After as many rounds as there are tests, the tests that are in draw in nothing
+-- more. They stand in each set that has the chosen tests and draws in nothing more.
 use Rattle.std.proofs.Common.{◌≡◌, ℕ, zero, suc, ◌≤◌, Bool, true, eqb, ◌||◌, List, [], ◌∷◌, length, filter, count_by, Option, Some, None, ◌⊎◌, inl, inr, refl, sym, ap, ◌∙◌, arith}
 use Rattle.std.specs.List.{list_any, range_with_len}
 use Rattle.std.proofs.lemmas.Bool.{false≢true, eq-eqb, or_cases, or_left, or_right}
@@ -35,7 +35,7 @@ drawn_each : (choice : Choice) (props : List Props) (tests : List ℕ) (own : Op
 drawn_each choice props tests None = never_any tests
 drawn_each choice props tests (Some own) = any-flat_map (draws choice own) (λ test. required_by (at_number props test)) tests
 
--- a test is drawn in by these where one of them draws it in
+-- tests draw a test in where one of them does
 drawn_by_one : (choice : Choice) (props : List Props) (tests : List ℕ) (number : ℕ) → is_drawn choice (fixtures_required props tests) (at_number props number) ≡ list_any (λ test. draws_test choice props test number) tests
 drawn_by_one choice props tests number = drawn_each choice props tests (at_number props number)
 
@@ -44,7 +44,7 @@ none_chosen [] none = refl
 none_chosen (first ∷ chosen) none = absurd (none first (or_left (eqb first first) (is_in chosen first) (eq-eqb first first refl)))
 
 module _ (choice : Choice) (props : List Props) where
-  -- what is in after one round more was in, or is drawn in
+  -- a test that is in after one more round was in, or is drawn in
   from_round : (tests : List ℕ) (number : ℕ) → is_in (next_round choice props tests) number ≡ true → (is_in tests number ≡ true) ⊎ ((test : ℕ) × (is_in tests test ≡ true) × (draws_test choice props test number ≡ true))
   from_round tests number there =
       let kept = kept_passes (λ n. is_in tests n || is_drawn choice (fixtures_required props tests) (at_number props n)) number 1 (length props) there in
@@ -66,29 +66,29 @@ module _ (choice : Choice) (props : List Props) where
   stays_in : (tests : List ℕ) (number : ℕ) → IsNumber props number → is_in tests number ≡ true → is_in (next_round choice props tests) number ≡ true
   stays_in tests number is was = in_round tests number is (or_left (is_in tests number) (is_drawn choice (fixtures_required props tests) (at_number props number)) was)
 
-  -- a test that one of them draws in comes in
+  -- a test that one of the tests draws in comes in
   comes_in : (tests : List ℕ) (test number : ℕ) → is_in tests test ≡ true → draws_test choice props test number ≡ true → is_in (next_round choice props tests) number ≡ true
   comes_in tests test number there drawn =
       in_round tests number (drawn_number choice props (required_by (at_number props test)) number drawn) (or_right (is_in tests number) (is_drawn choice (fixtures_required props tests) (at_number props number)) (drawn_by_one choice props tests number ∙ any_at (λ t. draws_test choice props t number) test tests there drawn))
 
-  -- where nothing more is drawn in, nothing more is after one round more
+  -- where tests draw in nothing more, they draw in nothing more after one more round
   closed_still : (tests : List ℕ) → IsClosed choice props tests → IsClosed choice props (next_round choice props tests)
   closed_still tests closed test number there drawn =
       let was : is_in tests test ≡ true = elim (from_round tests test there) [ inl before ↦ before | inr by ↦ closed by.0 test by.1 by.2 ] in
       stays_in tests number (drawn_number choice props (required_by (at_number props test)) number drawn) (closed test number was drawn)
 
-  -- a round that puts in nothing found nothing more
+  -- where a round adds no test, the tests draw in nothing more
   closed_where_same : (tests : List ℕ) → ((number : ℕ) → is_in (range_with_len 1 (length props)) number ≡ true → is_in (next_round choice props tests) number ≡ true → is_in tests number ≡ true) → IsClosed choice props tests
   closed_where_same tests same test number there drawn =
       let is : IsNumber props number = drawn_number choice props (required_by (at_number props test)) number drawn in
       same number (in_row number 1 (length props) is.0 (omega (arith, is.1))) (comes_in tests test number there drawn)
 
   module _ (chosen : List ℕ) where
-    -- how many tests are in after so many rounds
+    -- how many tests are in after this many rounds
     abbrev count_after : ℕ → ℕ
     count_after rounds = count_by (λ number. is_in (after_rounds choice props chosen rounds) number) (range_with_len 1 (length props))
 
-    -- each round but the last ones puts in a test at least
+    -- after this many rounds, the tests draw in nothing more, or at least as many tests are in
     settles : (rounds : ℕ) → IsClosed choice props (after_rounds choice props chosen rounds) ⊎ (rounds ≤ count_after rounds)
     settles zero = inr (omega arith)
     settles (suc rounds) =
@@ -122,7 +122,8 @@ module _ (choice : Choice) (props : List Props) where
     pub chosen_member : (number : ℕ) → IsNumber props number → is_in chosen number ≡ true → is_in (members_of choice props chosen) number ≡ true
     chosen_member number is there = stays number is there (length props)
 
-    -- what is in after so many rounds stands in each set that has the chosen tests and draws in nothing more
+    -- the tests that are in after any number of rounds stand in each set that has the chosen tests and draws
+    -- in nothing more
     pub within_closed : (set : ℕ → Bool) → ((number : ℕ) → is_in chosen number ≡ true → set number ≡ true) → ((test number : ℕ) → set test ≡ true → draws_test choice props test number ≡ true → set number ≡ true) → (rounds number : ℕ) → is_in (after_rounds choice props chosen rounds) number ≡ true → set number ≡ true
     within_closed set start closed zero number there = start number there
     within_closed set start closed (suc rounds) number there =

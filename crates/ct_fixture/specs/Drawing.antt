@@ -1,5 +1,5 @@
--- Which tests the fixtures draw in. Source: CMake manual, cmake-properties(7), FIXTURES_CLEANUP, FIXTURES_REQUIRED,
--- FIXTURES_SETUP; ctest(1), -FA, -FC, -FS.
+-- Which tests the fixtures draw in. Source: CMake manual, cmake-properties(7), FIXTURES_CLEANUP,
+-- FIXTURES_REQUIRED, FIXTURES_SETUP; ctest(1), -FA, -FC, -FS.
 use Rattle.std.specs.Prelude.{ℕ, zero, suc, Bool, false, not, ◌&&◌, ◌||◌, List, [], length, filter, flat_map, Option, Some, None, if◌then◌else◌}
 use Rattle.std.specs.List.{list_any, range_with_len}
 use Rattle.ct_regex.specs.declared.pattern.Regex.{Regex}
@@ -9,7 +9,7 @@ use Rattle.ct_props.specs.Numbered.{at_number, is_among, is_in}
 use Rattle.ct_props.specs.declared.props.Props.{Props}
 use Rattle.ct_props.specs.declared.wanted.Choice.{Choice}
 
--- a pattern hits the fixture, where it was given
+-- a pattern was given, and hits the fixture
 abbrev pub is_hit : Option Regex → List ℕ → Bool
 is_hit None fixture = false
 is_hit (Some pattern) fixture = hits (regex_tree pattern) fixture
@@ -30,11 +30,11 @@ sets_up choice fixture own = is_among fixture own.setup && not (keeps_setups cho
 abbrev pub cleans : Choice → List ℕ → Props → Bool
 cleans choice fixture own = is_among fixture own.cleanup && not (keeps_cleanups choice fixture)
 
--- the fixture, where it is required, draws in the test: it is not disabled, and sets the fixture up or cleans it
+-- a required fixture draws the test in: the test is not disabled, and sets the fixture up or cleans it
 abbrev pub draws : Choice → Props → List ℕ → Bool
 draws choice own fixture = not own.disabled && (sets_up choice fixture own || cleans choice fixture own)
 
--- the fixtures that a test requires; one that is disabled requires none
+-- the fixtures that a test requires; a disabled test requires none
 abbrev pub required_by : Option Props → List (List ℕ)
 required_by None = []
 required_by (Some own) = if own.disabled then [] else own.required
@@ -53,7 +53,7 @@ abbrev pub next_round : Choice → List Props → List ℕ → List ℕ
 next_round choice props tests =
     filter (λ number. is_in tests number || is_drawn choice (fixtures_required props tests) (at_number props number)) (range_with_len 1 (length props))
 
--- the tests that are in after so many rounds
+-- the tests that are in after this many rounds
 abbrev pub after_rounds : Choice → List Props → List ℕ → ℕ → List ℕ
 after_rounds choice props chosen zero = chosen
 after_rounds choice props chosen (suc rounds) = next_round choice props (after_rounds choice props chosen rounds)

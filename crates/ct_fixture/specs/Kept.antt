@@ -1,4 +1,5 @@
--- What is kept while fixtures are looked at: the tests by the fixtures that they name, and the tests that are in. This project's own.
+-- What is kept while fixtures are looked at: the tests by the fixtures that they name, and the tests that are
+-- in. This project's own.
 use Rattle.std.specs.Prelude.{◌≡◌, ℕ, ◌+◌, Bool, true, false, not, ◌&&◌, ◌||◌, ◌<◌, bytes_eq, All, List, [], ◌∷◌, length, slice_index_or, count_by, Option, Some, None, if◌then◌else◌}
 use Rattle.std.specs.declared.vec.Vec.{Vec}
 use Rattle.indexmap.specs.IndexMap.{IndexMap, get_by}
@@ -9,7 +10,7 @@ use Rattle.ct_fixture.specs.declared.members.Members.{Members}
 use Rattle.ct_props.specs.Numbered.{at_number, is_among, is_in}
 use Rattle.ct_fixture.specs.Drawing.{is_drawn, keeps_setups, keeps_cleanups}
 
--- the tests that a look-up found
+-- the tests that a look-up found, or none
 abbrev pub found : {Z : Type 0} → Option (Vec ℕ Z) → List ℕ
 found None = []
 found (Some tests) = tests.items
@@ -18,7 +19,7 @@ found (Some tests) = tests.items
 abbrev pub tests_of : {Y Z S : Type 0} → IndexMap (Vec ℕ Y) (Vec ℕ Z) S → List ℕ → List ℕ
 tests_of {Y} tests fixture = found (get_by (λ (name : Vec ℕ Y). bytes_eq fixture name.items) tests)
 
--- a test that is not disabled names the fixture in this property
+-- the test is not disabled, and names the fixture in this property
 abbrev pub names : (Props → List (List ℕ)) → List ℕ → Option Props → Bool
 names property fixture None = false
 names property fixture (Some own) = not own.disabled && is_among fixture (property own)
@@ -36,11 +37,12 @@ pub record AreWhole (props : List Props) (fixtures : Fixtures) : Type 0 where
 abbrev pub is_member : Members → ℕ → Bool
 is_member members number = slice_index_or members.marks.items number false
 
--- how many tests are not in, and how many wait
+-- how many marks are not set, plus how many tests wait
 abbrev pub open_count : Members → ℕ
 open_count members = count_by not members.marks.items + length members.waiting.items
 
--- more tests are in, and those wait; what waited still waits
+-- tests may have come in: each of them waits, each test that waited still waits, and only tests that are in
+-- wait
 pub record Extends (before now : Members) : Type 0 where
   pub long : length now.marks.items ≡ length before.marks.items
   pub kept : (number : ℕ) → is_member before number ≡ true → is_member now number ≡ true
@@ -54,12 +56,13 @@ pub record AddsTests (tests : List ℕ) (before now : Members) : Type 0 where
   pub extends : Extends before now
   pub is : (number : ℕ) → is_member now number ≡ (is_member before number || is_in tests number)
 
--- what a side of the fixtures has left: tests that name the fixture, and each of them that is not in, unless it is kept out
+-- what the fixtures have left of the tests that name them in this property: only such tests, and all of them
+-- that are not in, but for fixtures that are kept out
 pub record IsLeft {Y Z S : Type 0} (property : Props → List (List ℕ)) (keeps : List ℕ → Bool) (props : List Props) (tests : IndexMap (Vec ℕ Y) (Vec ℕ Z) S) (members : Members) : Type 0 where
   pub named : (fixture : List ℕ) (number : ℕ) → is_in (tests_of tests fixture) number ≡ true → names property fixture (at_number props number) ≡ true
   pub left : (fixture : List ℕ) (number : ℕ) → names property fixture (at_number props number) ≡ true → keeps fixture ≡ false → (is_in (tests_of tests fixture) number || is_member members number) ≡ true
 
--- there is a mark for each number, and the fixtures have left what is not in
+-- there is a mark for each number, and the fixtures have left the setups and cleanups that are not in
 pub record AreLeft (choice : Choice) (props : List Props) (fixtures : Fixtures) (members : Members) : Type 0 where
   pub long : length members.marks.items ≡ length props + 1
   pub setups : IsLeft (λ own. own.setup) (keeps_setups choice) props fixtures.setups members
@@ -79,6 +82,7 @@ pub record HaveMarks (fixtures : Fixtures) (members : Members) : Type 0 where
   pub setups : (fixture : List ℕ) → All (λ number. number < length members.marks.items) (tests_of fixtures.setups fixture)
   pub cleanups : (fixture : List ℕ) → All (λ number. number < length members.marks.items) (tests_of fixtures.cleanups fixture)
 
--- by whatever properties the fixtures have left what is not in: they still have, and what a fixture draws in is added
+-- whatever the properties are: where the fixtures had left the tests that are not in, they still have, and
+-- the tests that this fixture draws in are added
 abbrev pub TakesFixture : Choice → List ℕ → Fixtures → Members → Fixtures → Members → Type 0
 TakesFixture choice fixture before members now more = (props : List Props) → AreLeft choice props before members → AreLeft choice props now more × Draws choice props (fixture ∷ []) members more

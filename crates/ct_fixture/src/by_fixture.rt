@@ -35,7 +35,7 @@ fn note(alloc: Global, tests: &mut ByFixture, fixture: &[u8], number: u32) -> Re
     Ok(())
 }
 
-/// Takes the tests of a fixture out; it then has none.
+/// Removes and returns the tests of a fixture, which then has none.
 pub(crate) fn take(alloc: Global, tests: &mut ByFixture, fixture: &[u8]) -> Vec<u32>
     ensures gives { result.items ≡ tests_of tests.old fixture.now }
     ensures leaves { (asked : List ℕ) → tests_of tests.new asked

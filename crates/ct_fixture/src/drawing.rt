@@ -11,10 +11,10 @@ use ct_props::{Choice, Props};
 use ct_regex::Regex;
 use std::alloc::Global;
 
-/// Draws in the setups and the cleanups of the fixtures that tests require, and of the fixtures that
-/// these require in turn. Gives the numbers of all tests that are in, in order.
+/// Draws in the setups and the cleanups of the fixtures that tests require, and of the fixtures
+/// that these require in turn. Returns the numbers of all tests that are in, in order.
 ///
-/// A disabled test is not drawn in, and draws none in; where it is chosen it stays. Numbers count
+/// A disabled test is not drawn in, and draws none in. If it is chosen, it stays. Numbers count
 /// from 1, in the order of definition.
 ///
 /// Source: CMake manual, cmake-properties(7), FIXTURES_REQUIRED; ctest(1), -FA, -FC, -FS.
@@ -93,7 +93,7 @@ fn draw(
     Ok(())
 }
 
-/// Takes the tests of a fixture out, and gives them unless -FA or this pattern hits the fixture.
+/// Removes the tests of a fixture, and returns them unless -FA or this pattern hits the fixture.
 fn take_unless(
     alloc: Global,
     tests: &mut ByFixture,
@@ -115,7 +115,7 @@ fn take_unless(
     Ok(taken)
 }
 
-/// Tells whether a pattern hits a fixture; where there is none, it does not.
+/// Tells whether a pattern hits a fixture. Without a pattern it returns `false`.
 fn is_hit(alloc: Global, pattern: &Option<Regex>, fixture: &Name) -> Result<bool, NoMemory>
     ensures { IfOk result (λ hit. hit ≡ is_hit_by pattern.now fixture.now) }
 {

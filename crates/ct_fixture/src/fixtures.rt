@@ -15,7 +15,7 @@ pub(crate) struct Fixtures {
 }
 
 impl Fixtures {
-    /// Finds the setups and the cleanups of each fixture. Disabled tests are none.
+    /// Finds the setups and the cleanups of each fixture, without disabled tests.
     pub(crate) fn of(alloc: Global, props: &[Props]) -> Result<Fixtures, NoMemory>
         requires { length props.now < 2 ^ 32 - 1 }
         ensures { IfOk result (λ fixtures. AreWhole props.now fixtures) }

@@ -8,14 +8,14 @@ use std::alloc::Global;
 /// The tests that are in, and those of them whose fixtures have not been looked at.
 #[derive(Drop)]
 pub(crate) struct Members {
-    /// Whether a test is in, by its number; place 0 is that of no test.
+    /// At the number of a test, whether the test is in. Place 0 is of no test.
     pub marks: Vec<bool>,
     /// The numbers of the tests whose fixtures have not been looked at.
     pub waiting: Vec<u32>,
 }
 
 impl Members {
-    /// Makes room for so many tests, of which none is in.
+    /// Makes room for `count` tests, of which none is in.
     pub(crate) fn none(alloc: Global, count: usize) -> Result<Members, NoMemory>
         requires { count < 2 ^ 32 - 1 }
         ensures long { IfOk result (λ members. length members.marks.items ≡ count + 1) }
@@ -28,7 +28,7 @@ impl Members {
         })
     }
 
-    /// Adds tests; those that are in already stay as they are.
+    /// Adds tests. Those that are in already stay as they are.
     pub(crate) fn add_all(&mut self, numbers: &[u32]) -> Result<(), NoMemory>
         requires { All (λ number. number < vec_len self.old.marks) numbers.now }
         ensures { OnOk result (AddsTests numbers.now self.old self.new) }
@@ -52,7 +52,7 @@ impl Members {
         Ok(())
     }
 
-    /// Takes a test whose fixtures have not been looked at, if there is one.
+    /// Removes and returns a test whose fixtures have not been looked at, if there is one.
     pub(crate) fn next(&mut self) -> Option<u32>
         ensures marks { self.new.marks ≡ self.old.marks }
         ensures waiting { MatchOption result (self.old.waiting.items ≡ [])

@@ -16,14 +16,14 @@ use Rattle.ct_plan.specs.Planned.{ArePlannedTests, IsPlannedTest, planned_test, 
 use Rattle.ct_plan.specs.Linked.{AreLinked, IsLinked, test_from}
 use Rattle.ct_plan.proofs.NumberLemmas.{AreOfTests}
 
--- the number of one of these links is of a test
+-- each of these links has the number of a test
 pub number_at : (count : ℕ) (links : List Links) (at : ℕ) (l : Links) → at < length links → l ≡ get_or links at l → AreOfTests count (map (λ (x : Links). x.number) links) → (0 < l.number) × (l.number ≤ count)
 number_at count links at l within is of_tests =
     let long : length (map (λ (x : Links). x.number) links) ≡ length links = length-map links (λ (x : Links). x.number) in
     let same : get_or (map (λ (x : Links). x.number) links) at 0 ≡ l.number = get_or-map (λ (x : Links). x.number) links at l 0 within ∙ sym (ap (λ (x : Links). x.number) is) in
     subst (λ n. (0 < n) × (n ≤ count)) same (All-get_or (λ n. (0 < n) × (n ≤ count)) (map (λ (x : Links). x.number) links) at 0 (omega (arith, within, long)) of_tests)
 
--- one more test, of its links
+-- the tests of links, with one test more
 pub linked-snoc : (resources : Option (List Resource)) (level : ℕ) (defs : List TestDef) (props : List Props) (ls : List Links) (ts : List PlanTest) (l : Links) (t : PlanTest) → AreLinked resources level defs props ls ts → IsLinked resources level defs props l t → AreLinked resources level defs props (ls ++ l ∷ []) (ts ++ t ∷ [])
 linked-snoc resources level defs props [] [] l t linked one = (one, tt)
 linked-snoc resources level defs props [] (x ∷ xs) l t linked one = absurd linked

@@ -17,7 +17,7 @@ use Rattle.ct_history.specs.Plan.{IsAscendingFrom, enabled}
 use Rattle.ct_history.specs.declared.plan.PlanTest.{PlanTest}
 use Rattle.ct_plan.specs.Source.{HaveProps}
 
--- each number is of one of so many tests
+-- each number is that of one of `count` tests
 abbrev pub AreOfTests : ℕ → List ℕ → Type 0
 AreOfTests count numbers = All (λ number. (0 < number) × (number ≤ count)) numbers
 
@@ -34,7 +34,7 @@ ascends_with : (least first : ℕ) (numbers : List ℕ) → least ≤ first → 
 ascends_with least first numbers low rest true = (low, rest)
 ascends_with least first numbers low rest false = ascends_sooner least (first + 1) numbers (omega (arith, low)) rest
 
--- some of the numbers that ascend do so
+-- a part of ascending numbers ascends
 pub ascends-filter : (p : ℕ → Bool) (least : ℕ) (numbers : List ℕ) → IsAscendingFrom least numbers → IsAscendingFrom least (filter p numbers)
 ascends-filter p least [] ascends = tt
 ascends-filter p least (n ∷ ns) ascends = ascends_with least n (filter p ns) ascends.0 (ascends-filter p (n + 1) ns ascends.1) (p n)
@@ -62,7 +62,7 @@ range_of_tests count = All-from_get_or (λ number. (0 < number) × (number ≤ c
     let here : get_or (range_with_len 1 count) k 0 ≡ 1 + k = get_or-range_with_len 1 count k 0 (omega (arith, long)) in
     (omega (arith, here), omega (arith, here, long)))
 
--- what the numbers of some of the tests keep
+-- the numbers of some of the tests: they ascend, and each is of a test
 pub record AreSome (count : ℕ) (numbers : List ℕ) : Type 0 where
   pub ascend : IsAscendingFrom 1 numbers
   pub of_tests : AreOfTests count numbers
@@ -77,7 +77,7 @@ some-rounds : (choice : Choice) (props : List Props) (chosen : List ℕ) (rounds
 some-rounds choice props chosen zero some = some
 some-rounds choice props chosen (suc rounds) some = some-filter _ (length props)
 
--- so are the chosen tests
+-- the chosen tests are some of the tests
 pub some-chosen : (choice : Choice) (defs : List TestDef) (props : List Props) → length props ≡ length defs → AreSome (length props) (chosen_tests defs props choice)
 some-chosen choice defs props paired = subst (λ count. AreSome count (chosen_tests defs props choice)) (sym paired) (some-filter _ (length defs))
 
@@ -113,11 +113,11 @@ enabled_of_tests count (t ∷ ts) of_tests =
     (enabled_of_tests count ts (All-tail (λ number. (0 < number) × (number ≤ count)) t.number numbers of_tests))
     (not t.disabled))
 
--- so are those of the tests that are not disabled
+-- the tests that are not disabled are some of the tests
 pub some-enabled : (count : ℕ) (tests : List PlanTest) → AreSome count (map (λ (t : PlanTest). t.number) tests) → AreSome count (map (λ (t : PlanTest). t.number) (enabled tests))
 some-enabled count tests some = record { ascend = enabled_ascend 1 tests some.ascend; of_tests = enabled_of_tests count tests some.of_tests }
 
--- what two lists that go together have at a place
+-- the test at a place, to which these properties belong
 abbrev HasBoth : List TestDef → ℕ → Props → Type 0
 HasBoth defs place own = (def : TestDef) × (slice_get defs place ≡ Some def) × HasProps def own
 

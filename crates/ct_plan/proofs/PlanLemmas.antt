@@ -1,4 +1,4 @@
--- Why there is no plan, where there is no order.
+-- A fault of ordering is answered as the fault of planning.
 use Rattle.std.proofs.Common.{ℕ, List, Option, Err}
 use Rattle.ct_base.specs.declared.defs.Resource.{Resource}
 use Rattle.ct_base.specs.declared.defs.TestDef.{TestDef}

@@ -1,4 +1,4 @@
--- What is made is the queue of the tests.
+-- The numbers that the code makes are the queue of the tests.
 use Rattle.std.proofs.Common.{ℕ, ◌≡◌, true, false, ◌==◌, List, length, map, Option, Some, subst}
 use Rattle.std.specs.Prelude.{IsPermutation}
 use Rattle.std.specs.List.Sorted.{IsSortedBy}
@@ -22,14 +22,14 @@ module _ (defs : List TestDef) (props : List Props) (wanted : Wanted) (resources
   abbrev pub queued : List ℕ
   queued = map (λ (t : PlanTest). t.number) (enabled tests)
 
-  -- one at a time they stay in order
+  -- where one test runs at a time, the numbers stay in order
   pub queue_single : length props ≡ length defs → (wanted.level == 1) ≡ true → AreSome (length defs) (map (λ (t : PlanTest). t.number) tests) → IsQueue (source defs props wanted resources costs) tests queued
   queue_single paired single some = record {
     all = IsPermutation-refl queued;
     order = numbered_pairs defs props costs paired wanted.level single queued (some-enabled (length defs) tests some);
   }
 
-  -- else they are sorted by urgency
+  -- where several tests run at once, the numbers are sorted by urgency
   pub queue_several : (wanted.level == 1) ≡ false → AreSome (length defs) (map (λ (t : PlanTest). t.number) tests) → (xs ys : List Standing) → map Some xs ≡ map (standing_in defs props costs) queued → IsPermutation xs ys → IsSortedBy is_more_urgent ys → IsQueue (source defs props wanted resources costs) tests (map (λ (y : Standing). y.number) ys)
   queue_several several some xs ys made same sorted = record {
     all = subst (IsPermutation (map (λ (y : Standing). y.number) ys)) (stand_numbers defs props costs xs queued made)

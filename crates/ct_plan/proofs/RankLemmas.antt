@@ -1,4 +1,5 @@
--- The links of the tests of a plan are sound: what comes before a test is enabled and of a lesser rank, and so are its setups.
+-- The links of the tests of a plan are sound: each test before another one is enabled, has a lesser rank, and
+-- may be a setup.
 use Rattle.std.proofs.Common.{ℕ, ◌≡◌, ◌∙◌, Bool, true, false, cond, not, ◌&&◌, ◌||◌, nat_lt, List, [], ◌∷◌, Option, Some, None, refl, sym, ap, eqb}
 use Rattle.std.specs.List.{list_all}
 use Rattle.std.proofs.lemmas.Bool.{false≢true, and_parts, and_from, eqb-true}
@@ -92,7 +93,7 @@ module _ (defs : List TestDef) (props : List Props) (wanted : Wanted) (resources
           ap (λ d. comes_before d (at_number props s) (at_number props m)) def.1 ∙ setup_before def.0 (at_number props s) (at_number props m) both.0 in
           is_in-filter (λ k. comes_before (at_number defs k) (at_number props k) (at_number props m)) (run_members (source defs props wanted resources costs)) s ∙ and_from _ _ earlier both.1)
 
-  -- so are those of all tests
+  -- the links of all tests are sound
   pub links_sound : HaveProps defs props → (links : List Links) (tests : List PlanTest) → AreLinked resources wanted.level defs props links tests → (ms : List ℕ) (ls : List Links) (ts : List PlanTest) → AreOrdered (source defs props wanted resources costs) ms ls → AreLinked resources wanted.level defs props ls ts → list_all (ranks_above_all links) ls ≡ true → list_all (has_sound_links tests) ts ≡ true
   links_sound have links tests linked [] [] [] ordered some above = refl
   links_sound have links tests linked [] [] (t ∷ ts) ordered some above = absurd some

@@ -69,13 +69,13 @@ fixed_ok resources needs true place cause is = ap (is_fixed_cause resources) is
 fixed_ok resources needs false (Some n) cause is = ap (is_fixed_cause resources) is
 fixed_ok resources needs false None cause is = unfit_ok resources needs cause is
 
--- a test that nothing keeps from running fits
+-- the needs of a test without a fixed cause fit
 free_fits : (gone : Bool) (place : Option ℕ) (Fits : Type 0) → IsFixedBy (cond gone (Some NotAvailable) (option_map BadOperation place)) Fits None → Fits
 free_fits true place Fits is = let no : None ≡ Some NotAvailable = is in absurd (cc)
 free_fits false (Some n) Fits is = let no : None ≡ Some (BadOperation n) = is in absurd (cc)
 free_fits false None Fits is = is
 
--- the needs of each test that nothing keeps from running fit while nothing is used
+-- the needs of each test without a fixed cause fit while nothing is used
 placeable_on : (rs : List Resource) (defs : List TestDef) (props : List Props) (level : ℕ) (ls : List Links) (ts : List PlanTest) → AreLinked (Some rs) level defs props ls ts → All (IsPlaceable rs) ts
 placeable_on rs defs props level [] [] linked = All-nil (IsPlaceable rs)
 placeable_on rs defs props level [] (t ∷ ts) linked = absurd linked
@@ -154,7 +154,7 @@ module _ (defs : List TestDef) (props : List Props) (wanted : Wanted) (resources
   pub links_of_tests : HaveProps defs props → (links : List Links) → IsOrder defs props (run_members (source defs props wanted resources costs)) links → AreOfTests (length defs) (map (λ (l : Links). l.number) links)
   links_of_tests have links order = subst (AreOfTests (length defs)) (sym order.numbers) (some-members wanted.choice defs props (length-have_props defs props have)).of_tests
 
-  -- what is said of tests and properties where they are lent holds of them
+  -- tests made of equal definitions, properties and resources are made of these
   pub made_of : (ds : List TestDef) (ps : List Props) (rs : Option (List Resource)) (links : List Links) (tests : List PlanTest) → ds ≡ defs → ps ≡ props → rs ≡ resources → AreLinked rs wanted.level ds ps links tests → AreLinked resources wanted.level defs props links tests
   made_of ds ps rs links tests defs_are props_are resources_are made =
       subst (λ r. AreLinked r wanted.level defs props links tests) resources_are

@@ -34,7 +34,7 @@ costs_chain x y z one two = grind (arith, nat_tests)
 costs_decide : (x y : Standing) → costs_more y x ≡ false → x.number ≢ y.number → costs_more x y ≡ true
 costs_decide x y behind apart = grind (arith, nat_tests)
 
--- whether one goes in front, by whether each failed and by what the costs say
+-- whether one test goes in front, by whether each failed and whether it costs more
 abbrev urgency : Bool → Bool → Bool → Bool
 urgency one other more = cond (beq one other) more one
 
@@ -87,7 +87,7 @@ urgent_first : (level : ℕ) → (level == 1) ≡ false → (x y : Standing) (on
 urgent_first level several x y one other one_is other_is urgent =
     (λ i. goes_first_there level (one_is i) (other_is i)) ∙ (λ i. cond (several i) (nat_lt x.number y.number) (is_more_urgent x y)) ∙ urgent
 
--- else the one with the lesser number
+-- where one test runs at a time, the one with the lesser number goes first
 numbered_first : (level : ℕ) → (level == 1) ≡ true → (x y : Standing) (one other : Option Standing) → one ≡ Some x → other ≡ Some y → x.number < y.number → goes_first_there level one other ≡ true
 numbered_first level single x y one other one_is other_is less =
     let lesser : nat_lt x.number y.number ≡ true = grind (arith, nat_tests) in
@@ -118,7 +118,7 @@ module _ (defs : List TestDef) (props : List Props) (costs : CostData) where
       ap (λ m. m ∷ map (λ (y : Standing). y.number) xs) (standing_number costs n (at_number defs n) (at_number props n) x one)
       ∙ ap (λ ms. n ∷ ms) (stand_numbers xs ns (cc))
 
-  -- sorted by urgency, each goes in front of those behind it
+  -- where several tests run at once, each of those sorted by urgency goes in front of those behind it
   pub urgent_pairs : (level : ℕ) → (level == 1) ≡ false → (numbers : List ℕ) (xs ys : List Standing) → IsAscendingFrom 1 numbers → map Some xs ≡ map (standing_in defs props costs) numbers → IsPermutation xs ys → IsSortedBy is_more_urgent ys → AllPairs (λ one other. goes_first_there level (standing_in defs props costs one) (standing_in defs props costs other) ≡ true) (map (λ (y : Standing). y.number) ys)
   urgent_pairs level several numbers xs ys up made same sorted = λ i j d before within.
       let long : length (map (λ (y : Standing). y.number) ys) ≡ length ys = length-map ys (λ (y : Standing). y.number) in
@@ -150,7 +150,7 @@ module _ (defs : List TestDef) (props : List Props) (costs : CostData) where
         refl,
       )
 
-  -- one at a time, each of these tests goes in front of those behind it, by its number
+  -- where one test runs at a time, each of these tests goes in front of those behind it, by its number
   pub numbered_pairs : length props ≡ length defs → (level : ℕ) → (level == 1) ≡ true → (numbers : List ℕ) → AreSome (length defs) numbers → AllPairs (λ one other. goes_first_there level (standing_in defs props costs one) (standing_in defs props costs other) ≡ true) numbers
   numbered_pairs paired level single numbers some = λ i j d before within.
       let here : i < length numbers = omega (arith, before, within) in

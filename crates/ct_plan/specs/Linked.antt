@@ -19,7 +19,7 @@ use Rattle.ct_plan.specs.Planned.{IsFixed, rules_of}
 use Rattle.ct_plan.specs.Queue.{IsQueue, standing_there}
 use Rattle.ct_plan.specs.Source.{source}
 
--- all the resources of which this tells what is free, where any are lent
+-- the resources that are lent, if any are, by the value that tells what is free of them
 abbrev pub lent : Option FreeValue → Option (List Resource)
 lent free = option_map (λ (f : FreeValue). f.resources) free
 
@@ -27,7 +27,8 @@ lent free = option_map (λ (f : FreeValue). f.resources) free
 abbrev pub IsUnused : FreeValue → Type 0
 IsUnused free = (place : ℕ) → used_at free place ≡ 0
 
--- the test with these links, where so many processors may be taken, and with what keeps it from running
+-- the test with these links, which takes at most `level` processors, and with the cause that keeps it from
+-- running
 abbrev pub test_from : ℕ → Links → TestDef → Props → Option Cause → PlanTest
 test_from level link def props fixed = record {
   number = link.number;
@@ -45,7 +46,8 @@ test_from level link def props fixed = record {
   labels = props.labels;
 }
 
--- this is the test that these links are of, with what keeps it from running where these resources are lent
+-- the test is made of these links and of its definition and properties, with the cause that keeps it from
+-- running where these resources are lent
 pub record IsLinked (resources : Option (List Resource)) (level : ℕ) (defs : List TestDef) (props : List Props) (links : Links) (test : PlanTest) : Type 0 where
   pub def : TestDef
   pub own : Props
@@ -54,14 +56,14 @@ pub record IsLinked (resources : Option (List Resource)) (level : ℕ) (defs : L
   pub fixed : IsFixed resources def own test.fixed
   pub is : test ≡ test_from level links def own test.fixed
 
--- so are these tests, one for each of these links, in order
+-- these tests are made of these links, one for each, in order
 abbrev pub AreLinked : Option (List Resource) → ℕ → List TestDef → List Props → List Links → List PlanTest → Type 0
 AreLinked resources level defs props [] [] = ⊤
 AreLinked resources level defs props [] (test ∷ tests) = ⊥
 AreLinked resources level defs props (link ∷ links) [] = ⊥
 AreLinked resources level defs props (link ∷ links) (test ∷ tests) = IsLinked resources level defs props link test × AreLinked resources level defs props links tests
 
--- how the test with this number stands
+-- the standing of the test with this number, if it is there
 abbrev pub standing_in : List TestDef → List Props → CostData → ℕ → Option Standing
 standing_in defs props costs number = standing_there costs number (at_number defs number) (at_number props number)
 
@@ -69,7 +71,7 @@ standing_in defs props costs number = standing_there costs number (at_number def
 abbrev pub QueuesTests : List TestDef → List Props → Wanted → CostData → List PlanTest → List ℕ → Type 0
 QueuesTests defs props wanted costs tests queue = (resources : Option (List Resource)) → IsQueue (source defs props wanted resources costs) tests queue
 
--- why there is no plan, where there is no order
+-- the fault of planning for a fault of ordering
 abbrev pub plan_fault : GraphFault → PlanFault
 plan_fault (Graph.Cycle tests) = Cycle tests
 plan_fault Graph.TooManyEdges = TooManyEdges

@@ -1,6 +1,7 @@
--- What a plan says of a test: what its properties ask for, and what keeps it from running.
--- Source: CMake manual, cmake-properties(7), DISABLED, LABELS, PASS_REGULAR_EXPRESSION, PROCESSORS, RESOURCE_GROUPS,
--- RESOURCE_LOCK, RUN_SERIAL, SKIP_RETURN_CODE, WILL_FAIL; add_test. That a test takes the level at most is this project's choice.
+-- What a plan says of a test: what its properties ask for, and what keeps it from running. Source: CMake
+-- manual, cmake-properties(7), DISABLED, LABELS, PASS_REGULAR_EXPRESSION, PROCESSORS, RESOURCE_GROUPS,
+-- RESOURCE_LOCK, RUN_SERIAL, SKIP_RETURN_CODE, WILL_FAIL; add_test. That a test takes the level at most is
+-- this project's choice.
 use Rattle.std.specs.Prelude.{◌≡◌, ℕ, ⊤, min, Bool, false, not, bytes_eq, codes, List, [], ◌∷◌, length, Option, Some, None, option_map, ◌==◌, if◌then◌else◌}
 use Rattle.ct_base.specs.declared.defs.Need.{Need}
 use Rattle.ct_base.specs.declared.defs.Resource.{Resource}
@@ -19,33 +20,36 @@ use Rattle.ct_plan.specs.Source.{Source, members_before, setup_members}
 abbrev pub rules_of : Props → Rules
 rules_of props = record { pass_wanted = not (length props.pass == 0); skip_code = props.skip_code; will_fail = props.will_fail }
 
--- the command stands for a program that is not there
+-- the command is the word that stands for a program that is not there
 abbrev pub is_not_available : List (List ℕ) → Bool
 is_not_available [] = false
 is_not_available (word ∷ []) = bytes_eq word (codes "NOT_AVAILABLE")
 is_not_available (word ∷ other ∷ others) = false
 
--- why the test can't run, by its own words: its program is not there, or an entry of its modification names no operation
+-- why the test can't run because of its own command or properties: its program is not there, or an entry of
+-- its ENVIRONMENT_MODIFICATION names no operation
 abbrev pub own_cause : TestDef → Props → Option Cause
 own_cause def props = if is_not_available def.command then Some NotAvailable else option_map BadOperation (first_bad props.modification)
 
--- the needs fit on the resources while nothing is used; where none are given they play no part
+-- the needs fit on the resources while nothing is used; where no resources are given, they always do
 abbrev pub ArePlaceable : Option (List Resource) → List Need → Type 0
 ArePlaceable None needs = ⊤
 ArePlaceable (Some resources) needs = SomeFits resources needs (λ place. 0)
 
--- why a test can't run, of which its own words say this and whose needs may fit or not
+-- the cause that keeps a test from running: its own one; else Insufficient, where its needs do not fit; else
+-- none
 abbrev pub IsFixedBy : Option Cause → Type 0 → Option Cause → Type 0
 IsFixedBy (Some own) Fits cause = cause ≡ Some own
 IsFixedBy None Fits None = Fits
 IsFixedBy None Fits (Some Insufficient) = Fits → ⊥
 IsFixedBy None Fits (Some _) = ⊥
 
--- why the test can't run at all, where anything keeps it from that: its own words first, else that its needs fit nowhere
+-- the cause that keeps the test from running: its own one; else Insufficient, where its needs fit nowhere;
+-- else none
 abbrev pub IsFixed : Option (List Resource) → TestDef → Props → Option Cause → Type 0
 IsFixed resources def props cause = IsFixedBy (own_cause def props) (ArePlaceable resources props.groups.needs) cause
 
--- what the plan says of the test with this number, with this rank, and with what keeps it from running
+-- the test of the plan with this number and rank, and with the cause that keeps it from running
 abbrev pub planned_test : Source → ℕ → TestDef → Props → ℕ → Option Cause → PlanTest
 planned_test s number def props rank fixed = record {
   number = number;
@@ -63,7 +67,7 @@ planned_test s number def props rank fixed = record {
   labels = props.labels;
 }
 
--- this is what a plan says of the test with this number; its rank is left open
+-- the test is what a plan says of the test with this number, whatever its rank
 pub record IsPlannedTest (s : Source) (number : ℕ) (test : PlanTest) : Type 0 where
   pub def : TestDef
   pub props : Props
@@ -72,7 +76,7 @@ pub record IsPlannedTest (s : Source) (number : ℕ) (test : PlanTest) : Type 0 
   pub fixed : IsFixed s.resources def props test.fixed
   pub is : test ≡ planned_test s number def props test.rank test.fixed
 
--- so are these tests, one for each of these numbers, in order
+-- these tests are what a plan says of these numbers, one for each, in order
 abbrev pub ArePlannedTests : Source → List ℕ → List PlanTest → Type 0
 ArePlannedTests s [] [] = ⊤
 ArePlannedTests s [] (test ∷ tests) = ⊥

@@ -1,5 +1,6 @@
--- In which order tests are looked at when one may start: one at a time, by number; and else those that failed in the last run
--- first, then those that cost more. Source: CMake manual, cmake-properties(7), COST; ctest(1), -j. Ties are this project's choice.
+-- The order in which tests are looked at to start. Where one test runs at a time, it is by number. Else the
+-- tests that failed in the last run are first, and then those that cost more. Source: CMake manual,
+-- cmake-properties(7), COST; ctest(1), -j. Ties are this project's choice.
 use Rattle.std.specs.Prelude.{◌≡◌, ℕ, Bool, true, false, nat_lt, List, map, AllPairs, IsPermutation, Option, Some, None, unwrap_or, ◌==◌, if◌then◌else◌}
 use Rattle.std.specs.Bool.{beq}
 use Rattle.ct_base.specs.declared.defs.TestDef.{TestDef}
@@ -13,18 +14,18 @@ use Rattle.ct_cost.specs.declared.cost_data.CostData.{CostData}
 use Rattle.ct_plan.specs.declared.standing.Standing.{Standing}
 use Rattle.ct_plan.specs.Source.{Source}
 
--- what a test costs: what its property says, else what earlier runs tell of its name, else nothing
+-- the cost of a test: what its property says, else what earlier runs tell of its name, else 0
 abbrev pub cost_in : CostData → TestDef → Props → ℕ
 cost_in costs def props = unwrap_or props.cost (unwrap_or (cost_of costs.lines def.name) 0)
 
--- how the test with this number stands, where it is there
+-- the standing of the test with this number, if it is there
 abbrev pub standing_there : CostData → ℕ → Option TestDef → Option Props → Option Standing
 standing_there costs number None props = None
 standing_there costs number (Some def) None = None
 standing_there costs number (Some def) (Some props) =
     Some (record { failed = is_among def.name costs.failed; cost = cost_in costs def props; number = number })
 
--- how the test with this number stands
+-- the standing of the test with this number, if it is there
 abbrev pub standing_of : Source → ℕ → Option Standing
 standing_of s number = standing_there s.costs number (at_number s.defs number) (at_number s.props number)
 
@@ -32,11 +33,12 @@ standing_of s number = standing_there s.costs number (at_number s.defs number) (
 abbrev pub costs_more : Standing → Standing → Bool
 costs_more one other = if one.cost == other.cost then nat_lt one.number other.number else nat_lt other.cost one.cost
 
--- one test goes in front of another, where several may run at once: it alone failed in the last run, or it costs more
+-- where several tests may run at once, one goes in front of another: it alone failed in the last run, or both
+-- or neither did and it costs more
 abbrev pub is_more_urgent : Standing → Standing → Bool
 is_more_urgent one other = if beq one.failed other.failed then costs_more one other else one.failed
 
--- one test goes in front of another, where so many may run at once
+-- one test goes in front of another, at this level: by number at level 1, else by urgency
 abbrev pub goes_first : ℕ → Standing → Standing → Bool
 goes_first level one other = if level == 1 then nat_lt one.number other.number else is_more_urgent one other
 
@@ -45,7 +47,8 @@ abbrev pub goes_first_there : ℕ → Option Standing → Option Standing → Bo
 goes_first_there level (Some one) (Some other) = goes_first level one other
 goes_first_there level _ _ = false
 
--- the queue of these tests: each that is not disabled once, and each in front of those that it goes before
+-- the queue of these tests: each that is not disabled stands in it once, and in front of those that it goes
+-- before
 pub record IsQueue (s : Source) (tests : List PlanTest) (queue : List ℕ) : Type 0 where
   pub all : IsPermutation queue (map (λ (t : PlanTest). t.number) (enabled tests))
   pub order : AllPairs (λ one other. goes_first_there s.wanted.level (standing_of s one) (standing_of s other) ≡ true) queue

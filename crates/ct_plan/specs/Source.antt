@@ -1,5 +1,6 @@
--- What a plan is made of: the tests of a folder with their properties, what is wanted of the run, the resources that are lent,
--- and what earlier runs cost. Source: CMake manual, ctest(1), Run Tests; cmake-properties(7), Properties on Tests.
+-- What a plan is made of: the tests of a folder with their properties, what is wanted of the run, the
+-- resources that are lent, and what earlier runs cost. Source: CMake manual, ctest(1), Run Tests;
+-- cmake-properties(7), Properties on Tests.
 use Rattle.std.specs.Prelude.{ℕ, ⊤, List, [], ◌∷◌, Option}
 use Rattle.ct_base.specs.declared.defs.Resource.{Resource}
 use Rattle.ct_base.specs.declared.defs.TestDef.{TestDef}
@@ -21,14 +22,14 @@ pub record Source : Type 0 where
   pub resources : Option (List Resource)
   pub costs : CostData
 
--- these are the properties of the tests, one for each, in order
+-- these are the properties of these tests, one for each, in order
 abbrev pub HaveProps : List TestDef → List Props → Type 0
 HaveProps [] [] = ⊤
 HaveProps [] (own ∷ owns) = ⊥
 HaveProps (def ∷ defs) [] = ⊥
 HaveProps (def ∷ defs) (own ∷ owns) = HasProps def own × HaveProps defs owns
 
--- the numbers of the members among tests, which ascend: those that are chosen, and those that fixtures draw in
+-- the numbers of the members among tests, which ascend: the chosen tests, and those that fixtures draw in
 abbrev pub members_in : Choice → List TestDef → List Props → List ℕ
 members_in choice defs props = members_of choice props (chosen_tests defs props choice)
 
@@ -48,6 +49,7 @@ setup_members s number = setups_of s.props (run_members s) number
 abbrev pub edge_count : Source → ℕ
 edge_count s = edges_of s.defs s.props (run_members s)
 
--- these tests, wanted so, with the resources that are lent, where a specification is given, and with what earlier runs cost
+-- the source of a plan: tests, their properties, what is wanted, the resources of a specification, if one is
+-- given, and the cost data
 abbrev pub source : List TestDef → List Props → Wanted → Option (List Resource) → CostData → Source
 source defs props wanted resources costs = record { defs = defs; props = props; wanted = wanted; resources = resources; costs = costs }

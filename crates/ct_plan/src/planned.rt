@@ -12,8 +12,8 @@ use ct_props::Props;
 use ct_verdict::{Cause, Rules};
 use std::alloc::Global;
 
-/// Plans the tests with these links, at so many processors, beside what is free of the resources that
-/// are lent, which is all of them.
+/// Plans the tests with these links, at `level` processors. `free` tells what is free of the
+/// resources that are lent: all of them.
 pub(crate) fn plan_tests(
     alloc: Global,
     defs: &[TestDef],
@@ -37,7 +37,7 @@ pub(crate) fn plan_tests(
     Ok(tests)
 }
 
-/// Plans one test, with what keeps it from running.
+/// Plans one test, with the cause that keeps it from running, if there is one.
 fn plan_test(
     alloc: Global,
     def: &TestDef,
@@ -99,8 +99,8 @@ fn rules(own: &Props) -> Rules
     }
 }
 
-/// Tells why a test can't run at all, where that is known before the run: by its own words, or else
-/// since its needs fit nowhere.
+/// Returns why a test can't run at all, if that is known before the run: because of its own command
+/// or properties, or else because its needs fit nowhere.
 ///
 /// A test with more entries than a place can count is beyond any memory.
 ///
@@ -124,7 +124,7 @@ fn fixed(
     }
 }
 
-/// Tells why a test can't run at all by its own words.
+/// Returns why a test can't run at all because of its own command or properties.
 fn own_cause(def: &TestDef, own: &Props) -> Option<Cause>
     requires few { length own.now.modification < 2 ^ 32 }
     ensures { result ≡ cause_of_words def.now own.now }
@@ -138,7 +138,7 @@ fn own_cause(def: &TestDef, own: &Props) -> Option<Cause>
     }
 }
 
-/// Tells that resources are lent on which the needs fit nowhere, while nothing is used.
+/// Returns `Insufficient` where resources are lent and the needs fit nowhere while nothing is used.
 fn insufficient(
     alloc: Global,
     needs: &List<Need>,
@@ -158,7 +158,7 @@ fn insufficient(
 
 /// Tells whether a command stands for a program that CMake did not find.
 ///
-/// Source: CMake manual, add_test: a target that was not built is written so.
+/// Source: CMake manual, add_test. CMake writes this for a target that was not built.
 fn is_not_available(command: &[Name]) -> bool
     ensures { result ≡ stands_for_none command.now }
 {

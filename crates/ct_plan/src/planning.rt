@@ -24,9 +24,9 @@ use std::alloc::Global;
 /// Plans a run: the chosen tests and those that fixtures draw in, in the order that DEPENDS and
 /// fixtures ask for, each with what its properties say.
 ///
-/// The tests and their properties belong together by place. Where a specification is given, its
-/// resources are lent, and a test whose needs fit nowhere on them is not run. A cycle is refused with
-/// its tests, and so are more than `ct_graph::MOST_EDGES` edges.
+/// The properties at a place are those of the test at that place. Where a specification is given,
+/// its resources are lent, and a test whose needs fit nowhere on them is not run. A cycle is
+/// refused with its tests. More than `ct_graph::MOST_EDGES` edges are refused too.
 ///
 /// Source: CMake manual, ctest(1), Run Tests and Resource Allocation; cmake-properties(7), Properties
 /// on Tests.
@@ -50,9 +50,9 @@ pub fn plan(
     Ok(plan_in_order(alloc, defs, props, wanted, spec, costs, ordered.links)?)
 }
 
-/// Gives the numbers of the tests that are chosen, and of those that fixtures draw in, in order.
+/// Returns the numbers of the tests that are chosen, and of those that fixtures draw in, in order.
 ///
-/// The tests and their properties belong together by place.
+/// The properties at a place are those of the test at that place.
 ///
 /// Source: CMake manual, ctest(1), Options; cmake-properties(7), FIXTURES_REQUIRED.
 pub fn members(
@@ -127,7 +127,8 @@ fn copied_resources(alloc: Global, resources: &[Resource]) -> Result<List<Resour
     Ok(copies)
 }
 
-/// What is free of the resources of a specification, where one is given, before a test runs: all.
+/// Returns what is free of the resources of a specification, if one is given, before a test runs:
+/// all.
 fn unused(alloc: Global, spec: Option<&Spec>) -> Result<Option<Free>, NoMemory>
     ensures whole { IfOk result (λ free. lent free ≡ option_copied spec.entry) }
     ensures unused { IfOk result (λ free. IfSome free IsUnused) }
@@ -138,8 +139,8 @@ fn unused(alloc: Global, spec: Option<&Spec>) -> Result<Option<Free>, NoMemory>
     }
 }
 
-/// What is free of resources of which nothing is used. More than a place can count are beyond any
-/// memory.
+/// Returns what is free of resources of which nothing is used. More resources than a place can
+/// count are beyond any memory.
 fn all_free(alloc: Global, resources: &List<Resource>) -> Result<Free, NoMemory>
     ensures whole { IfOk result (λ free. free.resources ≡ resources.now) }
     ensures unused { IfOk result IsUnused }

@@ -11,7 +11,8 @@ use ct_history::PlanTest;
 use ct_props::{Props, Wanted};
 use std::alloc::Global;
 
-/// Gives the numbers of the tests that are not disabled, in the order in which they are looked at.
+/// Returns the numbers of the tests that are not disabled, in the order in which they are looked
+/// at.
 ///
 /// Source: CMake manual, cmake-properties(7), COST; ctest(1), -j.
 pub(crate) fn queue(
@@ -35,7 +36,7 @@ pub(crate) fn queue(
     numbers_of(alloc, standings.as_slice())
 }
 
-/// Gives the numbers of the tests that are not disabled, in order.
+/// Returns the numbers of the tests that are not disabled, in order.
 fn enabled_numbers(alloc: Global, tests: &[PlanTest]) -> Result<List<u32>, NoMemory>
     ensures { IfOk result (λ numbers. numbers ≡ map (λ t. t.number) (enabled tests.now)) }
 {
@@ -48,7 +49,7 @@ fn enabled_numbers(alloc: Global, tests: &[PlanTest]) -> Result<List<u32>, NoMem
     Ok(numbers)
 }
 
-/// Tells how each of these tests stands.
+/// Returns the standing of each of these tests.
 fn standings(
     alloc: Global,
     defs: &[TestDef],

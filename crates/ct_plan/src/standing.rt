@@ -18,7 +18,7 @@ pub(crate) struct Standing {
 }
 
 impl Standing {
-    /// Tells how the test with this number stands.
+    /// Returns the standing of the test with this number.
     pub(crate) fn of(number: u32, def: &TestDef, own: &Props, costs: &CostData) -> Standing
         ensures { Some result ≡ standing_there costs.now number (Some def.now) (Some own.now) }
     {
@@ -30,7 +30,7 @@ impl Standing {
         }
     }
 
-    /// Tells which of two tests goes in front, where several may run at once.
+    /// Compares two tests. The lesser one goes in front, where several may run at once.
     pub(crate) fn compare(&self, other: &Standing) -> Ordering
         ensures { is_lt result ≡ is_more_urgent self.now other.now }
     {

@@ -18,7 +18,7 @@ use Rattle.std.proofs.lemmas.Map.Lookups.{exact_bytes}
 use Rattle.std.proofs.lemmas.Slice.Eq.{bytes_eq-Decides}
 use Rattle.ct_report.specs.Labels.{kept_labels, count_at, CountsLabel, CountsLabels}
 
--- what is put in one list behind another is put in both in a row
+-- what is folded over one list and then over another is folded over both in a row
 pub fold_behind : {A B : Type 0} (f : B → A → B) (a : B) (xs ys : List A) → fold f (fold f a xs) ys ≡ fold f a (xs ++ ys)
 fold_behind f a xs ys = sym (fold-append f a xs ys)
 
@@ -34,7 +34,7 @@ labels-insert_by first label kept more labels is Less = refl
 labels-insert_by first label kept more labels is Equal = refl
 labels-insert_by first label kept more labels is Greater = ap (λ ls. first.items ∷ ls) is
 
--- a label that is put among others
+-- a label that is put in a set, as contracts see it
 pub labels-insert_key : {Y : Type 0} (kept : List (Vec ℕ Y)) (label : Vec ℕ Y) → kept_labels (insert_key (λ (x y : Vec ℕ Y). slice_cmp nat_cmp x.items y.items) kept label) ≡ insert_key (slice_cmp nat_cmp) (kept_labels kept) label.items
 labels-insert_key [] label = refl
 labels-insert_key {Y} (first ∷ kept) label =
@@ -91,7 +91,7 @@ module _ {Y X : Type 0} where
       ∙ apart value entry.1 (seen entries other) (bytes_eq entry.0.items other) (bytes_eq key.items other) differ
       ∙ ap (λ found. cond (bytes_eq key.items other) (Some value) found) (sym (seen-cons entry entries other))
 
-  -- what is put in at a label
+  -- what is kept at a label once an entry was put in
   seen-insert_entry : (entries : List (Vec ℕ Y × X)) (key : Vec ℕ Y) (value : X) (other : List ℕ) → seen (insert_entry (λ (x y : Vec ℕ Y). slice_cmp nat_cmp x.items y.items) entries key value) other ≡ cond (bytes_eq key.items other) (Some value) (seen entries other)
   seen-insert_entry [] key value other = seen-cons (key, value) [] other
   seen-insert_entry (entry ∷ entries) key value other =
@@ -107,11 +107,11 @@ not_first true there again = refl
 not_first false true again = again refl
 not_first false false again = refl
 
--- what stands at one place is the same
+-- two labels that stand at one place are the same
 pub same_place : (labels : List (List ℕ)) (at : ℕ) (one other : List ℕ) → at < length labels → one ≡ get_or labels at one → other ≡ get_or labels at other → one ≡ other
 same_place labels at one other within first second = first ∙ get_or_default labels at one other within ∙ sym second
 
--- the truth at a label is that at the same one
+-- whether a label is listed is the same for an equal label
 at_same : (labels : List (List ℕ)) (label other : List ℕ) (b : Bool) → list_any (bytes_eq label) labels ≡ b → bytes_eq other label ≡ true → list_any (bytes_eq other) labels ≡ b
 at_same labels label other b is same = ap (λ l. list_any (bytes_eq l) labels) ((bytes_eq-Decides other label).0 same) ∙ is
 
@@ -120,7 +120,7 @@ module _ {Y : Type 0} where
   counted_by before label other true is = ap (λ l. count_at before l + 1) ((bytes_eq-Decides label other).0 is)
   counted_by before label other false is = sym (add-zero (count_at before other))
 
-  -- one more is kept at a label than was there
+  -- where one more than before is kept at a label, one more test is counted there
   pub counts_label : (before after : BTreeMap (Vec ℕ Y) ℕ) (key : Vec ℕ Y) → after.entries ≡ insert_entry (λ (x y : Vec ℕ Y). slice_cmp nat_cmp x.items y.items) before.entries key (count_at before key.items + 1) → CountsLabel key.items before after
   counts_label before after key is = λ other.
       ap (λ es. unwrap_or (seen es other) 0) is
@@ -131,7 +131,7 @@ module _ {Y : Type 0} where
     more : (other : List ℕ) → list_any (bytes_eq other) (take (at + 1) labels) ≡ (list_any (bytes_eq other) (take at labels) || bytes_eq other (get_or labels at label))
     more other = list_any_more (bytes_eq other) labels at label within
 
-    -- a label that stands there for the first time
+    -- a label that is listed for the first time is counted
     pub counts_first : (after : BTreeMap (Vec ℕ Y) ℕ) → label ≡ get_or labels at label → list_any (bytes_eq label) (take at labels) ≡ false → CountsLabel label now after → CountsLabels (take (at + 1) labels) before after
     counts_first after is first counts = λ other.
         counts other
@@ -141,7 +141,7 @@ module _ {Y : Type 0} where
         ∙ ap (λ l. count_at before other + cond (list_any (bytes_eq other) (take at labels) || bytes_eq other l) 1 0) is
         ∙ ap (λ b. count_at before other + cond b 1 0) (sym (more other))
 
-    -- a label that stood there before
+    -- a label that was listed before is not counted again
     pub counts_again : label ≡ get_or labels at label → list_any (bytes_eq label) (take at labels) ≡ true → CountsLabels (take (at + 1) labels) before now
     counts_again is again = λ other.
         counted other

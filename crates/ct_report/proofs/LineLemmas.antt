@@ -32,7 +32,7 @@ lines_behind-snoc plan finals front (x ∷ xs) e =
     count : (ls ms : List (List ℕ)) → finals + length ls + length ms + 1 ≡ finals + length (ls ++ ms) + 1
     count ls ms = omega (arith, length-append ls ms)
 
--- one entry more
+-- the lines of a history with one more entry
 pub test_lines-snoc : (plan : PlanParts) (es : List Entry) (e : Entry) → test_lines plan (es ++ e ∷ []) ≡ test_lines plan es ++ lines_of_test plan (es ++ e ∷ []) (length (test_lines plan es) + 1) (finished_by e)
 test_lines-snoc plan es e =
     lines_behind-snoc plan 0 [] es e ∙ ap (λ (k : ℕ). test_lines plan es ++ lines_of_test plan (es ++ e ∷ []) k (finished_by e)) count
@@ -48,7 +48,7 @@ line_at : (plan : PlanParts) (es : List Entry) (place : ℕ) (o : Option PlanTes
 line_at plan es place None some = cc
 line_at plan es place (Some t) some = line_by plan es place t (verdict_in plan.repeat t es) some
 
--- an attempt more whose test is final brings its line
+-- one more attempt, whose test is then final, adds the line of the test
 module _ (plan : PlanParts) (es : List Entry) (t a w : ℕ) (p : Option Placement) (seen : Seen) where
   split : es ++ Start t a w p ∷ End t a w seen ∷ [] ≡ (es ++ Start t a w p ∷ []) ++ End t a w seen ∷ []
   split = sym (append_assoc es (Start t a w p ∷ []) (End t a w seen ∷ []))

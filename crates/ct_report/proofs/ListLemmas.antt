@@ -12,7 +12,7 @@ use Rattle.ct_report.proofs.PutLemmas.{lines_as, lines_more, lines_stop, lines_t
 entries-split : (tests : List Listed) (at : ℕ) → map test_entry tests ≡ map test_entry (take at tests) ++ map test_entry (drop at tests)
 entries-split tests at = ap (map test_entry) (sym (take-append-drop at tests)) ∙ map-append test_entry (take at tests) (drop at tests)
 
--- memory was wanting for the line of one more
+-- memory was wanting for the line of the next test
 pub entries-stop : (tests : List Listed) (at : ℕ) (old new : SinkTell) → PutsLines (map test_entry (take at tests)) old new (Ok tt) → PutsLines (map test_entry tests) old new (Err Sinks.NoMemory)
 entries-stop tests at old new put = lines_as (sym (entries-split tests at)) (lines_stop old new (map test_entry (take at tests)) (map test_entry (drop at tests)) put)
 
@@ -23,7 +23,7 @@ module _ (tests : List Listed) (at : ℕ) (test : Listed) (within : at < length 
       ∙ map-append test_entry (take at tests) (get_or tests at test ∷ [])
       ∙ ap (λ (t : Listed). map test_entry (take at tests) ++ test_entry t ∷ []) (sym is)
 
-  -- the line of one more
+  -- the line of the next test was put
   pub entry-put : (result : Result (Unit {0}) SinkFault) → Puts (test_entry test) mid new result → PutsEach (test_entry test ∷ []) mid new result → PutsLines (map test_entry (take (at + 1) tests)) old new result
   entry-put result put each =
       lines_as (sym entries-next) (lines_then old mid new (map test_entry (take at tests)) (test_entry test ∷ []) result front (one_line mid new (test_entry test) result put each))

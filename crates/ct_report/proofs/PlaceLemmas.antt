@@ -43,7 +43,7 @@ one_found (x ∷ xs) number place ascends lt here =
     let t = get_or tests place x in
     slice_get-get_or tests place x lt ∙ sym (contained_at 1 tests t ascends (place, lt, get_or_default tests place t x lt)) ∙ ap (test_at tests) (here x)
 
--- what a search for the number among those of the tests finds
+-- what a search for a number among those of the tests finds
 pub record IsFound (tests : List PlanTest) (number : ℕ) (found : Option ℕ) : Type 0 where
   pub within : IfSome found (λ place. place < length tests)
   pub there : option_and_then (λ place. slice_get tests place) found ≡ test_at tests number

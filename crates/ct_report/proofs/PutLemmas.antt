@@ -9,7 +9,7 @@ use Rattle.ct_base.specs.Outside.{Adds, AddsPrefix, Becomes, HasCause, Puts, Put
 use Rattle.ct_report.specs.PutLines.{PutsLines}
 use Rattle.ct_report.specs.Report.{text_of}
 
--- a piece and then one more are both in a row
+-- adding a piece and then another adds both in a row
 pub adds_then_adds : {A : Type 0} (old mid new : Option (List A)) (a b : List A) → Becomes old mid (Adds a) → Becomes mid new (Adds b) → Becomes old new (Adds (a ++ b))
 adds_then_adds None mid new a b first second = tt
 adds_then_adds (Some before) None new a b first second = absurd first
@@ -40,12 +40,12 @@ prefix_of_more {A = A} (Some before) (Some now) a b put = record {
   is = put.is;
 }
 
--- nothing is a beginning of each piece
+-- the empty beginning is one of each piece
 pub prefix_of_none : {A : Type 0} (old : Option (List A)) (a : List A) → Becomes old old (AddsPrefix a)
 prefix_of_none None a = tt
 prefix_of_none (Some before) a = record { kept = []; lost = a; parts = refl; is = sym (append-nil before) }
 
--- nothing adds the empty piece
+-- what stays as it is has the empty piece added
 pub adds_none : {A : Type 0} (old : Option (List A)) → Becomes old old (Adds [])
 adds_none None = tt
 adds_none (Some before) = sym (append-nil before)
@@ -64,7 +64,7 @@ puts_fails old mid new front piece rest fault put same last = record {
   cause = rw (sym same) last.cause;
 }
 
--- nothing was put since memory was wanting
+-- where memory was wanting, nothing was put
 pub puts_none : (sink : SinkTell) (text : List ℕ) → Puts text sink sink (Err Sinks.NoMemory)
 puts_none sink text = record {
   ok = tt;
@@ -88,7 +88,7 @@ each_fails old mid new lines at other fault within put last = record {
   err = subst (λ (ls : List (List ℕ)). Becomes old.pieces new.pieces (AddsPrefix ls)) (sym (split_at lines at other within)) (prefix_of_more old.pieces new.pieces (take at lines ++ get_or lines at other ∷ []) (drop (at + 1) lines) (adds_then_prefix old.pieces mid.pieces new.pieces (take at lines) (get_or lines at other ∷ []) put last.err));
 }
 
--- no line was put since memory was wanting
+-- where memory was wanting, no line was put
 pub each_none : (sink : SinkTell) (lines : List (List ℕ)) → PutsEach lines sink sink (Err Sinks.NoMemory)
 each_none sink lines = record { ok = tt; err = prefix_of_none sink.pieces lines }
 
@@ -100,11 +100,11 @@ on_err (Err fault) holds = holds
 no_fault : IsErrOf {T = Unit {0}} {E = SinkFault} (Ok tt) Sinks.Failed → ⊥
 no_fault is = cc
 
--- a whole put leaves the count
+-- a put that succeeds leaves the count of faults
 pub same_count : (old new : SinkTell) (a : List ℕ) → Puts a old new (Ok tt) → new.faults ≡ old.faults
 same_count old new a put = put.cause.unfailed no_fault
 
--- nothing was put
+-- a put of no bytes changes nothing
 pub puts_nothing : (sink : SinkTell) → Puts [] sink sink (Ok tt)
 puts_nothing sink = record {
   ok = adds_none sink.written;
@@ -112,7 +112,7 @@ puts_nothing sink = record {
   cause = record { later = omega arith; failed = λ is. absurd (no_fault is); unfailed = λ none. refl };
 }
 
--- a whole text and then one more
+-- a whole text was put, and then one more text
 pub puts_then : (old mid new : SinkTell) (a b : List ℕ) (result : Result (Unit {0}) SinkFault) → Puts a old mid (Ok tt) → Puts b mid new result → Puts (a ++ b) old new result
 puts_then old mid new a b (Ok tt) first second = record {
   ok = adds_then_adds old.written mid.written new.written a b first.ok second.ok;
@@ -125,7 +125,7 @@ puts_then old mid new a b (Err fault) first second = record {
   cause = subst (λ (n : ℕ). HasCause {T = Unit {0}} Sinks.Failed n new.faults (Err fault)) (same_count old mid a first) second.cause;
 }
 
--- a text that was not put whole is no whole one with more behind it
+-- where a text was not put whole, the text with more behind it was not either
 pub puts_more : (old new : SinkTell) (a b : List ℕ) (fault : SinkFault) → Puts a old new (Err fault) → Puts (a ++ b) old new (Err fault)
 puts_more old new a b fault put = record {
   ok = tt;
@@ -133,7 +133,7 @@ puts_more old new a b fault put = record {
   cause = put.cause;
 }
 
--- memory was wanting behind a whole text
+-- memory was wanting after a whole text was put
 pub puts_stop : (old new : SinkTell) (a b : List ℕ) → Puts a old new (Ok tt) → Puts (a ++ b) old new (Err Sinks.NoMemory)
 puts_stop old new a b put = record {
   ok = tt;
@@ -144,14 +144,14 @@ puts_stop old new a b put = record {
     no : IsErrOf {T = Unit {0}} {E = SinkFault} (Err Sinks.NoMemory) Sinks.Failed → ⊥
     no is = cc
 
--- the same text
+-- a put of a text is one of an equal text
 pub puts_same : (old new : SinkTell) (a b : List ℕ) (result : Result (Unit {0}) SinkFault) → a ≡ b → Puts a old new result → Puts b old new result
 puts_same old new a b result is put = subst (λ (t : List ℕ). Puts t old new result) is put
 
 text_of-both : (front back : List (List ℕ)) → text_of (front ++ back) ≡ text_of front ++ text_of back
 text_of-both front back = flat_map-append (λ (line : List ℕ). line) front back
 
--- lines as they are named
+-- a put of lines is one of equal lines
 pub lines_as : {lines named : List (List ℕ)} {old new : SinkTell} {result : Result (Unit {0}) SinkFault} → named ≡ lines → PutsLines named old new result → PutsLines lines old new result
 lines_as {old = old} {new = new} {result = result} is put = subst (λ (ls : List (List ℕ)). PutsLines ls old new result) is put
 
@@ -159,7 +159,7 @@ lines_as {old = old} {new = new} {result = result} is put = subst (λ (ls : List
 pub one_line : (old new : SinkTell) (piece : List ℕ) (result : Result (Unit {0}) SinkFault) → Puts piece old new result → PutsEach (piece ∷ []) old new result → PutsLines (piece ∷ []) old new result
 one_line old new piece result put each = record { bytes = puts_same old new piece (piece ++ []) result (sym (append-nil piece)) put; each = each }
 
--- lines and then more lines
+-- lines were put whole, and then more lines
 pub lines_then : (old mid new : SinkTell) (a b : List (List ℕ)) (result : Result (Unit {0}) SinkFault) → PutsLines a old mid (Ok tt) → PutsLines b mid new result → PutsLines (a ++ b) old new result
 lines_then old mid new a b (Ok tt) first second = record {
   bytes = puts_same old new (text_of a ++ text_of b) (text_of (a ++ b)) (Ok tt) (sym (text_of-both a b)) (puts_then old mid new (text_of a) (text_of b) (Ok tt) first.bytes second.bytes);
@@ -170,24 +170,24 @@ lines_then old mid new a b (Err fault) first second = record {
   each = record { ok = tt; err = adds_then_prefix old.pieces mid.pieces new.pieces a b first.each.ok second.each.err };
 }
 
--- lines that were not put whole are no whole ones with more behind them
+-- where lines were not put whole, the lines with more behind them were not either
 pub lines_more : (old new : SinkTell) (a b : List (List ℕ)) (fault : SinkFault) → PutsLines a old new (Err fault) → PutsLines (a ++ b) old new (Err fault)
 lines_more old new a b fault put = record {
   bytes = puts_same old new (text_of a ++ text_of b) (text_of (a ++ b)) (Err fault) (sym (text_of-both a b)) (puts_more old new (text_of a) (text_of b) fault put.bytes);
   each = record { ok = tt; err = prefix_of_more old.pieces new.pieces a b put.each.err };
 }
 
--- memory was wanting behind whole lines
+-- memory was wanting after whole lines were put
 pub lines_stop : (old new : SinkTell) (a b : List (List ℕ)) → PutsLines a old new (Ok tt) → PutsLines (a ++ b) old new (Err Sinks.NoMemory)
 lines_stop old new a b put = record {
   bytes = puts_same old new (text_of a ++ text_of b) (text_of (a ++ b)) (Err Sinks.NoMemory) (sym (text_of-both a b)) (puts_stop old new (text_of a) (text_of b) put.bytes);
   each = record { ok = tt; err = prefix_of_adds old.pieces new.pieces a b put.each.ok };
 }
 
--- no line was put since memory was wanting
+-- where memory was wanting, no line was put
 pub lines_none : (sink : SinkTell) (lines : List (List ℕ)) → PutsLines lines sink sink (Err Sinks.NoMemory)
 lines_none sink lines = record { bytes = puts_none sink (text_of lines); each = each_none sink lines }
 
--- no line was put
+-- a put of no lines changes nothing
 pub lines_nothing : (sink : SinkTell) → PutsLines [] sink sink (Ok tt)
 lines_nothing sink = record { bytes = puts_nothing sink; each = record { ok = adds_none sink.pieces; err = tt } }

@@ -26,7 +26,7 @@ micros_more n es e = omega (arith, sum_by-append (micros_by n) es (e ∷ []))
 micros_other : (n : ℕ) (es : List Entry) (e : Entry) → micros_by n e ≡ 0 → micros_of n (es ++ e ∷ []) ≡ micros_of n es
 micros_other n es e none = omega (arith, micros_more n es e, none)
 
--- as they are added up
+-- the sum as the code adds it up is the one of the definition
 micros_added : (n m : ℕ) (es : List Entry) (e : Entry) → micros_by n e ≡ m → min (min (micros_of n es + m) (2 ^ 64 - 1)) (10 ^ 18) ≡ micros_of n (es ++ e ∷ [])
 micros_added n m es e is = omega (arith, micros_more n es e, is)
 
@@ -88,7 +88,7 @@ module _ (n a w : ℕ) (seen : Seen) where
   got (x ∷ xs) zero lt = (x, refl)
   got (x ∷ xs) (suc k) lt = got xs k (omega (arith, lt))
 
-  -- the microseconds that stand at the place of a test are set so
+  -- a new sum at the place of a test notes the End of the test
   pub notes_planned : (tests : List PlanTest) (place old value : ℕ) (micros : List ℕ) → IsAscendingFrom 1 (map (λ (x : PlanTest). x.number) tests) → place < length tests → slice_get tests place ≡ test_at tests n → old ≡ get_or micros place old → value ≡ min (min (old + seen.micros) (2 ^ 64 - 1)) (10 ^ 18) → NotesEntry tests (End n a w seen) micros (slice_set micros place value)
   notes_planned tests place old value micros ascends lt there read is front told =
       let t = (got tests place lt).0 in
@@ -113,7 +113,7 @@ module _ (n a w : ℕ) (seen : Seen) where
   pub notes_unplanned : (tests : List PlanTest) (micros : List ℕ) → test_at tests n ≡ None → NotesEntry tests (End n a w seen) micros micros
   notes_unplanned tests micros none front told = told ∙ sym (each_unplanned tests front none)
 
--- nor at an entry that is no End
+-- nothing changes at an entry that is no End
 pub notes_other : (tests : List PlanTest) (e : Entry) (micros : List ℕ) → ((n a w : ℕ) (seen : Seen) → e ≡ End n a w seen → ⊥) → NotesEntry tests e micros micros
 notes_other tests (Start n a w p) micros other front told = told ∙ sym (each_same tests front (Start n a w p) (λ k. refl))
 notes_other tests (End n a w seen) micros other front told = absurd (other n a w seen refl)
@@ -128,12 +128,12 @@ knows_more plan es more lines knows = record {
   micros = knows.micros ∙ ap (λ (front : List Entry). micros_each plan.tests front) (sym (take-append-le lines.read es more knows.within));
 }
 
--- and in other words
+-- what is known is known of an equal plan and equal entries
 pub knows_as : (plan other : PlanParts) (es more : List Entry) (lines : TestLines) → plan ≡ other → es ≡ more → KnowsLines plan es lines → KnowsLines other more lines
 knows_as plan other es more lines same said knows =
     subst (λ (p : PlanParts). KnowsLines p more lines) same (subst (λ (xs : List Entry). KnowsLines plan xs lines) said knows)
 
--- a test with a verdict is there
+-- a test with a verdict is one of the plan
 pub planned_given : (plan : PlanParts) (es : List Entry) (n : ℕ) (v : Verdict) → verdict_of_test plan es n ≡ Some v → IsSome (test_at plan.tests n)
 planned_given plan es n v given = by_test (test_at plan.tests n) given
   where
@@ -150,7 +150,7 @@ numbered_is plan es n place many micros t v found given count spent =
     ∙ sym (ap (λ (o : Option Verdict). line_with plan es place t o) here)
     ∙ sym (ap (λ (o : Option PlanTest). test_line plan es place o) found)
 
--- once all entries are read the line says what they say
+-- once all entries are read, the known numbers make the line of the test
 pub line_known : (plan : PlanParts) (es : List Entry) (n place at micros : ℕ) (t : PlanTest) (v : Verdict) (tests : List PlanTest) (lines : TestLines) → tests ≡ plan.tests → at < length tests → slice_get tests at ≡ test_at tests n → t ≡ get_or tests at t → KnowsLines plan es lines → lines.read ≡ length es → micros ≡ get_or lines.micros.items at micros → verdict_of_test plan es n ≡ Some v → numbered_line tests t v (record { place = place; enabled = lines.enabled; micros = micros }) ≡ test_line plan es place (test_at plan.tests n)
 line_known plan es n place at micros t v tests lines same lt there is knows all stands given =
     let within : at < length plan.tests = subst (λ (ts : List PlanTest). at < length ts) same lt in

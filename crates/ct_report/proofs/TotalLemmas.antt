@@ -19,7 +19,7 @@ listed_by : {A B : Type 0} (f : A → B) (x : A) (wanted : Bool) → map f (cond
 listed_by f x true = refl
 listed_by f x false = refl
 
--- what passes a test, with one element more
+-- the elements that pass a test, with one more element
 more_listed : {A B : Type 0} (f : A → B) (p : A → Bool) (xs : List A) (at : ℕ) (x : A) → at < length xs → x ≡ get_or xs at x → map f (filter p (take (at + 1) xs)) ≡ map f (filter p (take at xs)) ++ cond (p x) (f x ∷ []) []
 more_listed {A = A} {B = B} f p xs at x within is =
     ap (λ (ys : List A). map f ys) (filter_more p xs at x within)
@@ -27,12 +27,12 @@ more_listed {A = A} {B = B} f p xs at x within is =
     ∙ ap (λ (ys : List B). map f (filter p (take at xs)) ++ ys) (listed_by f (get_or xs at x) (p (get_or xs at x)))
     ∙ ap (λ (y : A). map f (filter p (take at xs)) ++ cond (p y) (f y ∷ []) []) (sym is)
 
--- how many pass it
+-- how many elements pass a test, with one more element
 more_counted : {A : Type 0} (p : A → Bool) (xs : List A) (at : ℕ) (x : A) → at < length xs → x ≡ get_or xs at x → count_by p (take (at + 1) xs) ≡ count_by p (take at xs) + cond (p x) 1 0
 more_counted {A = A} p xs at x within is =
     sum_by_more (λ y. cond (p y) 1 0) xs at x within ∙ ap (λ (y : A). count_by p (take at xs) + cond (p y) 1 0) (sym is)
 
--- a test is final where each is
+-- where all tests of a plan are final, the one at a place is
 pub final_there : (plan : PlanParts) (entries : List Entry) (at : ℕ) (t : PlanTest) → are_all_final plan entries ≡ true → at < length plan.tests → t ≡ get_or plan.tests at t → is_final_in plan.repeat t entries ≡ true
 final_there plan entries at t all within is = ap (λ (u : PlanTest). is_final_in plan.repeat u entries) is ∙ all_at (λ u. is_final_in plan.repeat u entries) plan.tests at t all within
 
@@ -60,7 +60,7 @@ module _ (plan : PlanParts) (entries : List Entry) (tests : List PlanTest) (at :
 full : (length {A = List ℕ} [] == 0) ≡ false → ⊥
 full is = cc
 
--- the list of what is put under a heading, where there is some
+-- lines that are not empty stand under a blank line and their heading
 pub under_some : (heading : List ℕ) (lines : List (List ℕ)) → (length lines == 0) ≡ false → under heading lines ≡ codes "\n" ∷ heading ∷ lines
 under_some heading [] some = absurd (full some)
 under_some heading (line ∷ lines) some = refl

@@ -8,7 +8,7 @@ use Rattle.std.specs.BTreeMap.{BTreeMap, get_by}
 use Rattle.ct_history.specs.declared.plan.PlanTest.{PlanTest}
 use Rattle.ct_report.specs.Report.{has_label}
 
--- labels that are kept in a set
+-- the labels that a set keeps
 abbrev pub kept_labels : {Y : Type 0} → List (Vec ℕ Y) → List (List ℕ)
 kept_labels kept = map (λ label. label.items) kept
 
@@ -17,18 +17,18 @@ module _ {Y : Type 0} where
   abbrev pub count_at : BTreeMap (Vec ℕ Y) ℕ → List ℕ → ℕ
   count_at counts label = unwrap_or (get_by (λ (key : Vec ℕ Y). slice_cmp nat_cmp label key.items) counts) 0
 
-  -- one test more can be counted at each label
+  -- each count is below 2^64 - 1, so that one more test can be counted at each label
   abbrev pub HasRoom : BTreeMap (Vec ℕ Y) ℕ → Type 0
   HasRoom counts = (label : List ℕ) → count_at counts label < 2 ^ 64 - 1
 
-  -- one test more is counted at this label
+  -- one more test is counted at this label, and the other counts stay
   abbrev pub CountsLabel : List ℕ → BTreeMap (Vec ℕ Y) ℕ → BTreeMap (Vec ℕ Y) ℕ → Type 0
   CountsLabel label before after = (other : List ℕ) → count_at after other ≡ count_at before other + (if bytes_eq label other then 1 else 0)
 
-  -- one test more is counted at each of these labels, and once where one stands there twice
+  -- one more test is counted at each of these labels, once even where a label is listed twice
   abbrev pub CountsLabels : List (List ℕ) → BTreeMap (Vec ℕ Y) ℕ → BTreeMap (Vec ℕ Y) ℕ → Type 0
   CountsLabels labels before after = (label : List ℕ) → count_at after label ≡ count_at before label + (if list_any (bytes_eq label) labels then 1 else 0)
 
-  -- the test is counted at each of its labels, where it is wanted
+  -- the test is counted at each of its labels, if it is wanted
   abbrev pub CountsTest : Bool → PlanTest → BTreeMap (Vec ℕ Y) ℕ → BTreeMap (Vec ℕ Y) ℕ → Type 0
   CountsTest wanted t before after = (label : List ℕ) → count_at after label ≡ count_at before label + (if wanted && has_label label t then 1 else 0)

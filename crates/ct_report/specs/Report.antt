@@ -24,7 +24,7 @@ text_of lines = flat_map (λ line. line) lines
 abbrev pub zero_digit : ℕ
 zero_digit = 48
 
--- two digits
+-- the two digits of a number below 100
 abbrev pub two_digits : ℕ → List ℕ
 two_digits n = (zero_digit + n / 10) ∷ (zero_digit + n % 10) ∷ []
 
@@ -32,7 +32,7 @@ two_digits n = (zero_digit + n / 10) ∷ (zero_digit + n % 10) ∷ []
 abbrev pub seconds_text : ℕ → List ℕ
 seconds_text micros = decimal (micros / 1000000) ++ codes "." ++ two_digits (micros / 10000 % 100)
 
--- the name of a test, where there is one
+-- the name of a test, or nothing where there is no test
 abbrev pub name_of : Option PlanTest → List ℕ
 name_of None = []
 name_of (Some t) = t.name
@@ -48,7 +48,7 @@ cause_text tests Insufficient = codes "Insufficient resources"
 cause_text tests Stopped = codes "Stopped"
 cause_text tests Memory = codes "Out of memory"
 
--- a verdict in the line of its test; a disabled test has no line
+-- the text of a verdict in the line of its test; a disabled test has no line
 abbrev pub verdict_text : List PlanTest → Verdict → List ℕ
 verdict_text tests Passed = codes "Passed"
 verdict_text tests Failed = codes "***Failed"
@@ -73,14 +73,14 @@ verdict_word Skipped = codes "Skipped"
 verdict_word (NotRun cause) = cause_word cause
 verdict_word Disabled = codes "Disabled"
 
--- the microseconds of an End of the test
+-- the microseconds of an entry that is an End of the test, else 0
 abbrev pub micros_by : ℕ → Entry → ℕ
 micros_by test (Start t a worker placement) = 0
 micros_by test (End t a worker seen) = if t == test then seen.micros else 0
 micros_by test (Settle t cause) = 0
 micros_by test Stop = 0
 
--- the microseconds of a test's Ends together, which count up to 10^18
+-- the microseconds of a test's Ends together, at most 10^18
 abbrev pub micros_of : ℕ → List Entry → ℕ
 micros_of test entries = min (sum_by (micros_by test) entries) (10 ^ 18)
 
@@ -121,32 +121,32 @@ failing_tests plan entries = filter (λ t. is_failing_in (verdict_in plan.repeat
 abbrev pub good_count : PlanParts → List Entry → ℕ
 good_count plan entries = count_by (λ t. is_good_in (verdict_in plan.repeat t entries)) plan.tests
 
--- the share that passed, in whole percent, rounded down; all where there is no test
+-- the share that passed, in whole percent, rounded down; 100 where there is no test
 abbrev pub percent : ℕ → ℕ → ℕ
 percent good all = if all == 0 then 100 else (100 * good) / all
 
--- so many tests that count as passed, that failed, and that there are
+-- the line of counts: the share that passed, how many tests failed, and how many tests there are
 abbrev pub counts_with : ℕ → ℕ → ℕ → List ℕ
 counts_with good failing all = decimal (percent good all) ++ codes "% tests passed, " ++ decimal failing ++ codes " tests failed out of " ++ decimal all ++ codes "\n"
 
--- the counts of a run, in which disabled tests are not counted
+-- the line of counts of a run, in which disabled tests are not counted
 abbrev pub counts_line : PlanParts → List Entry → List ℕ
 counts_line plan entries = counts_with (good_count plan entries) (length (failing_tests plan entries)) (length (enabled plan.tests))
 
--- the word of a test in the lists of the summary, by its verdict where it has one
+-- the word of a test in the lists of the summary, by its verdict, if it has one
 abbrev pub word_of : Option Verdict → List ℕ
 word_of None = []
 word_of (Some verdict) = verdict_word verdict
 
--- a test with this verdict in a list of the summary
+-- the line of a test with this verdict in a list of the summary
 abbrev pub listed_with : PlanTest → Option Verdict → List ℕ
 listed_with t verdict = codes "\t" ++ decimal t.number ++ codes " - " ++ t.name ++ codes " (" ++ word_of verdict ++ codes ")\n"
 
--- a test in a list of the summary, by the verdict that the history gives it
+-- the line of a test in a list of the summary, by the verdict that the history gives it
 abbrev pub listed_line : PlanParts → List Entry → PlanTest → List ℕ
 listed_line plan entries t = listed_with t (verdict_in plan.repeat t entries)
 
--- a blank line, a heading and these lines, where there are any
+-- a blank line, a heading and these lines, or nothing where there are no lines
 abbrev pub under : List ℕ → List (List ℕ) → List (List ℕ)
 under heading [] = []
 under heading (line ∷ lines) = codes "\n" ∷ heading ∷ line ∷ lines
@@ -167,11 +167,11 @@ labels_in_order tests = in_order (flat_map (λ (t : PlanTest). t.labels) (enable
 abbrev pub labelled_count : PlanParts → List ℕ → ℕ
 labelled_count plan label = count_by (λ (t : PlanTest). not t.disabled && has_label label t) plan.tests
 
--- how many of them count as passed, which a disabled test never does
+-- how many tests with the label count as passed, which a disabled test never does
 abbrev pub labelled_good_count : PlanParts → List Entry → List ℕ → ℕ
 labelled_good_count plan entries label = count_by (λ t. is_good_in (verdict_in plan.repeat t entries) && has_label label t) plan.tests
 
--- a label, how many of its tests count as passed, and how many there are
+-- the line of a label: how many of its tests count as passed, and how many tests have it
 abbrev pub label_line : List ℕ → ℕ → ℕ → List ℕ
 label_line label good all = label ++ codes " = " ++ decimal good ++ codes "/" ++ decimal all ++ codes "\n"
 
@@ -190,7 +190,7 @@ is_unrun_in _ = false
 abbrev pub unrun_tests : PlanParts → List Entry → List PlanTest
 unrun_tests plan entries = filter (λ t. is_unrun_in (verdict_in plan.repeat t entries)) plan.tests
 
--- the list of the tests that failed, where there is one
+-- the list of the tests that failed, or nothing where no test failed
 abbrev pub failed_lines : List (List ℕ) → List (List ℕ)
 failed_lines [] = []
 failed_lines (line ∷ lines) = under (codes "The following tests FAILED:\n") (line ∷ lines) ++ codes "Errors while running CTest\n" ∷ []
@@ -207,18 +207,18 @@ finished_by (End t a worker seen) = Some t
 finished_by (Settle t cause) = Some t
 finished_by Stop = None
 
--- the line that an entry brings: that of the test that it makes final, where it does
+-- the line that an entry adds: that of the test that it makes final, if it makes one final
 abbrev pub lines_with : PlanParts → List Entry → ℕ → Option PlanTest → Option Verdict → List (List ℕ)
 lines_with plan entries place None verdict = []
 lines_with plan entries place (Some t) None = []
 lines_with plan entries place (Some t) (Some verdict) = verdict_line plan entries place t verdict ∷ []
 
--- the line of the test that an entry may have made final, where it is now
+-- the line of the test that an entry may have made final, if that test is now final
 abbrev pub lines_of_test : PlanParts → List Entry → ℕ → Option ℕ → List (List ℕ)
 lines_of_test plan entries place None = []
 lines_of_test plan entries place (Some number) = lines_with plan entries place (test_at plan.tests number) (verdict_of_test plan entries number)
 
--- the lines that these entries bring behind those in front of them, of which so many tests are final
+-- the lines that these entries add behind the entries in `front`, after which `finals` tests have their line
 abbrev pub lines_behind : PlanParts → ℕ → List Entry → List Entry → List (List ℕ)
 lines_behind plan finals front [] = []
 lines_behind plan finals front (e ∷ es) =
@@ -229,7 +229,8 @@ lines_behind plan finals front (e ∷ es) =
 abbrev pub test_lines : PlanParts → List Entry → List (List ℕ)
 test_lines plan entries = lines_behind plan 0 [] entries
 
--- the lines behind the header: that there is no test, or the lines of the tests and, where all are final, the summary
+-- the lines behind the header: that no tests were found; else the lines of the tests and, where all tests are
+-- final, the summary
 abbrev pub body_lines : PlanParts → List Entry → List PlanTest → List (List ℕ)
 body_lines plan entries [] = codes "No tests were found!!!\n" ∷ []
 body_lines plan entries (t ∷ ts) = test_lines plan entries ++ (if are_all_final plan entries then summary_lines plan entries else [])

@@ -18,11 +18,12 @@ numbered_line tests t verdict numbers =
 abbrev pub micros_each : List PlanTest → List Entry → List ℕ
 micros_each tests entries = map (λ (t : PlanTest). micros_of t.number entries) tests
 
--- these were the microseconds behind some entries, and are those behind one entry more
+-- where these were the microseconds of each test after some entries, they are now those after one more entry
 abbrev pub NotesEntry : List PlanTest → Entry → List ℕ → List ℕ → Type 0
 NotesEntry tests entry before now = (front : List Entry) → before ≡ micros_each tests front → now ≡ micros_each tests (front ++ entry ∷ [])
 
--- what the lines need is known of a beginning of these entries
+-- the lines have read a beginning of these entries: they tell how many tests are enabled, and the
+-- microseconds of each test after it
 pub record KnowsLines (plan : PlanParts) (entries : List Entry) (lines : TestLines) : Type 0 where
   pub within : lines.read ≤ length entries
   pub count : lines.enabled ≡ length (enabled plan.tests)

@@ -64,7 +64,7 @@ fn names_of(alloc: Global, labels: BTreeSet<Vec<u8>>) -> Result<List<Name>, NoMe
     Ok(names)
 }
 
-/// Counts the test at each of its labels, where it is wanted.
+/// Counts the test at each of its labels, if it is wanted.
 pub(crate) fn count_test(
     alloc: Global,
     counts: &mut LabelCounts,

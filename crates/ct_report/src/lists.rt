@@ -16,7 +16,7 @@ use std::marker::Model;
 /// Source: CMake manual, ctest(1), --show-only.
 #[derive(Debug, Drop)]
 pub struct ListedTest<'a> {
-    /// From 1.
+    /// The number of the test, from 1.
     pub number: u32,
     pub name: &'a Name,
     pub disabled: bool,
@@ -46,7 +46,7 @@ pub fn label_list<S: Sink>(
     Ok(())
 }
 
-/// Puts the list of these tests of a folder, and how many of them are not disabled.
+/// Puts the list of these tests of a folder, and the number of those that are not disabled.
 ///
 /// Source: CMake manual, ctest(1), --show-only. The wording is ctest's.
 pub fn test_list<S: Sink>(
@@ -103,7 +103,7 @@ fn label_entry(alloc: Global, label: &Name) -> Result<Blob, NoMemory>
     Ok(text)
 }
 
-/// Puts the line of each of these tests by itself.
+/// Puts the line of each of these tests, each in a put of its own.
 fn put_tests<S: Sink>(
     alloc: Global,
     sink: &mut S,
@@ -119,7 +119,7 @@ fn put_tests<S: Sink>(
     Ok(())
 }
 
-/// Puts an empty line, and the line of how many tests there are.
+/// Puts an empty line, and the line that tells how many tests there are.
 fn put_total<S: Sink>(sink: &mut S, total: &[u8]) -> Result<(), SinkFault>
     ensures text { Puts (text_of (codes "\n" ∷ total.now ∷ [])) (S.tells sink.old) (S.tells sink.new) result }
     ensures each { PutsEach (codes "\n" ∷ total.now ∷ []) (S.tells sink.old) (S.tells sink.new) result }

@@ -3,7 +3,7 @@ ghost use Rattle.ct_history.specs.Plan.{IsAscendingFrom, test_at};
 
 use ct_history::PlanTest;
 
-/// Finds the place of a test by its number, in a time that grows with the logarithm of the tests.
+/// Finds the place of a test by its number, in time logarithmic in the number of tests.
 pub(crate) fn place_of(tests: &[PlanTest], number: u32) -> Option<usize>
     requires { IsAscendingFrom 1 (map (λ t. t.number) tests.now) }
     ensures within { IfSome result (λ place. place < length tests.now) }
@@ -12,7 +12,7 @@ pub(crate) fn place_of(tests: &[PlanTest], number: u32) -> Option<usize>
     tests.binary_search_by_key(&number, |test| test.number).ok()
 }
 
-/// Finds the place of a test that is there.
+/// Finds the place of a test that is among these.
 pub(crate) fn expect_place(tests: &[PlanTest], number: u32) -> usize
     requires ascends { IsAscendingFrom 1 (map (λ t. t.number) tests.now) }
     requires there { IsSome (test_at tests.now number) }

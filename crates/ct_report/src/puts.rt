@@ -3,7 +3,7 @@ ghost use Rattle.ct_report.specs.Report.{text_of};
 
 use ct_base::{Blob, Sink, SinkFault};
 
-/// Puts each line by itself, in order.
+/// Puts each line in a put of its own, in order.
 pub(crate) fn put_lines<S: Sink>(sink: &mut S, lines: &[Blob]) -> Result<(), SinkFault>
     ensures text { Puts (text_of lines.now) (S.tells sink.old) (S.tells sink.new) result }
     ensures each { PutsEach lines.now (S.tells sink.old) (S.tells sink.new) result }

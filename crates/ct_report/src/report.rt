@@ -43,8 +43,8 @@ pub fn line<S: Sink>(
     Ok(())
 }
 
-/// Puts the counts of a run in which each test is final, and where there are some the labels, the
-/// tests that did not run, and those that failed.
+/// Puts the summary of a run in which each test is final. It has the counts and, where there are
+/// any, the labels, the tests that did not run, and the tests that failed.
 ///
 /// Source: CMake manual, ctest(1), Description. The wording is this project's choice.
 pub fn summary<S: Sink>(
@@ -62,7 +62,7 @@ pub fn summary<S: Sink>(
     Ok(())
 }
 
-/// Puts the line that there is no test.
+/// Puts the line that says that no tests were found.
 ///
 /// Source: CMake manual, ctest(1), --no-tests. The wording is ctest's.
 pub fn no_tests<S: Sink>(sink: &mut S) -> Result<(), SinkFault>

@@ -20,14 +20,15 @@ use std::alloc::Global;
 pub struct TestLines {
     /// How many tests are not disabled.
     enabled: usize,
-    /// The microseconds of each test's Ends in what was read, by its place in the plan.
+    /// For each test, by its place in the plan, the microseconds of its Ends among the entries
+    /// read.
     micros: Vec<u64>,
     /// How many entries were read.
     read: usize,
 }
 
 impl TestLines {
-    /// Knows what the lines of a run need that has no entries yet.
+    /// Makes the lines of a run that has no entries yet.
     pub fn new(alloc: Global, plan: &Plan) -> Result<TestLines, NoMemory>
         ensures { IfOk result (λ lines. KnowsLines plan.now [] lines) }
     {
@@ -41,8 +42,8 @@ impl TestLines {
 
     /// Puts the line of a test with this verdict, which is the `place`-th to become final, from 1.
     ///
-    /// It is the line that `line` puts. Source: CMake manual, ctest(1), Description. The wording is
-    /// this project's choice.
+    /// It is the same line as `line` puts. Source: CMake manual, ctest(1), Description. The wording
+    /// is this project's choice.
     pub fn put<S: Sink>(
         &mut self,
         alloc: Global,
@@ -90,7 +91,7 @@ impl TestLines {
         numbered_line(alloc, tests, &tests[at], verdict, numbers)
     }
 
-    /// Reads the entries that the history got since the last time.
+    /// Reads the entries that were added to the history since the last call.
     fn read(&mut self, plan: &Plan, history: &History)
         requires { KnowsLines plan.now history.now.entries.items self.old }
         ensures knows { KnowsLines plan.now history.now.entries.items self.new }
@@ -105,7 +106,7 @@ impl TestLines {
     }
 }
 
-/// Adds the microseconds of an End to those of its test, up to `MOST_MICROS`.
+/// Adds the microseconds of an End to those of its test. A greater sum counts as `MOST_MICROS`.
 fn note(micros: &mut Vec<u64>, tests: &[PlanTest], entry: &Entry)
     requires ascends { IsAscendingFrom 1 (map (λ t. t.number) tests.now) }
     requires paired { length micros.old.items ≡ length tests.now }

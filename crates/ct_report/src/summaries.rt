@@ -81,7 +81,7 @@ fn label_lines(
     )
 }
 
-/// Puts a blank line, a heading and these lines behind the others, where there are any.
+/// Adds a blank line, a heading and these lines behind the others, or nothing where these are none.
 #[tactic(auto, using(crate::proofs::TotalLemmas::under_none))]
 fn push_under(
     alloc: Global,

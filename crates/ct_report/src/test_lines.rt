@@ -11,17 +11,17 @@ use ct_history::{Entry, PlanParts, PlanTest, test_at, verdict};
 use ct_verdict::Verdict;
 use std::alloc::Global;
 
-/// The most microseconds that the line of a test tells.
+/// The greatest number of microseconds that the line of a test tells.
 pub(crate) const MOST_MICROS: u64 = 1_000_000_000_000_000_000;
 
-/// The numbers in the line of a test, beside its own.
+/// The numbers in the line of a test, other than the test's own number.
 #[derive(Drop)]
 pub(crate) struct LineNumbers {
-    /// The how many-th it is to become final, from 1.
+    /// The test's place in the order in which tests become final, from 1.
     pub(crate) place: u32,
     /// How many tests are not disabled.
     pub(crate) enabled: usize,
-    /// How long its attempts took together, up to `MOST_MICROS`.
+    /// The microseconds that its attempts took together, at most `MOST_MICROS`.
     pub(crate) micros: u64,
 }
 
@@ -105,7 +105,7 @@ pub(crate) fn numbered_line(
     Ok(text)
 }
 
-/// Adds up the microseconds of a test's Ends, up to `MOST_MICROS`.
+/// Adds up the microseconds of a test's Ends. A greater sum counts as `MOST_MICROS`.
 fn micros_of(number: u32, entries: &[Entry]) -> u64
     ensures { result ≡ micros_of number entries.now }
 {

@@ -28,7 +28,7 @@ pub(crate) struct Totals {
     pub labelled_good: LabelCounts,
 }
 
-/// Counts and lists the tests, with the verdict of each by one pass over the history.
+/// Counts and lists the tests. One pass over the history finds the verdict of each.
 pub(crate) fn totals_of(
     alloc: Global,
     plan: &PlanParts,
@@ -98,7 +98,7 @@ fn one_more(count: usize, wanted: bool) -> usize
     if wanted { count + 1 } else { count }
 }
 
-/// Puts the line of the test behind the others, where it is wanted.
+/// Adds the line of the test behind the others, if it is wanted.
 fn push_where(
     alloc: Global,
     lines: &mut List<Blob>,

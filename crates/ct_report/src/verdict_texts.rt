@@ -9,7 +9,7 @@ use ct_history::PlanTest;
 use ct_verdict::{Cause, Verdict};
 use std::alloc::Global;
 
-/// Writes the verdict in the line of its test.
+/// Writes a verdict as it stands in the line of its test.
 pub(crate) fn verdict_text(
     alloc: Global,
     tests: &[PlanTest],
@@ -82,7 +82,7 @@ fn name_of(tests: &[PlanTest], number: u32) -> &[u8]
     }
 }
 
-/// Writes the verdict in the lists of the summary.
+/// Returns the word of a verdict in the lists of the summary.
 pub(crate) fn verdict_word(verdict: Verdict) -> &'static [u8]
     ensures { result.now ≡ verdict_word verdict }
 {
