@@ -1,4 +1,5 @@
-//! Placements: the worked ones, and many small ones against all ways to place them.
+//! Placements: the worked ones, and many small ones that are compared with all ways to place the
+//! needs.
 
 ghost use Rattle.std.specs.Prelude.{◌<◌};
 
@@ -16,7 +17,7 @@ fn placed(alloc: Global, slots: &[u32], wanted: &[u32]) -> Result<Option<Placeme
     free.place(alloc, &needs(alloc, wanted)?)
 }
 
-/// Counts the picks of so many slots on a card.
+/// Counts the picks of this many slots on a card.
 fn count(placement: &Placement, card: u32, slots: u32) -> usize {
     let picks = placement.picks.as_slice();
     picks
@@ -27,8 +28,8 @@ fn count(placement: &Placement, card: u32, slots: u32) -> usize {
 
 /// What a row shows, the slots of its cards, those of its needs, and where the needs are placed.
 ///
-/// Behind an `x` stands how often an amount comes. A place is told by how many needs of how many
-/// slots are on a card, which are numbered from 0.
+/// Behind an `x` stands how often an amount comes. A placement is told by how many needs of how
+/// many slots are on which card. Cards are numbered from 0.
 const ROWS: &str = "\
 a small and a great need on each card: 5 5 | 2 2 3 3 | 1 of 2 on 0, 1 of 3 on 0, 1 of 2 on 1, 1 of 3 on 1
 no slot is left beside them: 5 5 | 2 2 3 3 1 | nowhere
@@ -58,7 +59,7 @@ fn amounts_of(alloc: Global, text: &str) -> Result<Vec<u32>, NoMemory> {
     Ok(amounts)
 }
 
-/// Adds an amount so many times.
+/// Adds an amount `times` times.
 fn add(amounts: &mut Vec<u32>, slots: u32, times: u32) -> Result<(), NoMemory> {
     for _ in 0..times {
         amounts.push(slots)?;
@@ -88,7 +89,7 @@ fn check_places(rt: &impl Abort, placement: &Placement, places: &str, row: &str)
     }
 }
 
-/// Tells whether so many needs of so many slots are on a card as the text says.
+/// Tells whether a card has as many needs of as many slots as the text says, and at least one.
 fn is_place(placement: &Placement, text: &str) -> bool {
     let (times, rest) = text.split_once(" of ").unwrap_or((text, ""));
     let (slots, card) = rest.split_once(" on ").unwrap_or((rest, ""));
@@ -104,7 +105,7 @@ fn places_needs_where_the_rows_say(rt: HostRuntime) -> Result<(), Fail> {
     Ok(())
 }
 
-/// Draws amounts, up to so many, each below 7.
+/// Draws at least one and at most `most` amounts, each below 7.
 fn amounts(alloc: Global, dice: &mut Dice, most: u32) -> Result<Vec<u32>, NoMemory>
     requires { 0 < most }
 {

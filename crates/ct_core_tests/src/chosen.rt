@@ -1,4 +1,4 @@
-//! What the core chooses in drawn runs, beside every other entry that `judge` is asked for there.
+//! What the core chooses in drawn runs, compared with what `judge` says of every other entry there.
 
 use crate::dice::Dice;
 use crate::drawn_runs::{copies_of, drawn_parts, drawn_seen};
@@ -17,10 +17,10 @@ const LAST: u32 = 8;
 /// How many placements there are of three needs on three cards.
 const PLACEMENTS: u32 = 27;
 
-/// The causes that a drawn test may be settled with, but for a setup.
+/// The causes that a drawn test may be settled with, except a setup.
 const CAUSES: [Cause; 3] = [Cause::Stopped, Cause::NotAvailable, Cause::Insufficient];
 
-/// A history, to which one entry more is put on trial.
+/// A history, and one more entry for which `judge` is asked.
 #[derive(Drop)]
 struct Trial<'a> {
     plan: &'a Plan,
@@ -90,7 +90,8 @@ impl Trial<'_> {
         Ok(true)
     }
 
-    /// Tells whether no test of the queue may start in front of this one, or at all.
+    /// Tells whether no test of the queue in front of this one may start; with `None`, whether no
+    /// test may.
     fn starts_none_before(&mut self, alloc: Global, first: Option<u32>) -> Result<bool, NoMemory> {
         let parts = self.plan.parts();
         for number in parts.queue.as_slice() {

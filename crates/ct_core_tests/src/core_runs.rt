@@ -25,8 +25,9 @@ fn take(rt: &impl Abort, run: &mut Run, wanted: Step) -> Step {
 
 /// Runs, each with what is asked of it, its tests, and the steps of its workers from 0.
 ///
-/// A step starts or settles a test, waits, or ends a test by an exit code, which is then final or
-/// tried again. A test is plain, or tells what else it is. Behind `on` stand the slots of cards.
+/// A step starts or settles a test, waits, or ends a test by an exit code. The test is then final
+/// or tried again. A test is plain, or the row tells what else it is. Behind `on` stand the slots
+/// of cards.
 const STEPS: &str = "\
 level 1 | plain;plain;plain | 0 starts 1, 1 waits, 0 ends 0 passed, 0 starts 2, 0 ends 1 failed, 1 starts 3, 1 ends 0 passed, 0 is done
 level 4 | processors 4;plain | 0 starts 1, 1 waits, 0 ends 0 passed, 1 starts 2, 1 ends 0 passed, 0 is done
@@ -72,7 +73,8 @@ fn step(text: &str) -> Step {
     }
 }
 
-/// The end of a test by an exit code or a timeout, and what the test then comes to.
+/// Returns the step that ends a test by an exit code or a timeout, with what the test then comes
+/// to.
 fn ended(worker: u32, text: &str) -> Step {
     let (word, wanted) = text.split_once(' ').unwrap_or((text, ""));
     Step::Ends {
@@ -106,7 +108,7 @@ fn test_of(alloc: Global, number: u32, text: &str) -> Result<PlanTest, NoMemory>
     Ok(test)
 }
 
-/// Makes a test what a text says of it.
+/// Changes a test as a text says.
 fn mark(alloc: Global, test: &mut PlanTest, text: &str) -> Result<(), NoMemory> {
     let (word, count) = text.split_once(' ').unwrap_or((text, ""));
     let count = number(count);
@@ -160,7 +162,7 @@ fn manner(asked: &str) -> Manner {
     }
 }
 
-/// The cards with these slots, where there are any.
+/// Returns the cards with these slots, if there are any.
 fn given(alloc: Global, text: &str) -> Result<Option<List<Resource>>, NoMemory> {
     let mut slots = Vec::new(alloc);
     for count in text.split_terminator(',') {
@@ -181,7 +183,7 @@ fn mode_of(word: &str) -> Mode {
     }
 }
 
-/// Takes the steps of a run, which come to what is wanted.
+/// Takes the steps of a run, and checks what each comes to.
 pub(crate) fn play(rt: &impl Abort, alloc: Global, row: &str) -> Result<(Plan, History), NoMemory> {
     let (asked, rest) = row.split_once(" | ").unwrap_or((row, ""));
     let (tests, steps) = rest.split_once(" | ").unwrap_or((rest, ""));

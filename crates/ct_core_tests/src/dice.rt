@@ -13,7 +13,7 @@ impl Dice {
         Dice { state }
     }
 
-    /// Draws one of the numbers from 0 on, so many.
+    /// Draws a number from 0 to below `sides`.
     pub(crate) fn roll(&mut self, sides: u32) -> u32
         requires { 0 < sides }
         ensures { result < sides }
@@ -26,7 +26,7 @@ impl Dice {
         drawn % sides
     }
 
-    /// Draws yes once in so many times.
+    /// Draws `true` with a chance of one in `sides`.
     pub(crate) fn is_one_in(&mut self, sides: u32) -> bool
         requires { 0 < sides }
     {

@@ -1,4 +1,5 @@
-//! The core over plans and lists of calls that are drawn, and the histories with a change in them.
+//! The core over drawn plans and drawn lists of calls, and the histories of these runs with one
+//! change.
 
 ghost use Rattle.std.specs.Prelude.{◌<◌, length};
 
@@ -59,7 +60,7 @@ fn drawn_mode(dice: &mut Dice) -> Mode {
     }
 }
 
-/// Draws so many tests, each of which may wait for earlier ones.
+/// Draws `count` tests, each of which may wait for earlier ones.
 fn drawn_tests(
     alloc: Global,
     dice: &mut Dice,
@@ -81,7 +82,7 @@ fn drawn_tests(
     Ok(tests)
 }
 
-/// Draws what needs no other test.
+/// Draws the properties of a test that need no other test.
 fn draw_marks(dice: &mut Dice, test: &mut PlanTest, level: u32)
     requires { 0 < level }
 {
@@ -116,7 +117,7 @@ fn draw_links(dice: &mut Dice, test: &mut PlanTest, earlier: &[PlanTest]) -> Res
     Ok(())
 }
 
-/// Draws what a test needs, which it may never get.
+/// Draws the needs of a test, which may never be met.
 fn draw_needs(
     alloc: Global,
     dice: &mut Dice,
@@ -132,7 +133,7 @@ fn draw_needs(
     Ok(())
 }
 
-/// Tells whether needs can be placed, or are not looked at since no cards are lent.
+/// Tells whether needs can be placed, or no cards are lent, so that the needs are not looked at.
 fn are_met(
     alloc: Global,
     needs: &List<Need>,
@@ -227,8 +228,8 @@ const CHANGES: [Change; 9] = [
 ];
 
 impl Change {
-    /// Tells whether no history is legal any more that is so changed at such an entry, where each
-    /// start in it is ended: a second time nothing is allowed, and an end fits no other start.
+    /// Tells whether this change at this entry makes each history illegal in which each start is
+    /// ended. No entry is allowed a second time, and an end fits no other start.
     fn is_always_wrong(self, entry: &Entry) -> bool {
         match self {
             Change::Doubles => true,
@@ -281,7 +282,7 @@ fn copy_of(alloc: Global, entry: &Entry) -> Result<Entry, NoMemory> {
     })
 }
 
-/// Makes a placement of the same picks, each on the card that stands so many places behind.
+/// Makes a placement of the same picks, each on the card `by` places behind.
 fn moved(
     alloc: Global,
     placement: Option<&Placement>,
@@ -381,7 +382,7 @@ fn other_cause(cause: Cause) -> Cause {
     }
 }
 
-/// The history with a change at a place, where that changes something.
+/// Returns the history with a change at a place, if that changes something.
 fn changed(
     alloc: Global,
     entries: &[Entry],
@@ -419,7 +420,7 @@ fn change_at(
     }
 }
 
-/// Exchanges an entry for the one in front, where there is one.
+/// Exchanges an entry for the one in front, if there is one.
 fn exchange(entries: &mut Vec<Entry>, at: usize) -> bool
     requires { at < length entries.old.items }
 {

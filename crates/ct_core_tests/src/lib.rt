@@ -1,7 +1,7 @@
 //! The tests of the core: where needs are placed, which tests are ready, and how a plan is run.
 //!
 //! Hands up: nothing. A crate with tests of its own is proved twice, so they stand here.
-//! Stands on: ct_alloc, ct_history, ct_queue, ct_core, ct_samples and what is below them.
+//! Stands on: ct_base, ct_alloc, ct_verdict, ct_history, ct_queue, ct_core, ct_samples.
 //! Read first: `workers.rt` drives the core for the others.
 #![tactic(auto)]
 

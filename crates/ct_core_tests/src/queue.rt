@@ -5,7 +5,7 @@ use ct_queue::Ready;
 use std::process::Abort;
 use std::test::Fail;
 
-/// A place, or `None` where the word is no number.
+/// Returns a place, or `None` where the word is no number.
 fn place(word: &str) -> Option<u32> {
     word.parse().ok()
 }

@@ -8,14 +8,14 @@ use std::alloc::Global;
 use std::process::Abort;
 use std::test::Fail;
 
-/// The test that ends first, whose card the third test takes, and a run of three tests of two slots
-/// each, on a card of three slots and one of two.
+/// The test that ends first, whose card the third test takes, and a run. The run has three tests of
+/// two slots each, on a card of three slots and one of two.
 const RUNS: &str = "\
 1: level 3 on 3,2 | needs 2;needs 2;needs 2 | 0 starts 1, 1 starts 2, 2 waits, 0 ends 0 passed, 2 starts 3
 2: level 3 on 3,2 | needs 2;needs 2;needs 2 | 0 starts 1, 1 starts 2, 2 waits, 1 ends 0 passed, 2 starts 3
 ";
 
-/// The card of the first need of a test's start.
+/// Returns the card of the first need of a test's start.
 fn card(history: &History, wanted: u32) -> Option<u32> {
     for entry in history.entries.as_slice() {
         match entry {
@@ -30,7 +30,7 @@ fn card(history: &History, wanted: u32) -> Option<u32> {
     None
 }
 
-/// Two slots of the first card.
+/// Returns a placement of two slots on the first card.
 fn on_the_first_card(alloc: Global) -> Result<Placement, NoMemory> {
     let mut picks = List::new(alloc);
     picks.push(Pick {
@@ -43,7 +43,7 @@ fn on_the_first_card(alloc: Global) -> Result<Placement, NoMemory> {
     Ok(Placement { picks })
 }
 
-/// The history with the first two tests on the first card.
+/// Returns the history with the first two tests on the first card.
 fn crowded(alloc: Global, history: History) -> Result<History, NoMemory> {
     let mut entries = Vec::new(alloc);
     for entry in history.entries {
@@ -69,7 +69,8 @@ fn crowd(alloc: Global, entry: Entry) -> Result<Entry, NoMemory> {
     }
 }
 
-/// Tells whether the third test has the card of the one that ended first, which the other had not.
+/// Tells whether the third test has the card of the test that ended first, and the first two tests
+/// had different cards.
 fn takes_the_card(history: &History, first: u32) -> bool {
     let third = card(history, 3);
     third.is_some() && third == card(history, first) && card(history, 1) != card(history, 2)
@@ -84,7 +85,7 @@ fn a_test_takes_the_card_that_another_gave_back(rt: HostRuntime) -> Result<(), F
     Ok(())
 }
 
-/// Checks the cards of a run, and that they can't be one.
+/// Checks the cards of a run, and that the first two tests can't have one card.
 fn check_cards(rt: &impl Abort, alloc: Global, run: &str, first: u32) -> Result<(), NoMemory> {
     let (plan, history) = play(rt, alloc, run)?;
     assert!(rt; takes_the_card(&history, first), "{run}");

@@ -11,7 +11,7 @@ use std::alloc::Global;
 use std::mem;
 use std::process::Abort;
 
-/// What each of four workers is to end.
+/// The tickets that each of four workers has to finish.
 pub(crate) struct Hands {
     tickets: [Option<Ticket>; 4],
 }
@@ -49,7 +49,7 @@ impl Hands {
     }
 }
 
-/// A run in the making.
+/// A run in progress.
 pub(crate) struct Run {
     pub(crate) core: Core,
     pub(crate) hands: Hands,
@@ -143,7 +143,7 @@ pub(crate) fn seen(how: How) -> Seen {
     }
 }
 
-/// Ends what is open, and takes the run apart. Its history is legal.
+/// Ends the open attempts, and returns the plan and the history, which it checks to be legal.
 pub(crate) fn close(rt: &impl Abort, run: Run) -> Result<(Plan, History), NoMemory> {
     let Run { core, hands } = run;
     let Hands { tickets } = hands;

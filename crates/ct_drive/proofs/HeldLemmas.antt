@@ -80,7 +80,7 @@ due_opens_none plan es = by (is_stop_due plan es)
     by true = stop_opens_none es
     by false = refl
 
--- nothing is held at first
+-- at first, nothing is open and no ticket is held
 pub held_none : AreHeld [] []
 held_none = record { starts = refl; apart = tt }
 

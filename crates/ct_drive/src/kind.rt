@@ -11,7 +11,7 @@ use std::alloc::Global;
 pub enum Kind {
     /// Nothing; every tenth test fails.
     Plain,
-    /// Each comes behind the one before.
+    /// Each test waits for the one before.
     Chain,
     /// The first sets up what all others require, and the last cleans it up.
     Fixture,
@@ -45,7 +45,8 @@ impl Kind {
         }
     }
 
-    /// How many workers ask, and how many processors the tests that run at once take together at most.
+    /// Returns how many workers ask, which is also how many processors the tests that run at once
+    /// may take together.
     pub fn level(self) -> u32
         ensures { 1 ≤ result }
     {
@@ -55,7 +56,7 @@ impl Kind {
         }
     }
 
-    /// How the test with this number ends.
+    /// Returns how the test with this number ends.
     pub fn how(self, number: u32) -> How {
         match self {
             Kind::Plain if number % 10 == 0 => How::Exited(1),
@@ -63,7 +64,7 @@ impl Kind {
         }
     }
 
-    /// The property of the test at this place of so many, where it has one.
+    /// Returns the property of the test at this place among `count` tests, if it has one.
     pub fn property(self, alloc: Global, place: u32, count: u32) -> Result<Option<Pair>, NoMemory> {
         match self {
             Kind::Plain => Ok(None),
@@ -80,7 +81,7 @@ impl Kind {
     }
 }
 
-/// The name of the test at this place.
+/// Returns the name of the test at this place.
 pub fn name_at(alloc: Global, place: u32) -> Result<Name, NoMemory> {
     let text = format!(in alloc; "t{place}")?;
     Name::of(alloc, text.as_bytes())

@@ -1,5 +1,5 @@
-//! The program `ct_drive`: it drives the scheduling core through tests of one kind, and prints how many started, passed and
-//! failed and how long that took.
+//! The program `ct_drive`: it drives the scheduling core through tests of one kind. It prints how
+//! many started, passed and failed, and how long that took.
 //!
 //! Hands up: nothing; it is the program that `measure/core` calls.
 //! Stands on: ct_base, ct_props, ct_verdict, ct_history, ct_core, ct_cost, ct_spec, ct_plan and `anyhow`.
@@ -22,7 +22,7 @@ use std::alloc::Global;
 use std::env;
 use std::time::{Clock, Duration, Instant};
 
-/// The most tests that are driven.
+/// The greatest number of tests that are driven.
 const MOST_TESTS: u32 = 1_000_000;
 
 fn main(rt: HostRuntime) -> anyhow::Result<()> {
@@ -56,7 +56,7 @@ fn main(rt: HostRuntime) -> anyhow::Result<()> {
     Ok(())
 }
 
-/// What came of a run, and how long it took.
+/// The result of a run, and how long it took.
 #[derive(Drop)]
 struct Driven {
     tally: Tally,
@@ -65,13 +65,13 @@ struct Driven {
 }
 
 impl Driven {
-    /// The nanoseconds of each start together with its end.
+    /// Returns the mean nanoseconds of a start together with its end.
     fn nanos_each(&self) -> u128 {
         self.steps.as_nanos() / u128::from(self.tally.starts.max(1))
     }
 }
 
-/// Opens a run of a plan of so many tests, and drives it to its end.
+/// Opens a run of a plan of `count` tests, and drives it to its end.
 fn drive(
     rt: &impl Clock,
     alloc: Global,
@@ -92,7 +92,7 @@ fn drive(
     })
 }
 
-/// How long ago that was, and no time where the clock does not tell.
+/// Returns the time since then, or zero where the clock does not tell.
 fn since(rt: &impl Clock, start: Option<Instant>) -> Duration {
     match start {
         Some(start) => start.elapsed(rt).unwrap_or(Duration::ZERO),

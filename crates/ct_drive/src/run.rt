@@ -1,4 +1,5 @@
-//! A run of the core alone: an attempt lasts until no worker finds more to do, and the oldest ends first.
+//! A run of the core alone. An attempt lasts until no worker finds more to do, and the oldest
+//! attempt ends first.
 
 ghost use Rattle.std.specs.Prelude.{◌≡◌, ◌==◌, ◌<◌, IfOk, length};
 ghost use Rattle.std.specs.List.{list_any};
@@ -13,7 +14,7 @@ use ct_history::Plan;
 use ct_verdict::Seen;
 use std::alloc::Global;
 
-/// A run in the making: its core, and the tickets that are to be finished, the oldest first.
+/// A run in progress: its core, and the tickets that are to be finished, the oldest first.
 pub struct Run {
     core: Core,
     tickets: Vec<Ticket>,
@@ -52,7 +53,7 @@ impl Run {
         }
     }
 
-    /// Runs the tests, which are so many, to their end.
+    /// Runs the `count` tests to their end.
     pub fn drive(mut self, count: u32) -> Result<Tally, NoMemory>
         requires { HoldsOpen self }
     {
@@ -62,7 +63,7 @@ impl Run {
         Ok(tally)
     }
 
-    /// Goes on until every test is final, for so many steps at most.
+    /// Goes on until every test is final, for at most `steps` steps.
     fn go(&mut self, steps: u64) -> Result<(), NoMemory>
         requires { HoldsOpen self.old }
         ensures { HoldsOpen self.new }
@@ -77,7 +78,7 @@ impl Run {
         Ok(())
     }
 
-    /// Asks each free worker what it has to do, and ends the oldest attempt where all have to wait.
+    /// Asks each free worker what it has to do. Where all have to wait, ends the oldest attempt.
     fn step(&mut self) -> Step
         requires { HoldsOpen self.old }
         ensures { HoldsOpen self.new }
@@ -97,7 +98,7 @@ impl Run {
         }
     }
 
-    /// Does what a worker has to do, where it is free.
+    /// Does what a worker has to do, if the worker is free.
     fn ask(&mut self, worker: u32) -> Step
         requires { HoldsOpen self.old }
         ensures { HoldsOpen self.new }
@@ -122,7 +123,7 @@ impl Run {
         }
     }
 
-    /// Ends the oldest attempt, where one is open.
+    /// Ends the oldest attempt, if one is open.
     fn end_oldest(&mut self) -> Step
         requires { HoldsOpen self.old }
         ensures held { HoldsOpen self.new }
@@ -145,7 +146,7 @@ impl Run {
         Step::More
     }
 
-    /// Ends what is open, and gives what was counted.
+    /// Ends the open attempts, and returns what was counted.
     fn close(mut self) -> Tally
         requires { HoldsOpen self }
     {

@@ -1,6 +1,6 @@
 use ct_verdict::Verdict;
 
-/// How many attempts started, and how many tests got which verdict.
+/// How many attempts started, and how many tests passed and failed.
 #[derive(Drop)]
 pub struct Tally {
     pub starts: u64,

@@ -14,7 +14,7 @@ struct Job {
 }
 
 impl Job {
-    /// The time of the run, in microseconds.
+    /// Returns the time of the run, in microseconds.
     fn time(mut self, alloc: Global) -> u64 {
         let asked = self.asked;
         time_on(&mut self.gate, alloc, asked, None).unwrap_or(u64::MAX)

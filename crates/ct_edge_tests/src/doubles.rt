@@ -5,12 +5,12 @@ use std::io;
 use std::io::{ErrorKind, Read, Write};
 use std::os::fd::{AsRawFd, RawFd};
 
-/// A source that gives one byte at a time, and fails once it gave so many.
+/// A source that gives one byte at a time, and fails after `good` bytes.
 #[derive(Drop)]
 pub(crate) struct Drip {
     pub(crate) left: &'static [u8],
     pub(crate) good: u64,
-    /// Whether it is never ready where it has run dry.
+    /// Whether its descriptor is never ready once no byte is left.
     pub(crate) dries: bool,
     /// A descriptor that is always ready.
     pub(crate) ready: RawFd,
@@ -44,7 +44,7 @@ impl AsRawFd for Drip {
     }
 }
 
-/// An output that takes one byte at a time, and once it took so many fails, or takes nothing.
+/// An output that takes one byte at a time. After `good` bytes it fails, or takes nothing.
 #[derive(Drop)]
 pub(crate) struct Sip {
     pub(crate) taken: Blob,

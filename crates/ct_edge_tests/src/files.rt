@@ -6,7 +6,7 @@ use ct_edge::RealFiles;
 use std::alloc::Global;
 use std::test::Fail;
 
-/// How many bytes of a file of `hello` are wanted and one more, and what is read.
+/// How many bytes of a file of `hello` are asked for, and what is read: at most one byte more.
 const READS: &str = "\
 5 is hello
 4 is hello
@@ -15,7 +15,7 @@ const READS: &str = "\
 18446744073709551615 is hello
 ";
 
-/// Nothing is at these paths: the last two lie below what is no folder.
+/// Paths at which there is nothing. The last two lie below what is no folder.
 const ABSENT: &str = "\
 absent
 /no/such/file
@@ -39,7 +39,7 @@ a\0b
 /dev/null/a
 ";
 
-/// The path that a row writes, or one that is no text.
+/// Returns the path that a row writes, or one that is no text.
 fn path(alloc: Global, row: &str) -> Result<Name, NoMemory> {
     if row == "no text" {
         return Name::of(alloc, b"\xff");

@@ -10,7 +10,8 @@ use std::fs;
 use std::os::fd::{AsRawFd, RawFd};
 use std::test::Fail;
 
-/// How many bytes of `hello` can be read, how many are wanted and one more; what is read, or the fault.
+/// How many bytes of `hello` can be read, and how many are asked for. Then what is read, which is
+/// at most one byte more, or the fault.
 const READS: &str = "\
 9 9 is hello
 9 3 is hell
@@ -19,8 +20,8 @@ const READS: &str = "\
 0 9 is a fault
 ";
 
-/// How many bytes an output takes, and whether it fails behind them or takes nothing; whether `hello` is put, what of it is
-/// taken, and how many puts failed.
+/// How many bytes an output takes, and whether it then fails or takes nothing. Then whether `hello`
+/// is put, what of it is taken, and how many puts failed.
 const PUTS: &str = "\
 9 fails is put [hello] 0
 5 stops is put [hello] 0
@@ -29,8 +30,9 @@ const PUTS: &str = "\
 0 fails is a fault [] 1
 ";
 
-/// How many bytes of `hello` can be read, whether an end comes behind them, and the limit in microseconds; what is told of
-/// this output beside one of `no`, what is heard, and what is kept.
+/// How many bytes of `hello` can be read, whether an end comes behind them, and the limit in
+/// microseconds. Then what is told of this output beside one of `no`, what is heard, and what is
+/// kept.
 const OUTPUTS: &str = "\
 9 ends none is whole [hello] [no]
 9 ends 60000000 is whole [hello] [no]
@@ -40,7 +42,8 @@ const OUTPUTS: &str = "\
 1 ends none is a fault [h] [n]
 ";
 
-/// The look that fails, and the required files where a and b are there; the place that is found.
+/// The look that fails, and the required files, where only a and b are there. Then the place that
+/// is found.
 const LOOKS: &str = "\
 0 a b a is None
 0 a x y is Some(1)
@@ -175,7 +178,7 @@ fn looked(alloc: Global, asked: &str) -> Result<String, NoMemory> {
     Ok(format!(in alloc; "{place:?}")?)
 }
 
-/// Files of which a and b are there, and one look fails.
+/// Makes files of which a and b are there, and of which one look fails.
 fn files(alloc: Global, failing: u64) -> Result<MemFiles, NoMemory> {
     let mut held = List::new(alloc);
     for name in ["a", "b"] {

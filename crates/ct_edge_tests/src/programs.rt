@@ -40,7 +40,7 @@ const RUNS: &str = "\
 / true needs /bin/sh/below is Lacks(0) 0 []
 ";
 
-/// Programs that run into a limit of a fifth of a second, but for the last.
+/// Programs that run into a limit of a fifth of a second, except the last.
 const LIMITS: &str = "\
 / sleep 20 is TimedOut 0 []
 / sh -c printf\tout;printf\terror\t>&2;exec\tsleep\t20 is TimedOut 0 [outerror]
@@ -64,7 +64,7 @@ printf\t%s\t\"$e\"\t>&2;i=$((i+1));done";
 
 const OF_EACH: usize = 160 * 65_536;
 
-/// Programs that print their number where the system knows it, and run on, but for the last.
+/// Programs that print their process number, if the system knows it, and run on, except the last.
 const NUMBERS: &str = "\
 / sh -c test\t-d\t/proc/$$&&echo\t$$;exec\tsleep\t20
 / sh -c test\t-d\t/proc/$$&&echo\t$$;exec\t>&-\t2>&-;exec\tsleep\t20
@@ -72,7 +72,7 @@ const NUMBERS: &str = "\
 / sh -c test\t-d\t/proc/$$&&echo\t$$
 ";
 
-/// Runs each row's program, and fails at the first of which something else is told.
+/// Runs the program of each row, and fails at the first row with another result than it tells.
 fn are_told(rt: HostRuntime, rows: &str, limit: Option<u64>) -> Result<(), Fail> {
     for row in rows.lines() {
         is_row_told(rt, row, limit)?;
@@ -91,7 +91,7 @@ fn is_told(rt: HostRuntime, request: &Request, asked: &str, want: &str) -> Resul
     expect(asked, told.as_str(), want)
 }
 
-/// How a program ended, the faults of its gate, and what was heard.
+/// Returns how a program ended, the faults of its gate, and what was heard.
 fn told(rt: HostRuntime, request: &Request) -> Result<String, NoMemory> {
     let mut gate = ProcessGate::new(rt);
     let mut ear = Collect::new(rt.alloc());
@@ -148,7 +148,7 @@ fn are_all_heard(rt: &impl Abort, heard: &[u8]) {
     assert!(rt; errors.iter().all(|byte| *byte == b' '));
 }
 
-/// Where the system tells of the process that has run for a row of `NUMBERS`.
+/// Returns where the system tells of the process that has run for a row of `NUMBERS`.
 fn process_of(rt: HostRuntime, asked: &str) -> Result<String, Fail> {
     let request = request(rt.alloc(), asked, SHORT)?;
     let mut ear = Collect::new(rt.alloc());

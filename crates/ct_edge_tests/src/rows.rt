@@ -36,7 +36,7 @@ fn environment(alloc: Global) -> Result<List<Pair>, NoMemory> {
     Ok(env)
 }
 
-/// The files that a row requires.
+/// Returns the files that a row requires.
 fn required(alloc: Global, row: &str) -> Result<List<Name>, NoMemory> {
     match row.split_once(" needs ") {
         Some((_, files)) => names(alloc, files, ','),
@@ -52,12 +52,12 @@ pub(crate) fn names(alloc: Global, text: &str, between: char) -> Result<List<Nam
     Ok(names)
 }
 
-/// What a row asks, and what is wanted of it.
+/// Returns what a row asks, and what is wanted of it.
 pub(crate) fn asked_and_wanted(row: &str) -> (&str, &str) {
     row.split_once(" is ").unwrap_or((row, ""))
 }
 
-/// The first cell of a row, and the others.
+/// Returns the first cell of a row, and the others.
 pub(crate) fn cell(row: &str) -> (&str, &str) {
     row.split_once(' ').unwrap_or((row, ""))
 }
@@ -66,7 +66,7 @@ pub(crate) fn number(cell: &str) -> u64 {
     cell.parse().unwrap_or(0)
 }
 
-/// The limit that a cell writes, in microseconds; a word is none.
+/// Returns the limit that a cell writes, in microseconds, or `None` for a word.
 pub(crate) fn limit(cell: &str) -> Option<u64> {
     cell.parse().ok()
 }
@@ -75,7 +75,7 @@ pub(crate) fn text(bytes: &Blob) -> &str {
     str::from_utf8(bytes.bytes()).unwrap_or("no text")
 }
 
-/// Fails where something else is told of a row than is wanted.
+/// Fails unless what is told of a row is what is wanted.
 pub(crate) fn expect(row: &str, told: &str, want: &str) -> Result<(), Fail> {
     if told == want {
         return Ok(());

@@ -16,7 +16,8 @@ none 100000 50000000 / sleep 0.1
 300000 300000 1000000 / sh -c while\t:;do\techo\tx\t>&2;done
 ";
 
-/// The limit of a program that makes a file after a second, in microseconds, and whether that is there at last.
+/// The limit of a program that makes a file after a second, in microseconds, and whether the file
+/// is there in the end.
 const MARKS: &str = "\
 200000 false
 none true
@@ -33,7 +34,7 @@ none / sh -c exec\t>&-\t2>&-;exec\tsleep\t1
 20000000 / sh -c exec\t2>&-;exec\tsleep\t1
 ";
 
-/// The time that a run takes on this gate, in microseconds.
+/// Returns the time that a run takes on this gate, in microseconds.
 pub(crate) fn time_on(
     gate: &mut ProcessGate,
     alloc: Global,
@@ -45,12 +46,12 @@ pub(crate) fn time_on(
     Ok(gate.attempt(alloc, &request, &mut ear).micros)
 }
 
-/// The time that a run takes, in microseconds.
+/// Returns the time that a run takes, in microseconds.
 fn time_of(rt: HostRuntime, asked: &str, limit: Option<u64>) -> Result<u64, NoMemory> {
     time_on(&mut ProcessGate::new(rt), rt.alloc(), asked, limit)
 }
 
-/// The shortest time of three runs.
+/// Returns the shortest time of three runs, in microseconds.
 fn shortest_of(rt: HostRuntime, asked: &str, limit: Option<u64>) -> Result<u64, NoMemory> {
     let mut shortest = u64::MAX;
     for _ in 0..3 {

@@ -1,4 +1,4 @@
--- What is done one by one is what is said of the whole list.
+-- What loops do item by item is what the definitions say of the whole list.
 use Rattle.std.proofs.Common.{ℕ, ◌≡◌, ◌+◌, ◌<◌, cond, bytes_eq, List, [], ◌∷◌, ◌++◌, map, take, get_or, length, Option, Some, None, refl, sym, ap, ◌∙◌, arith}
 use Rattle.std.specs.List.{flat_map, range_with_len}
 use Rattle.std.specs.Option.{option_or}
@@ -18,7 +18,7 @@ use Rattle.ct_env.specs.Assignment.{assignments_in}
 use Rattle.ct_env.specs.PlacementVariables.{group_count}
 use Rattle.ct_env.specs.Variables.{PutsVariable, SetsAll, AreBase, names_in}
 
--- what the groups give, with one group more
+-- the pairs of all groups, with one group more
 groups-more : (f : ℕ → List Pair) (n : ℕ) → flat_map f (range_with_len 0 (n + 1)) ≡ flat_map f (range_with_len 0 n) ++ f n
 groups-more f n =
     sym (flat_map-map f (λ x. x) (range_with_len 0 (n + 1)))
@@ -41,7 +41,7 @@ item_one_more f xs i x pair first now after within is gives so_far pushed =
     ∙ ap (λ ps. first ++ ps) (sym (map-append f (take i xs) (get_or xs i x ∷ [])))
     ∙ ap (λ ys. first ++ map f ys) (sym (take_more xs i x within))
 
--- one item and then others are put behind
+-- one item is added, and then the items of the others
 pub item_and_others : {X : Type 0} (f : X → Pair) (g : List X → Pair) (old pushed new : List Pair) (pair : Pair) (xs ys : List X) → xs ≡ ys → pair ≡ g xs → pushed ≡ old ++ pair ∷ [] → new ≡ pushed ++ map f xs → new ≡ old ++ (g ys ∷ map f ys)
 item_and_others f g old pushed new pair xs ys are is first others =
     others
@@ -54,7 +54,7 @@ or_nothing : (value : Option (List ℕ)) → option_or value None ≡ value
 or_nothing None = refl
 or_nothing (Some value) = refl
 
--- the own variables without the count of groups, and then those that entries set
+-- the base is the own variables without the count of groups, and then those that entries set
 pub base_is : (own assigned set kept all : List Pair) (entries : List (List ℕ)) → assigned ≡ assignments_in entries → SetsAll own [] set → PutsVariable group_count None set kept → SetsAll assigned kept all → AreBase own entries all
 base_is own assigned set kept all entries is sets takes adds = λ name.
     adds name

@@ -25,7 +25,7 @@ by_bytes = slice_cmp nat_cmp
 abbrev by_name : {Y : Type 0} → Vec ℕ Y → Vec ℕ Y → Ordering
 by_name one other = by_bytes one.items other.items
 
--- a name is itself, and another one is not
+-- a name equals itself
 is_itself : (name : List ℕ) → bytes_eq name name ≡ true
 is_itself name = (bytes_eq-Decides name name).1 refl
 
@@ -46,7 +46,7 @@ same_name name other =
     (λ is. (bytes_eq-Decides other name).1 (sym (exact_bytes name other (is_eq-true (by_bytes name other) is))))
     (λ is. ap (λ n. is_eq (by_bytes name n)) ((bytes_eq-Decides other name).0 is) ∙ ap is_eq (tied_itself nat_list_cmp_total name))
 
--- the first variable of that name, or one of the others
+-- the value of a name is that of the first pair, if that has the name, else that of the others
 value_of_key-cons : (pair : Pair) (pairs : List Pair) (name : List ℕ) → value_of_key (pair ∷ pairs) name ≡ cond (bytes_eq pair.name name) (Some pair.value) (value_of_key pairs name)
 value_of_key-cons pair pairs name = by (bytes_eq pair.name name)
   where
@@ -105,7 +105,7 @@ module _ {Y Z : Type 0} where
       ∙ apart value.items entry.1.items (seen entries other) (bytes_eq entry.0.items other) (bytes_eq key.items other) differ
       ∙ ap (λ found. cond (bytes_eq key.items other) (Some value.items) found) (sym (seen-cons entry entries other))
 
-  -- a variable that is put in
+  -- the value of each variable once one was put in
   pub puts-insert_entry : (entries : List (Vec ℕ Y × Vec ℕ Z)) (key : Vec ℕ Y) (value : Vec ℕ Z) (other : List ℕ) → value_of_key (map pair_of (insert_entry (λ (x y : Vec ℕ Y). slice_cmp nat_cmp x.items y.items) entries key value)) other ≡ cond (bytes_eq key.items other) (Some value.items) (value_of_key (map pair_of entries) other)
   puts-insert_entry [] key value other = seen-cons (key, value) [] other
   puts-insert_entry (entry ∷ entries) key value other =
@@ -140,7 +140,7 @@ module _ {Y Z : Type 0} where
       ∙ rest
       ∙ ap (λ found. cond (bytes_eq name other) None found) (ap (λ b. cond b (Some entry.1.items) (seen entries other)) (sym here) ∙ sym (seen-cons entry entries other))
 
-  -- a variable that is taken out
+  -- the value of each variable once one was removed
   pub puts-remove_entry : (entries : List (Vec ℕ Y × Vec ℕ Z)) (name other : List ℕ) → IsStrictlySortedBy (λ (x y : Vec ℕ Y). slice_cmp nat_cmp x.items y.items) (keys_of entries) → value_of_key (map pair_of (remove_entry (λ (key : Vec ℕ Y). is_eq (slice_cmp nat_cmp name key.items)) entries)) other ≡ cond (bytes_eq name other) None (value_of_key (map pair_of entries) other)
   unfolding IsStrictlySortedBy
   puts-remove_entry [] name other ordered = nothing (bytes_eq name other) None refl
@@ -159,7 +159,7 @@ module _ {Y Z : Type 0} where
   names_ascend [] ordered = tt
   names_ascend (entry ∷ entries) ordered = (all_names entry.0.items entries ordered.0, names_ascend entries ordered.1)
 
-  -- clones are the same variables
+  -- clones of variables are the same variables
   pub pairs-clone : (C : Vec ℕ Y → Vec ℕ Y → Type 0) (D : Vec ℕ Z → Vec ℕ Z → Type 0) → ((x y : Vec ℕ Y) → C x y → y.items ≡ x.items) → ((x y : Vec ℕ Z) → D x y → y.items ≡ x.items) → (entries clones : List (Vec ℕ Y × Vec ℕ Z)) → AllZip (λ p q. C p.0 q.0 × D p.1 q.1) entries clones → map pair_of clones ≡ map pair_of entries
   pairs-clone C D keys values [] [] are = refl
   pairs-clone C D keys values [] (clone ∷ clones) are = absurd are

@@ -1,5 +1,5 @@
--- The variables that entries set. Source: CMake manual, cmake-properties(7), ENVIRONMENT. That an entry without a name is
--- passed over is this project's choice.
+-- The variables that entries set. Source: CMake manual, cmake-properties(7), ENVIRONMENT. That an entry
+-- without a name is passed over is this project's choice.
 use Rattle.std.specs.Prelude.{ℕ, ◌+◌, List, length, take, drop, Option, Some, None, ◌==◌, if◌then◌else◌}
 use Rattle.std.specs.List.{position, filter_map}
 use Rattle.std.specs.Option.{option_map, option_and_then}
@@ -9,11 +9,11 @@ use Rattle.ct_base.specs.declared.defs.Pair.{Pair}
 abbrev pub equals_sign : ℕ
 equals_sign = 61
 
--- the texts in front of the first such byte and behind it
+-- the texts in front of the first place of a byte and behind it, if the byte is there
 abbrev pub split_first : ℕ → List ℕ → Option (List ℕ × List ℕ)
 split_first byte text = option_map (λ at. (take at text, drop (at + 1) text)) (position (λ other. other == byte) text)
 
--- a name with its value; an empty name is none
+-- a variable of a name and a value; none where the name is empty
 abbrev pub with_name : List ℕ × List ℕ → Option Pair
 with_name parts = if length parts.0 == 0 then None else Some (record { name = parts.0; value = parts.1 })
 

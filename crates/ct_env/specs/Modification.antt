@@ -14,7 +14,7 @@ pub record Change : Type 0 where
   pub operation : Operation
   pub value : List ℕ
 
--- the change of a variable by an operation that is known
+-- the change of a variable by an operation and its value, if the operation is known
 abbrev pub change_by : List ℕ → List ℕ × List ℕ → Option Change
 change_by name parts = option_map (λ operation. record { name = name; operation = operation; value = parts.1 }) (operation_named parts.0)
 
@@ -26,10 +26,10 @@ change_of pair = option_and_then (change_by pair.name) (split_first colon pair.v
 abbrev pub change_in : List ℕ → Option Change
 change_in entry = option_and_then change_of (assignment_in entry)
 
--- an entry has no change
+-- the entry is bad: it has no change
 abbrev pub is_bad_entry : List ℕ → Bool
 is_bad_entry entry = not (is_some (change_in entry))
 
--- the place, from 0, of the first entry that has no change
+-- the place, from 0, of the first bad entry, if there is one
 abbrev pub first_bad : List (List ℕ) → Option ℕ
 first_bad entries = position is_bad_entry entries

@@ -6,7 +6,7 @@ use Rattle.ct_props.specs.Values.{or_empty}
 use Rattle.ct_env.specs.declared.operation.Operation.{Operation}
 use Rattle.ct_env.specs.declared.operation.Operation.TheVariants.{Reset, Set, Unset, StringAppend, StringPrepend, PathListAppend, PathListPrepend, CmakeListAppend, CmakeListPrepend}
 
--- the operation of a name
+-- the operation of a name, if there is one
 abbrev pub operation_named : List ℕ → Option Operation
 operation_named word =
     if bytes_eq word (codes "reset") then Some Reset
@@ -20,17 +20,18 @@ operation_named word =
     else (if bytes_eq word (codes "cmake_list_prepend") then Some CmakeListPrepend
     else None))))))))
 
--- a list with a value behind the others, and a separator between where there are others
+-- a list with a value behind its others, and a separator between where there are others
 abbrev pub set_behind : ℕ → List ℕ → List ℕ → List ℕ
 set_behind separator [] value = value
 set_behind separator (byte ∷ bytes) value = (byte ∷ bytes) ++ separator ∷ value
 
--- a list with a value in front of the others, and a separator between where there are others
+-- a list with a value in front of its others, and a separator between where there are others
 abbrev pub set_in_front : ℕ → List ℕ → List ℕ → List ℕ
 set_in_front separator [] value = value
 set_in_front separator (byte ∷ bytes) value = value ++ separator ∷ byte ∷ bytes
 
--- what an operation with a value makes of a variable: of its base, which `reset` gives it, and its old value; None is a variable that is not set
+-- the value of a variable after an operation with a value. `base` is its value without any modification,
+-- `old` the one before the operation. None is a variable that is not set.
 abbrev pub value_after : Operation → List ℕ → Option (List ℕ) → Option (List ℕ) → Option (List ℕ)
 value_after Reset value base old = base
 value_after Set value base old = Some value

@@ -12,11 +12,11 @@ use Rattle.ct_base.specs.declared.defs.Pair.{Pair}
 use Rattle.ct_alloc.specs.declared.placement.Pick.{Pick}
 use Rattle.ct_alloc.specs.declared.placement.Placement.{Placement}
 
--- the variable that tells how many groups there are
+-- the name of the variable that tells how many groups there are
 abbrev pub group_count : List ℕ
 group_count = codes "CTEST_RESOURCE_GROUP_COUNT"
 
--- the variable of a group
+-- the name of the variable of a group
 abbrev pub group_name : ℕ → List ℕ
 group_name group = codes "CTEST_RESOURCE_GROUP_" ++ decimal group
 
@@ -28,7 +28,7 @@ names_in_order names = fold (insert_key (slice_cmp nat_cmp)) [] names
 abbrev pub kinds_in : ℕ → List Pick → List (List ℕ)
 kinds_in group picks = names_in_order (map (λ (pick : Pick). pick.kind) (filter (λ (pick : Pick). pick.group == group) picks))
 
--- so many slots of a resource
+-- the text of a pick: the id of its resource, and how many slots of it
 abbrev pub need_text : Pick → List ℕ
 need_text pick = codes "id:" ++ pick.id ++ codes ",slots:" ++ decimal pick.slots
 
@@ -44,7 +44,7 @@ joined_with separator texts = join_by (λ text. text) (separator ∷ []) texts
 abbrev pub kind_variable : ℕ → List Pick → List ℕ → Pair
 kind_variable group picks kind = record { name = group_name group ++ codes "_" ++ map to_ascii_uppercase kind; value = joined_with semicolon (needs_in group picks kind) }
 
--- the variable that tells of which types a group has resources
+-- the variable that tells which types of resources a group has
 abbrev pub group_variable : ℕ → List (List ℕ) → Pair
 group_variable group kinds = record { name = group_name group; value = joined_with comma kinds }
 
@@ -52,11 +52,11 @@ group_variable group kinds = record { name = group_name group; value = joined_wi
 abbrev pub group_variables : List Pick → ℕ → List Pair
 group_variables picks group = group_variable group (kinds_in group picks) ∷ map (kind_variable group picks) (kinds_in group picks)
 
--- the variables of so many groups: their count, and those of each
+-- the variables of this many groups: their count, and those of each group
 abbrev pub placement_variables : ℕ → List Pick → List Pair
 placement_variables groups picks = record { name = group_count; value = decimal groups } ∷ flat_map (group_variables picks) (range_with_len 0 groups)
 
--- the variables of a placement, where one is given
+-- the variables of a placement; none where no placement is given
 abbrev pub given_variables : ℕ → Option Placement → List Pair
 given_variables groups None = []
 given_variables groups (Some placement) = placement_variables groups placement.picks

@@ -12,7 +12,7 @@ use Rattle.ct_env.specs.Environment.{after_change, after_entries, base_value}
 abbrev pub pair_of : {Y Z : Type 0} → Vec ℕ Y × Vec ℕ Z → Pair
 pair_of entry = record { name = entry.0.items; value = entry.1.items }
 
--- names that are kept in a set
+-- the names that a set keeps
 abbrev pub names_in : {Y : Type 0} → List (Vec ℕ Y) → List (List ℕ)
 names_in kept = map (λ name. name.items) kept
 
@@ -24,7 +24,7 @@ PutsVariable name value before after = (other : List ℕ) → value_of_key after
 abbrev pub SetsAll : List Pair → List Pair → List Pair → Type 0
 SetsAll pairs before after = (name : List ℕ) → value_of_key after name ≡ option_or (held_by pairs name) (value_of_key before name)
 
--- each variable is as it is behind a change
+-- each variable has the value that it has after a change
 abbrev pub Changes : List Pair → Option Change → List Pair → List Pair → Type 0
 Changes base change before after = (name : List ℕ) → value_of_key after name ≡ after_change name (value_of_key base name) (value_of_key before name) change
 

@@ -14,8 +14,8 @@ pub fn split_first(text: &[u8], byte: u8) -> Option<(&[u8], &[u8])>
 
 /// Splits an entry into the name of a variable and what stands behind its `=`.
 ///
-/// Source: CMake manual, cmake-properties(7), ENVIRONMENT. That an empty name is none is this
-/// project's choice.
+/// Source: CMake manual, cmake-properties(7), ENVIRONMENT. That an entry with an empty name sets no
+/// variable is this project's choice.
 pub fn assignment_in(entry: &[u8]) -> Option<(&[u8], &[u8])>
     ensures { option_map (λ parts. record { name = parts.0.now; value = parts.1.now }) result ≡ assignment_of entry.now }
 {
@@ -26,7 +26,7 @@ pub fn assignment_in(entry: &[u8]) -> Option<(&[u8], &[u8])>
     Some((name, value))
 }
 
-/// The variables that entries set, in order. An entry that sets none is passed over.
+/// Returns the variables that entries set, in order. An entry that sets none is passed over.
 pub fn assignments_in(alloc: Global, entries: &[Name]) -> Result<List<Pair>, NoMemory>
     ensures { IfOk result (λ pairs. pairs ≡ assignments_of entries.now) }
 {

@@ -10,7 +10,7 @@ use ct_base::{List, Name, NoMemory};
 use std::alloc::Global;
 use std::collections::BTreeSet;
 
-/// The types of resources of which a group has some, each once, in byte order.
+/// Returns the types of resources that a group has, each once, in byte order.
 pub fn kinds_in(alloc: Global, group: u32, picks: &[Pick]) -> Result<List<Name>, NoMemory>
     ensures { IfOk result (λ kinds. kinds ≡ kinds_of group picks.now) }
 {

@@ -52,7 +52,7 @@ impl Operation {
         }
     }
 
-    /// The value of a variable behind the operation; `None` is a variable that is not set.
+    /// Returns the value of a variable after the operation; `None` is a variable that is not set.
     pub fn value_after(
         self,
         alloc: Global,
@@ -92,7 +92,7 @@ fn copied(alloc: Global, value: Option<&[u8]>) -> Result<Option<Vec<u8>>, NoMemo
     }
 }
 
-/// Puts a value behind the others of a list.
+/// Returns a list with a value behind its others.
 fn set_behind(alloc: Global, separator: u8, list: &[u8], value: &[u8]) -> Result<Vec<u8>, NoMemory>
     ensures { IfOk result (λ text. text.items ≡ behind separator list.now value.now) }
 {
@@ -102,7 +102,7 @@ fn set_behind(alloc: Global, separator: u8, list: &[u8], value: &[u8]) -> Result
     }
 }
 
-/// Puts a value in front of the others of a list.
+/// Returns a list with a value in front of its others.
 fn set_in_front(
     alloc: Global,
     separator: u8,

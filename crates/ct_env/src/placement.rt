@@ -8,7 +8,7 @@ use ct_alloc::{Pick, Placement};
 use ct_base::{List, Name, NoMemory, Pair};
 use std::alloc::Global;
 
-/// The variables that tell a test of its resources, where a placement is given.
+/// Returns the variables that tell a test of its resources; without a placement, none.
 pub fn given_variables(
     alloc: Global,
     groups: u32,
@@ -22,7 +22,7 @@ pub fn given_variables(
     }
 }
 
-/// The variables that tell a test of the resources of its groups.
+/// Returns the variables that tell a test of the resources of its groups.
 ///
 /// Source: CMake manual, ctest(1), Resource Allocation, Environment Variables.
 fn placement_variables(alloc: Global, groups: u32, picks: &[Pick]) -> Result<List<Pair>, NoMemory>
@@ -38,7 +38,7 @@ fn placement_variables(alloc: Global, groups: u32, picks: &[Pick]) -> Result<Lis
     Ok(pairs)
 }
 
-/// Puts the variables of a group behind the others.
+/// Adds the variables of a group behind the others.
 fn push_group(
     alloc: Global,
     pairs: &mut List<Pair>,
@@ -53,7 +53,7 @@ fn push_group(
     Ok(())
 }
 
-/// The variable that tells which types of resources a group has.
+/// Returns the variable that tells which types of resources a group has.
 fn group_variable(alloc: Global, group: u32, kinds: &[Name]) -> Result<Pair, NoMemory>
     ensures { IfOk result (λ pair. pair ≡ variable_of_group group kinds.now) }
 {
@@ -63,7 +63,7 @@ fn group_variable(alloc: Global, group: u32, kinds: &[Name]) -> Result<Pair, NoM
     })
 }
 
-/// Puts one variable for each of these types behind the others.
+/// Adds one variable for each of these types behind the others.
 fn push_kinds(
     alloc: Global,
     pairs: &mut List<Pair>,
@@ -79,7 +79,7 @@ fn push_kinds(
     Ok(())
 }
 
-/// The variable that tells a group which resources of a type it has.
+/// Returns the variable that tells which resources of a type a group has.
 fn kind_variable(alloc: Global, group: u32, picks: &[Pick], kind: &Name) -> Result<Pair, NoMemory>
     ensures { IfOk result (λ pair. pair ≡ variable_of_kind group picks.now kind.now) }
 {
@@ -111,7 +111,7 @@ fn in_capitals(alloc: Global, kind: &[u8]) -> Result<Vec<u8>, NoMemory>
     Ok(text)
 }
 
-/// What a group has of the resources of a type: one text for each need, in order.
+/// Returns what a group has of the resources of a type: one text for each need, in order.
 fn needs_in(alloc: Global, group: u32, picks: &[Pick], kind: &Name) -> Result<List<Name>, NoMemory>
     ensures { IfOk result (λ needs. needs ≡ needs_of group picks.now kind.now) }
 {
@@ -134,7 +134,7 @@ fn need_text(alloc: Global, pick: &Pick) -> Result<Name, NoMemory>
     Ok(Name::from_vec(text))
 }
 
-/// The texts in a row with a separator between.
+/// Returns the texts in a row, with a separator between them.
 fn joined(alloc: Global, separator: u8, texts: &[Name]) -> Result<Name, NoMemory>
     ensures { IfOk result (λ text. text ≡ joined_with separator texts.now) }
 {

@@ -27,7 +27,7 @@ pub fn bad_operation(props: &Props) -> Option<u32>
     }
 }
 
-/// The environment of a test's program, in byte order of names, each name once.
+/// Returns the environment of a test's program, in byte order of names, each name once.
 ///
 /// It is made of the run's own environment, ENVIRONMENT, ENVIRONMENT_MODIFICATION, and, where a
 /// placement is given, what the test has of the machine's resources. An entry of the modification
@@ -51,7 +51,7 @@ pub fn environment(
     changed.with_all(alloc, told.as_slice())?.into_list(alloc)
 }
 
-/// The variables without any modification.
+/// Returns the variables without any modification.
 fn base_variables(alloc: Global, own: &[Pair], entries: &[Name]) -> Result<Variables, NoMemory>
     ensures { IfOk result (λ variables. AreBase own.now entries.now variables) }
 {

@@ -32,7 +32,7 @@ impl Model for Variables {
 }
 
 impl Variables {
-    /// Sets no variable.
+    /// Makes variables of which none is set.
     pub fn new(alloc: Global) -> Variables
         ensures { result ≡ [] }
     {
@@ -49,7 +49,7 @@ impl Variables {
         Some(value.as_slice())
     }
 
-    /// Makes second variables of the same values.
+    /// Makes a copy of the variables.
     pub fn copy(&self) -> Result<Variables, NoMemory>
         ensures { IfOk result (λ variables. variables ≡ self.now) }
     {
@@ -58,7 +58,7 @@ impl Variables {
         })
     }
 
-    /// Gives a variable this value or, with `None`, takes its value away.
+    /// Sets a variable to this value or, with `None`, unsets it.
     pub fn with(
         self,
         alloc: Global,
@@ -81,7 +81,7 @@ impl Variables {
         Ok(Variables { values })
     }
 
-    /// Takes the value of a variable away.
+    /// Unsets a variable.
     pub fn without(self, name: &[u8]) -> Variables
         ensures { PutsVariable name.now None self result }
     {
@@ -138,7 +138,7 @@ impl Variables {
         self.with(alloc, name, value)
     }
 
-    /// Ends the changes.
+    /// Returns the variables as a list, in byte order of names.
     pub fn into_list(self, alloc: Global) -> Result<List<Pair>, NoMemory>
         ensures same { IfOk result (λ pairs. pairs ≡ self) }
         ensures ordered { IfOk result (λ pairs. IsAscending pairs) }

@@ -14,12 +14,12 @@ text-more f n =
     ∙ flat_map-append f (map (λ x. x) (range_with_len 1 n)) ((n + 1) ∷ [])
     ∙ (λ i. flat_map-map f (λ x. x) (range_with_len 1 n) i ++ append-nil (f (n + 1)) i)
 
--- the text of one number more
+-- the text with that of one number more
 pub one_text_more : (f : ℕ → List ℕ) (n : ℕ) (now after : List ℕ) → now ≡ flat_map f (range_with_len 1 n) →
     after ≡ now ++ f (n + 1) → after ≡ flat_map f (range_with_len 1 (n + 1))
 one_text_more f n now after so_far is = is ∙ ap (λ text. text ++ f (n + 1)) so_far ∙ sym (text-more f n)
 
--- the item of one number more
+-- the items with that of one number more
 pub one_item_more : {X : Type 0} (f : ℕ → X) (n : ℕ) (now after : List X) →
     now ≡ map f (range_with_len 1 n) → after ≡ now ++ f (n + 1) ∷ [] →
     after ≡ map f (range_with_len 1 (n + 1))

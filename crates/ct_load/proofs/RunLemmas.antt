@@ -19,7 +19,7 @@ use Rattle.ct_load.specs.World.{gates_of}
 use Rattle.ct_load.specs.Load.{EndsEarly, LoadsTests}
 use Rattle.ct_load.specs.Run.{IsLoadRun, LoadRun, calm_files, calm_sink, run_sides, run_words}
 
--- the values of a run that began with these
+-- the values of a run that began with these words, variables, files, gates and sink
 abbrev pub sides_with : LoadRun → List (List ℕ) → List Pair → List Pair → List ScriptValue → List ℕ → Sides
 sides_with run words env files gates sink = sides words env (calm_files files) (calm_files run.files) (map told_of_script gates) (map told_of_script run.gates.items) (calm_sink sink) (calm_sink run.sink) run.plan (option_map history_entries run.history)
 
@@ -52,12 +52,12 @@ ran_not_one None history s status never one = never
 ran_not_one (Some plan) None s status never one = never
 ran_not_one (Some plan) (Some entries) s status ran one = status_not_one (is_failed ran.invocation.empty_is_error plan entries) status ran.completed.is one
 
--- a load that has no run, since memory was wanting
+-- a load without a run, since memory was wanting
 pub short_load : (count : ℕ) (before now : SinkTell) (run : Option LoadRun) (status : ℕ) → run ≡ None →
     status ≡ 5 → EndsEarly count before now → LoadsTests count before now run status
 short_load count before now run status none five short = subst (λ (r : Option LoadRun). LoadsTests count before now r status) (sym none) (short, five)
 
--- a load that the words ask for never has the status of other words
+-- a load of a number of tests never has the status 1
 pub load_not_one : (count : ℕ) (before now : SinkTell) (run : Option LoadRun) (status : ℕ) →
     LoadsTests count before now run status → status ≡ 1 → ⊥
 load_not_one count before now (Some run) status (inl whole) one = ran_not_one run.plan (option_map history_entries run.history) (run_sides count run) run.status whole.shown.ran.meant (sym whole.is ∙ one)

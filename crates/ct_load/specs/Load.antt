@@ -1,4 +1,4 @@
--- What a load is asked for, and what it puts and answers. This project's own.
+-- What a load is asked for, and what it puts and returns. This project's own.
 use Rattle.std.specs.Prelude.{◌≡◌, ◌⊎◌, ℕ, nat_le, ◌&&◌, List, [], ◌∷◌, codes, Option, Some, None, IsSomeAnd, Result, Ok, Err, if◌then◌else◌}
 use Rattle.ct_base.specs.declared.sink.SinkFault.{SinkFault}
 use Rattle.ct_base.specs.declared.sink.SinkFault.TheVariants.{Failed, NoMemory}
@@ -14,16 +14,16 @@ use Rattle.ct_load.specs.Run.{IsLoadRun, LoadRun}
 abbrev pub most_tests : ℕ
 most_tests = 100000
 
--- a number of tests, where it is one from 1 to the greatest
+-- a number of tests, if it is from 1 to the greatest number
 abbrev pub count_within : ℕ → Option ℕ
 count_within count = if nat_le 1 count && nat_le count most_tests then Some count else None
 
--- the number of tests that a word asks for, where it is a number
+-- the number of tests that a word asks for, if the word is a number from 1 to the greatest number
 abbrev pub count_of : Option ℕ → Option ℕ
 count_of None = None
 count_of (Some count) = count_within count
 
--- the number of tests that these words ask for: they are one word, a number from 1 to the greatest
+-- the number of tests that these words ask for, if they are one word, a number from 1 to the greatest number
 abbrev pub asked_count : List (List ℕ) → Option ℕ
 asked_count [] = None
 asked_count (word ∷ []) = count_of (number_in word)
@@ -38,7 +38,7 @@ abbrev pub PutsSummary : LoadRun → SinkTell → SinkTell → Result (Unit {0})
 PutsSummary run before now put = IsSomeAnd run.plan (λ plan. IsSomeAnd run.history (λ history.
     PutsLines (summary_lines plan (history_entries history)) before now put))
 
--- a run of so many tests was completed, and its summary was put, or a beginning of it
+-- a run of `count` tests was completed, and its summary was put, or a beginning of it
 pub record IsShown (count : ℕ) (run : LoadRun) (before now : SinkTell)
     (put : Result (Unit {0}) SinkFault) : Type 0 where
   pub ran : IsLoadRun count run
@@ -59,14 +59,15 @@ pub record IsCut (count : ℕ) (run : LoadRun) (before now : SinkTell) (status :
 abbrev pub EndsEarly : ℕ → SinkTell → SinkTell → Type 0
 EndsEarly count before now = (now ≡ before) ⊎ ((run : LoadRun) × IsShown count run before now (Err NoMemory))
 
--- what a load of so many tests gives, which has its run but for want of memory
+-- what a load of `count` tests returns: a run whose summary was put, whole or cut; without a run, an early
+-- end and the status 5
 abbrev pub LoadsTests : ℕ → SinkTell → SinkTell → Option LoadRun → ℕ → Type 0
 LoadsTests count before now (Some run) status =
     IsWhole count run before now status ⊎ IsCut count run before now status
 LoadsTests count before now None status = EndsEarly count before now × (status ≡ 5)
 
--- what a load gives, by the number of tests that it is asked for; without one it has no run, and the line on
--- its words is tried
+-- what a load returns, by the number of tests that it is asked for. Without a number it has no run, the put
+-- of the usage line is tried, and the status is 1.
 abbrev pub Loads : Option ℕ → SinkTell → SinkTell → Option LoadRun → ℕ → Type 0
 Loads (Some count) before now run status = LoadsTests count before now run status
 Loads None before now run status = Tries usage_line before now × (run ≡ None) × (status ≡ 1)

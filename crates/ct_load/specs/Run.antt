@@ -16,7 +16,7 @@ use Rattle.ct_app.specs.Run.{OthersStay}
 use Rattle.ct_load.specs.Tree.{tree_files}
 use Rattle.ct_load.specs.World.{gate_count, gates_of}
 
--- what a run over files, gates and a sink in memory gives back
+-- what a run over files, gates and a sink in memory returns
 abbrev pub LoadRun : Type 0
 LoadRun = Finished (List Pair) ScriptValue (List ℕ)
 
@@ -24,16 +24,16 @@ LoadRun = Finished (List Pair) ScriptValue (List ℕ)
 abbrev pub run_words : List (List ℕ)
 run_words = codes "-j" ∷ codes "4" ∷ []
 
--- what files in memory tell that never fail: all
+-- what files in memory that never fail tell: all that they hold
 abbrev pub calm_files : List Pair → FilesTell
 calm_files pairs = record { held = Some (held_by pairs); refused = Some None; faults = 0 }
 
--- what a sink in memory tells that never fails: all that was written
+-- what a sink in memory that never fails tells: all that was written
 abbrev pub calm_sink : List ℕ → SinkTell
 calm_sink written = record { written = Some written; pieces = None; faults = 0 }
 
--- the values of the run of so many tests, which begins with the tree alone, gates of its world, an empty sink
--- and no environment
+-- the values of the run of `count` tests. The run begins with the tree alone, gates of its world, an empty
+-- sink and no environment.
 abbrev pub run_sides : ℕ → LoadRun → Sides
 run_sides count run = sides run_words [] (calm_files (tree_files count)) (calm_files run.files)
     (map told_of_script (gates_of count)) (map told_of_script run.gates.items)
@@ -45,7 +45,7 @@ abbrev pub IsFinal : LoadRun → Type 0
 IsFinal run = IsSomeAnd run.plan (λ plan. IsSomeAnd run.history (λ history.
     are_all_final plan (history_entries history) ≡ true))
 
--- a run of so many tests was completed, came as is meant, and is all that a call of ctest promises
+-- a run of `count` tests was completed, ended as is meant, and is all that a call of ctest promises
 pub record IsLoadRun (count : ℕ) (run : LoadRun) : Type 0 where
   pub completed : run.outcome ≡ Completed
   pub meant : HasRunAsMeant (run_sides count run) run.status

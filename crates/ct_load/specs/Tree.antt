@@ -3,7 +3,7 @@ use Rattle.std.specs.Prelude.{ℕ, ◌+◌, ◌-◌, ◌%◌, List, [], ◌∷�
 use Rattle.std.specs.List.{range_with_len}
 use Rattle.ct_base.specs.declared.defs.Pair.{Pair}
 
--- the numbers of so many tests
+-- the numbers of `count` tests, from 1
 abbrev pub numbers : ℕ → List ℕ
 numbers count = range_with_len 1 count
 
@@ -15,11 +15,11 @@ name_of number = codes "t" ++ decimal number
 abbrev pub add_line : ℕ → List ℕ
 add_line number = codes "add_test(" ++ name_of number ++ codes " \"true\")\n"
 
--- every tenth test waits for the one in front of it
+-- the property by which every tenth test waits for the test in front of it
 abbrev pub depends : ℕ → List ℕ
 depends number = if number % 10 == 0 then codes " DEPENDS \"" ++ name_of (number - 1) ++ codes "\"" else []
 
--- every fourth test holds one of five locks
+-- the property of the lock that every fourth test holds, one of five
 abbrev pub lock : ℕ → List ℕ
 lock number = if number % 4 == 0 then codes " RESOURCE_LOCK \"l" ++ decimal (number % 5) ++ codes "\"" else []
 
@@ -36,7 +36,7 @@ properties_line number =
 abbrev pub lines_of : ℕ → List ℕ
 lines_of number = add_line number ++ properties_line number
 
--- the test file of so many tests: the lines of each, in order of number
+-- the test file of `count` tests: the lines of each, in order of number
 abbrev pub tree_text : ℕ → List ℕ
 tree_text count = flat_map lines_of (numbers count)
 

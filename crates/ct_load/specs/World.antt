@@ -18,11 +18,11 @@ told_of number = record {
   ended = record { how = Exited (code_of number); micros = number };
 }
 
--- the world of so many tests
+-- the world of `count` tests
 abbrev pub world_of : ℕ → List Told
 world_of count = map told_of (numbers count)
 
--- a gate of this world that was asked nothing yet
+-- a gate of this world that was not asked yet
 abbrev pub gate_of : ℕ → ScriptValue
 gate_of count = record { world = world_of count; asked = []; sent = []; faults = 0 }
 

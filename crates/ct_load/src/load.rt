@@ -16,12 +16,12 @@ use std::thread::Threads;
 /// Source: this project's choice.
 const MOST_TESTS: u64 = 100_000;
 
-/// What a load gives back.
+/// What a load returns.
 #[derive(Drop)]
 pub struct Loaded<S> {
     /// The exit code of the program.
     pub status: u8,
-    /// The run, where it was completed and its summary did not lack memory.
+    /// The run, if it was completed and memory was not wanting for its summary.
     pub run: Option<LoadRun>,
     pub sink: S,
 }
@@ -29,10 +29,10 @@ pub struct Loaded<S> {
 /// Runs as many generated tests as the words ask for, from 1 to 100,000, over files, gates and a sink in
 /// memory, and puts the summary of that run.
 ///
-/// The status is that of the run. It is 4 where the sink fails at the summary, and 5 where memory is wanting.
-/// Other words than one number in that range get a line that says so and the status 1, whatever comes of it.
-/// A run that is not completed gives 5 too: that the generated tests are never refused is shown by tests, and
-/// not by a proof.
+/// The status is that of the run. It is 4 where the sink fails at the summary, and 5 where memory
+/// is wanting. For words other than one number in that range, it puts a line that says so, and the
+/// status is 1, whether or not that put fails. The status is 5 too where the run is not completed.
+/// That the generated tests are never refused is shown by tests, and not by a proof.
 ///
 /// Source: this project's choice.
 pub fn load_main<R: Threads + Wait + Sync, S: Sink>(
@@ -51,7 +51,7 @@ pub fn load_main<R: Threads + Wait + Sync, S: Sink>(
     }
 }
 
-/// The number of tests that the words ask for.
+/// Returns the number of tests that the words ask for, if they ask for one.
 fn asked_count(words: &[Name]) -> Option<u32>
     ensures { result ≡ asked_count words.now }
 {
@@ -71,7 +71,7 @@ fn count_within(count: u64) -> Option<u32>
     }
 }
 
-/// Says which words a load takes.
+/// Puts the line that says which words a load takes.
 fn tell_usage<S: Sink>(mut sink: S) -> Loaded<S>
     ensures line { Tries usage_line (S.tells sink) (S.tells result.sink) }
     ensures none { result.run ≡ None }
@@ -85,7 +85,7 @@ fn tell_usage<S: Sink>(mut sink: S) -> Loaded<S>
     }
 }
 
-/// Runs so many generated tests, and puts the summary of that run.
+/// Runs `count` generated tests, and puts the summary of that run.
 fn load<R: Threads + Wait + Sync, S: Sink>(
     rt: &R,
     alloc: Global,

@@ -10,10 +10,10 @@ use std::alloc::Global;
 use std::sync::Wait;
 use std::thread::Threads;
 
-/// What a run over files, gates and a sink in memory gives back.
+/// What a run over files, gates and a sink in memory returns.
 pub type LoadRun = Finished<CalmFiles, ScriptGate, CalmSink>;
 
-/// Runs so many generated tests by four workers.
+/// Runs `count` generated tests by four workers.
 ///
 /// A run that was not completed is dropped.
 pub(crate) fn run_of<R: Threads + Wait + Sync>(
@@ -35,7 +35,7 @@ pub(crate) fn run_of<R: Threads + Wait + Sync>(
     }
 }
 
-/// The words of the run.
+/// Returns the words of the run.
 fn run_words(alloc: Global) -> Result<Vec<Name>, NoMemory>
     ensures { IfOk result (λ words. words.items ≡ run_words) }
 {

@@ -4,7 +4,7 @@ ghost use Rattle.ct_load.specs.Tree.{add_line, depends, lines_of, lock, name_of,
 use ct_base::{Blob, CalmFiles, List, Name, NoMemory, Pair};
 use std::alloc::Global;
 
-/// Makes files that hold the test file of so many tests alone.
+/// Makes files that hold only the test file of `count` tests.
 pub(crate) fn tree_files(alloc: Global, count: u32) -> Result<CalmFiles, NoMemory>
     ensures { IfOk result (λ files. files ≡ tree_files count) }
 {
@@ -16,7 +16,7 @@ pub(crate) fn tree_files(alloc: Global, count: u32) -> Result<CalmFiles, NoMemor
     Ok(CalmFiles::new(files))
 }
 
-/// Writes the lines of so many tests, whose numbers are from 1.
+/// Writes the lines of `count` tests, whose numbers are from 1.
 fn tree_text(alloc: Global, count: u32) -> Result<Name, NoMemory>
     ensures { IfOk result (λ text. text ≡ tree_text count) }
 {
@@ -66,7 +66,7 @@ fn properties_line(alloc: Global, number: u32) -> Result<Blob, NoMemory>
     Ok(line)
 }
 
-/// Writes what every tenth test waits for: the test in front of it.
+/// Writes the property by which every tenth test waits for the test in front of it.
 fn depends(alloc: Global, number: u32) -> Result<Blob, NoMemory>
     requires { 0 < number }
     ensures { IfOk result (λ text. text ≡ depends number) }
@@ -80,7 +80,7 @@ fn depends(alloc: Global, number: u32) -> Result<Blob, NoMemory>
     Ok(text)
 }
 
-/// Writes the lock that every fourth test holds, one of five.
+/// Writes the property of the lock that every fourth test holds, one of five.
 fn lock(alloc: Global, number: u32) -> Result<Blob, NoMemory>
     ensures { IfOk result (λ text. text ≡ lock number) }
 {

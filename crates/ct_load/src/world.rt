@@ -9,7 +9,7 @@ use std::alloc::Global;
 /// How many gates a load has.
 const GATES: usize = 4;
 
-/// Makes the gates of a load of so many tests, all of one world.
+/// Makes the gates of a load of `count` tests, all of one world.
 pub(crate) fn gates_of(alloc: Global, count: u32) -> Result<Vec<ScriptGate>, NoMemory>
     ensures all { IfOk result (λ gates. vec_len gates ≡ gate_count) }
     ensures are { IfOk result (λ gates. gates.items ≡ gates_of count) }
@@ -28,7 +28,7 @@ fn gate_of(alloc: Global, count: u32) -> Result<ScriptGate, NoMemory>
     Ok(ScriptGate::new(alloc, world))
 }
 
-/// Makes the world of so many tests, whose numbers are from 1.
+/// Makes the world of `count` tests, whose numbers are from 1.
 fn world_of(alloc: Global, count: u32) -> Result<List<Told>, NoMemory>
     ensures { IfOk result (λ world. world ≡ world_of count) }
 {
@@ -39,7 +39,7 @@ fn world_of(alloc: Global, count: u32) -> Result<List<Told>, NoMemory>
     Ok(world)
 }
 
-/// What is told of the first attempt of a test.
+/// Returns what is told of the first attempt of a test.
 fn told_of(alloc: Global, number: u32) -> Told
     ensures { result ≡ told_of number }
 {
@@ -54,7 +54,7 @@ fn told_of(alloc: Global, number: u32) -> Told
     }
 }
 
-/// The exit code of a test.
+/// Returns the exit code of a test.
 fn code_of(number: u32) -> i32
     ensures { result ≡ code_of number }
 {

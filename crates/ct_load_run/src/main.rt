@@ -1,5 +1,5 @@
-//! The program that loads: it runs as many generated tests as its word asks for, without programs, and prints
-//! the summary of that run.
+//! The program that loads: it runs as many generated tests as its word asks for, without programs.
+//! It prints the summary of that run.
 //!
 //! Hands up: nothing; it is the program.
 //! Stands on: ct_base, ct_load, ct_edge.

@@ -15,7 +15,7 @@ use std::sync::Wait;
 use std::thread::Threads;
 use std::{env, io};
 
-/// The words are numbered by a u32, so there are fewer than it has values.
+/// The greatest number of words. They are numbered by a u32, so there are fewer than it has values.
 ///
 /// Source: this project's choice.
 const MOST_WORDS: usize = 4_294_967_294;
@@ -30,7 +30,7 @@ pub enum BeginFault {
 }
 
 impl BeginFault {
-    /// The exit code of the program where it could not begin.
+    /// Returns the exit code of a program that could not begin.
     ///
     /// Source: this project's choice.
     pub fn status(self) -> u8
@@ -79,7 +79,7 @@ impl From<io::Error> for BeginFault {
     }
 }
 
-/// What a load on the machine gives back.
+/// What a load on the machine returns.
 pub type Load = Loaded<RealSink<Stdout>>;
 
 /// Runs as many generated tests as the words of the process ask for.
@@ -90,7 +90,7 @@ pub fn begin<R: Threads + Wait + Sync>(threads: &R, rt: HostRuntime) -> Result<L
     run(threads, rt, args.as_slice())
 }
 
-/// Hands the words and the output to the call.
+/// Passes the words and the standard output to `load_main`.
 fn run<R: Threads + Wait + Sync>(
     threads: &R,
     rt: HostRuntime,
@@ -104,7 +104,7 @@ fn run<R: Threads + Wait + Sync>(
     Ok(load_main(threads, rt.alloc(), words.as_slice(), sink))
 }
 
-/// The exit code of the program.
+/// Returns the exit code of the program.
 ///
 /// Source: this project's choice where the load could not begin.
 pub fn exit_code<S: Drop>(begun: Result<Loaded<S>, BeginFault>) -> ExitCode
@@ -116,7 +116,7 @@ pub fn exit_code<S: Drop>(begun: Result<Loaded<S>, BeginFault>) -> ExitCode
     })
 }
 
-/// The words behind the program's own name.
+/// Returns the words behind the program's own name.
 fn words_of(alloc: Global, args: &[String]) -> Result<Vec<Name>, BeginFault>
     ensures words { IfOk result (λ words. words.items ≡ words_in args.now) }
     ensures many { IsErrOf result BeginCause.Failed → 2 ^ 32 ≤ length args.now }

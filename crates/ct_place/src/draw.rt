@@ -16,7 +16,7 @@ impl Dice {
         Dice { state }
     }
 
-    /// Draws one of the numbers from 0 on, so many.
+    /// Draws a number from 0 to below `sides`.
     fn roll(&mut self, sides: u32) -> u32
         requires { 0 < sides }
         ensures { result < sides }
@@ -38,7 +38,8 @@ pub struct Case {
 }
 
 impl Case {
-    /// Draws up to 64 cards of up to 16 slots, and up to 64 needs of up to 8 that take 85 to 105 in 100 of the slots.
+    /// Draws up to 64 cards of up to 16 slots each, and up to 64 needs of up to 8 slots each. The
+    /// needs take 85 to 105 percent of the slots, if 64 needs suffice for that.
     pub fn draw(alloc: Global, dice: &mut Dice) -> Result<Case, NoMemory> {
         let count = 1 + dice.roll(64);
         let most = 1 + dice.roll(16);
@@ -57,7 +58,8 @@ impl Case {
         })
     }
 
-    /// Needs of 2 slots on cards of 11, which take 5 each: in every second round one need too many.
+    /// Makes needs of 2 slots, and cards of 11 slots, each of which takes 5 needs. In every second
+    /// round there is one need too many.
     pub fn hard(alloc: Global, round: u32) -> Result<Case, NoMemory> {
         let count = round / 2 % 10 + 3;
         let needs = (count * 5 + round % 2) as usize;
@@ -67,7 +69,7 @@ impl Case {
         })
     }
 
-    /// One need on 4,096 cards, of which the last alone has room.
+    /// Makes one need and 4,096 cards, of which only the last one has room.
     pub fn one(alloc: Global) -> Result<Case, NoMemory> {
         let mut cards = vec![in alloc; 1; 4095]?;
         cards.push(2)?;
@@ -78,7 +80,7 @@ impl Case {
     }
 }
 
-/// Draws needs that take so many slots together, but not more than 64 needs.
+/// Draws needs that take `slots` slots together, but not more than 64 needs.
 fn drawn_needs(alloc: Global, dice: &mut Dice, slots: u32) -> Result<Vec<u32>, NoMemory> {
     let most = 1 + dice.roll(8);
     let mut left = slots;

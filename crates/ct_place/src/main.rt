@@ -1,4 +1,5 @@
-//! The program `ct_place`: it places drawn needs on drawn cards, and prints how many found a placement and how long it took.
+//! The program `ct_place`: it places drawn needs on drawn cards. It prints how many found a
+//! placement, and how long it took.
 //!
 //! Hands up: nothing; it is the program that `measure/place` calls.
 //! Stands on: ct_base, ct_alloc and `anyhow`.

@@ -1,4 +1,4 @@
-//! One call of `Free::place`, and what came of all of them.
+//! One call of `Free::place`, and the result of all of them.
 
 ghost use Rattle.std.specs.Prelude.{◌<◌};
 
@@ -8,7 +8,7 @@ use ct_base::{List, Name, Need, NoMemory, Resource};
 use std::alloc::Global;
 use std::time::{Clock, Instant};
 
-/// What came of the calls: how many found a placement, and how long they took, in microseconds.
+/// The result of the calls: how many found a placement, and how long they took, in microseconds.
 #[derive(Drop)]
 pub struct Tally {
     pub placed: u64,
@@ -31,7 +31,7 @@ impl Tally {
         }
     }
 
-    /// Adds one call, which took so many microseconds.
+    /// Adds one call, which took `micros` microseconds.
     fn add(&mut self, is_placed: bool, micros: u128) {
         if is_placed {
             self.placed = self.placed.saturating_add(1);
@@ -45,7 +45,7 @@ impl Tally {
     }
 }
 
-/// Places the needs of a case on its cards, and adds what came of it.
+/// Places the needs of a case on its cards, and adds the result.
 pub fn place(
     rt: &(impl AllocGlobal + Clock),
     case: &Case,
@@ -64,7 +64,7 @@ pub fn place(
     Ok(())
 }
 
-/// The microseconds since then, and 0 where the clock does not tell.
+/// Returns the microseconds since then, or 0 where the clock does not tell.
 fn micros_since(rt: &impl Clock, start: Option<Instant>) -> u128 {
     match start {
         Some(start) => start.elapsed(rt).map_or(0, |time| time.as_micros()),

@@ -11,7 +11,7 @@ use Rattle.ct_props.specs.Labels.{with_label, with_labels}
 abbrev is_new : List (List ℕ) → List ℕ → Bool
 is_new labels name = not (list_any (bytes_eq name) labels)
 
--- what a first test drops, a second one drops anyway
+-- a name that the first test drops is dropped by the second one anyway
 filter-implied-by : (first second : List ℕ → Bool) (name : List ℕ) (kept all : List (List ℕ)) (passes : Bool) → filter second kept ≡ all → (passes ≡ false → second name ≡ false) → filter second (cond passes (name ∷ kept) kept) ≡ cond (second name) (name ∷ all) all
 filter-implied-by first second name kept all true same drops = ap (λ l. cond (second name) (name ∷ l) l) same
 filter-implied-by first second name kept all false same drops = same ∙ ap (λ b. cond b (name ∷ all) all) (sym (drops refl))
@@ -20,7 +20,7 @@ filter-implied : (first second : List ℕ → Bool) (names : List (List ℕ)) �
 filter-implied first second [] drops = refl
 filter-implied first second (name ∷ names) drops = filter-implied-by first second name (filter first names) (filter second names) (first name) (filter-implied first second names drops) (drops name)
 
--- both tests at once
+-- a filter by both tests is one filter behind the other
 filter-both-by : (second : List ℕ → Bool) (name : List ℕ) (kept all : List (List ℕ)) (passes both : Bool) → all ≡ filter second kept → both ≡ (passes && second name) → cond both (name ∷ all) all ≡ filter second (cond passes (name ∷ kept) kept)
 filter-both-by second name kept all true both same are = ap (λ b. cond b (name ∷ all) all) are ∙ ap (λ l. cond (second name) (name ∷ l) l) same
 filter-both-by second name kept all false both same are = ap (λ b. cond b (name ∷ all) all) are ∙ same
@@ -39,7 +39,7 @@ not-false : (b : Bool) → not b ≡ false → b ≡ true
 not-false true is = refl
 not-false false is = sym is
 
--- labels that are gathered behind others, one of them first
+-- labels gathered behind others, with one name in front
 gathered-by : (labels : List (List ℕ)) (name : List ℕ) (names : List (List ℕ)) (has : Bool) → ((others : List (List ℕ)) → with_labels others names ≡ others ++ filter (is_new others) (distinct names)) → list_any (bytes_eq name) labels ≡ has → with_labels (cond has labels (labels ++ name ∷ [])) names ≡ labels ++ cond (not has) (name ∷ filter (is_new labels) (filter (λ x. not (bytes_eq x name)) (distinct names))) (filter (is_new labels) (filter (λ x. not (bytes_eq x name)) (distinct names)))
 gathered-by labels name names true before is =
     let drops : (x : List ℕ) → not (bytes_eq x name) ≡ false → is_new labels x ≡ false = λ x e. ap (is_new labels) ((bytes_eq-Decides x name).0 (not-false (bytes_eq x name) e)) ∙ ap not is in
@@ -53,7 +53,7 @@ gathered : (labels names : List (List ℕ)) → with_labels labels names ≡ lab
 gathered labels [] = sym (append-nil labels)
 gathered labels (name ∷ names) = gathered-by labels name names (list_any (bytes_eq name) labels) (λ others. gathered others names) refl
 
--- in two pieces
+-- names that are gathered in two pieces are gathered at once
 pub in_pieces : (labels one two : List (List ℕ)) → with_labels (with_labels labels one) two ≡ with_labels labels (one ++ two)
 in_pieces labels [] two = refl
 in_pieces labels (name ∷ one) two = in_pieces (with_label labels name) one two
@@ -62,6 +62,6 @@ filter-all : (names : List (List ℕ)) → filter (is_new []) names ≡ names
 filter-all [] = refl
 filter-all (name ∷ names) = ap (λ l. name ∷ l) (filter-all names)
 
--- gathered from nothing in two pieces
+-- names that are gathered in two pieces, from no label, are the distinct names of both
 pub each_once : (one two : List (List ℕ)) → with_labels (with_labels [] one) two ≡ distinct (one ++ two)
 each_once one two = in_pieces [] one two ∙ gathered [] (one ++ two) ∙ filter-all (distinct (one ++ two))

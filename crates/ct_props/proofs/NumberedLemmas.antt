@@ -3,25 +3,25 @@ use Rattle.std.proofs.Common.{ℕ, ◌≡◌, zero, suc, ◌+◌, ◌-◌, ◌<�
 use Rattle.std.proofs.lemmas.Option.{slice_get_cases, slice_get_read, slice_get_within}
 use Rattle.ct_props.specs.Numbered.{at_number}
 
--- what stands at a place is that of the next number
+-- the item at a place is that of the next number
 pub at_number_here : {X : Type 0} (items : List X) (at : ℕ) (item : X) → at < length items → item ≡ get_or items at item → at_number items (at + 1) ≡ Some item
 at_number_here items at item within is =
     let next : at + 1 ≡ suc at = omega arith in
     ap (at_number items) next ∙ slice_get_read items (length items) at item refl within is
 
--- what was read for a number
+-- the item that was read for a number is the one that the list has for it
 pub at_number_read : {X : Type 0} (items : List X) (number : ℕ) (item : X) → 0 < number → number ≤ length items → item ≡ get_or items (number - 1) item → at_number items number ≡ Some item
 at_number_read items number item above within is =
     let same : number ≡ suc (number - 1) = omega (arith, above) in
     ap (at_number items) same ∙ slice_get_read items (length items) (number - 1) item refl (omega (arith, above, within)) is
 
--- a number from 1 up to the length of a list has something there
+-- a list has an item for each number from 1 to its length
 pub at_number_within : {X : Type 0} (items : List X) (number : ℕ) → 0 < number → number ≤ length items → (item : X) × (at_number items number ≡ Some item)
 at_number_within items number above within =
     let same : number ≡ suc (number - 1) = omega (arith, above) in
     ⊎_elim (λ there. (there.0, ap (at_number items) same ∙ there.2)) (λ past. absurd (let far : length items ≤ number - 1 = past.0 in omega (arith, far, above, within))) (slice_get_cases items (number - 1)).1
 
--- what has something is the number of a place
+-- a number for which a list has an item is from 1 to the length of the list
 pub number_within : {X : Type 0} (items : List X) (number : ℕ) (item : X) → at_number items number ≡ Some item → (1 ≤ number) × (number ≤ length items)
 number_within items zero item is = absurd (cc)
 number_within items (suc place) item is = let within : place < length items = slice_get_within items place item is in (omega arith, omega (arith, within))

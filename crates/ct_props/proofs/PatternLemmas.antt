@@ -11,7 +11,7 @@ abbrev pub behind : List Tree → Result (List Tree) RegexFault → Result (List
 behind trees (Ok others) = Ok (trees ++ others)
 behind trees (Err why) = Err why
 
--- one pattern more
+-- one more pattern is read
 pub behind-one : (trees : List Tree) (tree : Tree) (read : Result (List Tree) RegexFault) → behind trees (and_then read (λ others. Ok (tree ∷ others))) ≡ behind (trees ++ tree ∷ []) read
 behind-one trees tree (Ok others) = ap (λ all. Ok all) (sym (append_assoc trees (tree ∷ []) others))
 behind-one trees tree (Err why) = refl

@@ -28,7 +28,7 @@ differ one other before = sym (is_eq-slice_cmp one other) ∙ ap is_eq before
 differ-back : (one other : List ℕ) → ComesBefore one other → bytes_eq other one ≡ false
 differ-back one other before = sym (is_eq-slice_cmp other one) ∙ ap is_eq (nat_list_cmp_total.antisymm other one ∙ ap ordering_reverse before)
 
--- the keys of the rows rise from a key on
+-- the keys of the rows ascend, and are above this key
 abbrev Rises : List ℕ → List Row → Type 0
 Rises key [] = ⊤
 Rises key (row ∷ rows) = ComesBefore key row.0 × Rises row.0 rows
@@ -45,7 +45,7 @@ abbrev found_or : List ℕ × PropKind → Option (List ℕ × PropKind) → Lis
 found_or otherwise None = otherwise
 found_or otherwise (Some found) = found
 
--- a refused key comes behind a key from which on the rows rise
+-- a refused key is above a key from which on the rows ascend
 later-by : (key : List ℕ) (kind : PropKind) (front here : List ℕ) (why : Option PropKind) (rest : Option (List ℕ × PropKind)) → ComesBefore front here → (rest ≡ Some (key, kind) → ComesBefore here key) → refused_or here why rest ≡ Some (key, kind) → ComesBefore front key
 later-by key kind front here None rest before behind found = before-trans front here key before (behind found)
 later-by key kind front here (Some told) rest before behind found = subst (ComesBefore front) (ap (λ o. (found_or (key, kind) o).0) found) before
@@ -76,7 +76,7 @@ least : (key : List ℕ) (kind : PropKind) (row : Row) (rows : List Row) → Ris
 least key kind row [] rises found = least-by key kind row.0 row.1 [] rises found (λ e. cc)
 least key kind row (next ∷ rows) rises found = least-by key kind row.0 row.1 (next ∷ rows) rises found (λ e. least key kind next rows rises.1 e)
 
--- the rows of the table rise
+-- the keys of the table ascend
 abbrev AllRise : List Row → Type 0
 AllRise [] = ⊤
 AllRise (row ∷ rows) = Rises row.0 rows
@@ -95,7 +95,7 @@ is_least props (Bad key kind) is =
     let found = least_of (refusals props) key kind (rise props) is in
     record { refused = found.0; least = found.1 }
 
--- where nothing is refused, no key is
+-- where no first refused key is found, no key is refused
 nothing-by : (test : Bool) (here : List ℕ) (why : Option PropKind) (rest : Option (List ℕ × PropKind)) (other : Option PropKind) → refused_or here why rest ≡ None → (rest ≡ None → other ≡ None) → cond test why other ≡ None
 nothing-by test here None rest other none more = either_none test other (more none)
 nothing-by test here (Some told) rest other none more = cc

@@ -6,7 +6,7 @@ use Rattle.ct_props.specs.declared.fault.PropFault.{PropFault}
 use Rattle.ct_props.specs.declared.fault.PropFault.TheVariants.{Bad, NoMemory}
 use Rattle.ct_props.specs.Refusal.{refusals}
 
--- the first key that is refused, by whether one of the others is
+-- the first refused key and why: this key, if it is refused, else the first of the others
 abbrev pub refused_or : List ℕ → Option PropKind → Option (List ℕ × PropKind) → Option (List ℕ × PropKind)
 refused_or key None others = others
 refused_or key (Some kind) others = Some (key, kind)
@@ -16,7 +16,7 @@ abbrev pub first_refused : List (List ℕ × Option PropKind) → Option (List �
 first_refused [] = None
 first_refused (row ∷ rows) = refused_or row.0 row.1 (first_refused rows)
 
--- the fault is that of the first key that is refused; want of memory is free
+-- the fault is that of the first key that is refused, or want of memory, which may come at any time
 abbrev pub IsFirstRefused : List Pair → PropFault → Type 0
 IsFirstRefused props NoMemory = ⊤
 IsFirstRefused props (Bad key kind) = first_refused (refusals props) ≡ Some (key, kind)

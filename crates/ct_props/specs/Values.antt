@@ -1,5 +1,6 @@
--- The rule of each key: what its value says. A key that a test does not have is `None`, and an empty text where a text is read.
--- Source: CMake manual, cmake-properties(7), Properties on Tests. What is refused, and the bounds, are this project's choice.
+-- The rule of each key: what its value says. A key that a test does not have is `None`, and an empty text
+-- where a text is read. Source: CMake manual, cmake-properties(7), Properties on Tests. What is refused, and
+-- the bounds, are this project's choice.
 use Rattle.std.specs.Prelude.{ℕ, ◌^◌, min, max, ℤ, pos, neg_ℤ, bytes_eq, Bool, ◌||◌, not, List, [], ◌∷◌, map, filter, nat_lt, nat_le, Option, Some, None, Result, Ok, Err, codes, ◌==◌, if◌then◌else◌}
 use Rattle.std.specs.List.{find}
 use Rattle.std.specs.Option.{option_map, option_and_then}
@@ -17,20 +18,20 @@ use Rattle.ct_groups.specs.declared.groups.Groups.{Groups}
 use Rattle.ct_props.specs.declared.fault.PropKind.{PropKind}
 use Rattle.ct_props.specs.declared.fault.PropKind.TheVariants.{BadNumber, BadPattern, BadGroups}
 
--- the value of a key, where the test has it
+-- the value of a key, if the test has the key
 abbrev pub value_of_key : List Pair → List ℕ → Option (List ℕ)
 value_of_key props key = option_map (λ (pair : Pair). pair.value) (find (λ (pair : Pair). bytes_eq pair.name key) props)
 
--- a text, empty where there is none
+-- a text, or an empty one where there is none
 abbrev pub or_empty : Option (List ℕ) → List ℕ
 or_empty None = []
 or_empty (Some text) = text
 
--- the value of a key, empty where the test does not have it
+-- the value of a key, or an empty text where the test does not have the key
 abbrev pub text_of_key : List Pair → List ℕ → List ℕ
 text_of_key props key = or_empty (value_of_key props key)
 
--- both are the same without regard to case
+-- two texts are the same without regard to case
 abbrev pub is_same_word : List ℕ → List ℕ → Bool
 is_same_word text word = bytes_eq (map to_ascii_lowercase text) (map to_ascii_lowercase word)
 
@@ -38,7 +39,7 @@ is_same_word text word = bytes_eq (map to_ascii_lowercase text) (map to_ascii_lo
 abbrev pub is_true_text : List ℕ → Bool
 is_true_text text = is_same_word text (codes "1") || is_same_word text (codes "ON") || is_same_word text (codes "YES") || is_same_word text (codes "TRUE") || is_same_word text (codes "Y")
 
--- the value, or a bad number where there is none
+-- a number, or the fault of a bad number where there is none
 abbrev pub or_bad_number : {X : Type 0} → Option X → Result X PropKind
 or_bad_number None = Err BadNumber
 or_bad_number (Some x) = Ok x
@@ -52,7 +53,7 @@ abbrev pub processors_in : Option (List ℕ) → Result ℕ PropKind
 processors_in None = Ok 1
 processors_in (Some text) = or_bad_number (option_map bounded_processors (number_in text))
 
--- a time or a cost in microseconds, where the key is set: seconds
+-- a time or a cost in microseconds, which is written as seconds, if the key is set
 abbrev pub seconds_in : Option (List ℕ) → Result (Option ℕ) PropKind
 seconds_in None = Ok None
 seconds_in (Some text) = or_bad_number (option_map Some (micros_in text))
@@ -70,17 +71,17 @@ abbrev pub code_in : List ℕ → Option ℤ
 code_in [] = None
 code_in (first ∷ rest) = if first == minus then option_and_then code_to_zero (number_in rest) else option_and_then code_from_zero (number_in (first ∷ rest))
 
--- SKIP_RETURN_CODE: an exit code, where the key is set
+-- SKIP_RETURN_CODE: an exit code, if the key is set
 abbrev pub skip_code_in : Option (List ℕ) → Result (Option ℤ) PropKind
 skip_code_in None = Ok None
 skip_code_in (Some text) = or_bad_number (option_map Some (code_in text))
 
--- the patterns of these texts, or the fault of the first one that is none
+-- the patterns of these texts, or the fault of the first text that is no pattern
 abbrev pub patterns_of : List (List ℕ) → Result (List Tree) RegexFault
 patterns_of [] = Ok []
 patterns_of (text ∷ texts) = and_then (reading text) (λ one. and_then (patterns_of texts) (λ others. Ok (one ∷ others)))
 
--- patterns, or a bad pattern
+-- the patterns, or the fault of a bad pattern
 abbrev pub or_bad_pattern : Result (List Tree) RegexFault → Result (List Tree) PropKind
 or_bad_pattern (Ok trees) = Ok trees
 or_bad_pattern (Err why) = Err (BadPattern why)
@@ -89,12 +90,12 @@ or_bad_pattern (Err why) = Err (BadPattern why)
 abbrev pub patterns_in : List ℕ → Result (List Tree) PropKind
 patterns_in text = or_bad_pattern (patterns_of (entries_of text))
 
--- groups, or bad groups
+-- the groups, or the fault of bad groups
 abbrev pub or_bad_groups : Result Groups GroupsFault → Result Groups PropKind
 or_bad_groups (Ok groups) = Ok groups
 or_bad_groups (Err why) = Err (BadGroups why)
 
--- RESOURCE_GROUPS
+-- RESOURCE_GROUPS: a list of resource groups
 abbrev pub resource_groups_in : List ℕ → Result Groups PropKind
 resource_groups_in text = or_bad_groups (groups_in text)
 

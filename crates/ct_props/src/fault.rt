@@ -7,15 +7,16 @@ use std::alloc::Global;
 
 /// Why the value of a key is refused.
 ///
-/// Source: CMake manual, cmake-properties(7), Properties on Tests. That such a value refuses the
-/// run is this project's choice.
+/// Source: CMake manual, cmake-properties(7), Properties on Tests. That a bad value refuses the run
+/// is this project's choice.
 #[derive(Debug, PartialEq, Eq, Drop)]
 pub enum PropKind {
     /// A text that is no number of the kind that the key takes.
     BadNumber,
-    /// The first pattern of the list that is none, and why. It holds no want of memory.
+    /// The first text of the list that is no pattern, and why. Want of memory is not among the
+    /// reasons.
     BadPattern(RegexFault),
-    /// No list of resource groups, and why. It holds no want of memory.
+    /// A text that is no list of resource groups, and why. Want of memory is not among the reasons.
     BadGroups(GroupsFault),
 }
 
@@ -39,7 +40,7 @@ impl From<NoMemory> for PropFault {
     }
 }
 
-/// Refuses the value of a key.
+/// Returns the fault for the value of a key: a bad value, or want of memory.
 pub fn bad(alloc: Global, key: &[u8], kind: PropKind) -> PropFault
     ensures { IsBad key.now kind result }
 {

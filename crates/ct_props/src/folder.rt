@@ -8,7 +8,8 @@ use crate::texts::text_of;
 use ct_base::{List, Name, NoMemory, TestDef, join_path};
 use std::alloc::Global;
 
-/// The folder in which a test runs: that of its test file, or the one that WORKING_DIRECTORY names.
+/// Returns the folder in which a test runs: that of its test file, or the one that
+/// WORKING_DIRECTORY names.
 ///
 /// Source: CMake manual, cmake-properties(7), WORKING_DIRECTORY.
 pub fn working_dir(alloc: Global, def: &TestDef) -> Result<Name, NoMemory>
@@ -21,7 +22,7 @@ pub fn working_dir(alloc: Global, def: &TestDef) -> Result<Name, NoMemory>
     )
 }
 
-/// The files without which a test does not run, each below the folder in which it runs.
+/// Returns the files without which a test does not run, each below the folder in which it runs.
 ///
 /// Source: CMake manual, cmake-properties(7), REQUIRED_FILES.
 pub fn required_files(alloc: Global, def: &TestDef) -> Result<List<Name>, NoMemory>

@@ -8,7 +8,7 @@ use crate::lists::entries;
 use ct_base::{List, Name, NoMemory, Pair};
 use std::alloc::Global;
 
-/// The labels of a test and then those of its folder, each once, at its first place.
+/// Returns the labels of a test and then those of its folder, each once, at its first place.
 #[tactic(auto, using(crate::proofs::LabelLemmas::each_once))]
 pub fn labels(
     alloc: Global,
@@ -25,7 +25,7 @@ pub fn labels(
     Ok(labels)
 }
 
-/// Puts those names behind the labels that are not among them.
+/// Adds each of these names behind the labels, unless it is among them.
 fn push_new(alloc: Global, labels: &mut List<Name>, names: &[Name]) -> Result<(), NoMemory>
     ensures { OnOk result (labels.new ≡ with_labels labels.old names.now) }
 {

@@ -6,7 +6,7 @@ use crate::texts::text_of;
 use ct_base::{List, Name, NoMemory, Pair, split_list};
 use std::alloc::Global;
 
-/// The entries of a key.
+/// Returns the entries of the value of a key.
 pub fn entries(alloc: Global, props: &[Pair], key: &[u8]) -> Result<List<Name>, NoMemory>
     ensures { IfOk result (λ names. names ≡ entries_of (text_of_key props.now key.now)) }
 {

@@ -12,7 +12,7 @@ use std::alloc::Global;
 /// The greatest number of processors that a test can ask for. This project's choice.
 const MOST_PROCESSORS: u64 = 65_535;
 
-/// How many processors a test takes: one without the key, and one for 0.
+/// Returns how many processors a test takes: 1 without the key and for 0, and at most 65,535.
 pub fn processors(alloc: Global, props: &[Pair], key: &[u8]) -> Result<u32, PropFault>
     ensures value { ReadsKey (λ x. x) key.now (processors_in (value_by props.now key.now)) result }
     ensures reason { IfErr result HasReason }
@@ -32,7 +32,7 @@ fn bounded(number: u64) -> u32
     number.max(1).min(MOST_PROCESSORS) as u32
 }
 
-/// A time or a cost, in microseconds, where the test has the key.
+/// Returns a time or a cost in microseconds, if the test has the key.
 pub fn seconds(alloc: Global, props: &[Pair], key: &[u8]) -> Result<Option<u64>, PropFault>
     ensures value { ReadsKey (λ x. x) key.now (seconds_in (value_by props.now key.now)) result }
     ensures reason { IfErr result HasReason }
@@ -46,7 +46,7 @@ pub fn seconds(alloc: Global, props: &[Pair], key: &[u8]) -> Result<Option<u64>,
     Ok(Some(read))
 }
 
-/// An exit code, where the test has the key.
+/// Returns an exit code, if the test has the key.
 pub fn skip_code(alloc: Global, props: &[Pair], key: &[u8]) -> Result<Option<i32>, PropFault>
     ensures value { ReadsKey (λ x. x) key.now (skip_code_in (value_by props.now key.now)) result }
     ensures reason { IfErr result HasReason }

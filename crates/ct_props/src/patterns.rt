@@ -13,7 +13,7 @@ use ct_groups::{Groups, GroupsFault};
 use ct_regex::{Regex, RegexFault};
 use std::alloc::Global;
 
-/// The patterns of a key, each parsed once.
+/// Returns the patterns of a key, each parsed once.
 #[tactic(auto, using(crate::proofs::ReasonLemmas::pattern_reason, crate::proofs::ReasonLemmas::groups_reason))]
 pub fn patterns(alloc: Global, props: &[Pair], key: &[u8]) -> Result<List<Regex>, PropFault>
     ensures value { ReadsKey (map regex_tree) key.now (patterns_in (text_of_key props.now key.now)) result }
@@ -37,7 +37,7 @@ fn patterns_of(alloc: Global, text: &[u8]) -> Result<List<Regex>, RegexFault>
     Ok(patterns)
 }
 
-/// The resource groups of a key.
+/// Returns the resource groups of a key.
 #[tactic(auto, using(crate::proofs::ReasonLemmas::pattern_reason, crate::proofs::ReasonLemmas::groups_reason))]
 pub fn groups(alloc: Global, props: &[Pair], key: &[u8]) -> Result<Groups, PropFault>
     ensures value { ReadsKey (λ x. x) key.now (resource_groups_in (text_of_key props.now key.now)) result }

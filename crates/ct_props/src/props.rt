@@ -27,23 +27,23 @@ pub struct Props {
     pub required: List<Name>,
     /// The fixtures that it cleans up: FIXTURES_CLEANUP.
     pub cleanup: List<Name>,
-    /// It is not run: DISABLED.
+    /// Whether it is not run: DISABLED.
     pub disabled: bool,
     /// How many processors it takes, from 1 to 65,535: PROCESSORS.
     pub processors: u32,
-    /// What no other test may hold meanwhile: RESOURCE_LOCK.
+    /// The locks that no other test may hold while it runs: RESOURCE_LOCK.
     pub locks: List<Name>,
-    /// It runs alone: RUN_SERIAL.
+    /// Whether it runs alone: RUN_SERIAL.
     pub serial: bool,
-    /// What its output must not have: FAIL_REGULAR_EXPRESSION.
+    /// The patterns that may have no match in its output: FAIL_REGULAR_EXPRESSION.
     pub fail: List<Regex>,
-    /// What its output must have: PASS_REGULAR_EXPRESSION.
+    /// The patterns of which one must have a match in its output: PASS_REGULAR_EXPRESSION.
     pub pass: List<Regex>,
-    /// What its output has where it is skipped: SKIP_REGULAR_EXPRESSION.
+    /// The patterns of which a match in its output makes it skipped: SKIP_REGULAR_EXPRESSION.
     pub skip: List<Regex>,
-    /// The exit code by which it is skipped: SKIP_RETURN_CODE.
+    /// The exit code that makes it skipped: SKIP_RETURN_CODE.
     pub skip_code: Option<i32>,
-    /// Its verdict is turned round: WILL_FAIL.
+    /// Whether its verdict is inverted: WILL_FAIL.
     pub will_fail: bool,
     /// How long it may run, in microseconds; 0 is no limit: TIMEOUT.
     pub timeout: Option<u64>,

@@ -15,7 +15,7 @@ pub fn value_of<'a>(props: &'a [Pair], key: &[u8]) -> Option<&'a [u8]>
     }
 }
 
-/// The value of a key, and nothing where the test does not have it.
+/// Returns the value of a key, or an empty text where the test does not have the key.
 pub fn text_of<'a>(props: &'a [Pair], key: &[u8]) -> &'a [u8]
     ensures { result.now ≡ text_of_key props.now key.now }
 {

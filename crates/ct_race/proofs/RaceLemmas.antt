@@ -23,10 +23,10 @@ legal-empty (Stop ∷ es) legal = absurd (never legal)
 pub same-again : (pass : PassValue) → pass.taken ≡ None → pass.known.seen ≡ moment [] false → idle_pass pass.turn (has_seen pass.known (moment [] false)) ≡ pass
 same-again pass idle seen = λ i. record { turn = pass.turn; known = record pass.known { seen = sym seen i }; taken = sym idle i }
 
--- who saw nothing happen holds no start
+-- a worker that saw nothing happen holds no start
 pub holds-none : (known : Known) → known.seen ≡ moment [] false → held_start known ≡ None
 holds-none known seen = ap (λ m. open_start known.worker m.entries) seen
 
--- where neither saw anything happen, who joins the two did not
+-- where neither of two saw anything happen, the one that joins both saw nothing happen
 pub joined-seen : (keeper other : Known) → keeper.seen ≡ moment [] false → other.seen ≡ moment [] false → (with_joined keeper other).seen ≡ moment [] false
 joined-seen keeper other one two = λ i. moment (longer (one i).entries (two i).entries) ((one i).halted || (two i).halted)

@@ -10,11 +10,11 @@ pub record IsFresh (turn : TurnValue) (pass : PassValue) : Type 0 where
   pub idle : pass.taken ≡ None
   pub seen : pass.known.seen ≡ moment [] false
 
--- the pass of worker 0 knows that so many passes more were made
+-- the pass of worker 0 knows that `count` more passes were made
 abbrev pub with_made : PassValue → ℕ → PassValue
 with_made pass count = record pass { known = record pass.known { made = pass.known.made + count } }
 
--- so many passes were joined into the one of worker 0
+-- `count` more passes were joined into the one of worker 0
 pub record HasJoined (old : PassValue) (count : ℕ) (new : PassValue) : Type 0 where
   pub worker : new.known.worker ≡ old.known.worker
   pub made : new.known.made ≡ old.known.made

@@ -8,7 +8,7 @@ use std::sync::{Mutex, Wait};
 use std::thread::{Threads, map_indices};
 use std::time::{Clock, Duration};
 
-/// Lets so many workers lock one state, each so often in a thread of its own.
+/// Lets `workers` workers lock one state, each `takes` times in a thread of its own.
 pub fn race<R: Threads + Wait + Clock + Sync>(
     rt: &R,
     alloc: Global,

@@ -1,7 +1,8 @@
-//! The program `ct_race`: workers take one state in turn, as often as they are told, and it prints what came of it.
+//! The program `ct_race`: workers take one state in turn, as often as they are told. It prints the
+//! result.
 //!
 //! Hands up: nothing; it is the program that `measure/turn` times.
-//! Stands on: ct_base, ct_history, ct_turn and `anyhow`.
+//! Stands on: ct_base, ct_verdict, ct_history, ct_turn and `anyhow`.
 //! Read first: `specs/Race.antt`, `tally.rt`, `turns.rt`, then `locks.rt`.
 #![tactic(auto)]
 
@@ -15,7 +16,7 @@ use anyhow::{anyhow, bail};
 use std::env;
 use std::time::Duration;
 
-/// The most workers of a race.
+/// The greatest number of workers of a race.
 const MOST_WORKERS: u32 = 64;
 
 fn main(rt: HostRuntime) -> anyhow::Result<()> {
@@ -48,7 +49,7 @@ fn main(rt: HostRuntime) -> anyhow::Result<()> {
     Ok(())
 }
 
-/// The nanoseconds of a time, and 0 where the clock did not tell it.
+/// Returns the nanoseconds of a time, or 0 where the clock did not tell it.
 fn nanos(time: Option<Duration>) -> u128 {
     time.unwrap_or(Duration::ZERO).as_nanos()
 }

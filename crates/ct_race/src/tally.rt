@@ -11,7 +11,7 @@ pub struct Tally {
 }
 
 impl Tally {
-    /// Nothing has happened, and it was never taken.
+    /// Makes a state in which nothing has happened, and which was never taken.
     pub fn new(alloc: Global) -> Tally
         ensures { (result.history.entries.items ≡ []) × (result.takes ≡ 0) }
     {
@@ -23,7 +23,7 @@ impl Tally {
         }
     }
 
-    /// Counts that it was taken once more, up to the greatest number.
+    /// Counts one more take. A greater count counts as 2^64 - 1.
     pub fn count(&mut self)
         ensures counted { self.new.takes ≡ min (self.old.takes + 1) (2 ^ 64 - 1) }
         ensures kept { self.new.history ≡ self.old.history }

@@ -1,7 +1,7 @@
 use crate::tally::Tally;
 use std::time::{Clock, Duration, Instant};
 
-/// What came of a race.
+/// The result of a race.
 #[derive(Drop)]
 pub struct Raced {
     pub tally: Tally,
@@ -9,12 +9,12 @@ pub struct Raced {
     pub times: Vec<Option<Duration>>,
 }
 
-/// Reads the clock, where it can be read.
+/// Reads the clock, if it can be read.
 pub fn now(rt: &impl Clock) -> Option<Instant> {
     Instant::now(rt).ok()
 }
 
-/// Tells how long ago that was.
+/// Returns the time since then, if the clock tells it.
 pub fn since(rt: &impl Clock, start: Option<Instant>) -> Option<Duration> {
     start?.elapsed(rt).ok()
 }

@@ -11,16 +11,16 @@ use std::sync::Wait;
 use std::thread::{Threads, join, map_vec};
 use std::time::{Clock, Duration};
 
-/// A worker's pass behind its takes, and how long they took.
+/// A worker's pass after its takes, and how long they took.
 #[derive(Drop)]
 struct Ran {
     pass: Pass,
     time: Option<Duration>,
 }
 
-/// Lets so many workers take one state in turn, each so often in a thread of its own.
+/// Lets `workers` workers take one state in turn, each `takes` times in a thread of its own.
 ///
-/// The state's history is then as it was: empty.
+/// The history of the state stays empty.
 pub fn race<R: Threads + Wait + Clock + Sync>(
     rt: &R,
     alloc: Global,
@@ -63,7 +63,7 @@ pub fn race<R: Threads + Wait + Clock + Sync>(
     })
 }
 
-/// Makes so many passes.
+/// Makes `count` passes.
 fn split_off(
     alloc: Global,
     turn: &Turn<Tally>,
@@ -84,7 +84,7 @@ fn split_off(
     Ok(passes)
 }
 
-/// Lets each pass take and give so often, in a thread of its own.
+/// Lets each pass take and give the turn `takes` times, in a thread of its own.
 fn run_all<R: Threads + Wait + Clock + Sync>(
     rt: &R,
     turn: &Turn<Tally>,
@@ -117,7 +117,7 @@ fn run<R: Wait + Clock>(rt: &R, turn: &Turn<Tally>, mut pass: Pass, takes: u64) 
     }
 }
 
-/// Takes the state and gives it back, so often.
+/// Takes the state and gives it back, `takes` times.
 fn take_often<R: Wait>(rt: &R, turn: &Turn<Tally>, pass: &mut Pass, takes: u64)
     requires fresh { IsFresh turn.now pass.old }
     ensures { pass.new ≡ pass.old }

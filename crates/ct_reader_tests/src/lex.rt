@@ -180,7 +180,8 @@ fn put_fault(alloc: Global, out: &mut Blob, fault: &LexFault) -> Result<(), NoMe
     put_line(alloc, out, line)
 }
 
-/// Reads a text to its end or its first fault, and asks once more, which has to give the same.
+/// Reads a text to its end or its first fault. Then it asks once more, which has to return the
+/// same.
 fn transcript(rt: &impl Abort, alloc: Global, text: &[u8]) -> Result<Blob, NoMemory> {
     assert!(rt; text.len() < 65536);
     let mut out = Blob::new(alloc);
@@ -234,10 +235,10 @@ fn reads_the_files_of_build_trees(rt: HostRuntime) -> Result<(), Fail> {
     Ok(())
 }
 
-/// How often the load's piece stands in it: together 16 MiB.
+/// How many times the load repeats its piece: 16 MiB together.
 const PIECES: u32 = 131_072;
 
-/// 128 bytes of three lines.
+/// A piece of 128 bytes and three lines.
 const PIECE: &[u8] =
     b"add_test([=[unit one]=] \"/home/u/demo/unit\" --faster a\\;b ${x}y)\n# a comment up to the end of its line\nset_property(a \"b;c\" x)\n\n";
 

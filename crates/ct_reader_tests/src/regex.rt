@@ -135,7 +135,7 @@ a{2} aa Ok(false)
 a{}-] a{}-] Ok(true)
 ";
 
-/// Whether the pattern hits the text, or why it is refused.
+/// Returns whether the pattern hits the text, or why it is refused.
 fn comes_to(alloc: Global, pattern: &[u8], text: &[u8]) -> Result<bool, RegexFault> {
     let regex = Regex::parse(alloc, pattern)?;
     Ok(regex.hit(alloc, text)?)
@@ -164,8 +164,8 @@ fn hits_where_a_match_exists(rt: HostRuntime) -> Result<(), Fail> {
     check(&rt, rt.alloc(), HITS)
 }
 
-/// Tells whether the pattern says the same of the text in one piece, in each two pieces, and byte by
-/// byte, and whether a scan tells between the pieces what the first one hits.
+/// Tells whether the pattern says the same of the text in one piece, in each two pieces, and byte
+/// by byte. Between two pieces a scan has to tell what the first one hits.
 fn agrees(alloc: Global, pattern: &[u8], text: &[u8]) -> Result<bool, RegexFault> {
     let regex = Regex::parse(alloc, pattern)?;
     let whole = regex.hit(alloc, text)?;
@@ -195,7 +195,7 @@ fn says_the_same_of_a_text_in_pieces(rt: HostRuntime) {
     }
 }
 
-/// What a scan of the pattern says of many pieces of `x` and then these two.
+/// Returns what a scan of the pattern says of many pieces of `x` and then these two pieces.
 fn behind_many(alloc: Global, pattern: &[u8], ends: [&[u8]; 2]) -> Result<bool, RegexFault> {
     let regex = Regex::parse(alloc, pattern)?;
     let mut scan = Scan::new(alloc, &regex)?;
@@ -222,8 +222,8 @@ fn finds_what_is_cut_behind_64_mebibytes(rt: HostRuntime) {
     }
 }
 
-/// Feeds bytes `a` and `b` as a shift register gives them, and tells whether a scan knows behind each
-/// whether the ninth byte from the end is `a`. It meets more sets than it remembers.
+/// Feeds bytes `a` and `b` as a shift register yields them. Tells whether a scan knows after each
+/// byte whether the ninth byte from the end is `a`. The scan meets more sets than it remembers.
 fn knows_the_ninth(alloc: Global) -> Result<bool, RegexFault> {
     let regex = Regex::parse(alloc, b"a........$")?;
     let mut scan = Scan::new(alloc, &regex)?;
@@ -258,7 +258,7 @@ fn takes_bytes_that_are_no_text(rt: HostRuntime) {
     }
 }
 
-/// So many times the byte, and then the tail.
+/// Returns `count` times the byte, and then the tail.
 fn run_of(alloc: Global, byte: u8, count: usize, tail: &[u8]) -> Result<Vec<u8>, AllocError> {
     let mut bytes = vec![in alloc; byte; count]?;
     bytes.extend_from_slice(tail)?;
@@ -284,7 +284,8 @@ fn keeps_to_its_limits(rt: HostRuntime) -> Result<(), Fail> {
     Ok(())
 }
 
-/// So many groups, one in the other, each of which may be repeated, and a byte behind them.
+/// Returns a pattern of `depth` groups, one in the other and each repeated, with a byte behind
+/// them.
 fn nested(alloc: Global, depth: usize) -> Result<Vec<u8>, AllocError> {
     let mut pattern = run_of(alloc, b'(', depth, b"a")?;
     for _ in 0..depth {

@@ -1,9 +1,10 @@
 //! Whole trees of test files: what they define, and what is refused where.
 //!
-//! A row has the text of the file `./CTestTestfile.cmake`, behind each ` + ` the path and the text
-//! of another file, and behind ` => ` what is read of them. That is each test, as
-//! `folder|name|command,|key=value,|label,`, or the line of a refusal and its kind, behind the
-//! path of another file. A `~` stands for a line feed, and behind each test.
+//! A row has the text of the file `./CTestTestfile.cmake`, and behind each ` + ` the path and the
+//! text of another file. Behind ` => ` stands what is read of them. That is each test, as
+//! `folder|name|command,|key=value,|label,` with a `~` behind it. Or it is the line of a refusal
+//! and its kind, behind the path where that is another file. In a text a `~` stands for a line
+//! feed.
 
 ghost use Rattle.ct_testfile.specs.Says.{AreBounded};
 
@@ -31,7 +32,8 @@ set(V p)~set(V \"\")~add_test(a x${V}y) => .|a|xy,||~
 subdirs(none)~subdirs() => 
 ";
 
-/// Branches that are taken. Nothing is looked at in the others, nor are the conditions behind.
+/// Branches that are taken. In the others nothing is evaluated, nor are the conditions behind a
+/// taken branch.
 const BRANCHES: &str = "\
 if(EXISTS f)~add_test(a x)~endif() + ./f: # => .|a|x,||~
 if(EXISTS f)~add_test(a x)~else()~add_test(b y)~endif() + ./f: # => .|a|x,||~
@@ -118,7 +120,7 @@ const CONFIGURED: &str =
 
 const TOP: &str = "./CTestTestfile.cmake";
 
-/// The files of a row.
+/// Returns the files of a row.
 fn held(alloc: Global, files: &str) -> Result<List<Pair>, NoMemory> {
     let mut held = List::new(alloc);
     for file in files.split(" + ") {
@@ -144,7 +146,7 @@ fn text_of(name: &Name) -> &str {
     str::from_utf8(name.bytes()).unwrap_or("?")
 }
 
-/// The items of a list, each with a comma behind.
+/// Returns the items of a list, each with a comma behind.
 fn items(alloc: Global, names: &List<Name>) -> Result<String, AllocError> {
     let mut told = String::new(alloc);
     for name in names.as_slice() {
@@ -164,7 +166,7 @@ fn test_told(alloc: Global, test: &TestDef) -> Result<String, AllocError> {
     format!(in alloc; "{told}|{}~", items(alloc, &test.dir_labels)?)
 }
 
-/// What is read of some files, as a row tells it.
+/// Returns what is read of some files, as a row tells it.
 fn told(alloc: Global, read: Result<List<TestDef>, ReadFault>) -> Result<String, AllocError> {
     let tests = match read {
         Ok(tests) => tests,
@@ -243,7 +245,7 @@ fn reads_what_cmake_writes_for_configurations(rt: HostRuntime) -> Result<(), Fai
     Ok(())
 }
 
-/// The limits of reading, but for this one.
+/// Returns the limits of reading, with this one changed.
 fn limits_with(limit: &str, most: u16) -> Limits
     ensures { AreBounded result }
 {

@@ -76,7 +76,7 @@ fn passes_over_what_is_no_line(rt: HostRuntime) -> Result<(), Fail> {
     Ok(())
 }
 
-/// Names, each with its cost, where one is known, and how its test ended.
+/// Names, each with its cost, if one is known, and how its test ended.
 const NAMES: &str = "\
 a b => 3500000 passed
 a => 9000000 passed
@@ -144,7 +144,7 @@ fn check_run(rt: &impl Abort, alloc: Global, row: &str) -> Result<(), NoMemory> 
     Ok(())
 }
 
-/// The text of the cost data that a run leaves.
+/// Returns the text of the cost data that a run leaves.
 fn text_after(alloc: Global, past: &Record, old: &str) -> Result<Blob, NoMemory>
     requires { are_all_final past.now.plan past.now.history.entries.items ≡ true }
 {
@@ -153,7 +153,7 @@ fn text_after(alloc: Global, past: &Record, old: &str) -> Result<Blob, NoMemory>
     costs.text(alloc)
 }
 
-/// The log of failed tests that a run leaves.
+/// Returns the log of failed tests that a run leaves.
 fn log_of(alloc: Global, past: &Record) -> Result<Blob, NoMemory>
     requires { are_all_final past.now.plan past.now.history.entries.items ≡ true }
 {

@@ -1,7 +1,8 @@
-//! The tests of what is reported and kept of a run: its texts, the lists in place of one, and the cost data.
+//! The tests of what is reported and kept of a run: its texts, the lists that replace it, and the
+//! cost data.
 //!
 //! Hands up: nothing. A crate with tests of its own is proved twice, so they stand here.
-//! Stands on: ct_report, ct_cost, ct_history, ct_samples and what is below them.
+//! Stands on: ct_base, ct_verdict, ct_history, ct_report, ct_cost, ct_samples.
 //! Read first: `rows.rt` makes what the others test.
 #![tactic(auto)]
 

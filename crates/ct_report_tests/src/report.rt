@@ -1,4 +1,4 @@
-//! The report on a run, over what no folder of tests comes to yet.
+//! The report on a run, in cases that no folder of tests comes to yet.
 
 ghost use Rattle.std.specs.Prelude.{◌≡◌, true};
 ghost use Rattle.ct_history.specs.Verdicts.{are_all_final};

@@ -1,8 +1,8 @@
 //! Rows that stand for a plan and for what happened in its run.
 //!
-//! In a row `;` stands between the tests. A test is its name, behind a `:` its labels with a `,`
-//! between, and then, with a `, ` between, for each attempt how it ended and its microseconds; in
-//! place of attempts stands why there is none and the number that belongs to it, or `off` for a
+//! In a row `;` stands between the tests. A test is its name, and behind a `:` its labels with a
+//! `,` between. Then stand its attempts with a `, ` between: how each ended, and its microseconds.
+//! In place of attempts stands why there is none and the number that belongs to it, or `off` for a
 //! disabled test.
 
 ghost use Rattle.std.specs.Prelude.{◌≡◌, IfOk, true};
@@ -44,7 +44,7 @@ pub(crate) fn record_of(rt: &impl Abort, alloc: Global, row: &str) -> Result<Rec
     }
 }
 
-/// Makes the record of a plan whose tests are all final behind these entries.
+/// Makes the record of a plan whose tests are all final after these entries.
 fn ended(rt: &impl Abort, plan: Plan, entries: Vec<Entry>) -> Record
     ensures { are_all_final result.plan result.history.entries.items ≡ true }
 {

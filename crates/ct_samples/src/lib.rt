@@ -1,8 +1,8 @@
 //! Plans for tests: the parts that they are made of, and whether parts are sound.
 //!
 //! Hands up: `free`, `cards`, `needs`, `parts_of` and what else parts are made of; `plan_of`: the plan of sound parts.
-//! Stands on: ct_base, ct_alloc, ct_verdict, ct_history. No program stands on it: it serves crates of tests, which are
-//! proved side by side, each without what this one proves for all.
+//! Stands on: ct_base, ct_alloc, ct_verdict, ct_history. No program stands on it. It serves crates
+//! of tests: what it proves once, none of them has to prove again.
 //! Read first: `plan_of` and `is_sound` in `plans.rt`.
 #![tactic(auto)]
 

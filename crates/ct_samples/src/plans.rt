@@ -13,7 +13,7 @@ use ct_history::{Plan, PlanParts, PlanTest, test_at};
 use ct_verdict::{Cause, Mode, Repeat, Rules};
 use std::alloc::Global;
 
-/// Makes a plan of parts, where they are sound.
+/// Makes a plan of parts, or returns `None` where they are not sound.
 pub fn plan_of(alloc: Global, parts: PlanParts) -> Result<Option<Plan>, NoMemory> {
     if is_sound(alloc, &parts)? {
         Ok(Some(Plan::new(parts)))
@@ -126,7 +126,7 @@ pub fn needs(alloc: Global, slots: &[u32]) -> Result<List<Need>, NoMemory> {
     Ok(needs)
 }
 
-/// Makes a need of so many slots of a card.
+/// Makes a need of this many slots of a card.
 pub fn need(alloc: Global, slots: u32) -> Result<Need, NoMemory> {
     Ok(Need {
         group: 0,
@@ -135,7 +135,7 @@ pub fn need(alloc: Global, slots: u32) -> Result<Need, NoMemory> {
     })
 }
 
-/// Makes what is free of some cards, of which nothing is used, where there are not too many.
+/// Returns what is free of some cards of which nothing is used. It fails where there are too many.
 pub fn unused(alloc: Global, resources: &List<Resource>) -> Result<Free, NoMemory>
     ensures whole { IfOk result (λ free. free.resources ≡ resources.now) }
     ensures unused { IfOk result (λ free. (place : ℕ) → used_at free place ≡ 0) }
@@ -283,8 +283,8 @@ fn is_fixed(cause: Option<Cause>, resources: &Option<List<Resource>>) -> bool
     }
 }
 
-/// Tells whether the resources are apart, and each test that nothing keeps from running can be
-/// placed on them.
+/// Tells whether the resources are distinct, and each test without a fixed cause can be placed on
+/// them.
 fn are_met(alloc: Global, parts: &PlanParts) -> Result<bool, NoMemory>
     ensures apart { IfOk result (λ yes. OnTrue yes (IfSome parts.now.resources AreDistinct)) }
     ensures placeable { IfOk result (λ yes. OnTrue yes (IfSome parts.now.resources

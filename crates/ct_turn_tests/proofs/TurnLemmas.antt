@@ -57,7 +57,7 @@ next_works old w Done new is = kept_works w old new is.kept
 next_works old w Aborted new is = kept_works w old new is.1
 next_works old w NoMemory new is = kept_works w old new is.kept
 
--- and its worker then holds the start that it was given
+-- behind an answer of `next` its worker holds the start that it was given, if it was given one
 pub next_holds : (old : CoreValue) (w : ℕ) (next : Next) (new : CoreValue) → IsNext old w next new → open_start w old.entries ≡ None → open_start w new.entries ≡ held_behind next
 next_holds old w (Start ticket) new is none =
     ap (λ (c : CoreValue). open_start w c.entries) is.appended
@@ -74,13 +74,13 @@ next_holds old w NoMemory new is none = ap (λ (c : CoreValue). open_start w c.e
 pub end_works : (old new : CoreValue) (w : ℕ) (ticket : Ticket) (seen : Seen) → ticket.worker ≡ w → new ≡ with_final old (end_of ticket seen) → Works w old new
 end_works old new w ticket seen by is = final_works w old new (end_of ticket seen) (grind (arith, nat_tests, by)) is
 
--- and its worker then holds nothing
+-- behind the end of a held ticket its worker holds no start
 pub end_frees : (old new : CoreValue) (w : ℕ) (ticket : Ticket) (seen : Seen) → is_legal old.plan old.entries ≡ true → open_start w old.entries ≡ Some (running_of ticket) → new ≡ with_final old (end_of ticket seen) → open_start w new.entries ≡ None
 end_frees old new w ticket seen legal held is =
     ap (λ (c : CoreValue). open_start w c.entries) is ∙ final_holds w old.plan (old.entries ++ end_of ticket seen ∷ [])
     ∙ end_holds_none old.plan w (running_of ticket) old.entries legal held (end_of ticket seen) (open_starts-end old.entries ticket.test ticket.attempt ticket.worker seen)
 
--- a core that comes back behind one call goes on from the one that was taken
+-- a core that comes back after one call goes on from the one that was taken
 pub continues : (known : Known) (w : ℕ) (old new : CoreValue) → known.worker ≡ w → old.plan ≡ known.plan → no_base ≡ known.base → Works w old new → is_legal new.plan new.entries ≡ true
     → Continues known (moment old.entries old.aborted) (record { plan = new.plan; base = no_base; now = moment new.entries new.aborted })
 continues known w old new by plan base works legal = record {

@@ -1,4 +1,4 @@
--- What a worker holds behind an answer of the core. This project's own.
+-- What a worker holds after an answer of the core. This project's own.
 use Rattle.std.specs.Prelude.{◌≡◌, Option, Some, None}
 use Rattle.ct_history.specs.History.{Running}
 use Rattle.ct_core.specs.declared.ticket.Ticket.{Ticket}
@@ -12,7 +12,7 @@ use Rattle.ct_core.specs.Ticket.{attempt_of, placement_of, test_of, worker_of}
 abbrev pub running_of : Ticket → Running
 running_of ticket = record { test = test_of ticket; attempt = attempt_of ticket; worker = worker_of ticket; placement = placement_of ticket }
 
--- the start that a worker holds behind an answer
+-- the start that a worker holds after an answer of the core
 abbrev pub held_behind : Next → Option Running
 held_behind (Start ticket) = Some (running_of ticket)
 held_behind (Settled test) = None
@@ -21,7 +21,7 @@ held_behind Done = None
 held_behind Aborted = None
 held_behind NoMemory = None
 
--- a worker's pass is back: it has seen more, and holds nothing
+-- the pass of a worker after its work: it has seen more, and holds no start
 pub record HasWorked (old new : PassValue) : Type 0 where
   pub pass : new ≡ idle_pass old.turn (has_seen old.known new.known.seen)
   pub held : held_start new.known ≡ None

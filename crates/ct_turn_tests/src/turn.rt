@@ -50,7 +50,7 @@ fn finish<R: Wait>(rt: &R, turn: &Turn<Core>, pass: &mut Pass, ticket: Ticket, s
     turn.give(pass, core);
 }
 
-/// Takes the turn and gives it back as it is, so many times.
+/// Takes the turn and gives it back as it is, `times` times.
 fn pass_on<R: Wait>(rt: &R, turn: &Turn<Core>, pass: &mut Pass, times: u32)
     requires turn { pass.old.turn ≡ turn.now.id }
     requires idle { pass.old.taken ≡ None }
@@ -109,7 +109,7 @@ fn play<R: Wait + Abort>(rt: &R, alloc: Global, core: Core) -> Option<Core>
     Some(turn.close(first))
 }
 
-/// Two workers in threads of their own.
+/// Runs two workers in threads of their own.
 fn run_two<R: Threads + Wait + Sync>(rt: &R, alloc: Global, core: Core) -> Option<Core>
     requires new { (core.entries ≡ []) × (core.aborted ≡ false) }
 {
@@ -122,7 +122,7 @@ fn run_two<R: Threads + Wait + Sync>(rt: &R, alloc: Global, core: Core) -> Optio
     Some(turn.close(first))
 }
 
-/// Four workers in threads of their own.
+/// Runs four workers in threads of their own.
 fn run_four<R: Threads + Wait + Sync>(rt: &R, alloc: Global, core: Core) -> Option<Core>
     requires new { (core.entries ≡ []) × (core.aborted ≡ false) }
 {
@@ -194,7 +194,7 @@ fn work_both<R: Threads + Wait + Sync>(
     )
 }
 
-/// Makes a core for so many free tests, of which so many may run at once.
+/// Makes a core for `tests` free tests, of which `level` may run at once.
 fn core_of(alloc: Global, tests: u32, level: u32) -> Option<Core>
     ensures { IfSome result (λ core. (core.entries ≡ []) × (core.aborted ≡ false)) }
 {
@@ -209,7 +209,7 @@ fn plan_with(alloc: Global, tests: u32, level: u32) -> Result<Option<Plan>, NoMe
     plan_of(alloc, parts_of(alloc, Manner::once(level), list, None)?)
 }
 
-/// Tells how an attempt ended that passed.
+/// Returns how an attempt that passed ended.
 fn passed() -> Seen {
     Seen {
         how: How::Exited(0),
@@ -220,7 +220,7 @@ fn passed() -> Seen {
     }
 }
 
-/// Checks that a history is legal, with so many starts and so many ends.
+/// Checks that a history is legal, and has `wanted` starts and `wanted` ends.
 fn check_counts(rt: &impl Abort, core: Core, wanted: u32) -> Result<(), NoMemory> {
     let (plan, history) = core.into_parts();
     let is_legal = judge(&plan, &history)?;

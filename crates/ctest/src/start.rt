@@ -24,7 +24,7 @@ use std::{env, io};
 /// Source: this project's choice.
 const GATES: usize = 256;
 
-/// The words are numbered by a u32, so there are fewer than it has values.
+/// The greatest number of words. They are numbered by a u32, so there are fewer than it has values.
 ///
 /// Source: this project's choice.
 const MOST_WORDS: usize = 4_294_967_294;
@@ -39,7 +39,7 @@ pub enum BeginFault {
 }
 
 impl BeginFault {
-    /// The exit status of the program where it could not begin.
+    /// Returns the exit status of a program that could not begin.
     ///
     /// Source: this project's choice.
     pub fn status(self) -> u8
@@ -100,11 +100,11 @@ impl From<VarError> for BeginFault {
     }
 }
 
-/// What a run on the machine gives back.
+/// What a run on the machine returns.
 pub type Run<G> = Finished<RealFiles<HostRuntime>, G, RealSink<Stdout>>;
 
-/// Runs the tests that the words of the process ask for, with its environment, through these gates;
-/// or puts the list that they ask for.
+/// Runs the tests that the words of the process ask for, with its environment, through these gates.
+/// Where the words ask for a list, it puts the list instead.
 ///
 /// Where it cannot begin, it writes nothing.
 pub fn begin<R: Threads + Wait + Sync, G: Gate + Send + Drop>(
@@ -119,7 +119,7 @@ pub fn begin<R: Threads + Wait + Sync, G: Gate + Send + Drop>(
     run(threads, rt, args.as_slice(), vars.as_slice(), gates)
 }
 
-/// Hands the words, the variables and the machine to the top call.
+/// Passes the words, the variables and the machine to the top call.
 fn run<R: Threads + Wait + Sync, G: Gate + Send + Drop>(
     threads: &R,
     rt: HostRuntime,
@@ -144,7 +144,7 @@ fn run<R: Threads + Wait + Sync, G: Gate + Send + Drop>(
     ))
 }
 
-/// The exit status of the program.
+/// Returns the exit status of the program.
 ///
 /// Source: this project's choice where the run could not begin.
 pub fn exit_code<F: Drop, G: Drop, S: Drop>(
@@ -158,7 +158,7 @@ pub fn exit_code<F: Drop, G: Drop, S: Drop>(
     })
 }
 
-/// The words behind the program's own name.
+/// Returns the words behind the program's own name.
 fn words_of(alloc: Global, args: &[String]) -> Result<Vec<Name>, BeginFault>
     ensures words { IfOk result (λ words. words.items ≡ words_in args.now) }
     ensures few { IfOk result (λ words. vec_len words < 2 ^ 32 - 1) }
@@ -175,7 +175,7 @@ fn words_of(alloc: Global, args: &[String]) -> Result<Vec<Name>, BeginFault>
     Ok(names)
 }
 
-/// The variables of the environment, in its order.
+/// Returns the variables of the environment, in its order.
 fn pairs_of(alloc: Global, vars: &[(String, String)]) -> Result<Vec<Pair>, NoMemory>
     ensures { IfOk result (λ pairs. pairs.items ≡ pairs_in vars.now) }
 {
@@ -189,7 +189,7 @@ fn pairs_of(alloc: Global, vars: &[(String, String)]) -> Result<Vec<Pair>, NoMem
     Ok(pairs)
 }
 
-/// The gates through which tests may run, none of which has failed.
+/// Makes the gates through which tests may run, none of which has failed.
 pub fn gates_of(alloc: Global, rt: HostRuntime) -> Result<Vec<ProcessGate>, NoMemory>
     ensures { IfOk result (λ gates. gates_tell gates.items ≡ unused_gates) }
 {
