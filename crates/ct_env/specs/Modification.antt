@@ -1,4 +1,5 @@
--- The entries of ENVIRONMENT_MODIFICATION. Source: CMake manual, cmake-properties(7), ENVIRONMENT_MODIFICATION.
+-- The entries of ENVIRONMENT_MODIFICATION. Source: CMake manual, cmake-properties(7),
+-- ENVIRONMENT_MODIFICATION.
 use Rattle.std.specs.Prelude.{ℕ, Bool, not, is_some, List, Option}
 use Rattle.std.specs.List.{position}
 use Rattle.std.specs.Option.{option_map, option_and_then}
@@ -22,7 +23,7 @@ change_by name parts = option_map (λ operation. record { name = name; operation
 abbrev pub change_of : Pair → Option Change
 change_of pair = option_and_then (change_by pair.name) (split_first colon pair.value)
 
--- the change in an entry: `NAME=OPERATION:VALUE`, with a name that is not empty and an operation that is known
+-- the change in an entry `NAME=OPERATION:VALUE`, if the name is not empty and the operation is known
 abbrev pub change_in : List ℕ → Option Change
 change_in entry = option_and_then change_of (assignment_in entry)
 

@@ -1,4 +1,5 @@
--- What each operation does to one variable. Source: CMake manual, cmake-properties(7), ENVIRONMENT_MODIFICATION.
+-- What each operation does to one variable. Source: CMake manual, cmake-properties(7),
+-- ENVIRONMENT_MODIFICATION.
 use Rattle.std.specs.Prelude.{ℕ, bytes_eq, List, [], ◌∷◌, ◌++◌, Option, Some, None, codes, if◌then◌else◌}
 use Rattle.ct_base.specs.Entries.{semicolon}
 use Rattle.ct_groups.specs.Description.{colon}

@@ -1,5 +1,5 @@
--- The variables that tell a test which resources it has. Source: CMake manual, ctest(1), Resource Allocation, Environment
--- Variables. That a group without needs has a variable too is this project's choice.
+-- The variables that tell a test which resources it has. Source: CMake manual, ctest(1), Resource Allocation,
+-- Environment Variables. That a group without needs has a variable too is this project's choice.
 use Rattle.std.specs.Prelude.{ℕ, bytes_eq, ◌&&◌, ◌==◌, List, [], ◌∷◌, ◌++◌, map, filter, flat_map, Option, Some, None, codes, decimal}
 use Rattle.std.specs.List.{fold, join_by, range_with_len}
 use Rattle.std.specs.Char.{to_ascii_uppercase}

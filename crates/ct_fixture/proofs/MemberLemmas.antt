@@ -1,4 +1,4 @@
--- Tests that are added to those that are in, and the list of those.
+-- Tests that are added to those that are in, and the list of all that are in.
 use Rattle.std.proofs.Common.{◌≡◌, ℕ, ◌+◌, ◌-◌, ◌<◌, ◌≤◌, Bool, true, false, cond, eqb, ◌||◌, List, [], ◌∷◌, ◌++◌, length, get_or, take, filter, inl, inr, refl, sym, ap, ◌∙◌, subst, arith, append-nil}
 use Rattle.std.specs.List.{range_with_len}
 use Rattle.std.proofs.lemmas.Bool.{cases_Bool}
@@ -49,7 +49,7 @@ adds_more tests at first second third within one two = record {
       ∙ ap (λ later. is_member first number || later) (sym (list_any_more (λ n. eqb n number) tests at 0 within));
 }
 
--- a list of the tests that are in with one number more
+-- the list of the tests that are in, with one number more
 listed_more : (test : ℕ → Bool) (number : ℕ) → 1 ≤ number → filter test (range_with_len 1 (number + 1 - 1)) ≡ filter test (range_with_len 1 (number - 1)) ++ cond (test number) (number ∷ []) []
 listed_more test number low =
     let front : number + 1 - 1 ≡ number - 1 + 1 = omega (arith, low) in

@@ -17,8 +17,8 @@ use Rattle.ct_fixture.proofs.RoundLemmas.{IsNumber, chosen_member, draws_test, m
 abbrev pub AreNumbers : List Props → List ℕ → Type 0
 AreNumbers props chosen = All (λ number. (1 ≤ number) × (number ≤ length props)) chosen
 
--- the state between two tests: the chosen tests are in, and only members are; each test that waits is in; and
--- each test that is in waits, or the tests that it draws in are in
+-- the state between two tests: the chosen tests are in, and only members are. Each test that waits is in.
+-- Each test that is in waits, or the tests that it draws in are in.
 pub record IsPartway (choice : Choice) (props : List Props) (chosen : List ℕ) (fixtures : Fixtures) (members : Members) : Type 0 where
   pub left : AreLeft choice props fixtures members
   pub started : (number : ℕ) → is_in chosen number ≡ true → is_member members number ≡ true

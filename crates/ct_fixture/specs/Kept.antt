@@ -56,8 +56,8 @@ pub record AddsTests (tests : List ℕ) (before now : Members) : Type 0 where
   pub extends : Extends before now
   pub is : (number : ℕ) → is_member now number ≡ (is_member before number || is_in tests number)
 
--- what the fixtures have left of the tests that name them in this property: only such tests, and all of them
--- that are not in, but for fixtures that are kept out
+-- what the fixtures have left of the tests that name them in this property. Only tests that name a fixture
+-- are left for it. Each of these that is not in is left, unless the fixture is kept out.
 pub record IsLeft {Y Z S : Type 0} (property : Props → List (List ℕ)) (keeps : List ℕ → Bool) (props : List Props) (tests : IndexMap (Vec ℕ Y) (Vec ℕ Z) S) (members : Members) : Type 0 where
   pub named : (fixture : List ℕ) (number : ℕ) → is_in (tests_of tests fixture) number ≡ true → names property fixture (at_number props number) ≡ true
   pub left : (fixture : List ℕ) (number : ℕ) → names property fixture (at_number props number) ≡ true → keeps fixture ≡ false → (is_in (tests_of tests fixture) number || is_member members number) ≡ true

@@ -1,4 +1,4 @@
--- The members that are not disabled, by the names that others wait for them by. This project's own.
+-- The members that are not disabled, by the names through which others wait for them. This project's own.
 use Rattle.std.specs.Prelude.{◌≡◌, ℕ, ◌≤◌, ◌<◌, bytes_eq, Bool, false, not, ◌&&◌, ◌||◌, List, All, length, Option, Some, None, ◌==◌}
 use Rattle.std.specs.List.Sorted.{IsStrictlyIncreasing}
 use Rattle.ct_base.specs.declared.defs.TestDef.{TestDef}
@@ -34,7 +34,7 @@ pub record IsIndex (defs : List TestDef) (props : List Props) (members : List �
 abbrev pub AreMembers : ℕ → List ℕ → Type 0
 AreMembers most members = All (λ number. (0 < number) × (number ≤ most)) members
 
--- what holds of an index: the tests belong together, and its members ascend and are found
+-- what holds of an index: each test has its properties, and the members are tests, ascend, and are found
 pub record Indexed (index : Index) : Type 0 where
   pub paired : length index.props.now ≡ length index.defs.now
   pub inside : AreMembers (length index.props.now) index.members.now
@@ -57,12 +57,12 @@ pub record AddsTest (number : ℕ) (old new : Index) : Type 0 where
   pub by_setup : (fixture : List ℕ) (n : ℕ) → is_in (tests_of new.setups fixture) n ≡ (is_in (tests_of old.setups fixture) n || (has_setup fixture (at_number old.props.now number) && number == n))
   pub by_user : (fixture : List ℕ) (n : ℕ) → is_in (tests_of new.users fixture) n ≡ (is_in (tests_of old.users fixture) n || (has_required fixture (at_number old.props.now number) && number == n))
 
--- the found tests are the old ones and those found for these properties: by the names that it depends on, the
--- fixtures that it requires, and the users and the setups of the fixtures that it cleans
+-- the found tests are the old ones and those that these properties find: by the names in DEPENDS, by the
+-- required fixtures, and as users or setups of the cleaned fixtures
 abbrev pub FindsBefore : (List ℕ → List ℕ) → (List ℕ → List ℕ) → (List ℕ → List ℕ) → Props → List ℕ → List ℕ → Type 0
 FindsBefore names setups users props old new = (n : ℕ) → is_in new n ≡ (is_in old n || is_found_in names props.depends n || is_found_in setups props.required n || is_found_in users props.cleanup n || is_found_in setups props.cleanup n)
 
--- a search that has found nothing yet, and knows what fixtures find in the index
+-- a search that has found nothing yet, and whose known tests are those that fixtures find in the index
 pub record IsReady (index : Index) (search : Search) : Type 0 where
   pub empty : IsEmpty search.found
   pub setups : Knows (tests_of index.setups) search.setups

@@ -1,4 +1,4 @@
--- How the tests of a history ended, entry by entry, and the verdicts that this gives.
+-- How the tests of a history ended, entry by entry, and the verdicts that follow.
 use Rattle.std.proofs.Common.{◌≡◌, ℕ, ◌+◌, ◌<◌, suc, Bool, true, false, cond, not, ◌&&◌, List, [], ◌∷◌, ◌++◌, length, take, get_or, filter_map, Option, Some, None, option_map, is_some, refl, sym, ap, ◌∙◌, arith, take-suc, ◌==◌}
 use Rattle.std.specs.List.{cons_option}
 use Rattle.std.proofs.lemmas.List.Elements.{filter_map-append}
@@ -75,6 +75,6 @@ final_verdict repeat t es ended =
     verdict_from t.disabled (settled_cause t.number es) (attempted_verdict repeat t es) (option_map (verdict_of t.rules) (last_seen t.number es)) ended
     (λ some. sym (last_attempt t.number t.rules None es) ∙ there (not (is_open_in t.number es) && is_over repeat (attempts_of t.number t.rules es)) (last_of_list (attempts_of t.number t.rules es)) some)
 
--- what is kept tells the verdict of each test that is final
+-- the kept endings tell the verdict of each test that is final
 pub verdicts_told : {S : Type 0} (endings : IndexMap ℕ Ending S) (es : List Entry) → AreEndings endings es → TellVerdicts endings es
 verdicts_told endings es are = λ repeat t ended. ap (verdict_by t) (are t.number) ∙ final_verdict repeat t es ended

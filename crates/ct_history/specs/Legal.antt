@@ -1,5 +1,5 @@
--- Which histories are legal for a plan, and when the open starts use no more than is declared.
--- Source: CMake manual, cmake-properties(7), PROCESSORS, RESOURCE_LOCK, RUN_SERIAL; ctest(1), Resource Allocation,
+-- Which histories are legal for a plan, and when the open starts use no more than is declared. Source: CMake
+-- manual, cmake-properties(7), PROCESSORS, RESOURCE_LOCK, RUN_SERIAL; ctest(1), Resource Allocation,
 -- --stop-on-failure. The order of entries is this project's choice.
 use Rattle.std.specs.Prelude.{◌≡◌, ℕ, ◌+◌, ◌-◌, ◌≤◌, Bool, true, false, not, ◌&&◌, List, [], ◌∷◌, ◌++◌, length, take, IfSome, AllPairs, Option, Some, None, slice_get, ◌==◌}
 use Rattle.std.specs.List.{list_any}
@@ -59,9 +59,9 @@ abbrev pub settles : PlanParts → List Entry → Cause → Option PlanTest → 
 settles plan front cause None = false
 settles plan front cause (Some t) = same_cause cause (settle_cause plan t front)
 
--- the entry is allowed by the entries in front of it. Where a Stop is due, only a Stop is. Else allowed are a
--- Start that may be made by a worker that is not busy, the End of an open start of its worker, and a Settle
--- with the right cause
+-- the entry is allowed by the entries in front of it. Where a Stop is due, it is a Stop. Else it is a Start
+-- that may be made by a worker that is not busy, an End of its worker's open start, or a Settle with the
+-- right cause.
 abbrev pub is_allowed : PlanParts → List Entry → Entry → Bool
 is_allowed plan front (Start t a w p) = not (is_stop_due plan front) && starts plan front a p (test_at plan.tests t) && not (is_busy_in w front)
 is_allowed plan front (End t a w seen) = not (is_stop_due plan front) && holds_start t a w front

@@ -104,8 +104,8 @@ fn rules(own: &Props) -> Rules
 ///
 /// A test with more entries than a place can count is beyond any memory.
 ///
-/// Source: CMake manual, ctest(1), Resource Allocation. That such a test is not run while others run
-/// is this project's choice.
+/// Source: CMake manual, ctest(1), Resource Allocation. That a test whose needs fit nowhere is not
+/// run while others run is this project's choice.
 fn fixed(
     alloc: Global,
     def: &TestDef,

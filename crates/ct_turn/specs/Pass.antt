@@ -6,7 +6,7 @@ use Rattle.ct_turn.specs.declared.view.Known.{Known}
 use Rattle.ct_turn.specs.declared.view.View.{View}
 use Rattle.ct_turn.specs.Seen.{nobody}
 
--- the turn that it is of, what it knows, and the moment at which it took the turn, where it has the turn
+-- a pass: its turn, what it knows, and the moment at which it took the turn, if it has the turn
 pub record PassValue : Type 0 where
   pub turn : TableId
   pub known : Known
@@ -26,7 +26,7 @@ abbrev pub taken_in : List View → Option Moment
 taken_in [] = None
 taken_in (v ∷ vs) = v.taken
 
--- the place has a seat that is out with its worker, and holds no slot
+-- the place has one seat, which is out with its worker and holds no slot
 pub record IsAway (views : List View) : Type 0 where
   pub is : views ≡ away (known_in views) (taken_in views) ∷ []
   pub out : (known_in views).is_out ≡ true

@@ -63,8 +63,8 @@ pub record AllAgree (plan : PlanParts) (base : Base) (now : Moment) (seats : Lis
   pub plain : EachOut (λ k. k.worker ≢ 0 → k.notes ≡ []) seats
   pub whole : sum_by passes_at seats ≡ made
 
--- what a worker may rely on: its notes are kept by it, and, if it is worker 0, no worker whose pass was not
--- made yet has an entry in what it has seen
+-- what a worker may rely on: its notes are kept by it. If it is worker 0, no worker whose pass was not made
+-- yet has an entry in what it has seen.
 pub record Assures (known : Known) : Type 0 where
   pub notes : All (IsKeptBy known.worker) known.notes
   pub unmade : known.worker ≡ 0 → (w : ℕ) → known.made ≤ w → list_any (is_by w) known.seen.entries ≡ false
