@@ -1,5 +1,5 @@
-//! Placements: the worked ones, and many small ones that are compared with all ways to place the
-//! needs.
+//! Placements: the worked ones, and many small ones that are
+//! compared with all ways to place the needs.
 
 ghost use Rattle.std.specs.Prelude.{◌<◌};
 

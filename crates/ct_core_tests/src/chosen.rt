@@ -90,8 +90,8 @@ impl Trial<'_> {
         Ok(true)
     }
 
-    /// Tells whether no test of the queue in front of this one may start; with `None`, whether no
-    /// test may.
+    /// Tells whether no test of the queue in front of this one may
+    /// start; with `None`, whether no test may.
     fn starts_none_before(&mut self, alloc: Global, first: Option<u32>) -> Result<bool, NoMemory> {
         let parts = self.plan.parts();
         for number in parts.queue.as_slice() {

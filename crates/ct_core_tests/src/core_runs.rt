@@ -25,9 +25,9 @@ fn take(rt: &impl Abort, run: &mut Run, wanted: Step) -> Step {
 
 /// Runs, each with what is asked of it, its tests, and the steps of its workers from 0.
 ///
-/// A step starts or settles a test, waits, or ends a test by an exit code. The test is then final
-/// or tried again. A test is plain, or the row tells what else it is. Behind `on` stand the slots
-/// of cards.
+/// A step starts or settles a test, waits, or ends a test by an exit code. The test is
+/// then final or tried again. A test is plain, or the row tells what else it is.
+/// Behind `on` stand the slots of cards.
 const STEPS: &str = "\
 level 1 | plain;plain;plain | 0 starts 1, 1 waits, 0 ends 0 passed, 0 starts 2, 0 ends 1 failed, 1 starts 3, 1 ends 0 passed, 0 is done
 level 4 | processors 4;plain | 0 starts 1, 1 waits, 0 ends 0 passed, 1 starts 2, 1 ends 0 passed, 0 is done
@@ -73,8 +73,8 @@ fn step(text: &str) -> Step {
     }
 }
 
-/// Returns the step that ends a test by an exit code or a timeout, with what the test then comes
-/// to.
+/// Returns the step that ends a test by an exit code or a
+/// timeout, with what the test then comes to.
 fn ended(worker: u32, text: &str) -> Step {
     let (word, wanted) = text.split_once(' ').unwrap_or((text, ""));
     Step::Ends {

@@ -1,5 +1,5 @@
-//! The core over drawn plans and drawn lists of calls, and the histories of these runs with one
-//! change.
+//! The core over drawn plans and drawn lists of calls, and the
+//! histories of these runs with one change.
 
 ghost use Rattle.std.specs.Prelude.{◌<◌, length};
 

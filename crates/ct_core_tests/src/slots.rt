@@ -69,8 +69,8 @@ fn crowd(alloc: Global, entry: Entry) -> Result<Entry, NoMemory> {
     }
 }
 
-/// Tells whether the third test has the card of the test that ended first, and the first two tests
-/// had different cards.
+/// Tells whether the third test has the card of the test that ended first, and the
+/// first two tests had different cards.
 fn takes_the_card(history: &History, first: u32) -> bool {
     let third = card(history, 3);
     third.is_some() && third == card(history, first) && card(history, 1) != card(history, 2)

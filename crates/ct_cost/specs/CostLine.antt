@@ -1,5 +1,5 @@
--- The lines of cost data. Source: CMake manual, cmake-properties(7), COST. That a name has one line is this
--- project's choice.
+-- The lines of cost data. Source: CMake manual, cmake-properties(7), COST. That a name has
+-- one line is this project's choice.
 use Rattle.std.specs.Prelude.{ℕ, ◌+◌, ◌*◌, ◌/◌, min, List, [], ◌∷◌, ◌++◌, find, bytes_eq, Option, is_some, option_map, fold, if◌then◌else◌}
 use Rattle.std.specs.Option.{option_map_or}
 use Rattle.ct_history.specs.Rules.{is_among}
@@ -39,7 +39,8 @@ with_new_name names name = if is_among name names then names else names ++ name 
 abbrev pub each_once : List (List ℕ) → List (List ℕ)
 each_once names = fold with_new_name [] names
 
--- a line after one more run, which took `micros`: the mean cost of all runs, rounded down
+-- a line after one more run, which took `micros`: the count of runs, up to
+-- `most_runs`, and the mean cost, rounded down
 abbrev pub with_run : ℕ → CostLine → CostLine
 with_run micros line = record { name = line.name; runs = min (line.runs + 1) most_runs; micros = (line.runs * line.micros + micros) / (line.runs + 1) }
 

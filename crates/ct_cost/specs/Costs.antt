@@ -19,8 +19,8 @@ costs_from lines =
 abbrev pub costs_in : List ℕ → CostData
 costs_in text = costs_from (lines_in text)
 
--- the cost data after a run: each test that passed counts for its name, and the failed names are those of
--- this run
+-- the cost data after a run: each test that passed counts for its name, and the
+-- failed names are those of this run
 abbrev pub costs_after : PlanParts → List Entry → CostData → CostData
 costs_after plan entries costs =
     record { lines = fold (after_test entries) costs.lines (passed_tests plan entries); failed = each_once (map (λ (t : PlanTest). t.name) (failed_tests plan entries)) }

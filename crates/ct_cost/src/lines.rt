@@ -67,8 +67,8 @@ impl Lines {
         Ok(Lines { counts: entries })
     }
 
-    /// Reads one more line. It is passed over where it is no line of cost data, or its name has a
-    /// line.
+    /// Reads one more line. It is passed over where it is no line of
+    /// cost data, or its name has a line.
     pub(crate) fn with_line(self, alloc: Global, text: &[u8]) -> Result<Lines, NoMemory>
         ensures { IfOk result (λ lines. lines ≡ with_read self (line_read text.now)) }
     {

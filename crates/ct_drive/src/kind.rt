@@ -45,8 +45,8 @@ impl Kind {
         }
     }
 
-    /// Returns how many workers ask, which is also how many processors the tests that run at once
-    /// may take together.
+    /// Returns how many workers ask, which is also how many processors the tests
+    /// that run at once may take together.
     pub fn level(self) -> u32
         ensures { 1 ≤ result }
     {

@@ -1,5 +1,5 @@
-//! A run of the core alone. An attempt lasts until no worker finds more to do, and the oldest
-//! attempt ends first.
+//! A run of the core alone. An attempt lasts until no worker finds more to do,
+//! and the oldest attempt ends first.
 
 ghost use Rattle.std.specs.Prelude.{◌≡◌, ◌==◌, ◌<◌, IfOk, length};
 ghost use Rattle.std.specs.List.{list_any};

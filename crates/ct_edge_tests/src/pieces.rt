@@ -30,9 +30,9 @@ const PUTS: &str = "\
 0 fails is a fault [] 1
 ";
 
-/// How many bytes of `hello` can be read, whether an end comes behind them, and the limit in
-/// microseconds. Then what is told of this output beside one of `no`, what is heard, and what is
-/// kept.
+/// How many bytes of `hello` can be read, whether an end comes behind them, and
+/// the limit in microseconds. Then what is told of this output beside one of
+/// `no`, what is heard, and what is kept.
 const OUTPUTS: &str = "\
 9 ends none is whole [hello] [no]
 9 ends 60000000 is whole [hello] [no]
@@ -42,8 +42,8 @@ const OUTPUTS: &str = "\
 1 ends none is a fault [h] [n]
 ";
 
-/// The look that fails, and the required files, where only a and b are there. Then the place that
-/// is found.
+/// The look that fails, and the required files, where only a and b are
+/// there. Then the place that is found.
 const LOOKS: &str = "\
 0 a b a is None
 0 a x y is Some(1)

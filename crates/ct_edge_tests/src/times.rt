@@ -16,8 +16,8 @@ none 100000 50000000 / sleep 0.1
 300000 300000 1000000 / sh -c while\t:;do\techo\tx\t>&2;done
 ";
 
-/// The limit of a program that makes a file after a second, in microseconds, and whether the file
-/// is there in the end.
+/// The limit of a program that makes a file after a second, in microseconds, and
+/// whether the file is there in the end.
 const MARKS: &str = "\
 200000 false
 none true

@@ -1,4 +1,4 @@
--- What is done to variables that are kept by their names.
+-- What is done to variables that are kept by their names. This project's own.
 use Rattle.std.specs.Prelude.{ℕ, ◌≡◌, bytes_eq, List, map, Option, if◌then◌else◌}
 use Rattle.std.specs.Option.{option_or}
 use Rattle.std.specs.declared.vec.Vec.{Vec}

@@ -189,8 +189,8 @@ both_sides : (choice : Choice) (fixture : List ℕ) (member : Bool) (own : Optio
 both_sides choice fixture member None = sym (none_joined (member || false))
 both_sides choice fixture member (Some own) = joined member own.disabled (is_among fixture own.setup) (keeps_setups choice fixture) (is_among fixture own.cleanup) (keeps_cleanups choice fixture)
 
--- where the setups and then the cleanups of a fixture are taken out and added, the tests that it draws in are
--- in
+-- where the setups and then the cleanups of a fixture are taken out and
+-- added, the tests that it draws in are in
 pub drawn_one : (choice : Choice) (props : List Props) (fixture : List ℕ) (before now : Fixtures) (setups cleanups : List ℕ) (first second third : Members) → AreLeft choice props before first
     → ((asked : List ℕ) → tests_of now.setups asked ≡ cond (bytes_eq asked fixture) [] (tests_of before.setups asked)) → setups ≡ given (keeps_setups choice fixture) (tests_of before.setups fixture) → AddsTests setups first second
     → ((asked : List ℕ) → tests_of now.cleanups asked ≡ cond (bytes_eq asked fixture) [] (tests_of before.cleanups asked)) → cleanups ≡ given (keeps_cleanups choice fixture) (tests_of before.cleanups fixture) → AddsTests cleanups second third

@@ -122,8 +122,8 @@ module _ (choice : Choice) (props : List Props) where
     pub chosen_member : (number : ℕ) → IsNumber props number → is_in chosen number ≡ true → is_in (members_of choice props chosen) number ≡ true
     chosen_member number is there = stays number is there (length props)
 
-    -- the tests that are in after any number of rounds stand in each set that has the chosen tests and draws
-    -- in nothing more
+    -- the tests that are in after any number of rounds stand in each set that has the
+    -- chosen tests and draws in nothing more
     pub within_closed : (set : ℕ → Bool) → ((number : ℕ) → is_in chosen number ≡ true → set number ≡ true) → ((test number : ℕ) → set test ≡ true → draws_test choice props test number ≡ true → set number ≡ true) → (rounds number : ℕ) → is_in (after_rounds choice props chosen rounds) number ≡ true → set number ≡ true
     within_closed set start closed zero number there = start number there
     within_closed set start closed (suc rounds) number there =

@@ -41,8 +41,8 @@ is_member members number = slice_index_or members.marks.items number false
 abbrev pub open_count : Members → ℕ
 open_count members = count_by not members.marks.items + length members.waiting.items
 
--- tests may have come in: each of them waits, each test that waited still waits, and only tests that are in
--- wait
+-- tests may have come in, and none has left. Each new one waits, each that waited still waits, and only tests
+-- that are in wait. The `open_count` stays.
 pub record Extends (before now : Members) : Type 0 where
   pub long : length now.marks.items ≡ length before.marks.items
   pub kept : (number : ℕ) → is_member before number ≡ true → is_member now number ≡ true

@@ -1,5 +1,5 @@
--- Tests that are kept in a map by names: what the map has for each name once a test was added, and what it
--- finds by names.
+-- Tests that are kept in a map by names: what the map has for each name once a test was
+-- added, and what it finds by names.
 use Rattle.std.proofs.Common.{ℕ, ◌≡◌, Bool, true, false, cond, ◌&&◌, ◌||◌, bytes_eq, List, [], ◌∷◌, map, Option, Some, refl, sym, ap, ◌∙◌, eqb}
 use Rattle.std.specs.List.{list_any, dedup, dedup_from}
 use Rattle.std.specs.Map.{lookup}

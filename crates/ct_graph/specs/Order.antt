@@ -28,7 +28,8 @@ ranks_below rank (Some l) = nat_lt l.rank rank
 abbrev pub ranks_above_all : List Links → Links → Bool
 ranks_above_all links l = list_all (λ j. ranks_below l.rank (links_at links j)) l.before
 
--- an order of the members: each of them with all that come before it, its setups, and a rank above theirs
+-- an order of the members: each with the members before it, its setups, and a
+-- rank above the ranks of those before
 pub record IsOrder (defs : List TestDef) (props : List Props) (members : List ℕ) (links : List Links) : Type 0 where
   pub numbers : map (λ (l : Links). l.number) links ≡ members
   pub before : map (λ (l : Links). l.before) links ≡ map (before_of defs props members) members

@@ -22,7 +22,7 @@ setups_in index = setups_of index.props.now index.members.now
 abbrev pub edges_in : Index → ℕ
 edges_in index = edges_of index.defs.now index.props.now index.members.now
 
--- each member has its row, and each other number has an empty one, place 0 included
+-- each member has its row, and each other number has an empty one; there is one row more than tests
 pub record AreRows (before : ℕ → List ℕ) (tests : ℕ) (members : List ℕ) (rows : List (List ℕ)) : Type 0 where
   pub count : length rows ≡ tests + 1
   pub rows_are : (number : ℕ) → row_of rows number ≡ (if is_in members number then before number else [])

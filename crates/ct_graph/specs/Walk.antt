@@ -1,5 +1,5 @@
--- A walk from each test to the tests before it. It takes a test once all before it are taken. This project's
--- own.
+-- A walk from each test to the tests before it. It takes a test once all
+-- before it are taken. This project's own.
 use Rattle.std.specs.Prelude.{◌≡◌, ℕ, ◌+◌, ◌*◌, ◌<◌, ◌≤◌, ⊤, Bool, true, false, List, [], ◌∷◌, length, take, reverse, slice_index_or, All, count_by, nat_lt, ◌==◌, if◌then◌else◌}
 use Rattle.std.specs.List.{list_any, list_all}
 use Rattle.ct_props.specs.Numbered.{is_in}
@@ -81,8 +81,8 @@ IsTrail rows marks (s ∷ trail) =
 abbrev pub AreRanked : List (List ℕ) → List Mark → Type 0
 AreRanked rows marks = (test rank : ℕ) → mark_of marks test ≡ Taken rank → are_taken_below marks rank (row_of rows test) ≡ true
 
--- what holds throughout the walk: the taken tests are ranked and counted, and each other test is unseen or on
--- the trail
+-- what holds throughout the walk: the taken tests are ranked and counted, and each
+-- other test is unseen or on the trail
 pub record IsWalk (rows : List (List ℕ)) (marks : List Mark) (trail : List Step) (taken : ℕ) : Type 0 where
   pub marked : length marks ≡ length rows
   pub ranked : AreRanked rows marks
@@ -103,7 +103,7 @@ Keeps rows walk = IsWalk rows walk.marks.items (trail_of walk) walk.taken
 abbrev pub steps_left : List Mark → List Step → ℕ
 steps_left marks trail = 2 * count_by is_unseen marks + length trail
 
--- the walk goes on: no test is unseen again, and none loses its rank
+-- the walk goes on: no test that was seen is unseen again, and each taken test stays taken
 pub record GoesOn (before now : List Mark) : Type 0 where
   pub seen : (test : ℕ) → is_unseen (mark_of before test) ≡ false → is_unseen (mark_of now test) ≡ false
   pub taken : (test : ℕ) → is_taken (mark_of before test) ≡ true → is_taken (mark_of now test) ≡ true

@@ -66,8 +66,8 @@ impl<'a> ByName<'a> {
         Ok(())
     }
 
-    /// Finds the tests of some names, in order. A list of names that is known is not looked up
-    /// again.
+    /// Finds the tests of some names, in order. A list of names
+    /// that is known is not looked up again.
     pub(crate) fn find(
         &self,
         alloc: Global,

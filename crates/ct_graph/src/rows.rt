@@ -9,8 +9,8 @@ use std::alloc::Global;
 
 /// What each member waits for.
 ///
-/// The place of a test is its number, and place 0 is of no test. A test that is no member waits for
-/// nothing.
+/// The place of a test is its number, and place 0 is of no test. A test
+/// that is no member waits for nothing.
 #[derive(Drop)]
 pub(crate) struct Graph {
     /// The members that come before each member, in order.

@@ -1,5 +1,5 @@
--- The parts of a conjunction and of a disjunction of tests, a test that each element passes, and the test for
--- equal numbers.
+-- The parts of a conjunction and of a disjunction of tests, a test that each element
+-- passes, and the test for equal numbers.
 use Rattle.std.proofs.Common.{◌≡◌, ◌<◌, Bool, true, false, ℕ, refl, sym, ◌∙◌, arith, List, length, get_or, inl, inr}
 use Rattle.std.specs.Prelude.{◌&&◌, ◌||◌, ◌==◌}
 use Rattle.std.specs.List.{list_all}

@@ -54,6 +54,6 @@ verdict_by t ending = if t.disabled then Some Disabled else settled_or ending.se
 abbrev pub AreEndings : {S : Type 0} → IndexMap ℕ Ending S → List Entry → Type 0
 AreEndings endings entries = (test : ℕ) → ending_at endings test ≡ ending_in entries test
 
--- each final test's verdict by the ending that the map tells is its verdict in the history
+-- for each final test, `verdict_by` of its ending in the map is its verdict in the history
 abbrev pub TellVerdicts : {S : Type 0} → IndexMap ℕ Ending S → List Entry → Type 0
 TellVerdicts endings entries = (repeat : Repeat) (t : PlanTest) → is_final_in repeat t entries ≡ true → verdict_by t (ending_at endings t.number) ≡ verdict_in repeat t entries

@@ -28,8 +28,8 @@ without_last entries = take (length entries - 1) entries
 abbrev pub ends_in_first_failure : PlanParts → List Entry → Bool
 ends_in_first_failure plan entries = has_failing plan entries && not (has_failing plan (without_last entries))
 
--- a Stop is due directly behind these entries: the plan stops on failure, and the last entry made the first
--- failing verdict final
+-- a Stop is due directly behind these entries: the plan stops on failure, and the last entry
+-- made the first failing verdict final
 abbrev pub is_stop_due : PlanParts → List Entry → Bool
 is_stop_due plan entries = plan.stop_on_failure && ends_in_first_failure plan entries
 
@@ -59,9 +59,9 @@ abbrev pub settles : PlanParts → List Entry → Cause → Option PlanTest → 
 settles plan front cause None = false
 settles plan front cause (Some t) = same_cause cause (settle_cause plan t front)
 
--- the entry is allowed by the entries in front of it. Where a Stop is due, it is a Stop. Else it is a Start
--- that may be made by a worker that is not busy, an End of its worker's open start, or a Settle with the
--- right cause.
+-- the entry is allowed by the entries in front of it. Where a Stop is due, it is a Stop. Else
+-- it is a Start that may be made by a worker that is not busy, an End of its worker's open
+-- start, or a Settle with the right cause.
 abbrev pub is_allowed : PlanParts → List Entry → Entry → Bool
 is_allowed plan front (Start t a w p) = not (is_stop_due plan front) && starts plan front a p (test_at plan.tests t) && not (is_busy_in w front)
 is_allowed plan front (End t a w seen) = not (is_stop_due plan front) && holds_start t a w front

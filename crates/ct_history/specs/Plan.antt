@@ -36,8 +36,8 @@ abbrev pub has_sound_links : List PlanTest → PlanTest → Bool
 has_sound_links tests t =
     list_all (λ j. is_before_rank t.rank (test_at tests j)) t.before && list_all (λ s. list_any (λ j. j == s) t.before) t.setups
 
--- no cause, or one that is known before the run: NotAvailable, BadOperation, or Insufficient where resources
--- are given
+-- no cause, or one that is known before the run: NotAvailable, BadOperation, or
+-- Insufficient where resources are given
 abbrev pub is_fixed_cause : Option (List Resource) → Option Cause → Bool
 is_fixed_cause resources None = true
 is_fixed_cause resources (Some NotAvailable) = true

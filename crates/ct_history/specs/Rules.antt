@@ -97,8 +97,8 @@ pub record CanStart (plan : PlanParts) (entries : List Entry) (number : ℕ) : T
   pub placement : Option Placement
   pub may : may_start_at plan entries placement (test_at plan.tests number) ≡ true
 
--- the cause that a test is settled with once its predecessors are final: its first setup that did not pass,
--- else its fixed cause
+-- the cause that a test is settled with once its predecessors are final: its first setup that
+-- did not pass, else its fixed cause
 abbrev pub cause_behind : Option ℕ → Option Cause → Option Cause
 cause_behind None fixed = fixed
 cause_behind (Some setup) fixed = Some (Fixture setup)

@@ -1,5 +1,5 @@
--- The verdict that a history gives to a test. Source: CMake manual, ctest(1), --repeat; this project's own
--- for settled tests.
+-- The verdict that a history gives to a test. Source: CMake manual, ctest(1), --repeat;
+-- this project's own for settled tests.
 use Rattle.std.specs.Prelude.{ℕ, Bool, true, false, not, ◌&&◌, List, [], ◌∷◌, length, filter_map, Option, Some, None, is_some, if◌then◌else◌}
 use Rattle.std.specs.List.{list_all}
 use Rattle.ct_verdict.specs.declared.verdict.Cause.{Cause}

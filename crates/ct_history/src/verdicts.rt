@@ -10,8 +10,8 @@ use crate::plan::test_at;
 use crate::{Entry, History, Plan, PlanParts, PlanTest};
 use ct_verdict::{Cause, Repeat, Rules, Verdict, one};
 
-/// Returns a test's verdict: Disabled, else NotRun with the cause that settled it, else the verdict
-/// of its last attempt.
+/// Returns a test's verdict: Disabled, else NotRun with the cause that settled it,
+/// else the verdict of its last attempt.
 ///
 /// It is `None` as long as the test is not final.
 pub fn final_verdict(plan: &Plan, history: &History, test: u32) -> Option<Verdict>

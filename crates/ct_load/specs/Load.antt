@@ -59,8 +59,8 @@ pub record IsCut (count : ℕ) (run : LoadRun) (before now : SinkTell) (status :
 abbrev pub EndsEarly : ℕ → SinkTell → SinkTell → Type 0
 EndsEarly count before now = (now ≡ before) ⊎ ((run : LoadRun) × IsShown count run before now (Err NoMemory))
 
--- what a load of `count` tests returns: a run whose summary was put, whole or cut; without a run, an early
--- end and the status 5
+-- what a load of `count` tests returns: a run whose summary was put, whole or cut; without a
+-- run, an early end and the status 5
 abbrev pub LoadsTests : ℕ → SinkTell → SinkTell → Option LoadRun → ℕ → Type 0
 LoadsTests count before now (Some run) status =
     IsWhole count run before now status ⊎ IsCut count run before now status

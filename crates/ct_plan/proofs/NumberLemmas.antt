@@ -1,5 +1,5 @@
--- The numbers of the members ascend, and each is of a test. The properties of tests are found at the same
--- places.
+-- The numbers of the members ascend, and each is of a test. The properties of
+-- tests are found at the same places.
 use Rattle.std.proofs.Common.{ℕ, ◌≡◌, ◌<◌, ◌≤◌, ◌+◌, Bool, true, false, cond, not, zero, suc, List, [], ◌∷◌, length, get_or, map, filter, All, refl, sym, subst, arith}
 use Rattle.std.specs.Prelude.{AllPairs, Some, None, slice_get}
 use Rattle.std.specs.List.{range_with_len}

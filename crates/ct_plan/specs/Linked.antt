@@ -27,8 +27,8 @@ lent free = option_map (λ (f : FreeValue). f.resources) free
 abbrev pub IsUnused : FreeValue → Type 0
 IsUnused free = (place : ℕ) → used_at free place ≡ 0
 
--- the test with these links, which takes at most `level` processors, and with the cause that keeps it from
--- running
+-- the test with these links, which takes at most `level` processors, and with
+-- the cause that keeps it from running
 abbrev pub test_from : ℕ → Links → TestDef → Props → Option Cause → PlanTest
 test_from level link def props fixed = record {
   number = link.number;

@@ -36,16 +36,16 @@ abbrev pub ArePlaceable : Option (List Resource) → List Need → Type 0
 ArePlaceable None needs = ⊤
 ArePlaceable (Some resources) needs = SomeFits resources needs (λ place. 0)
 
--- the cause that keeps a test from running: its own one; else Insufficient, where its needs do not fit; else
--- none
+-- the cause that keeps a test from running: its own one; else Insufficient,
+-- where its needs do not fit; else none
 abbrev pub IsFixedBy : Option Cause → Type 0 → Option Cause → Type 0
 IsFixedBy (Some own) Fits cause = cause ≡ Some own
 IsFixedBy None Fits None = Fits
 IsFixedBy None Fits (Some Insufficient) = Fits → ⊥
 IsFixedBy None Fits (Some _) = ⊥
 
--- the cause that keeps the test from running: its own one; else Insufficient, where its needs fit nowhere;
--- else none
+-- the cause that keeps the test from running: its own one; else Insufficient,
+-- where its needs fit nowhere; else none
 abbrev pub IsFixed : Option (List Resource) → TestDef → Props → Option Cause → Type 0
 IsFixed resources def props cause = IsFixedBy (own_cause def props) (ArePlaceable resources props.groups.needs) cause
 

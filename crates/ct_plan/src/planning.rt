@@ -127,8 +127,8 @@ fn copied_resources(alloc: Global, resources: &[Resource]) -> Result<List<Resour
     Ok(copies)
 }
 
-/// Returns what is free of the resources of a specification, if one is given, before a test runs:
-/// all.
+/// Returns what is free of the resources of a specification, if one
+/// is given, before a test runs: all.
 fn unused(alloc: Global, spec: Option<&Spec>) -> Result<Option<Free>, NoMemory>
     ensures whole { IfOk result (λ free. lent free ≡ option_copied spec.entry) }
     ensures unused { IfOk result (λ free. IfSome free IsUnused) }

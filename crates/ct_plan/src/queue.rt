@@ -11,8 +11,8 @@ use ct_history::PlanTest;
 use ct_props::{Props, Wanted};
 use std::alloc::Global;
 
-/// Returns the numbers of the tests that are not disabled, in the order in which they are looked
-/// at.
+/// Returns the numbers of the tests that are not disabled, in the
+/// order in which they are looked at.
 ///
 /// Source: CMake manual, cmake-properties(7), COST; ctest(1), -j.
 pub(crate) fn queue(

@@ -1,4 +1,5 @@
--- How the refused key is found: the keys are read in byte order. It is shown to be the least one.
+-- How the refused key is found: the keys are read in byte order. The key that is
+-- found is shown to be the least one.
 use Rattle.std.specs.Prelude.{◌≡◌, ⊤, ℕ, List, [], ◌∷◌, Option, Some, None}
 use Rattle.ct_base.specs.declared.defs.Pair.{Pair}
 use Rattle.ct_props.specs.declared.fault.PropKind.{PropKind}

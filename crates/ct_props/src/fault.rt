@@ -13,8 +13,8 @@ use std::alloc::Global;
 pub enum PropKind {
     /// A text that is no number of the kind that the key takes.
     BadNumber,
-    /// The first text of the list that is no pattern, and why. Want of memory is not among the
-    /// reasons.
+    /// The first text of the list that is no pattern, and why. Want
+    /// of memory is not among the reasons.
     BadPattern(RegexFault),
     /// A text that is no list of resource groups, and why. Want of memory is not among the reasons.
     BadGroups(GroupsFault),

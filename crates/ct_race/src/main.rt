@@ -1,5 +1,5 @@
-//! The program `ct_race`: workers take one state in turn, as often as they are told. It prints the
-//! result.
+//! The program `ct_race`: workers take one state in turn, as often as
+//! they are told. It prints the result.
 //!
 //! Hands up: nothing; it is the program that `measure/turn` times.
 //! Stands on: ct_base, ct_verdict, ct_history, ct_turn and `anyhow`.

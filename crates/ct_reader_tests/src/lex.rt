@@ -180,8 +180,8 @@ fn put_fault(alloc: Global, out: &mut Blob, fault: &LexFault) -> Result<(), NoMe
     put_line(alloc, out, line)
 }
 
-/// Reads a text to its end or its first fault. Then it asks once more, which has to return the
-/// same.
+/// Reads a text to its end or its first fault. Then it asks once
+/// more, which has to return the same.
 fn transcript(rt: &impl Abort, alloc: Global, text: &[u8]) -> Result<Blob, NoMemory> {
     assert!(rt; text.len() < 65536);
     let mut out = Blob::new(alloc);

@@ -284,8 +284,8 @@ fn keeps_to_its_limits(rt: HostRuntime) -> Result<(), Fail> {
     Ok(())
 }
 
-/// Returns a pattern of `depth` groups, one in the other and each repeated, with a byte behind
-/// them.
+/// Returns a pattern of `depth` groups, one in the other and each
+/// repeated, with a byte behind them.
 fn nested(alloc: Global, depth: usize) -> Result<Vec<u8>, AllocError> {
     let mut pattern = run_of(alloc, b'(', depth, b"a")?;
     for _ in 0..depth {

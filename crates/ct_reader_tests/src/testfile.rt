@@ -1,10 +1,10 @@
 //! Whole trees of test files: what they define, and what is refused where.
 //!
-//! A row has the text of the file `./CTestTestfile.cmake`, and behind each ` + ` the path and the
-//! text of another file. Behind ` => ` stands what is read of them. That is each test, as
-//! `folder|name|command,|key=value,|label,` with a `~` behind it. Or it is the line of a refusal
-//! and its kind, behind the path where that is another file. In a text a `~` stands for a line
-//! feed.
+//! A row has the text of the file `./CTestTestfile.cmake`, and behind each ` + ` the
+//! path and the text of another file. Behind ` => ` stands what is read of them. That is
+//! each test, as `folder|name|command,|key=value,|label,` with a `~` behind it. Or it is
+//! the line of a refusal and its kind, behind the path where that is another file. In a
+//! text a `~` stands for a line feed.
 
 ghost use Rattle.ct_testfile.specs.Says.{AreBounded};
 
@@ -32,8 +32,8 @@ set(V p)~set(V \"\")~add_test(a x${V}y) => .|a|xy,||~
 subdirs(none)~subdirs() => 
 ";
 
-/// Branches that are taken. In the others nothing is evaluated, nor are the conditions behind a
-/// taken branch.
+/// Branches that are taken. In the others nothing is evaluated, nor are
+/// the conditions behind a taken branch.
 const BRANCHES: &str = "\
 if(EXISTS f)~add_test(a x)~endif() + ./f: # => .|a|x,||~
 if(EXISTS f)~add_test(a x)~else()~add_test(b y)~endif() + ./f: # => .|a|x,||~

@@ -1,5 +1,5 @@
--- The lines of a history with one more entry. An End or a Settle that makes a test final adds its line, and
--- no other entry does.
+-- The lines of a history with one more entry. An End or a Settle that makes a test final adds
+-- its line, and no other entry does.
 use Rattle.std.proofs.Common.{◌≡◌, ◌∙◌, sym, ap, ℕ, ◌+◌, List, [], ◌∷◌, ◌++◌, length, refl, arith, append_assoc, length-append}
 use Rattle.std.specs.Prelude.{Option, Some, None, IsSome}
 use Rattle.std.proofs.lemmas.List.{append-nil}

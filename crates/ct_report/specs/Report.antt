@@ -229,8 +229,8 @@ lines_behind plan finals front (e ∷ es) =
 abbrev pub test_lines : PlanParts → List Entry → List (List ℕ)
 test_lines plan entries = lines_behind plan 0 [] entries
 
--- the lines behind the header: that no tests were found; else the lines of the tests and, where all tests are
--- final, the summary
+-- the lines behind the header: that no tests were found; else the lines of the tests and,
+-- where all tests are final, the summary
 abbrev pub body_lines : PlanParts → List Entry → List PlanTest → List (List ℕ)
 body_lines plan entries [] = codes "No tests were found!!!\n" ∷ []
 body_lines plan entries (t ∷ ts) = test_lines plan entries ++ (if are_all_final plan entries then summary_lines plan entries else [])

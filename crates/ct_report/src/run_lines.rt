@@ -20,8 +20,8 @@ use std::alloc::Global;
 pub struct TestLines {
     /// How many tests are not disabled.
     enabled: usize,
-    /// For each test, by its place in the plan, the microseconds of its Ends among the entries
-    /// read.
+    /// For each test, by its place in the plan, the microseconds
+    /// of its Ends among the entries read.
     micros: Vec<u64>,
     /// How many entries were read.
     read: usize,

@@ -1,5 +1,5 @@
-//! The tests of what is reported and kept of a run: its texts, the lists that replace it, and the
-//! cost data.
+//! The tests of what is reported and kept of a run: its texts, the lists
+//! that replace it, and the cost data.
 //!
 //! Hands up: nothing. A crate with tests of its own is proved twice, so they stand here.
 //! Stands on: ct_base, ct_verdict, ct_history, ct_report, ct_cost, ct_samples.

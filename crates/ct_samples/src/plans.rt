@@ -283,8 +283,8 @@ fn is_fixed(cause: Option<Cause>, resources: &Option<List<Resource>>) -> bool
     }
 }
 
-/// Tells whether the resources are distinct, and each test without a fixed cause can be placed on
-/// them.
+/// Tells whether the resources are distinct, and each test without a
+/// fixed cause can be placed on them.
 fn are_met(alloc: Global, parts: &PlanParts) -> Result<bool, NoMemory>
     ensures apart { IfOk result (λ yes. OnTrue yes (IfSome parts.now.resources AreDistinct)) }
     ensures placeable { IfOk result (λ yes. OnTrue yes (IfSome parts.now.resources

@@ -59,8 +59,8 @@ longer one other = if nat_lt (length one) (length other) then other else one
 abbrev pub note_of : Known → Known → Note
 note_of keeper other = record { worker = other.worker; seen = other.seen.entries; before = keeper.seen.entries }
 
--- what the keeper knows once another pass was joined away: the longer history, a halt that either has seen,
--- and one more note
+-- what the keeper knows once another pass was joined away: the longer history, a halt that
+-- either has seen, and one more note
 abbrev pub with_joined : Known → Known → Known
 with_joined keeper other =
     record keeper { seen = moment (longer keeper.seen.entries other.seen.entries) (keeper.seen.halted || other.seen.halted); notes = keeper.notes ++ note_of keeper other ∷ [] }
@@ -114,9 +114,9 @@ pub record Suits (known : Known) (state : Sight) : Type 0 where
   pub halted : known.seen.halted ≡ true → state.now.halted ≡ true
   pub start : open_start known.worker state.now.entries ≡ held_start known
 
--- the state may come back: it has the plan and the base that the worker knows, and its history is legal. The
--- history adds only entries of the worker, or of none, to what was taken. The state is halted where it was
--- when it was taken.
+-- the state may come back: it has the plan and the base that the worker knows, and its history is
+-- legal. The history adds only entries of the worker, or of none, to what was taken. The state is
+-- halted where it was when it was taken.
 pub record Continues (known : Known) (taken : Moment) (state : Sight) : Type 0 where
   pub plan : state.plan ≡ known.plan
   pub base : state.base ≡ known.base

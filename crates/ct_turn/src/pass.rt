@@ -8,8 +8,8 @@ use std::mem;
 
 /// A worker's seat at a turn. It takes no memory, and cannot be copied.
 ///
-/// Contracts see its turn, what it knows, and the moment at which it took the turn, if it has the
-/// turn.
+/// Contracts see its turn, what it knows, and the moment at which it
+/// took the turn, if it has the turn.
 #[derive(Drop)]
 pub struct Pass {
     pub(crate) badge: Badge<View>,

@@ -1,7 +1,7 @@
 use ct_history::{Base, Entry, PlanParts};
 
-// No value of these types is made: only clauses use them. A clause reads an array as a list of any
-// length.
+// No value of these types is made: only clauses use them. A clause
+// reads an array as a list of any length.
 
 /// A history, and whether the run was given up then.
 pub struct Moment {

@@ -29,8 +29,8 @@ pairs_in vars = map (λ var. record { name = string_bytes var.0; value = string_
 abbrev pub unused_gates : List GateTell
 unused_gates = replicate gate_count (gate_tell 0)
 
--- what a run of these words and variables came to, on a machine that tells nothing, and of which no call had
--- failed
+-- what a run of these words and variables came to, on a machine that tells
+-- nothing, and of which no call had failed
 abbrev pub RunsOnMachine : {R G W : Type 0} → (G → GateTell) → List (List ℕ) → List Pair → Finished (RealFiles R) G (RealSink W) → Type 0
 RunsOnMachine gate_tells words env finished = Answers (sides words env
     (files_tell 0) (files_tell finished.files.faults)
