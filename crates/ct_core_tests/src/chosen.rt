@@ -17,7 +17,7 @@ const LAST: u32 = 8;
 /// How many placements there are of three needs on three cards.
 const PLACEMENTS: u32 = 27;
 
-/// The causes that a drawn test may be settled with, except a setup.
+/// The causes that a drawn test may be settled with, except those of a setup.
 const CAUSES: [Cause; 3] = [Cause::Stopped, Cause::NotAvailable, Cause::Insufficient];
 
 /// A history, and one more entry for which `judge` is asked.

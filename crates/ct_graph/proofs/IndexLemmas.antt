@@ -45,7 +45,7 @@ one_more members at d within has before now old new n =
         ∙ more_here (is_in (take at members) n) (has n)
     by false is = more_there (is_in (take at members) n) (has n) (has (get_or members at d))
 
--- the index of one member more
+-- the index with one more member
 pub indexes_more : (defs : List TestDef) (props : List Props) (members : List ℕ) (at d : ℕ) → at < length members → (names setups users names' setups' users' : List ℕ → List ℕ) → IsIndex defs props (take at members) names setups users
     → ((name : List ℕ) (n : ℕ) → is_in (names' name) n ≡ (is_in (names name) n || (has_name name (at_number defs (get_or members at d)) (at_number props (get_or members at d)) && eqb (get_or members at d) n)))
     → ((fixture : List ℕ) (n : ℕ) → is_in (setups' fixture) n ≡ (is_in (setups fixture) n || (has_setup fixture (at_number props (get_or members at d)) && eqb (get_or members at d) n)))

@@ -18,11 +18,11 @@ pub(crate) struct Index<'a> {
     defs: &'a [TestDef],
     pub props: &'a [Props],
     pub members: &'a [u32],
-    /// By their own names.
+    /// The members, by their own names.
     names: ByName<'a>,
-    /// By the fixtures that they set up.
+    /// The members, by the fixtures that they set up.
     setups: ByName<'a>,
-    /// By the fixtures that they require.
+    /// The members, by the fixtures that they require.
     users: ByName<'a>,
 }
 

@@ -46,8 +46,7 @@ pub struct Ordered {
 ///
 /// A member that is disabled waits for nothing, and nothing waits for it. A test waits for each
 /// test of a name that it depends on, and for the setups of each fixture that it requires. A
-/// cleanup waits for the setups and the users of its fixture. No test waits for one that is no
-/// member.
+/// cleanup waits for the setups and the users of its fixture. Only members are waited for.
 ///
 /// Source: CMake manual, cmake-properties(7), DEPENDS, FIXTURES_SETUP, FIXTURES_REQUIRED and
 /// FIXTURES_CLEANUP. That a cleanup waits for the setups too, and that a cycle is refused, is this

@@ -11,7 +11,7 @@ use std::alloc::Global;
 pub(crate) enum Mark {
     /// It has not come to the test.
     Unseen,
-    /// It has come to the test, and has not yet taken all tests before it.
+    /// It has come to the test, and has not taken it yet.
     Open,
     /// It has taken all tests before the test, and then the test.
     Taken { rank: u32 },

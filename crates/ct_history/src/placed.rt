@@ -10,7 +10,7 @@ use ct_alloc::{Pick, Placement};
 use ct_base::{Need, Resource};
 
 /// Tells whether a placement is right for a test. Where the test has needs and resources are given,
-/// it is a placement for the needs that fits beside the used slots. Otherwise there is none.
+/// it is a placement for the needs that fits beside the used slots. Otherwise it is `None`.
 pub(crate) fn is_placed(
     plan: &PlanParts,
     test: &PlanTest,

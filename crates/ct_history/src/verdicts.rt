@@ -126,7 +126,7 @@ fn is_tried_again(
     repeat.again(count_attempts(test, entries), last)
 }
 
-/// Counts the attempts of a test that have ended. A greater count counts as 2^32 - 1.
+/// Counts the attempts of a test that have ended. A greater number counts as 2^32 - 1.
 pub(crate) fn count_attempts(test: &PlanTest, entries: &[Entry]) -> u32
     ensures { result ≡
         min (length (attempts_of test.now.number test.now.rules entries.now)) (2 ^ 32 - 1) }

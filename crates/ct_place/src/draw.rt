@@ -16,7 +16,7 @@ impl Dice {
         Dice { state }
     }
 
-    /// Draws a number from 0 to below `sides`.
+    /// Draws a number from 0 to `sides` - 1.
     fn roll(&mut self, sides: u32) -> u32
         requires { 0 < sides }
         ensures { result < sides }

@@ -1,4 +1,4 @@
--- Labels that are gathered one by one are those that stand there, each once.
+-- Labels that are gathered one by one are the labels of the whole list, each once.
 use Rattle.std.proofs.Common.{ℕ, ◌≡◌, Bool, true, false, not, ◌||◌, ◌&&◌, List, [], ◌∷◌, ◌++◌, filter, refl, sym, ap, ◌∙◌, bytes_eq, cond}
 use Rattle.std.specs.List.{list_any}
 use Rattle.std.proofs.lemmas.List.{append_assoc, append-nil}

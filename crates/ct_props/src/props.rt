@@ -35,11 +35,12 @@ pub struct Props {
     pub locks: List<Name>,
     /// Whether it runs alone: RUN_SERIAL.
     pub serial: bool,
-    /// The patterns that may have no match in its output: FAIL_REGULAR_EXPRESSION.
+    /// The patterns that make it fail where one has a match in its output: FAIL_REGULAR_EXPRESSION.
     pub fail: List<Regex>,
-    /// The patterns of which one must have a match in its output: PASS_REGULAR_EXPRESSION.
+    /// The patterns of which one has to have a match in its output: PASS_REGULAR_EXPRESSION.
     pub pass: List<Regex>,
-    /// The patterns of which a match in its output makes it skipped: SKIP_REGULAR_EXPRESSION.
+    /// The patterns that make it skipped where one has a match in its output:
+    /// SKIP_REGULAR_EXPRESSION.
     pub skip: List<Regex>,
     /// The exit code that makes it skipped: SKIP_RETURN_CODE.
     pub skip_code: Option<i32>,

@@ -23,7 +23,7 @@ impl Tally {
         }
     }
 
-    /// Counts one more take. A greater count counts as 2^64 - 1.
+    /// Counts one more take. A greater number counts as 2^64 - 1.
     pub fn count(&mut self)
         ensures counted { self.new.takes ≡ min (self.old.takes + 1) (2 ^ 64 - 1) }
         ensures kept { self.new.history ≡ self.old.history }

@@ -1,4 +1,4 @@
-//! What the forms in memory do, and the small texts of ct_base.
+//! What files, sinks and ears in memory do, and the small texts of ct_base.
 
 use ct_base::{
     CalmFiles, CalmSink, Collect, Ear, Files, List, MemFiles, MemSink, Name, NoMemory, Pair, Sink,
@@ -19,7 +19,7 @@ fn pairs(alloc: Global) -> Result<List<Pair>, NoMemory> {
     Ok(pairs)
 }
 
-/// Reads, looks and writes, and tells which of the three calls failed.
+/// Reads, looks and writes, and tells what each of the three calls came to.
 fn three_calls<F: Files>(alloc: Global, files: &mut F, path: &Name) -> (Option<usize>, bool, bool) {
     let read = match files.read(alloc, path, 2) {
         Ok(Some(bytes)) => Some(bytes.bytes().len()),

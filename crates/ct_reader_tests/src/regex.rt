@@ -5,7 +5,7 @@ use std::alloc::{AllocError, Global};
 use std::process::Abort;
 use std::test::Fail;
 
-/// A pattern and its first fault from the left: a row a line, with a space between the cells.
+/// A pattern and its first fault from the left. Each line is a row, with a space between its cells.
 const FAULTS: &str = "\
 a**  Err(NestedRepeat(2))
 (a  Err(OpenGroup(0))

@@ -170,7 +170,7 @@ impl<T: Board> Turn<T> {
 
     /// Sleeps until another pass has given the turn back since this one's last `give`.
     ///
-    /// It may also return for no reason.
+    /// It may also return earlier.
     pub fn pause<R: Wait>(&self, rt: &R, pass: &mut Pass)
         requires turn { pass.old.turn ≡ self.now.id }
         requires idle { pass.old.taken ≡ None }
