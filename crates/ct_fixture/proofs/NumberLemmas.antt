@@ -58,7 +58,7 @@ from_row number first (suc count) there =
       | inr later ↦ let row = from_row number (first + 1) count later in (omega (arith, row.0), omega (arith, row.1))
     ]
 
--- a number that a filter of a row keeps passes, and stands in the row
+-- the number passes, and stands in the row
 abbrev pub PassesInRow : (ℕ → Bool) → ℕ → ℕ → ℕ → Type 0
 PassesInRow test number first count = (test number ≡ true) × (first ≤ number) × (number < first + count)
 

@@ -65,7 +65,7 @@ pub first_within : (marks : List Bool) (tests : List ℕ) (at d : ℕ) → at < 
 first_within marks tests at d inside are =
     All-head (λ n. n < length marks) (get_or tests at d) (drop (at + 1) tests) (subst (AreMarked marks) (drop_more tests at d inside) are).within
 
--- where the mark of the first test is cleared, the rest of the tests are marked
+-- once the mark of the first test is cleared, only the rest of the tests are marked
 unmarks_first : (marks : List Bool) (test : ℕ) (rest : List ℕ) → AreMarked marks (test ∷ rest) → AreMarked (set marks test false) rest
 unmarks_first marks test rest are = record {
   within = subst (λ count. All (λ n. n < count) rest) (sym (length-set marks test false)) (All-tail (λ n. n < length marks) test rest are.within);

@@ -65,7 +65,7 @@ any_filter p q (x ∷ xs) none = elim (cases_Bool (q x)) [
 any_one : {A : Type 0} (p : A → Bool) (xs : List A) (o : Option A) → list_any p xs ≡ false → list_any p (cons_option o []) ≡ false → list_any p (xs ++ cons_option o []) ≡ false
 any_one p xs o none here = list_any-append p xs (cons_option o []) ∙ ap (λ (b : Bool). b || list_any p (cons_option o [])) none ∙ here
 
--- the parts of a test's verdict that an entry about another test leaves as they are
+-- the parts of a test's verdict that an entry leaves as they are, as one about another test does
 pub record Leaves (t : PlanTest) (es : List Entry) (e : Entry) : Type 0 where
   pub settled : settled_cause t.number (es ++ e ∷ []) ≡ settled_cause t.number es
   pub attempts : attempts_of t.number t.rules (es ++ e ∷ []) ≡ attempts_of t.number t.rules es

@@ -1,5 +1,5 @@
--- The links of the tests of a plan are sound: each test before another one is enabled, has
--- a lesser rank, and may be a setup.
+-- The links of the tests of a plan are sound: each predecessor is enabled and has a lesser rank, and the
+-- setups are among the predecessors.
 use Rattle.std.proofs.Common.{ℕ, ◌≡◌, ◌∙◌, Bool, true, false, cond, not, ◌&&◌, ◌||◌, nat_lt, List, [], ◌∷◌, Option, Some, None, refl, sym, ap, eqb}
 use Rattle.std.specs.List.{list_all}
 use Rattle.std.proofs.lemmas.Bool.{false≢true, and_parts, and_from, eqb-true}
