@@ -1,9 +1,10 @@
 -- What an event of a worker, between its take and its give, makes of the run.
 use Rattle.std.proofs.Common.{◌≡◌, ◌∙◌, sym, ap, subst, true, false, Bool, ℕ, List, [], ◌∷◌, ◌++◌, refl, arith, append_assoc}
 use Rattle.std.specs.Prelude.{Option, Some, None, IsSome, IsSomeAnd, is_some, ◌&&◌, ◌==◌}
-use Rattle.std.specs.List.{list_any}
+use Rattle.std.specs.List.{list_all, list_any}
+use Rattle.std.proofs.lemmas.List.{append-nil}
 use Rattle.std.proofs.lemmas.Bool.Decides.{nat_tests}
-use Rattle.std.proofs.lemmas.List.Folds.{list_any-append}
+use Rattle.std.proofs.lemmas.List.Folds.{list_all-append, list_any-append}
 use Rattle.ct_verdict.specs.declared.attempt.Seen.{Seen}
 use Rattle.ct_alloc.specs.declared.placement.Placement.{Placement}
 use Rattle.ct_history.specs.declared.plan.PlanTest.{PlanTest}
@@ -49,6 +50,20 @@ pub record IsStep (worker : ℕ) (old new : StateValue) : Type 0 where
   pub legal : is_legal old.plan new.entries ≡ true
   pub own : AddsOwn worker old.entries new.entries
   pub halted : is_some old.halt ≡ true → is_some new.halt ≡ true
+
+-- two steps, one behind the other
+pub step_then : (w : ℕ) (a b c : StateValue) → IsStep w a b → IsStep w b c → IsStep w a c
+step_then w a b c one other = record {
+  plan = other.plan ∙ one.plan;
+  base = other.base ∙ one.base;
+  legal = subst (λ (p : PlanParts). is_legal p c.entries ≡ true) one.plan other.legal;
+  own = record {
+    more = one.own.more ++ other.own.more;
+    is = other.own.is ∙ ap (λ (es : List Entry). es ++ other.own.more) one.own.is ∙ append_assoc a.entries one.own.more other.own.more;
+    own = list_all-append (is_own w) one.own.more other.own.more ∙ ap (λ (b : Bool). b && list_all (is_own w) other.own.more) one.own.own ∙ other.own.own;
+  };
+  halted = λ halt. other.halted (one.halted halt);
+}
 
 same_worker : (v w : ℕ) → v ≡ w → (v == w) ≡ true
 same_worker v w is = grind (arith, nat_tests)
@@ -318,3 +333,20 @@ module _ (known : Known) (old : StateValue) (sound : IsSound known.plan) (suits 
           ended = ap (λ (k : Known). k.seen.entries) known_now ∙ done.entries ∙ ap (λ (p : PlanParts). with_due_stop p (old.entries ++ end_of ticket seen ∷ [])) (suits.plan ∙ ap (λ (k : Known). k.plan) (sym of_pass));
           idle = ap held_start known_now ∙ ap (λ (es : List Entry). open_start known.worker es) done.entries ∙ ends_open;
         }
+
+    -- the worker has seen the end, and the state fits what it then knows
+    abbrev pub known_after_end : Known
+    known_after_end = has_seen known (moment new.entries (is_some new.halt))
+
+    pub suits_after : Suits known_after_end (sight_of new)
+    suits_after = record {
+      plan = done.plan ∙ suits.plan;
+      base = done.base ∙ suits.base;
+      legal = subst (λ (p : PlanParts). is_legal p new.entries ≡ true) suits.plan end_step.legal;
+      history = record { more = []; is = sym (append-nil new.entries); others = refl };
+      halted = λ halt. halt;
+      start = refl;
+    }
+
+    pub idle_after : held_start known_after_end ≡ None
+    idle_after = ap (λ (es : List Entry). open_start known.worker es) done.entries ∙ ends_open

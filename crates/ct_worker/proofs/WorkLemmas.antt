@@ -1,9 +1,10 @@
 -- What the gate of a worker was asked, event by event.
 use Rattle.std.proofs.Common.{◌≡◌, ◌∙◌, sym, ap, subst, false, ℕ, List, [], ◌∷◌, ◌++◌, refl, inl, inr, append_assoc}
-use Rattle.std.specs.Prelude.{◌⊎◌, None}
+use Rattle.std.specs.Prelude.{◌⊎◌, Bool, None, is_some}
 use Rattle.std.specs.List.{list_any}
 use Rattle.std.proofs.lemmas.List.{append-nil}
 use Rattle.ct_verdict.specs.declared.attempt.Seen.{Seen}
+use Rattle.ct_history.specs.declared.plan.PlanParts.{PlanParts}
 use Rattle.ct_history.specs.declared.history.Entry.{Entry}
 use Rattle.ct_history.specs.declared.history.Entry.TheVariants as Is
 use Rattle.ct_core.specs.declared.scheduler.Next.{Next}
@@ -15,7 +16,7 @@ use Rattle.ct_turn.specs.Pass.{PassValue}
 use Rattle.ct_turn.specs.Seen.{GoesOn, has_seen, held_start, is_by}
 use Rattle.ct_worker.specs.Attempt.{RunsAttempt, run_of}
 use Rattle.ct_worker.specs.Gates.{IsAsked, Terms}
-use Rattle.ct_worker.specs.Work.{AsksSince, EndsOwn, SeesNext, GoesAlong, Starts, Stays}
+use Rattle.ct_worker.specs.Work.{AsksNext, AsksSince, EndsAndAsks, EndsOwn, GoesAlong, IsUnderWay, SeesNext, Starts, Stays}
 use Rattle.ct_worker.proofs.GateLemmas.{asked_attempt, asked_none, asked_others, asked_then}
 use Rattle.ct_worker.proofs.StopLemmas.{due_keeps}
 
@@ -112,3 +113,24 @@ module _ (terms : Terms) (a b c : PassValue) (ticket : Ticket) (seen : Seen) (ol
         (due_keeps b.known.plan (ends.others ++ end_of ticket seen ∷ []) (λ xs. AsksSince terms w old new a.known.seen.entries xs) asks_attempt
         (asks_more terms w old new a.known.seen.entries (ends.others ++ end_of ticket seen ∷ []) (Is.Stop ∷ []) refl asks_attempt));
   }
+
+-- what came before an answer without a ticket came before what is then asked
+pub along_then_stays : (terms : Terms) (old now : PassValue) (first second : GateTell) (next : Next) (way : IsUnderWay terms old now first second next) → Stays way.before now → GoesAlong terms old now first second
+along_then_stays terms old now first second next way stays =
+    along_then terms old way.before now first second second way.along (along_stays terms way.before now second way.asked.pass stays)
+
+-- the plan stays
+pub way_plan : (terms : Terms) (old now : PassValue) (first second : GateTell) (next : Next) → IsUnderWay terms old now first second next → now.known.plan ≡ old.known.plan
+way_plan terms old now first second next way = ap (λ (p : PassValue). p.known.plan) way.asked.pass ∙ ap (λ (p : PassValue). p.known.plan) way.along.pass
+
+-- what a run lends is told by its plan, which stays
+pub way_lends : (terms : Terms) (old now : PassValue) (first second : GateTell) (next : Next) (lends : Bool) → IsUnderWay terms old now first second next → lends ≡ is_some now.known.plan.resources → lends ≡ is_some old.known.plan.resources
+way_lends terms old now first second next lends way is = is ∙ ap (λ (p : PlanParts). is_some p.resources) (way_plan terms old now first second next way)
+
+-- an attempt was run and ended, and the worker asked what is next
+pub way_attempt : (terms : Terms) (old now new : PassValue) (first second third : GateTell) (next then : Next) (ticket : Ticket) (seen : Seen) → (way : IsUnderWay terms old now first second next) → Starts ticket way.before now → RunsAttempt terms (run_of ticket) seen second third → EndsAndAsks now ticket seen then new → IsUnderWay terms old new first third then
+way_attempt terms old now new first second third next then ticket seen way starts runs ends = record {
+  before = ends.middle;
+  along = along_then terms old way.before ends.middle first second third way.along (along_attempt terms way.before now ends.middle ticket seen second third way.asked.pass starts runs ends.ended);
+  asked = ends.asked;
+}

@@ -78,3 +78,15 @@ pub record EndsOwn (old : PassValue) (ticket : Ticket) (seen : Seen) (new : Pass
   pub went_on : GoesOn old.known.worker old.known.seen.entries others
   pub ended : new.known.seen.entries ≡ with_due_stop old.known.plan (others ++ end_of ticket seen ∷ [])
   pub idle : held_start new.known ≡ None
+
+-- a worker ended the attempt of its ticket, and in the same turn asked what it has to do next; between the two it has seen its end
+pub record EndsAndAsks (old : PassValue) (ticket : Ticket) (seen : Seen) (next : Next) (new : PassValue) : Type 0 where
+  pub middle : PassValue
+  pub ended : EndsOwn old ticket seen middle
+  pub asked : AsksNext middle next new
+
+-- the worker has done all that came before the answer that it got last
+pub record IsUnderWay (terms : Terms) (old now : PassValue) (gate_before gate_now : GateTell) (next : Next) : Type 0 where
+  pub before : PassValue
+  pub along : GoesAlong terms old before gate_before gate_now
+  pub asked : AsksNext before next now

@@ -1,8 +1,10 @@
 ghost use Rattle.std.specs.Prelude.{◌≡◌, None, Some, false, is_some};
+ghost use Rattle.ct_history.specs.History.{is_busy_in};
 ghost use Rattle.ct_history.specs.Plan.{IsSound};
 ghost use Rattle.ct_turn.specs.Seen.{held_start};
 ghost use Rattle.ct_worker.specs.Attempt.{run_of};
-ghost use Rattle.ct_worker.specs.Work.{AsksNext, EndsOwn, GoesAlong, IsEnded, Reach, terms_in};
+ghost use Rattle.ct_worker.specs.State.{IsStateNext};
+ghost use Rattle.ct_worker.specs.Work.{AsksNext, EndsAndAsks, GoesAlong, IsEnded, Reach, terms_in};
 
 use crate::attempt::ask;
 use crate::{Jobs, State};
@@ -45,6 +47,12 @@ pub fn work<R: Wait, G: Gate, S: Sink>(
     Worked { pass, gate }
 }
 
+/// What a worker has to do next, and whether its run lends resources.
+struct Answer {
+    next: Next,
+    lends: bool,
+}
+
 /// Takes part in the run with this pass and this gate.
 pub(crate) fn attend<R: Wait, G: Gate, S: Sink>(
     rt: &R,
@@ -62,78 +70,77 @@ pub(crate) fn attend<R: Wait, G: Gate, S: Sink>(
     ensures along { GoesAlong (terms_in jobs.now pass.old.known.plan) pass.old pass.new (G.tells gate.old) (G.tells gate.new) }
     ensures ended { IsEnded pass.new }
 {
+    let mut answer = begin(rt, turn, pass, worker);
     for _ in rt.forever() {
-        if !go_on(rt, alloc, turn, pass, worker, gate, jobs) {
-            return;
-        }
+        let Answer { next, lends } = answer;
+        answer = match next {
+            Next::Start(ticket) => {
+                let seen = ask(alloc, &ticket, jobs, lends, gate);
+                end(rt, turn, pass, worker, ticket, seen)
+            }
+            Next::Wait => {
+                turn.pause(rt, pass);
+                begin(rt, turn, pass, worker)
+            }
+            Next::Settled(_) | Next::NoMemory => begin(rt, turn, pass, worker),
+            Next::Done | Next::Aborted => return,
+        };
     }
     unreachable!()
 }
 
-/// Does what the worker has to do next, and tells whether anything may be left to do.
-fn go_on<R: Wait, G: Gate, S: Sink>(
-    rt: &R,
-    alloc: Global,
-    turn: &Turn<State<S>>,
-    pass: &mut Pass,
-    worker: u32,
-    gate: &mut G,
-    jobs: &Jobs<'_>,
-) -> bool
-    requires turn { pass.old.turn ≡ turn.now.id }
-    requires idle { (pass.old.taken ≡ None) × (held_start pass.old.known ≡ None) }
-    requires worker { pass.old.known.worker ≡ worker }
-    requires reach { Reach jobs.now pass.old.known.plan }
-    ensures along { GoesAlong (terms_in jobs.now pass.old.known.plan) pass.old pass.new (G.tells gate.old) (G.tells gate.new) }
-    ensures ended { result ≡ false → IsEnded pass.new }
-{
-    let (next, lends) = begin(rt, turn, pass, worker);
-    match next {
-        Next::Start(ticket) => {
-            let seen = ask(alloc, &ticket, jobs, lends, gate);
-            end(rt, turn, pass, ticket, seen);
-            true
-        }
-        Next::Wait => {
-            turn.pause(rt, pass);
-            true
-        }
-        Next::Settled(_) | Next::NoMemory => true,
-        Next::Done | Next::Aborted => false,
-    }
-}
-
-/// Takes the turn, asks what the worker has to do next, and gives the turn back. It tells besides
-/// whether resources are lent.
+/// Takes the turn, asks what the worker has to do next, and gives the turn back.
 fn begin<R: Wait, S: Sink>(
     rt: &R,
     turn: &Turn<State<S>>,
     pass: &mut Pass,
     worker: u32,
-) -> (Next, bool)
+) -> Answer
     requires turn { pass.old.turn ≡ turn.now.id }
     requires idle { (pass.old.taken ≡ None) × (held_start pass.old.known ≡ None) }
     requires worker { pass.old.known.worker ≡ worker }
-    ensures begins { AsksNext pass.old result.0 pass.new }
-    ensures lends { result.1 ≡ is_some pass.old.known.plan.resources }
+    ensures begins { AsksNext pass.old result.next pass.new }
+    ensures lends { result.lends ≡ is_some pass.old.known.plan.resources }
     ensures sound { IsSound pass.old.known.plan }
 {
     let mut state = turn.take(rt, pass);
-    let next = state.next(worker);
-    let lends = state.core().plan().parts().resources.is_some();
+    let answer = next_of(&mut state, worker);
     turn.give(pass, state);
-    (next, lends)
+    answer
 }
 
-/// Takes the turn, ends the attempt of a ticket, and gives the turn back.
-fn end<R: Wait, S: Sink>(rt: &R, turn: &Turn<State<S>>, pass: &mut Pass, ticket: Ticket, seen: Seen)
+/// Takes the turn, ends the attempt of a ticket, asks what the worker has to do next, and gives the turn back.
+fn end<R: Wait, S: Sink>(
+    rt: &R,
+    turn: &Turn<State<S>>,
+    pass: &mut Pass,
+    worker: u32,
+    ticket: Ticket,
+    seen: Seen,
+) -> Answer
     requires turn { pass.old.turn ≡ turn.now.id }
     requires idle { pass.old.taken ≡ None }
+    requires worker { pass.old.known.worker ≡ worker }
     requires holds { held_start pass.old.known ≡ Some (run_of ticket) }
     requires sound { IsSound pass.old.known.plan }
-    ensures { EndsOwn pass.old ticket seen pass.new }
+    ensures ends { EndsAndAsks pass.old ticket seen result.next pass.new }
+    ensures lends { result.lends ≡ is_some pass.old.known.plan.resources }
 {
     let mut state = turn.take(rt, pass);
     state.finish(ticket, seen);
+    let answer = next_of(&mut state, worker);
     turn.give(pass, state);
+    answer
+}
+
+/// Asks a state what the worker has to do next.
+fn next_of<S: Sink>(state: &mut State<S>, worker: u32) -> Answer
+    requires { is_busy_in worker state.old.entries ≡ false }
+    ensures next { IsStateNext state.old worker result.next state.new }
+    ensures lends { result.lends ≡ is_some state.new.plan.resources }
+    ensures sound { IsSound state.new.plan }
+{
+    let next = state.next(worker);
+    let lends = state.core().plan().parts().resources.is_some();
+    Answer { next, lends }
 }
