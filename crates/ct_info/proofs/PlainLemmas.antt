@@ -1,4 +1,4 @@
--- Values of texts and whole numbers: they hold no float, nest so deep at most, and read the same with a line feed behind them.
+-- Values of texts and whole numbers: they hold no float, and their text reads back to them, with a line feed behind it too.
 use Rattle.std.proofs.Common.{◌≡◌, ℕ, zero, suc, ◌≤◌, List, [], ◌∷◌, ◌++◌, Bool, true, false, ◌||◌, codes, Option, Some, option_and_then, refl, sym, ap, ap₂, ◌∙◌, append_assoc, append-nil, arith}
 use Rattle.std.specs.Prelude.{⊤}
 use Rattle.std.proofs.Math.Nat.{max-le}
@@ -7,12 +7,16 @@ use Rattle.json.specs.Word.{ends_word}
 use Rattle.json.specs.Lex.{token, comma, colon, string_token, lex, between, fresh, punctuate, tokens}
 use Rattle.json.specs.Print.{IsNumber, escape, quoted}
 use Rattle.json.specs.Json as json
+use Rattle.json.specs.Tree as tree
 use Rattle.json.proofs.Printed.Strings.{content-escape, lex-escape}
 use Rattle.json.proofs.Printed.Numbers.{lex-number}
-use Rattle.serde_json.specs.Data.{Data, null, boolean, number, string, array, object, Items, no_items, item, Members, no_members, member, depth, items_depth, members_depth}
+use Rattle.json.proofs.Printed.Tokens.{tokens-print}
+use Rattle.json.proofs.Printed.Trees.{ArePrintable-json_tokens, value-json_tokens}
+use Rattle.serde_json.specs.Data.{Data, null, boolean, number, string, array, object, Items, no_items, item, Members, no_members, member}
 use Rattle.serde_json.specs.Find.{is_float}
 use Rattle.serde_json.specs.Read.{of_json, max_depth, read}
-use Rattle.serde_json.specs.Written.{number_text, has_float, items_have_float, members_have_float, comma_if, compact_text, items_text, members_text}
+use Rattle.serde_json.specs.Written.{number_text, outline, items_outline, members_outline, has_float, items_have_float, members_have_float, comma_if, compact_text, items_text, members_text}
+use Rattle.serde_json.proofs.Texts.{print-outline}
 use Rattle.ct_info.specs.Info.{info_text}
 
 -- a value of texts and whole numbers, with arrays and objects inside one another so deep at most
@@ -35,7 +39,7 @@ abbrev mutual
   MembersArePlain no_members k = ⊤
   MembersArePlain (member key d ms) k = IsPlain d k × MembersArePlain ms k
 
--- ---- no float, and how deep
+-- ---- no float, and numbers and depth of the tree
 
 or_false : (a b : Bool) → a ≡ false → b ≡ false → (a || b) ≡ false
 or_false true b one other = one
@@ -67,21 +71,40 @@ one_deeper : (n k : ℕ) → n ≤ k → suc n ≤ suc k
 one_deeper n k less = omega arith
 
 mutual
-  pub plain_depth : (d : Data) (k : ℕ) → IsPlain d k → depth d ≤ k
+  plain_numbers : (d : Data) (k : ℕ) → IsPlain d k → tree.HasNumbers (outline d)
+  plain_numbers null k plain = absurd plain
+  plain_numbers (boolean b) k plain = absurd plain
+  plain_numbers (number n) k plain = plain.1
+  plain_numbers (string s) k plain = tt
+  plain_numbers (array ds) zero plain = absurd plain
+  plain_numbers (array ds) (suc k) plain = items_numbers ds k plain
+  plain_numbers (object ms) zero plain = absurd plain
+  plain_numbers (object ms) (suc k) plain = members_numbers ms k plain
+
+  items_numbers : (ds : Items) (k : ℕ) → ArePlain ds k → tree.ItemsHaveNumbers (items_outline ds)
+  items_numbers no_items k plain = tt
+  items_numbers (item d ds) k plain = (plain_numbers d k plain.0, items_numbers ds k plain.1)
+
+  members_numbers : (ms : Members) (k : ℕ) → MembersArePlain ms k → tree.MembersHaveNumbers (members_outline ms)
+  members_numbers no_members k plain = tt
+  members_numbers (member key d ms) k plain = (plain_numbers d k plain.0, members_numbers ms k plain.1)
+
+mutual
+  plain_depth : (d : Data) (k : ℕ) → IsPlain d k → tree.depth (outline d) ≤ k
   plain_depth null k plain = absurd plain
   plain_depth (boolean b) k plain = absurd plain
   plain_depth (number n) k plain = at_least_none k
   plain_depth (string s) k plain = at_least_none k
   plain_depth (array ds) zero plain = absurd plain
-  plain_depth (array ds) (suc k) plain = one_deeper (items_depth ds) k (items_plain_depth ds k plain)
+  plain_depth (array ds) (suc k) plain = one_deeper (tree.items_depth (items_outline ds)) k (items_plain_depth ds k plain)
   plain_depth (object ms) zero plain = absurd plain
-  plain_depth (object ms) (suc k) plain = one_deeper (members_depth ms) k (members_plain_depth ms k plain)
+  plain_depth (object ms) (suc k) plain = one_deeper (tree.members_depth (members_outline ms)) k (members_plain_depth ms k plain)
 
-  items_plain_depth : (ds : Items) (k : ℕ) → ArePlain ds k → items_depth ds ≤ k
+  items_plain_depth : (ds : Items) (k : ℕ) → ArePlain ds k → tree.items_depth (items_outline ds) ≤ k
   items_plain_depth no_items k plain = at_least_none k
   items_plain_depth (item d ds) k plain = max-le (plain_depth d k plain.0) (items_plain_depth ds k plain.1)
 
-  members_plain_depth : (ms : Members) (k : ℕ) → MembersArePlain ms k → members_depth ms ≤ k
+  members_plain_depth : (ms : Members) (k : ℕ) → MembersArePlain ms k → tree.members_depth (members_outline ms) ≤ k
   members_plain_depth no_members k plain = at_least_none k
   members_plain_depth (member key d ms) k plain = max-le (plain_depth d k plain.0) (members_plain_depth ms k plain.1)
 
@@ -178,6 +201,20 @@ line_tokens d k plain =
 abbrev read_tokens : List Token → Option Data
 read_tokens ts = option_and_then of_json (option_and_then (λ p. json.if_last p.0 p.1) (json.value max_depth ts))
 
--- a line reads back to what its text reads back to
-pub reads_line : (d : Data) (k : ℕ) → IsPlain d k → read (compact_text d) ≡ Some d → read (info_text d) ≡ Some d
-reads_line d k plain back = ap read_tokens (line_tokens d k plain) ∙ back
+-- the tokens of the text of a value
+text_tokens : (d : Data) (k : ℕ) → IsPlain d k → tokens (compact_text d) ≡ tree.json_tokens (outline d)
+text_tokens d k plain = ap tokens (sym (print-outline d)) ∙ tokens-print (tree.json_tokens (outline d)) (ArePrintable-json_tokens (outline d) (plain_numbers d k plain))
+
+-- the tree that those tokens are
+tokens_value : (d : Data) (k : ℕ) → IsPlain d k → k ≤ max_depth → json.value max_depth (tree.json_tokens (outline d)) ≡ Some (outline d, [])
+tokens_value d k plain most =
+    let least : tree.depth (outline d) ≤ k = plain_depth d k plain in
+    let flat : tree.depth (outline d) ≤ 127 = omega arith in
+    ap (json.value max_depth) (sym (append-nil (tree.json_tokens (outline d)))) ∙ value-json_tokens (outline d) max_depth [] flat
+
+-- a line reads back to a value that its tree stands for
+pub reads_line : (d : Data) (k : ℕ) → IsPlain d k → k ≤ max_depth → of_json (outline d) ≡ Some d → read (info_text d) ≡ Some d
+reads_line d k plain most back =
+    ap read_tokens (line_tokens d k plain ∙ text_tokens d k plain)
+    ∙ ap (λ r. option_and_then of_json (option_and_then (λ p. json.if_last p.0 p.1) r)) (tokens_value d k plain most)
+    ∙ back

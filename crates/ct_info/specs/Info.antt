@@ -27,7 +27,7 @@ test_value config n def =
     (member (codes "number") (number (unsigned n))
     (member (codes "properties") (array (items_of (map property_value def.props))) no_members)))))
 
--- the test with this number; numbers count from 1
+-- The test with this number, counted from 1. It says what `at_number` of ct_props says, on which this crate does not stand.
 abbrev pub def_at : List TestDef → ℕ → Option TestDef
 def_at defs zero = None
 def_at defs (suc place) = slice_get defs place

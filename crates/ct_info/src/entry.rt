@@ -1,30 +1,62 @@
-ghost use Rattle.std.specs.Prelude.{◌≡◌, ◌<◌, ◌^◌, IfOk, length, map};
+ghost use Rattle.std.specs.Prelude.{◌≡◌, ◌<◌, ◌^◌, ◌++◌, false, IfOk, OnOk, IsUtf8, length, map};
 ghost use Rattle.std.specs.Option.{option_copied};
-ghost use Rattle.serde_json.specs.View.{view};
+ghost use Rattle.serde_json.specs.View.{items_of, view};
+ghost use Rattle.serde_json.specs.Written.{comma_if, compact_text, items_text};
 ghost use Rattle.ct_info.specs.Info.{def_at, property_value as property_says, test_value as test_says, test_values as tests_say, text_value as text_says};
 
 use crate::text::text_of;
-use ct_base::{Name, NoMemory, Pair, TestDef};
+use ct_base::{Blob, Name, NoMemory, Pair, TestDef};
 use serde_json::{Map, Value, json, put};
 use std::alloc::Global;
 
-/// Makes the values of the tests with these numbers, in order. A number of no test gives none.
-pub(crate) fn test_values(
+/// Writes the tests with these numbers behind a text, as the items of an array with its closing bracket.
+///
+/// A number of no test gives no item. Each test is a value of its own, which is dropped once it is written.
+pub(crate) fn put_tests(
     alloc: Global,
+    text: &mut Blob,
     defs: &[TestDef],
     members: &[u32],
     config: &str,
-) -> Result<Vec<Value>, NoMemory>
-    ensures are { IfOk result (λ values. map view values.items ≡ tests_say config.now defs.now members.now) }
+) -> Result<(), NoMemory>
+    ensures is { OnOk result (text.new ≡ text.old ++ items_text false (items_of (tests_say config.now defs.now members.now))) }
+    ensures utf8 { OnOk result (IsUtf8 text.old → IsUtf8 text.new) }
     ensures few { length defs.now < 2 ^ 64 }
 {
-    let mut values = Vec::new(alloc);
+    let mut later = false;
     for number in members {
         if let Some(def) = test_at(defs, *number) {
-            values.push(test_value(alloc, *number, def, config)?)?;
+            put_test(alloc, text, later, *number, def, config)?;
+            later = true;
         }
     }
-    Ok(values)
+    text.append(b"]")?;
+    Ok(())
+}
+
+/// Writes a test with this number behind a text, with a comma where another one stands before.
+fn put_test(
+    alloc: Global,
+    text: &mut Blob,
+    later: bool,
+    number: u32,
+    def: &TestDef,
+    config: &str,
+) -> Result<(), NoMemory>
+    ensures is { OnOk result (text.new ≡ text.old ++ (comma_if later ++ compact_text (test_says config.now number def.now))) }
+    ensures utf8 { OnOk result (IsUtf8 text.old → IsUtf8 text.new) }
+{
+    let value = test_value(alloc, number, def, config)?;
+    let written = value.to_vec(alloc)?;
+    text.append(comma(later))?;
+    text.append(written.as_slice())?;
+    Ok(())
+}
+
+fn comma(later: bool) -> &'static [u8]
+    ensures { result.now ≡ comma_if later }
+{
+    if later { b"," } else { b"" }
 }
 
 /// Looks up the test with this number.
