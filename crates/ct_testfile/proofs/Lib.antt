@@ -5,3 +5,4 @@ pub mod OverLemmas
 pub mod ConditionLemmas
 pub mod StepLemmas
 pub mod TreeLemmas
+pub mod IfLemmas

@@ -5,3 +5,4 @@ pub mod Commands
 pub mod Ifs
 pub mod Tree
 pub mod Says
+pub mod Laws

@@ -11,6 +11,7 @@ mod command;
 mod condition;
 mod fault;
 mod ifs;
+pub mod laws;
 mod limits;
 mod open_file;
 mod opening;
