@@ -7,10 +7,10 @@ use Rattle.ct_lex.specs.declared.call.Call.{Call}
 use Rattle.ct_suite.specs.declared.value.Value.{Value}
 use Rattle.ct_testfile.specs.Outcome.{◌>>=◌, on_line}
 use Rattle.ct_testfile.specs.Condition.{holds}
-use Rattle.ct_testfile.specs.Commands.{begun, with_command, carried_out, command_of, no_files, openings}
+use Rattle.ct_testfile.specs.Commands.{begun, with_command, carried_out, command_of, no_files}
 use Rattle.ct_testfile.specs.Ifs.{flow_of, is_live, asked, behind_if, behind_elseif, behind_else, in_branch, done, stepped_by, stepped}
-use Rattle.ct_testfile.specs.Tree.{FileReading, all_opened, carried}
-use Rattle.ct_testfile.specs.Laws.{WrittenBranch, WrittenIf, calls_of, else_calls, all_calls, open_behind, open_after, AreWhole, Begins, IsIf, tested, chosen_else, chosen}
+use Rattle.ct_testfile.specs.Tree.{FileReading, carried}
+use Rattle.ct_testfile.specs.Laws.{WrittenBranch, WrittenIf, calls_of, else_calls, all_calls, open_behind, open_after, AreWhole, Begins, IsIf, tested, chosen, carried_behind}
 use Rattle.ct_testfile.specs.declared.branch.Branch.{Branch}
 use Rattle.ct_testfile.specs.declared.branch.Branch.TheVariants.{Taken, Waiting, Over, ElseTaken, ElseOver, Idle}
 use Rattle.ct_testfile.specs.declared.branch.OpenIf.{OpenIf}
@@ -217,7 +217,7 @@ module _ (read : FileReading) (limits : Limits) (held : Held) (file : TestFile) 
           ∙ again ls w
       by again (Some If) ls is w =
           go_to If (idles ls ifs) state call (calls ++ rest) (idles (call.line ∷ ls) ifs) state is
-              (ap (λ b. behind_if limits held file.dir call state b >>= λ found. Ok (in_branch call.line (idles ls ifs) found)) (idles_are_off ls ifs off))
+          (ap (λ b. behind_if limits held file.dir call state b >>= λ found. Ok (in_branch call.line (idles ls ifs) found)) (idles_are_off ls ifs off))
           ∙ again (call.line ∷ ls) w
       by again (Some ElseIf) [] is w = none_is_some calls 0 w
       by again (Some ElseIf) (l ∷ ls) is w = go_to ElseIf (idles (l ∷ ls) ifs) state call (calls ++ rest) (idles (l ∷ ls) ifs) state is refl ∙ again (l ∷ ls) w
@@ -327,3 +327,35 @@ carried-if read limits held file ifs state whole rest ending live is =
     ∙ asks read limits held file ending head.line ifs whole.end rest live is.end If (codes "if") whole.first whole.later whole.last ifs state refl is.first is.later is.last
     (ap (λ b. behind_if limits held file.dir head state b >>= λ found. Ok (in_branch head.line ifs found)) live)
     (λ next. waits read limits held file ending head.line ifs whole.end rest live is.end whole.later whole.last next is.later is.last)
+
+-- whole commands are carried out as if they were all, and then those behind them
+module _ (read : FileReading) (limits : Limits) (held : Held) (file : TestFile) (rest : List Call) (ending : Ending) where
+  -- the state behind the rest, from the state behind the commands in front
+  abbrev pub goes_on : Result State ReadFault → Result State ReadFault
+  goes_on known = known >>= λ next. carried read limits held file [] next rest ending
+
+  behind_front : (front : List Call) (ifs : List OpenIf) (state : State) → open_after front (Some (length ifs)) ≡ Some 0 → go read limits held file ending ifs state (front ++ rest) ≡ goes_on (go read limits held file None ifs state front)
+  behind_front [] [] state whole = refl
+  behind_front [] (x ∷ ifs) state whole = absurd (let no : Some (suc (length ifs)) ≡ Some 0 = whole in cc)
+  behind_front (call ∷ front) ifs state whole =
+      by (λ more next w. behind_front front more next w)
+    where
+      Again : Type 0
+      Again = (more : List OpenIf) (next : State) → open_after front (Some (length more)) ≡ Some 0 → go read limits held file ending more next (front ++ rest) ≡ goes_on (go read limits held file None more next front)
+
+      known : Again → (more : List OpenIf) (k : Result State ReadFault) → open_after front (Some (length more)) ≡ Some 0 → (k >>= λ next. go read limits held file ending more next (front ++ rest)) ≡ goes_on (k >>= λ next. go read limits held file None more next front)
+      known again more (Ok next) w = again more next w
+      known again more (Err fault) w = refl
+
+      pair : Again → (r : Result Step ReadKind) → IfOk r (λ step. Some (length step.ifs) ≡ open_behind (flow_of call.name) (length ifs)) → after read limits held file ending call.line (front ++ rest) r ≡ goes_on (after read limits held file None call.line front r)
+      pair again (Ok step) h = known again step.ifs (known_behind read limits held file step call.line) (ap (open_after front) h ∙ whole)
+      pair again (Err kind) h = refl
+
+      by : Again → go read limits held file ending ifs state (call ∷ front ++ rest) ≡ goes_on (go read limits held file None ifs state (call ∷ front))
+      by again =
+          go_by read limits held file ending (flow_of call.name) ifs state call (front ++ rest) refl
+          ∙ pair again (stepped limits held file.dir ifs state call) (step_opens limits held file.dir (flow_of call.name) call state ifs)
+          ∙ ap goes_on (sym (go_by read limits held file None (flow_of call.name) ifs state call front refl))
+
+  pub carried-front : (state : State) (front : List Call) → AreWhole front → carried read limits held file [] state (front ++ rest) ending ≡ carried_behind read limits held file state front rest ending
+  carried-front state front whole = behind_front front [] state whole

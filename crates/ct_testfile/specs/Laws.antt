@@ -63,7 +63,8 @@ open_after [] count = count
 open_after (call ∷ calls) None = None
 open_after (call ∷ calls) (Some count) = open_after calls (open_behind (flow_of call.name) count)
 
--- each `if` has its `endif` among these commands, and each `elseif`, `else` and `endif` has its `if`
+-- Each `if` has its `endif` among these commands, and each `elseif`, `else` and `endif` has its `if`.
+-- The order of `elseif` and `else` inside is left open.
 abbrev pub AreWhole : List Call → Type 0
 AreWhole calls = open_after calls (Some 0) ≡ Some 0
 
@@ -80,7 +81,7 @@ pub record IsIf (whole : WrittenIf) : Type 0 where
   pub end : whole.end.name ≡ codes "endif"
 
 -- whether the condition in a command holds, and the state that counts the command and its values;
--- or why the condition is refused
+-- or the refusal
 abbrev pub tested : Limits → Held → List ℕ → Call → State → Result (Bool × State) ReadKind
 tested limits held dir call state =
     begun limits call.args state >>= λ read.
@@ -92,18 +93,25 @@ chosen_else limits file state None = Ok ([], state)
 chosen_else limits file state (Some branch) =
     on_line file.path branch.head.line (with_command limits state) >>= λ next. Ok (branch.body, next)
 
--- The commands of the first branch whose condition holds, or those of `else` if none holds.
--- With them, the state behind the conditions up to that one: none behind it is evaluated.
--- The first condition of these that is refused is the refusal.
+-- The commands of the first branch whose condition holds, or those of `else` if none holds;
+-- with them, the state behind the conditions that are evaluated, which are those up to that one.
+-- If one of these is refused, that is the outcome.
 abbrev pub chosen : Limits → Held → TestFile → Option WrittenBranch → State → List WrittenBranch → Result (List Call × State) ReadFault
 chosen limits held file last state [] = chosen_else limits file state last
 chosen limits held file last state (branch ∷ branches) =
     on_line file.path branch.head.line (tested limits held file.dir branch.head state) >>= λ found.
     if found.0 then Ok (branch.body, found.1) else chosen limits held file last found.1 branches
 
--- the state behind the file, if only the chosen commands stood in the place of an `if`;
--- in front of it no other `if` is open, and behind it the file has these commands and this ending
+-- The state behind the rest of a file, from its next `if` on, as the manual says it:
+-- conditions are evaluated, and then only the chosen commands stand in the place of the `if`.
+-- No other `if` is open in front; behind the `if` come these commands and this ending.
 abbrev pub carried_chosen : FileReading → Limits → Held → TestFile → State → WrittenIf → List Call → Ending → Result State ReadFault
 carried_chosen read limits held file state whole rest ending =
     chosen limits held file whole.last state (whole.first ∷ whole.later) >>= λ found.
     carried read limits held file [] found.1 (found.0 ++ rest) ending
+
+-- the state behind the rest of a file, where the commands in front are carried out as if they were all,
+-- and then these commands and this ending come
+abbrev pub carried_behind : FileReading → Limits → Held → TestFile → State → List Call → List Call → Ending → Result State ReadFault
+carried_behind read limits held file state front rest ending =
+    carried read limits held file [] state front None >>= λ next. carried read limits held file [] next rest ending
