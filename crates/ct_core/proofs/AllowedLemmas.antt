@@ -1,4 +1,5 @@
--- What an allowed history and each of its entries say: what holds all along, which test an entry is about.
+-- What follows from an allowed history and from each of its
+-- entries: what holds all along, and which test an entry is about.
 use Rattle.std.proofs.Common.{◌≡◌, ◌∙◌, ap, Bool, true, false, ℕ, List, [], ◌∷◌, ◌++◌, refl, arith}
 use Rattle.std.specs.Prelude.{Option, Some, None, is_some, not, ◌&&◌, ◌==◌, filter_map, if◌then◌else◌}
 use Rattle.std.specs.List.{cons_option}
@@ -52,7 +53,7 @@ attempt_by_other n rules (End t a w s) other = ap (λ (b : Bool). if b then Some
 attempt_by_other n rules (Settle t c) other = refl
 attempt_by_other n rules Stop other = refl
 
--- an entry about one test alone
+-- the entry is about no other test than this one
 abbrev pub IsAboutOnly : ℕ → Entry → Type 0
 IsAboutOnly n e = (u : ℕ) → (u == n) ≡ false → is_about u e ≡ false
 
@@ -68,7 +69,8 @@ about_end n a w s u unlike = flipped u n unlike
 pub about_settle : (n : ℕ) (c : Cause) → IsAboutOnly n (Settle n c)
 about_settle n c u unlike = flipped u n unlike
 
--- an entry that does not settle the test leaves its cause, and one that ends no attempt of it leaves its attempts
+-- an entry that does not settle the test leaves its cause; an
+-- entry that ends no attempt of the test leaves its attempts
 pub settled-snoc : (n : ℕ) (es : List Entry) (e : Entry) → settled_by n e ≡ None → settled_cause n (es ++ e ∷ []) ≡ settled_cause n es
 settled-snoc n es e none =
     ap first_of_list (filter_map-append (settled_by n) es (e ∷ []) ∙ ap (λ (o : Option Cause). filter_map (settled_by n) es ++ cons_option o []) none ∙ append-nil (filter_map (settled_by n) es))
@@ -102,7 +104,7 @@ undecided plan t es pending =
     by_parts false None (Some v) none = cc
     by_parts false None None none = (refl, refl, refl)
 
--- what an allowed entry says
+-- what follows from an allowed entry
 pub start_begins : (plan : PlanParts) (es : List Entry) (n a w : ℕ) (p : Option Placement) → is_allowed plan es (Start n a w p) ≡ true → StartsAs plan es a p (test_at plan.tests n)
 start_begins plan es n a w p allowed =
     let most = and_parts (not (is_stop_due plan es) && starts plan es a p (test_at plan.tests n)) (not (is_busy_in w es)) allowed in

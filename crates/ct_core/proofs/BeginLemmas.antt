@@ -1,4 +1,4 @@
--- What waits at the beginning of a run, when its history is empty.
+-- The tests that wait at the beginning of a run, when its history is empty.
 use Rattle.std.proofs.Common.{◌≡◌, ◌∙◌, sym, ap, subst, Bool, true, false, not, cond, ◌&&◌, ◌==◌, if◌then◌else◌, ℕ, zero, suc, ◌+◌, ◌≤◌, List, [], ◌∷◌, length, filter, find, slice_get, is_some, is_none, nat_lt, refl, arith}
 use Rattle.std.specs.Prelude.{Option, Some, None}
 use Rattle.std.specs.List.{list_all, list_any}
@@ -24,7 +24,7 @@ use Rattle.ct_core.specs.Begin.{count_before, first_counts, settles_first}
 use Rattle.ct_core.proofs.EnabledLemmas.{queued_enabled}
 use Rattle.ct_core.proofs.LowerLemmas.{and_true, follows_by_count, settle_going}
 
--- what holds of each element holds of the one at a place
+-- what holds of each element holds of the element at a place
 all_there : {A : Type 0} (p : A → Bool) (xs : List A) (place : ℕ) (x : A) → list_all p xs ≡ true → slice_get xs place ≡ Some x → p x ≡ true
 all_there p [] place x all there = absurd (none-some x there)
 all_there p (y ∷ ys) zero x all there = ap p (sym (same_Some y x there)) ∙ (and_parts (p y) (list_all p ys) all).0
@@ -33,7 +33,7 @@ all_there p (y ∷ ys) (suc place) x all there = all_there p ys place x (and_par
 abbrev no_verdict : Option Verdict
 no_verdict = None
 
--- before any entry a test is final only where it is disabled
+-- before any entry a test is final exactly if it is disabled
 verdict_first : (plan : PlanParts) (t : PlanTest) → verdict_in plan.repeat t [] ≡ (if t.disabled then Some Disabled else None)
 verdict_first plan t = ap (λ (o : Option Verdict). if t.disabled then Some Disabled else o) (no_attempt (is_over plan.repeat []))
   where
@@ -47,7 +47,7 @@ none_first plan rank (Some u) lesser =
     let works = not-true u.disabled (and_parts (not u.disabled) (nat_lt u.rank rank) lesser).0 in
     verdict_first plan u ∙ ap (λ (b : Bool). if b then Some Disabled else None) works
 
--- so each predecessor of a test is left
+-- before any entry no predecessor of a test is final
 all_left : (plan : PlanParts) (rank : ℕ) (js : List ℕ) → list_all (λ j. is_before_rank rank (test_at plan.tests j)) js ≡ true → length (filter (λ j. is_none (verdict_of_test plan [] j)) js) ≡ length js
 all_left plan rank [] lesser = refl
 all_left plan rank (j ∷ js) lesser =
@@ -65,7 +65,7 @@ pending_first plan t = ap (λ (o : Option Verdict). not (is_some o) && true) (ve
 open_first : (plan : PlanParts) (t : PlanTest) → has_sound_links plan.tests t ≡ true → open_before plan [] t ≡ length t.before
 open_first plan t linked = all_left plan t.rank t.before (and_parts (list_all (λ j. is_before_rank t.rank (test_at plan.tests j)) t.before) (list_all (λ s. list_any (λ j. j == s) t.before) t.setups) linked).0
 
--- a test that waits for none has no setup
+-- a test without predecessors has no setup
 no_setup : (p : ℕ → Bool) (before setups : List ℕ) → list_all (λ s. list_any (λ j. j == s) before) setups ≡ true → (length before == 0) ≡ true → find p setups ≡ None
 no_setup p (j ∷ js) setups linked none = absurd (omega (arith, eqb-true (length (j ∷ js)) 0 none))
 no_setup p [] [] linked none = refl
@@ -112,7 +112,7 @@ module _ (plan : PlanParts) (sound : IsSound plan) where
     lines = are;
   }
 
-  -- marks at the tests that wait for none and can't run stand for those that may be settled
+  -- before any entry, marks at exactly the tests without predecessors and with a fixed cause are right
   pub begins_settleable : (m : List Bool) → length plan.tests ≤ length m → ((place : ℕ) → is_marked m place ≡ settles_first (slice_get plan.tests place)) → AreSettleable plan [] [] m
   begins_settleable m room marked = record {
     room = room;

@@ -1,4 +1,4 @@
--- A test that has begun was ready at its first Start, and stays so.
+-- A test that has begun was ready at its first Start, and stays ready.
 use Rattle.std.proofs.Common.{◌≡◌, ◌∙◌, sym, ap, subst, Bool, true, false, ℕ, ◌<◌, List, [], ◌∷◌, ◌++◌, length, refl, arith, inl, inr}
 use Rattle.std.specs.Prelude.{Option, Some, None, is_some, is_none, ◌&&◌, ◌||◌, ◌==◌, cond, find, nat_lt}
 use Rattle.std.specs.List.{list_any}
@@ -25,7 +25,7 @@ use Rattle.ct_core.proofs.StateLemmas.{open_other}
 abbrev pub has_begun : PlanTest → List Entry → Bool
 has_begun t entries = is_some (open_start t.number entries) || nat_lt 0 (length (attempts_of t.number t.rules entries))
 
--- a verdict stays, by number
+-- the verdict of the test with a number stays when an allowed entry follows
 pub verdict_kept : (plan : PlanParts) (es : List Entry) (e : Entry) → is_allowed plan es e ≡ true → (j : ℕ) (v : Verdict) → verdict_of_test plan es j ≡ Some v → verdict_of_test plan (es ++ e ∷ []) j ≡ Some v
 verdict_kept plan es e allowed j v is = by_test (test_at plan.tests j) refl is
   where
@@ -33,7 +33,7 @@ verdict_kept plan es e allowed j v is = by_test (test_at plan.tests j) refl is
     by_test None found has = cc
     by_test (Some u) found has = verdict_stays plan u (ap (λ (m : ℕ). test_at plan.tests m) (number_at plan.tests j u found) ∙ found) es v has e allowed
 
--- a ready test stays ready
+-- a ready test stays ready when an allowed entry follows
 pub ready_kept : (plan : PlanParts) (es : List Entry) (e : Entry) → is_allowed plan es e ≡ true → (t : PlanTest) → is_ready plan t es ≡ true → is_ready plan t (es ++ e ∷ []) ≡ true
 ready_kept plan es e allowed t ready =
     let more = es ++ e ∷ [] in
@@ -45,7 +45,7 @@ ready_kept plan es e allowed t ready =
     (passed_stay (verdict_of_test plan es) (verdict_of_test plan more) (verdict_kept plan es e allowed) t.setups both.1))
     most.1
 
--- a test with a held start has an open one
+-- if a start is held, its test has an open start
 held_found : (n a w : ℕ) (rs : List Running) → list_any (λ (r : Running). r.test == n && r.attempt == a && r.worker == w) rs ≡ true → is_some (find (λ (r : Running). r.test == n) rs) ≡ true
 held_found n a w [] holds = cc
 held_found n a w (r ∷ rs) holds = elim (cases_Bool (r.test == n)) [
@@ -59,7 +59,7 @@ module _ (plan : PlanParts) (t : PlanTest) (found : test_at plan.tests t.number 
   abbrev IsReadyOnce : List Entry → Type 0
   IsReadyOnce es = has_begun t es ≡ true → is_ready plan t es ≡ true
 
-  -- what leaves the open start and the attempts leaves it to the entries in front
+  -- if the open start and the attempts stay, whether the test has begun stays
   begun_same : (es more : List Entry) → open_start t.number more ≡ open_start t.number es → attempts_of t.number t.rules more ≡ attempts_of t.number t.rules es → has_begun t more ≡ has_begun t es
   begun_same es more opens attempts =
       ap (λ (o : Option Running). is_some o || nat_lt 0 (length (attempts_of t.number t.rules more))) opens

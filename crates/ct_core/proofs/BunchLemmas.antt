@@ -1,5 +1,6 @@
--- Bunches of tests that wait for one lock: where it is held, none of them can start. So a look at the first head of each bunch
--- and, where its lock is free, at those behind it, finds the first test that may start.
+-- Bunches of tests that wait for one lock: while the lock is held, no test of
+-- the bunch can start. So the first test that may start is found by a look at
+-- the first head of each bunch and, if the lock is free, at the heads behind it.
 use Rattle.std.proofs.Common.{◌≡◌, ◌∙◌, sym, ap, subst, Bool, true, false, not, ◌&&◌, ◌||◌, ◌==◌, cond, ℕ, ◌+◌, ◌<◌, ◌≤◌, List, [], ◌∷◌, ◌++◌, All, length, length-append, take, get_or, slice_get, nat_le, nat_lt, refl, arith, inl, inr}
 use Rattle.std.specs.Prelude.{Option, Some, None, MatchOption, IfSome, option_and_then}
 use Rattle.std.specs.List.{list_any}
@@ -50,14 +51,14 @@ has_key (Some t) (Some at) lock is = by_needs (length t.needs == 0) refl is
     by_needs true none there = record { test = t; found = refl; unplaced = none; at = at; named = there }
     by_needs false some there = absurd (none-some lock there)
 
--- where a lock of a list is held, one of them is
+-- if the element at some position passes, then some element of the list passes
 any_at : (p : List ℕ → Bool) (names : List (List ℕ)) (at : ℕ) (name : List ℕ) → slice_get names at ≡ Some name → p name ≡ true → list_any p names ≡ true
 any_at p names at name there is =
     let within = slice_get_within names at name there in
     let same : get_or names at name ≡ name = same_Some (get_or names at name) name (sym (slice_get-get_or names at name within) ∙ there) in
     list_any_at p names at name within (ap p same ∙ is)
 
--- a test without needs is placed by no placement
+-- for a test without needs, no placement is the right one
 unplaced_fits : (resources : Option (List Resource)) (needs : List Need) (used : ℕ → ℕ) → (length needs == 0) ≡ true → is_placed resources needs used None ≡ true
 unplaced_fits None needs used none = refl
 unplaced_fits (Some rs) [] used none = refl
@@ -71,12 +72,12 @@ module _ (plan : PlanParts) (keys : List (Option ℕ)) (bunches : List ℕ) (are
   pub bunches_numbered : AreNumbered bunches
   bunches_numbered = λ place within. let many = are.many in subst (λ (k : ℕ). get_or bunches place 0 < k) (sym many) (are.within place 0 within)
 
-  -- the tests of one bunch wait for one lock
+  -- the tests of one bunch have the same key
   one_key : (place other : ℕ) → place < length plan.queue → other < length plan.queue → get_or bunches place 0 ≡ get_or bunches other 0 → key_at plan keys place ≡ key_at plan keys other
   one_key place other within inside same =
       sym (are.locked place within) ∙ ap (λ (bunch : ℕ). key_at plan keys bunch) same ∙ are.locked other inside
 
-  -- or ask for the same
+  -- the tests of one bunch have the same demand, if they have no key
   one_demand : (place other : ℕ) → place < length plan.queue → other < length plan.queue → get_or bunches place 0 ≡ get_or bunches other 0 → key_at plan keys place ≡ None → demand_of_test plan (get_or plan.queue place 0) ≡ demand_of_test plan (get_or plan.queue other 0)
   one_demand place other within inside same none =
       sym (demand_there plan place within)
@@ -85,7 +86,7 @@ module _ (plan : PlanParts) (keys : List (Option ℕ)) (bunches : List ℕ) (are
       ∙ are.alike other inside (sym (one_key place other within inside same) ∙ none)
       ∙ demand_there plan other inside
 
--- the bunches up to a place
+-- the bunches of the places before `end` are right
 pub record AreBunchesTo (plan : PlanParts) (keys : List (Option ℕ)) (bunches : List ℕ) (end : ℕ) : Type 0 where
   pub many : length bunches ≡ end
   pub within : All (λ bunch. bunch < length plan.queue) bunches
@@ -93,7 +94,7 @@ pub record AreBunchesTo (plan : PlanParts) (keys : List (Option ℕ)) (bunches :
   pub alike : (place : ℕ) → place < end → key_at plan keys place ≡ None → demand_at plan (get_or bunches place 0) ≡ demand_at plan place
 
 module _ (plan : PlanParts) (keys : List (Option ℕ)) (bunches : List ℕ) (end : ℕ) (to : AreBunchesTo plan keys bunches end) where
-  -- one place more has its bunch
+  -- one more place has its bunch
   pub bunches_more : (bunch : ℕ) → bunch < length plan.queue → key_at plan keys bunch ≡ key_at plan keys end → (key_at plan keys end ≡ None → demand_at plan bunch ≡ demand_at plan end) → AreBunchesTo plan keys (bunches ++ bunch ∷ []) (end + 1)
   bunches_more bunch within locked alike = record {
     many = let long = length-append bunches (bunch ∷ []) in let many = to.many in omega (arith, long, many);
@@ -120,7 +121,7 @@ module _ (plan : PlanParts) (keys : List (Option ℕ)) (bunches : List ℕ) (end
       now place before last =
           ap (λ (p : ℕ). get_or (bunches ++ bunch ∷ []) p 0) (sym (to.many ∙ here place before last)) ∙ get_or-append_seam bunches bunch [] 0
 
-  -- those of all places
+  -- the bunches of all places are right
   pub bunches_all : end ≡ length plan.queue → AreBunchesOf plan keys bunches
   bunches_all all = record {
     many = to.many ∙ all;
@@ -129,18 +130,20 @@ module _ (plan : PlanParts) (keys : List (Option ℕ)) (bunches : List ℕ) (end
     alike = λ place within none. to.alike place (omega (arith, within, all)) none;
   }
 
--- a test of the queue without needs, which may start exactly where there is room for it
+-- a test of the queue without needs, which may start exactly if there is room for it
 record IsRoomFor (plan : PlanParts) (es : List Entry) (u : InUse) (place : ℕ) : Type 0 where
   pub test : PlanTest
   pub found : test_at plan.tests (get_or plan.queue place 0) ≡ Some test
   pub unplaced : (length test.needs == 0) ≡ true
   pub room : has_room_at plan u (test_in_queue plan place) ≡ may_start_if_placed plan test es
 
--- what is known of the places looked at: of the bunches seen no head before the best place may start, and the test there may
+-- the test at this place, which is a head, may start without a placement
 pub record StartsAt (plan : PlanParts) (es : List Entry) (r : ReadyValue) (place : ℕ) : Type 0 where
   pub head : IsHead r place
   pub may : may_start_at plan es None (test_at plan.tests (get_or plan.queue place 0)) ≡ true
 
+-- the places that were looked at: no head of a seen bunch in front of the best place may start, and the test
+-- at the best place may
 pub record IsLooked (plan : PlanParts) (es : List Entry) (r : ReadyValue) (behind found : Option ℕ) : Type 0 where
   pub none : (head : ℕ) → IsHead r head → IsOfSeenBunch r behind head → IsBefore found head → CanStart plan es (get_or plan.queue head 0) → ⊥
   pub best : IfSome found (StartsAt plan es r)
@@ -153,7 +156,8 @@ before_both : (best : Option ℕ) (place other : ℕ) → other ≤ place → Is
 before_both None place other upto before = tt
 before_both (Some b) place other upto before = omega (arith, upto, before)
 
--- where a new bunch begins behind an end, each head in front of that is of a seen one
+-- if the first head of a new bunch is not in front of the
+-- end, each head in front of the end is of a seen bunch
 pub bunch_ends : (r : ReadyValue) (behind end : Option ℕ) (first : ℕ) → IsOfNewBunch r behind first → (IsBefore end first → ⊥) → NoNewBunchTo r behind end
 bunch_ends r behind end first new past head is before = new.earlier head (ends end past before) is
   where
@@ -176,13 +180,13 @@ module _ (plan : PlanParts) (sound : IsSound plan) (es : List Entry) (r : ReadyV
   looks_begin = record { none = λ head is seen before. absurd (seen.seen tt); best = tt }
 
   module _ (behind best : Option ℕ) (looked : IsLooked plan es r behind best) where
-    -- in front of the first head of a new bunch no test may start
+    -- no test in front of the first head of a new bunch may start
     pub none_to : (first : ℕ) → IsOfNewBunch r behind first → IsBefore best first → NoneStarts plan es (take first plan.queue)
     none_to first new before =
         none_before plan es first (none_headed plan sound es r q on unsettled first
         (λ place less inside head. looked.none place head (new.earlier place less head) (before_both best first place (omega (arith, less)) before)))
 
-    -- nor in front of the best place, where each head there is of a seen bunch
+    -- no test in front of the best place may start, if each head there is of a seen bunch
     none_to_best : (b : ℕ) → best ≡ Some b → ((place : ℕ) → place < b → IsHead r place → IsOfSeenBunch r behind place) → NoneStarts plan es (take b plan.queue)
     none_to_best b is seen =
         none_before plan es b (none_headed plan sound es r q on unsettled b
@@ -197,13 +201,13 @@ module _ (plan : PlanParts) (sound : IsSound plan) (es : List Entry) (r : ReadyV
     pub best_within : (b : ℕ) → best ≡ Some b → b < length plan.queue
     best_within b is = let at = best_starts b is in head_within b at.head
 
-    -- behind the last bunch the best place is the first whose test may start
+    -- once each bunch is seen, the test at the best place is the first that may start
     pub best_first : (b : ℕ) (start : Startable) → best ≡ Some b → NoNewBunchTo r behind best → IsStartOf plan es (get_or plan.queue b 0) start → IsStartable plan es start
     best_first b start is all of =
         first_starts plan es b (get_or plan.queue b 0) start (best_within b is) refl
         (none_to_best b is (λ place less head. all place head (subst (λ (o : Option ℕ). IsBefore o place) (sym is) less))) of
 
-    -- and where there is none, no test may
+    -- once each bunch is seen and there is no best place, no test may start
     pub none_last : best ≡ None → NoNewBunchTo r behind best → NoneStarts plan es plan.queue
     none_last is all = λ place d inside.
         subst (λ (n : ℕ). CanStart plan es n → ⊥) (get_or_default plan.queue place 0 d inside)
@@ -212,7 +216,7 @@ module _ (plan : PlanParts) (sound : IsSound plan) (es : List Entry) (r : ReadyV
         let free : IsBefore best other = subst (λ (o : Option ℕ). IsBefore o other) (sym is) tt in
         looked.none other head (all other head free) free) place inside inside)
 
-    -- one bunch more is seen
+    -- one more bunch is seen
     module _ (first : ℕ) (new : IsOfNewBunch r behind first) (before : IsBefore best first) (unable : CanStart plan es (get_or plan.queue first 0) → ⊥) where
       seen_before : (head : ℕ) → IsHead r head → IsOfSeenBunch r (Some first) head → (get_or r.bunches head 0 ≡ get_or r.bunches first 0 → ⊥) → IsOfSeenBunch r behind head
       seen_before head is seen apart =
@@ -258,9 +262,10 @@ module _ (plan : PlanParts) (sound : IsSound plan) (es : List Entry) (r : ReadyV
             best = record { head = found.head; may = found.may };
           })
 
-  -- through the heads of one bunch
+  -- the search through the heads of one bunch
   module _ (keys : List (Option ℕ)) (are : AreBunchesOf plan keys r.bunches) (u : InUse) (in_use : IsInUse plan (open_starts es) u) (first : ℕ) (here : IsHead r first) where
-    -- where the lock of the bunch is held, none of its heads may start; nor where it has none, and the first can't
+    -- if the first head can't start, and the lock of the bunch is
+    -- held or there is none, no other head of the bunch can start
     pub closed_none : (end : Option ℕ) → (CanStart plan es (get_or plan.queue first 0) → ⊥) → is_free_lock (is_held u.locks) (key_at plan keys first) ≡ false → NoneOfBunch plan es r first end
     closed_none end unable closed head behind inside same is =
         by_key (key_at plan keys first) refl
@@ -294,7 +299,7 @@ module _ (plan : PlanParts) (sound : IsSound plan) (es : List Entry) (r : ReadyV
                 (ap (λ (b : Bool). u.serial || t.serial && nat_lt 0 u.open_count || b) any ∙ or_right (u.serial || t.serial && nat_lt 0 u.open_count) true refl)
                 ∙ and_no (nat_le (t.processors + u.processors) plan.level)
 
-    -- where its lock is free, a head may start as it is where there is room for it, and else it can't
+    -- if the lock of the bunch is free, a head may start exactly if there is room for it
     module _ (free : is_free_lock (is_held u.locks) (key_at plan keys first) ≡ true) (head : ℕ) (same : get_or r.bunches head 0 ≡ get_or r.bunches first 0) (is : IsHead r head) where
       head_room : IsRoomFor plan es u head
       head_room = by_key (key_at plan keys first) refl
@@ -329,7 +334,7 @@ module _ (plan : PlanParts) (sound : IsSound plan) (es : List Entry) (r : ReadyV
       pub no_room : has_room_at plan u (test_in_queue plan head) ≡ false → CanStart plan es (get_or plan.queue head 0) → ⊥
       no_room room = let has = head_room in not_due plan es has.test (get_or plan.queue head 0) has.found (sym has.room ∙ room)
 
-    -- the heads of the bunch behind its first one and up to a place
+    -- no head of the bunch may start from behind the first one up to a place
     pub begins_none : NoneOfBunch plan es r first (Some (first + 1))
     begins_none head behind before same is = absurd (omega (arith, behind, before))
 

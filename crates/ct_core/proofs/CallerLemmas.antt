@@ -28,12 +28,12 @@ use Rattle.ct_core.specs.CoreValue.{CoreValue}
 true_is_false : true ≡ false → ⊥
 true_is_false is = cc
 
--- in a run that does not stop at a failure an entry brings no Stop
+-- in a run that does not stop on failure, no entry makes a Stop due
 pub with_final-off : (core : CoreValue) (e : Entry) → core.plan.stop_on_failure ≡ false → with_final core e ≡ with_entry core e
 with_final-off core e off =
     ap (λ (b : Bool). let c : CoreValue = record core { entries = (if b && ends_in_first_failure core.plan (core.entries ++ e ∷ []) then (core.entries ++ e ∷ []) ++ Stop ∷ [] else core.entries ++ e ∷ []) } in c) off
 
--- where no resources are given, a start has no placement
+-- if no resources are given, a start has no placement
 pub no_placement : (plan : PlanParts) (es : List Entry) (n : ℕ) (p : Option Placement) → plan.resources ≡ None → IsFirstToStart plan es n p → p ≡ None
 no_placement plan es n p none first = by_test (test_at plan.tests n) p first.may
   where
@@ -56,7 +56,7 @@ split_same plan es (y ∷ ys) rest (x ∷ xs) later n m is none no_one can may =
     let tails : xs ++ m ∷ later ≡ ys ++ n ∷ rest = cc in
     split_same plan es ys rest xs later n m tails (All-tail (λ k. CanStart plan es k → ⊥) x xs none) (All-tail (λ k. CanStart plan es k → ⊥) y ys no_one) can may
 
--- the test that starts is the one in the queue that can, behind none that can
+-- if a test can start and no test in front of it in the queue can, it is the first to start
 pub first_is : (plan : PlanParts) (es : List Entry) (m n : ℕ) (p : Option Placement) (front rest : List ℕ) → IsFirstToStart plan es m p → plan.queue ≡ front ++ n ∷ rest → NoneStarts plan es front → CanStart plan es n → m ≡ n
 first_is plan es m n p front rest first queued none can =
     split_same plan es front rest first.earlier first.later n m (sym first.queued ∙ queued) first.first none (record { placement = p; may = first.may }) can
@@ -67,7 +67,7 @@ unfinished plan es n t found can =
     let may = sym (ap (λ (o : Option PlanTest). may_start_at plan es can.placement o) found) ∙ can.may in
     (pending-parts plan t es (may_start-parts plan t can.placement es may).pending).unfinished
 
--- where all tests are final, none can start
+-- if all tests are final, none can start
 pub done_starts_none : (plan : PlanParts) (es : List Entry) (n : ℕ) → are_all_final plan es ≡ true → CanStart plan es n → ⊥
 done_starts_none plan es n done can = by_test (test_at plan.tests n) refl
   where
@@ -76,7 +76,7 @@ done_starts_none plan es n done can = by_test (test_at plan.tests n) refl
     by_test (Some t) is =
         true_is_false (sym (all_found (λ (x : PlanTest). is_final_in plan.repeat x es) (λ (x : PlanTest). x.number == n) plan.tests t done is) ∙ unfinished plan es n t is can)
 
--- and none may be settled
+-- if all tests are final, none may be settled
 pub done_settles_none : (plan : PlanParts) (es : List Entry) (n : ℕ) (cause : Cause) → are_all_final plan es ≡ true → settle_cause_of_test plan es n ≡ Some cause → ⊥
 done_settles_none plan es n cause done may = by_test (test_at plan.tests n) refl
   where
@@ -86,7 +86,7 @@ done_settles_none plan es n cause done may = by_test (test_at plan.tests n) refl
         let settled = sym (ap (λ (o : Option PlanTest). settle_cause_at plan es o) is) ∙ may in
         true_is_false (sym (all_found (λ (x : PlanTest). is_final_in plan.repeat x es) (λ (x : PlanTest). x.number == n) plan.tests t done is) ∙ (pending-parts plan t es (settled_pending plan t es cause settled)).unfinished)
 
--- a test without links that nothing keeps from running
+-- a test without links and without a fixed cause
 pub record IsFree (t : PlanTest) : Type 0 where
   pub before : t.before ≡ []
   pub setups : t.setups ≡ []
@@ -113,7 +113,7 @@ free_unsettled plan t es free on = by_pending (is_pending plan t es)
     by_pending false = refl
 
 module _ (plan : PlanParts) (sound : IsSound plan) (free : All IsFree plan.tests) (es : List Entry) (on : has_stop es ≡ false) where
-  -- in a plan of such tests none may be settled while no Stop stands
+  -- in a plan of free tests none may be settled while there is no Stop
   pub free_settles_none : NoneSettles plan es
   free_settles_none = λ n. by_test n (test_at plan.tests n) refl
     where
@@ -121,7 +121,7 @@ module _ (plan : PlanParts) (sound : IsSound plan) (free : All IsFree plan.tests
       by_test n None is = refl
       by_test n (Some t) is = free_unsettled plan t es (All-contains IsFree plan.tests t free (found_contains (λ (x : PlanTest). x.number == n) plan.tests t is)) on
 
-  -- where the tests are queued in their order and nothing is open, the first that is not final starts
+  -- if the tests are queued in their order and none is open, the first that is not final starts
   module _ (idle : open_starts es ≡ []) (queued : plan.queue ≡ map (λ (t : PlanTest). t.number) plan.tests) (done rest : List PlanTest) (t : PlanTest) (tests : plan.tests ≡ done ++ t ∷ rest) (final : All (λ u. is_final_in plan.repeat u es ≡ true) done) (left : is_final_in plan.repeat t es ≡ false) where
     here : Contains plan.tests t
     here = subst (λ (ts : List PlanTest). Contains ts t) (sym tests) (Contains-append_right done (t ∷ rest) t (0, omega arith, refl))

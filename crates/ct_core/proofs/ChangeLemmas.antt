@@ -1,4 +1,4 @@
--- Which tests wait for others, and which may be settled, where one test changes.
+-- Which tests wait for others, and which may be settled, when one test changes.
 use Rattle.std.proofs.Common.{◌≡◌, ◌∙◌, sym, ap, subst, Bool, true, false, ℕ, ◌+◌, ◌<◌, ◌≤◌, List, [], ◌∷◌, length, refl, arith, inl, inr}
 use Rattle.std.specs.Prelude.{Option, Some, None, is_some, is_none, not, ◌&&◌, ◌==◌, cond, filter, find, slice_get, slice_set, if◌then◌else◌}
 use Rattle.std.specs.List.{list_any, list_all}
@@ -32,13 +32,13 @@ use Rattle.ct_core.proofs.QueueLemmas.{one_place, there_found}
 true_is_false : true ≡ false → ⊥
 true_is_false is = cc
 
--- between two histories nothing changes but one test
+-- between two histories only one test changes
 pub record ChangesOne (plan : PlanParts) (es more : List Entry) (n : ℕ) : Type 0 where
   pub stops : has_stop more ≡ has_stop es
   pub verdicts : (j : ℕ) → (j == n) ≡ false → verdict_of_test plan more j ≡ verdict_of_test plan es j
   pub pendings : (u : PlanTest) → (u.number == n) ≡ false → is_pending plan u more ≡ is_pending plan u es
 
--- the cause of a test by the parts that decide it
+-- the cause that a test is settled with, as a function of the facts that decide it
 abbrev pub cause_of : Bool → Bool → Bool → Option ℕ → Option Cause → Option Cause
 cause_of pending stop follows first fixed = if not pending then None else (if stop then Some Stopped else (if follows then cause_behind first fixed else None))
 
@@ -51,7 +51,7 @@ disabled_done plan u es disabled =
 pub no_cause : (plan : PlanParts) (u : PlanTest) (es : List Entry) → is_pending plan u es ≡ false → settle_cause plan u es ≡ None
 no_cause plan u es not_pending = ap (λ (b : Bool). cause_of b (has_stop es) (follows_finals plan u es) (first_unpassed plan u es) u.fixed) not_pending
 
--- nor has one with predecessors that are not final, while no Stop stands
+-- a test with predecessors that are not final has no cause, while there is no Stop
 no_cause_yet : (plan : PlanParts) (u : PlanTest) (es : List Entry) → has_stop es ≡ false → follows_finals plan u es ≡ false → settle_cause plan u es ≡ None
 no_cause_yet plan u es on waits =
     ap (λ (b : Bool). cause_of (is_pending plan u es) b (follows_finals plan u es) (first_unpassed plan u es) u.fixed) on
@@ -62,7 +62,7 @@ no_cause_yet plan u es on waits =
     either true = refl
     either false = refl
 
--- nor a ready one
+-- a ready test has no cause, while there is no Stop
 pub no_cause_ready : (plan : PlanParts) (u : PlanTest) (es : List Entry) → has_stop es ≡ false → is_ready plan u es ≡ true → settle_cause plan u es ≡ None
 no_cause_ready plan u es on ready =
     let most = and_parts (follows_finals plan u es && is_none (first_unpassed plan u es)) (is_none u.fixed) ready in
@@ -77,7 +77,7 @@ no_cause_ready plan u es on ready =
     either true None (Some c) passed free = cc
     either false first fixed passed free = refl
 
--- behind a Stop each pending test has one
+-- behind a Stop exactly the pending tests have a cause
 pub cause_stopped : (plan : PlanParts) (u : PlanTest) (es : List Entry) → has_stop es ≡ true → is_some (settle_cause plan u es) ≡ is_pending plan u es
 cause_stopped plan u es stop =
     ap (λ (b : Bool). is_some (cause_of (is_pending plan u es) b (follows_finals plan u es) (first_unpassed plan u es) u.fixed)) stop ∙ either (is_pending plan u es)
@@ -97,21 +97,21 @@ ascends_at links (x ∷ xs) u q all found = elim (cases_Bool (q x)) [
 ]
 
 module _ (plan : PlanParts) (sound : IsSound plan) (es more : List Entry) (n : ℕ) (t : PlanTest) (found : test_at plan.tests n ≡ Some t) (one : ChangesOne plan es more n) where
-  -- a test with this number is this test
+  -- the test of the plan with this number is this test
   this_test : (u : PlanTest) → test_at plan.tests u.number ≡ Some u → (u.number == n) ≡ true → u ≡ t
   this_test u itself here =
       let same : u.number ≡ n = grind (arith, nat_tests) in
       let both : Some u ≡ Some t = sym itself ∙ ap (λ (m : ℕ). test_at plan.tests m) same ∙ found in
       cc
 
-  -- another test settles as before, whatever of its followers is left
+  -- whether another test may be settled is as before, but for the tests of `left`
   abbrev SettlesAsBefore : List ℕ → PlanTest → Type 0
   SettlesAsBefore left u = settles_but plan more left (Some u) ≡ settles_but plan es [] (Some u)
 
   abbrev OthersAsBefore : List ℕ → Type 0
   OthersAsBefore left = (u : PlanTest) → test_at plan.tests u.number ≡ Some u → (u.number == n) ≡ false → SettlesAsBefore left u
 
-  -- the marks stay, where the test itself settles as before
+  -- the marks stay right if whether the test itself may be settled is as before
   pub marks_stay : (left : List ℕ) (m : List Bool) → OthersAsBefore left → SettlesAsBefore left t → AreSettleable plan es [] m → AreSettleable plan more left m
   marks_stay left m others own marks = record {
     room = marks.room;
@@ -127,7 +127,7 @@ module _ (plan : PlanParts) (sound : IsSound plan) (es more : List Entry) (n : �
             | inr other ↦ others u itself other
           ]
 
-  -- the marks with the test's own one set
+  -- the marks are right once the test's own mark is set
   pub marks_set : (left : List ℕ) (m : List Bool) (place : ℕ) (b : Bool) → IsPlaceOf plan.tests n place → OthersAsBefore left → settles_but plan more left (Some t) ≡ b → AreSettleable plan es [] m → AreSettleable plan more left (slice_set m place b)
   marks_set left m place b here others own marks =
       let room = marks.room in
@@ -153,7 +153,8 @@ module _ (plan : PlanParts) (sound : IsSound plan) (es more : List Entry) (n : �
             | inr other ↦ others u itself other
           ]
 
-  -- as many predecessors of an enabled test are not final as before, but for those of whom one is left to be told
+  -- each enabled test has as many predecessors that are not
+  -- final as before, or one less if it is in `left`
   abbrev CountsAsBefore : List ℕ → Type 0
   CountsAsBefore left = (u : PlanTest) → test_at plan.tests u.number ≡ Some u → u.disabled ≡ false → open_before plan es u ≡ open_before plan more u + one_if (is_one_of u.number left)
 
@@ -166,7 +167,7 @@ module _ (plan : PlanParts) (sound : IsSound plan) (es more : List Entry) (n : �
       let there : open_before_at plan more (test_at plan.tests j) ≡ open_before plan more u = ap (λ (o : Option PlanTest). open_before_at plan more o) is.found in
       omega (arith, before, now, there)
 
-  -- another test is out as before
+  -- whether another test is pending is as before
   pending_before : (j : ℕ) → StandsIn plan.queue j → (j ≡ n → ⊥) → is_pending_at plan es (test_at plan.tests j) ≡ is_pending_at plan more (test_at plan.tests j)
   pending_before j stands apart =
       let is = queued_enabled plan sound j stands in
@@ -177,7 +178,7 @@ module _ (plan : PlanParts) (sound : IsSound plan) (es more : List Entry) (n : �
   pending_here : (j : ℕ) (xs : List Entry) → j ≡ n → is_pending_at plan xs (test_at plan.tests j) ≡ is_pending plan t xs
   pending_here j xs same = ap (λ (o : Option PlanTest). is_pending_at plan xs o) (ap (λ (m : ℕ). test_at plan.tests m) same ∙ found)
 
-  -- the set stays, where the test itself is pending or not as before
+  -- the ready set stays right if whether the test itself is pending is as before
   pub queue_stays : (left : List ℕ) (r : ReadyValue) → CountsAsBefore left → is_pending plan t more ≡ is_pending plan t es → IsQueued plan es [] r → IsQueued plan more left r
   queue_stays left r counts own queued = record {
     order = queued.order;
@@ -191,7 +192,7 @@ module _ (plan : PlanParts) (sound : IsSound plan) (es more : List Entry) (n : �
     lines = queued.lines;
   }
 
-  -- the set with the test itself out or back
+  -- the ready set is right once the test itself is put out or back
   pub queue_set : (left : List ℕ) (r : ReadyValue) (b : Bool) → CountsAsBefore left → StandsIn plan.queue n → not (is_pending plan t more) ≡ b → IsQueued plan es [] r → IsQueued plan more left (with_out r n b)
   queue_set left r b counts stands own queued =
       let within : place_of r.order n < length r.outs = subst (λ (xs : List ℕ). place_of xs n < length r.outs) (sym queued.order) (subst (λ (k : ℕ). place_of plan.queue n < k) (sym queued.said) stands) in
@@ -210,7 +211,7 @@ module _ (plan : PlanParts) (sound : IsSound plan) (es more : List Entry) (n : �
         lines = queued.lines;
       }
 
-  -- the cause of a test by what decides it
+  -- a test has the same cause if the facts that decide it are the same
   cause_by : (u : PlanTest) → is_pending plan u more ≡ is_pending plan u es → follows_finals plan u more ≡ follows_finals plan u es → first_unpassed plan u more ≡ first_unpassed plan u es → settle_cause plan u more ≡ settle_cause plan u es
   cause_by u pending follows first =
       ap (λ (b : Bool). cause_of b (has_stop more) (follows_finals plan u more) (first_unpassed plan u more) u.fixed) pending
@@ -218,12 +219,12 @@ module _ (plan : PlanParts) (sound : IsSound plan) (es more : List Entry) (n : �
       ∙ ap (λ (b : Bool). cause_of (is_pending plan u es) (has_stop es) b (first_unpassed plan u more) u.fixed) follows
       ∙ ap (λ (s : Option ℕ). cause_of (is_pending plan u es) (has_stop es) (follows_finals plan u es) s u.fixed) first
 
-  -- behind a Stop the others settle as before
+  -- behind a Stop, whether another test may be settled is as before
   pub others_stopped : has_stop es ≡ true → OthersAsBefore []
   others_stopped stop u itself other =
       ap (λ (b : Bool). b && true) (cause_stopped plan u more (one.stops ∙ stop) ∙ one.pendings u other ∙ sym (cause_stopped plan u es stop))
 
-  -- where the test's verdict stays too, no verdict changes
+  -- the test's own verdict stays too, so no verdict changes
   module _ (own : verdict_of_test plan more n ≡ verdict_of_test plan es n) where
     verdicts_same : verdict_of_test plan more ≡ verdict_of_test plan es
     verdicts_same = fun_ext (λ j. elim (cases_eq j n) [
@@ -250,7 +251,7 @@ module _ (plan : PlanParts) (sound : IsSound plan) (es more : List Entry) (n : �
     pub others_same : OthersAsBefore []
     others_same u itself other = ap (λ (c : Option Cause). is_some c && true) (cause_by u (one.pendings u other) (follows_same u) (first_same u))
 
-  -- where the test becomes final, one predecessor less of its followers is not
+  -- the test becomes final, so each follower has one less predecessor that is not final
   module _ (before : verdict_of_test plan es n ≡ None) where
     follower_is : (u : PlanTest) → test_at plan.tests u.number ≡ Some u → u.disabled ≡ false → is_one_of u.number (followers_of plan.tests n) ≡ is_one_of n u.before
     follower_is u itself enabled =

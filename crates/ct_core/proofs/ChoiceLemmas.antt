@@ -1,4 +1,4 @@
--- What is kept beside the history says of the choice: which test is settled, and which starts.
+-- The parts beside the history decide the choice: which test is settled, and which starts.
 use Rattle.std.proofs.Common.{◌≡◌, ◌≢◌, ◌∙◌, sym, ap, subst, Bool, true, false, ℕ, ◌-◌, ◌<◌, ◌≤◌, ◌^◌, List, [], ◌∷◌, ◌++◌, length, refl, arith, inl, inr, get_or, suc, take, drop}
 use Rattle.std.specs.Prelude.{Result, Ok, Err, IfErr, Option, Some, None, ◌==◌, ◌&&◌, ◌||◌, not, is_some, nat_le, option_and_then, slice_get, if◌then◌else◌, MatchOption}
 use Rattle.std.proofs.Math.Path.{fun_ext}
@@ -44,7 +44,7 @@ use Rattle.ct_core.proofs.StandingLemmas.{all_finished, pending_at, verdict_stat
 true_is_false : true ≡ false → ⊥
 true_is_false is = cc
 
--- where no placement fits, needs are met by none
+-- if no placement fits, none is right for needs that are not empty
 pub none_placed : (free : FreeValue) (needs : List Need) → NoneFits free needs → (length needs == 0) ≡ false → (p : Option Placement) → is_placed (Some free.resources) needs (used_at free) p ≡ true → ⊥
 none_placed free [] none some p placed = true_is_false some
 none_placed free (need ∷ needs) none some None placed = true_is_false (sym placed)
@@ -52,7 +52,7 @@ none_placed free (need ∷ needs) none some (Some p) placed =
     let both = and_parts (is_placement free.resources (need ∷ needs) p.picks) (fits_beside free.resources (used_at free) p.picks) placed in
     none (record { picks = p.picks; placed = both.0; fits = both.1 })
 
--- what is placed beside what is free is placed beside the open starts
+-- a placement is right beside what is free exactly if it is right beside the open starts
 same_placed : (plan : PlanParts) (es : List Entry) (free : Option FreeValue) (needs : List Need) (p : Option Placement) → IsFreeBeside plan es free → is_placed (resources_of free) needs (used_of free) p ≡ is_placed plan.resources needs (used_slots es) p
 same_placed plan es None needs p beside = ap (λ (o : Option (List Resource)). is_placed o needs (used_slots es) p) beside.resources
 same_placed plan es (Some free) needs p beside =
@@ -64,7 +64,7 @@ module _ (plan : PlanParts) (es : List Entry) where
   may_of : (t : PlanTest) (p : Option Placement) → may_start_if_placed plan t es ≡ true → is_placed plan.resources t.needs (used_slots es) p ≡ true → may_start plan t p es ≡ true
   may_of t p may placed = and_from (may_start_if_placed plan t es) (is_placed plan.resources t.needs (used_slots es) p) may placed
 
-  -- a test that is placed so starts so
+  -- a test with a right placement may start with it
   pub starts_of : (free : Option FreeValue) (t : PlanTest) (n a : ℕ) (p : Option Placement) → IsFreeBeside plan es free → test_at plan.tests n ≡ Some t → may_start_if_placed plan t es ≡ true → is_placed (resources_of free) t.needs (used_of free) p ≡ true → a ≡ attempt_after es (Some t) → IsStartOf plan es n (record { test = n; attempt = a; placement = p })
   starts_of free t n a p beside found may placed next = record {
     test = refl;
@@ -75,19 +75,19 @@ module _ (plan : PlanParts) (es : List Entry) where
   found_may : (t : PlanTest) (n : ℕ) → test_at plan.tests n ≡ Some t → (can : CanStart plan es n) → may_start plan t can.placement es ≡ true
   found_may t n found can = sym (ap (λ (o : Option PlanTest). may_start_at plan es can.placement o) found) ∙ can.may
 
-  -- a test that something but its placement keeps from it can't start
+  -- a test that fails a condition other than its placement can't start
   pub not_due : (t : PlanTest) (n : ℕ) → test_at plan.tests n ≡ Some t → may_start_if_placed plan t es ≡ false → CanStart plan es n → ⊥
   not_due t n found may_not can =
       let both = and_parts (may_start_if_placed plan t es) (is_placed plan.resources t.needs (used_slots es) can.placement) (found_may t n found can) in
       true_is_false (sym both.0 ∙ may_not)
 
-  -- nor one that no placement fits
+  -- a test without a right placement can't start
   pub nowhere : (free : Option FreeValue) (t : PlanTest) (n : ℕ) → IsFreeBeside plan es free → test_at plan.tests n ≡ Some t → ((p : Option Placement) → is_placed (resources_of free) t.needs (used_of free) p ≡ true → ⊥) → CanStart plan es n → ⊥
   nowhere free t n beside found none can =
       let both = and_parts (may_start_if_placed plan t es) (is_placed plan.resources t.needs (used_slots es) can.placement) (found_may t n found can) in
       none can.placement (same_placed plan es free t.needs can.placement beside ∙ both.1)
 
-  -- the first in the queue that may start, behind tests that may not
+  -- a test of the queue that may start is the first if no test in front of it may start
   pub first_starts : (i n : ℕ) (start : Startable) → i < length plan.queue → n ≡ get_or plan.queue i 0 → NoneStarts plan es (take i plan.queue) → IsStartOf plan es n start → IsStartable plan es start
   first_starts i n start lt is none of = record {
     first = record {
@@ -106,12 +106,12 @@ module _ (plan : PlanParts) (es : List Entry) where
   first_found i n None lt is none some of = absurd (true_is_false (sym some))
   first_found i n (Some start) lt is none some of = first_starts i n start lt is none of
 
-  -- and where none was found it can't start
+  -- if no start was found for the test, it can't start
   pub first_unable : (n m : ℕ) (found : Option Startable) → n ≡ m → is_some found ≡ false → MatchOption found (CanStart plan es n → ⊥) (λ s. IsStartOf plan es n s) → CanStart plan es m → ⊥
   first_unable n m (Some start) same unfound of = absurd (true_is_false unfound)
   first_unable n m None same unfound of = subst (λ (k : ℕ). CanStart plan es k → ⊥) same of
 
--- where all waits for an end, something is open
+-- if nothing can be done, some attempt is open
 pub stuck_busy : (plan : PlanParts) (es : List Entry) → IsSound plan → IsStuck plan es → is_idle es ≡ false
 stuck_busy plan es sound stuck = false_from_ne_true (is_idle es) (λ idle. by_going (goes_on plan sound es (idle_empty es idle) stuck.unfinished))
   where
@@ -119,7 +119,7 @@ stuck_busy plan es sound stuck = false_from_ne_true (is_idle es) (λ idle. by_go
     by_going (settles_on number cause may) = let never = sym (stuck.unsettled number) ∙ may in (cc)
     by_going (starts_on number queued can) = All-contains (λ n. CanStart plan es n → ⊥) plan.queue number stuck.unstarted queued can
 
--- one attempt more is counted
+-- the attempts of a test that may start are few enough that one more can be counted
 pub attempt_fits : (plan : PlanParts) (t : PlanTest) (es : List Entry) → may_start_if_placed plan t es ≡ true → plan.repeat.times < 2 ^ 32 → length (attempts_of t.number t.rules es) < 2 ^ 32 - 1
 attempt_fits plan t es may small =
     let three = and_parts (not (has_stop es) && is_pending plan t es && is_ready plan t es) (has_room plan t es) may in
@@ -129,7 +129,7 @@ attempt_fits plan t es may small =
       | inr fewer ↦ omega (arith, fewer, small)
     ]
 
--- what is kept says whether each test is final
+-- the count of tests that are not final is 0 exactly if all tests are final
 finished_kept : (plan : PlanParts) (es : List Entry) (room : ℕ) (parts : Parts) → IsKept plan es room parts → (parts.unfinished == 0) ≡ are_all_final plan es
 finished_kept plan es room parts kept =
     ap (λ (n : ℕ). n == 0) (kept.unfinished ∙ ap (λ (ss : List State). count_unfinished ss) kept.told.states) ∙ all_finished plan es
@@ -164,20 +164,20 @@ module _ (plan : PlanParts) (es : List Entry) (place : ℕ) (t : PlanTest) (sett
   pub marked_some : (given : Option Cause) → given ≡ (if has_stop es then Some Stopped else cause_then plan es t) → given ≡ None → ⊥
   marked_some given is none = none-some settles.cause (sym none ∙ marked_cause given is)
 
--- how a test stands is read at its place
+-- the state that is read at a test's place is its state
 state_there : (plan : PlanParts) (es : List Entry) (parts : Parts) (n place : ℕ) (s : State) → AreTold plan es parts → IsPlaceOf plan.tests n place → s ≡ get_or parts.states.items place s → slice_get (states_of plan es) place ≡ Some s
 state_there plan es parts n place s told here is =
     let mapped : length (states_of plan es) ≡ length plan.tests = length-map plan.tests (state_of plan.repeat es) in
     slice_get_read (states_of plan es) (length plan.tests) place s (sym mapped) here.within (is ∙ ap (λ (ss : List State). get_or ss place s) told.states)
 
--- a test passed where it stands so at its place
+-- a test has passed exactly if the state that is read at its place has passed
 pub passed_there : (plan : PlanParts) (es : List Entry) (parts : Parts) (n place : ℕ) (s : State) → AreTold plan es parts → IsPlaceOf plan.tests n place → s ≡ get_or parts.states.items place s → is_passed_verdict (verdict_of_state s) ≡ is_passed_verdict (verdict_of_test plan es n)
 passed_there plan es parts n place s told here is =
     let there = state_there plan es parts n place s told here is in
     ap (λ (v : Option Verdict). is_passed_verdict v)
     (sym (ap (λ (o : Option State). option_and_then verdict_of_state o) there) ∙ sym (verdict_state_at plan es n place here))
 
--- a test that is due may start where there is room
+-- a due test may start, but for its placement, exactly if there is room
 due_may : (plan : PlanParts) (es : List Entry) (n : ℕ) (t : PlanTest) → IsDue plan es n → test_at plan.tests n ≡ Some t → may_start_if_placed plan t es ≡ has_room plan t es
 due_may plan es n t due found =
     let u = due.test in
@@ -187,7 +187,7 @@ due_may plan es n t due found =
     ∙ ap (λ (b : Bool). b && is_ready plan u es && has_room plan u es) due.pending
     ∙ ap (λ (b : Bool). b && has_room plan u es) due.ready)
 
--- a test that is due, as it is found at its place: where it may start
+-- a due test, as it is found at its place, and whether it may start
 pub record IsDueAt (plan : PlanParts) (es : List Entry) (parts : Parts) (number : ℕ) (t : PlanTest) : Type 0 where
   pub found : test_at plan.tests number ≡ Some t
   pub room : may_start_if_placed plan t es ≡ has_room_beside plan.level parts.in_use t
@@ -202,7 +202,7 @@ due_at plan es parts n place t tests told due same at is =
       room = due_may plan es n t due found ∙ sym (room_beside plan es parts.in_use t told.in_use);
     }
 
--- and how it stands there: so many of its attempts have ended
+-- the state at the place of a due test is pending, with the number of its ended attempts
 pub due_stands : (plan : PlanParts) (es : List Entry) (parts : Parts) (n place : ℕ) (s : State) → AreTold plan es parts → (due : IsDue plan es n) → IsPlaceOf plan.tests n place → s ≡ get_or parts.states.items place s → s ≡ Pending (length (attempts_of due.test.number due.test.rules es))
 due_stands plan es parts n place s told due here read =
     same_Some s (Pending (length (attempts_of due.test.number due.test.rules es)))
@@ -221,7 +221,7 @@ next_due plan es place next on = record {
   ready = next.ready;
 }
 
--- where all processors are in use, or a test that runs alone is open, none may start
+-- if all processors are in use, or a serial test is open, no test of the queue may start
 pub none_full : (plan : PlanParts) (es : List Entry) (u : InUse) → IsSound plan → IsInUse plan (open_starts es) u → (nat_le plan.level u.processors || u.serial) ≡ true → NoneStarts plan es plan.queue
 none_full plan es u sound is full = elim (cases_Bool (nat_le plan.level u.processors)) [
   | inl used ↦
@@ -231,14 +231,14 @@ none_full plan es u sound is full = elim (cases_Bool (nat_le plan.level u.proces
       (sym is.serial ∙ sym (ap (λ (b : Bool). b || u.serial) left) ∙ full)
 ]
 
--- what comes next takes memory where a test may be settled
+-- what comes next takes memory if a test may be settled
 pub settle_takes : (plan : PlanParts) (es : List Entry) (n : ℕ) (cause : Cause) → IsLeastToSettle plan es n cause → TakesMemory plan es
 settle_takes plan es n cause least = record {
   unfinished = false_from_ne_true (are_all_final plan es) (λ done. done_settles_none plan es n cause done least.may);
   goes_on = inl (record { number = n; cause = cause; may = least.may });
 }
 
--- or may start
+-- what comes next takes memory if none may be settled and a test may start
 pub start_takes : (plan : PlanParts) (es : List Entry) (start : Startable) → NoneSettles plan es → IsStartable plan es start → TakesMemory plan es
 start_takes plan es start unsettled able = record {
   unfinished = false_from_ne_true (are_all_final plan es) (λ done. done_starts_none plan es start.test done (record { placement = start.placement; may = able.first.may }));
@@ -259,7 +259,7 @@ start_takes plan es start unsettled able = record {
     if_placed None may = may
     if_placed (Some t) may = (and_parts (may_start_if_placed plan t es) (is_placed plan.resources t.needs (used_slots es) start.placement) may).0
 
--- or is to be placed, as the one at this place of the queue
+-- a test is to be placed if it may start, but for its placement, and no test in front of it may start
 pub placing : (plan : PlanParts) (es : List Entry) (i n : ℕ) → i < length plan.queue → n ≡ get_or plan.queue i 0 → NoneStarts plan es (take i plan.queue) → may_start_if_placed_at plan es (test_at plan.tests n) ≡ true → SomeIsToPlace plan es
 placing plan es i n lt is none may = record {
   earlier = take i plan.queue;
@@ -270,7 +270,7 @@ placing plan es i n lt is none may = record {
   first = none;
 }
 
--- what holds where a call failed holds however it did
+-- what holds anyway holds of each error
 pub failed : {A E P : Type 0} (r : Result A E) → P → IfErr r (λ _. P)
 failed (Ok x) holds = tt
 failed (Err e) holds = holds

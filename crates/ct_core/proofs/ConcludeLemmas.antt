@@ -1,4 +1,4 @@
--- What a run keeps once it is noted that a test is final.
+-- A run is kept once it has noted that a test is final.
 use Rattle.std.proofs.Common.{◌≡◌, ◌∙◌, sym, ap, subst, Bool, true, false, ℕ, ◌+◌, ◌-◌, ◌<◌, ◌≤◌, List, [], ◌∷◌, ◌++◌, length, refl, arith, length-append, inl, inr, zero, suc}
 use Rattle.std.specs.Prelude.{is_some, Option, Some, None, not, ◌&&◌, ◌||◌, option_map, slice_get, nat_lt, if◌then◌else◌}
 use Rattle.std.proofs.lemmas.Bool.{cases_Bool}
@@ -33,7 +33,7 @@ use Rattle.ct_core.proofs.WaitingLemmas.{stop_settleable}
 true_is_false : true ≡ false → ⊥
 true_is_false is = cc
 
--- the same parts, with one less that is not final
+-- the same parts, with one less in the count of tests that are not final
 abbrev pub counted : Parts → Parts
 counted parts = record parts { unfinished = parts.unfinished - 1 }
 
@@ -44,7 +44,7 @@ stop_added es = stop-snoc es Stop ∙ or_true (has_stop es)
     or_true true = refl
     or_true false = refl
 
--- the test at a place is pending by the states as by the history
+-- the states and the history agree on whether the test at a place is pending
 pending_here : (plan : PlanParts) (es : List Entry) (place : ℕ) → is_pending_at_place (states_of plan es) place ≡ is_pending_at plan es (slice_get plan.tests place)
 pending_here plan es place =
     ap is_pending_in (slice_get-map (state_of plan.repeat es) plan.tests place) ∙ by_test (slice_get plan.tests place)
@@ -53,13 +53,13 @@ pending_here plan es place =
     by_test None = refl
     by_test (Some t) = sym (pending_state plan t es)
 
--- no test stands behind the last one
+-- there is no test at a place past the last one
 none_behind : (ts : List PlanTest) (place : ℕ) → length ts ≤ place → slice_get ts place ≡ None
 none_behind [] place le = refl
 none_behind (t ∷ ts) zero le = absurd (omega (arith, le))
 none_behind (t ∷ ts) (suc place) le = none_behind ts place (omega (arith, le))
 
--- a test with a verdict is there
+-- a test that has a verdict was found
 pub is_planned : (plan : PlanParts) (es : List Entry) (o : Option PlanTest) (v : Verdict) → verdict_at plan es o ≡ Some v → is_some o ≡ true
 is_planned plan es None v is = cc
 is_planned plan es (Some t) v is = refl
@@ -75,7 +75,7 @@ module _ (plan : PlanParts) (es : List Entry) (room n : ℕ) (v : Verdict) (part
       and_false true = refl
       and_false false = refl
 
-  -- where no Stop is due none is added
+  -- if no Stop is due, none is added
   pub none_added : is_stop_due plan es ≡ false → with_due_stop plan es ≡ es
   none_added none = ap (λ (b : Bool). if b then es ++ Stop ∷ [] else es) none
 
@@ -85,7 +85,7 @@ module _ (plan : PlanParts) (es : List Entry) (room n : ℕ) (v : Verdict) (part
   pub some_added : is_stop_due plan es ≡ true → with_due_stop plan es ≡ es ++ Stop ∷ []
   some_added due = ap (λ (b : Bool). if b then es ++ Stop ∷ [] else es) due
 
-  -- a Stop is due exactly where the plan stops at a failure, the verdict is one, and no Stop stands
+  -- while there is no Stop, one is due exactly if the plan stops at a failure and the verdict is failing
   pub due_here : has_stop es ≡ false → (b : Bool) → (plan.stop_on_failure && is_failing_verdict v) ≡ b → is_stop_due plan es ≡ b
   due_here going b is = c.due ∙ ap (λ (x : Bool). plan.stop_on_failure && is_failing_verdict v && not x) going ∙ and_true (plan.stop_on_failure && is_failing_verdict v) ∙ is
     where
@@ -93,7 +93,7 @@ module _ (plan : PlanParts) (es : List Entry) (room n : ℕ) (v : Verdict) (part
       and_true true = refl
       and_true false = refl
 
-  -- behind a Stop nothing more follows
+  -- if there is a Stop already, the run is kept without a further step
   pub kept_behind : has_stop es ≡ true → IsKept plan es room (counted parts)
   kept_behind stop = record {
     legal = legal_from plan es c.allowed (not_due stop);
@@ -107,13 +107,13 @@ module _ (plan : PlanParts) (es : List Entry) (room n : ℕ) (v : Verdict) (part
     };
   }
 
-  -- the tests that wait for it are those at its place
+  -- the followers of the test are the ones that are listed at its place
   pub followers_here : (place : ℕ) → IsPlaceOf plan.tests n place → followers_at parts place ≡ followers_of plan.tests n → has_stop es ≡ false → AreQueued plan es (followers_at parts place) (counted parts)
   followers_here place at same going =
       let q = c.waiting going in
       subst (λ (left : List ℕ). AreQueued plan es left (counted parts)) (sym same) (record { ready = q.ready; bunches = q.bunches; settleable = q.settleable })
 
-  -- without a Stop, once all that wait for it are noted
+  -- if no Stop is due, the run is kept once each follower is lowered
   pub kept_lowered : has_stop es ≡ false → is_stop_due plan es ≡ false → (new : Parts) → IsLowered (counted parts) new → AreQueued plan es [] new → IsKept plan es room new
   kept_lowered going none new low queued = record {
     legal = legal_from plan es c.allowed none;
@@ -133,7 +133,7 @@ module _ (plan : PlanParts) (es : List Entry) (room n : ℕ) (v : Verdict) (part
     queued = queued;
   }
 
-  -- with the Stop that is due
+  -- if a Stop is due, the run is kept once the Stop is appended and noted
   pub kept_halted : has_stop es ≡ false → is_stop_due plan es ≡ true → (room' : ℕ) → room ≤ room' → (new : Parts) → IsStopped (counted parts) new → IsKept plan (es ++ Stop ∷ []) room' new
   kept_halted going due room' le new halted = record {
     legal = legal_with_stop plan es c.allowed due;

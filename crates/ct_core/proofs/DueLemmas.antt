@@ -30,7 +30,7 @@ use Rattle.ct_core.proofs.StandingLemmas.{states_stopped}
 true_is_false : true ≡ false → ⊥
 true_is_false is = cc
 
--- at first nothing has failed
+-- in the empty history no test has failed
 pub failing-nil : (plan : PlanParts) → has_failing plan [] ≡ false
 failing-nil plan = by_tests plan.tests
   where
@@ -42,7 +42,7 @@ failing-nil plan = by_tests plan.tests
     by_tests [] = refl
     by_tests (t ∷ ts) = or_from (is_failing_in (verdict_in plan.repeat t [])) (list_any (λ (u : PlanTest). is_failing_in (verdict_in plan.repeat u [])) ts) (by_disabled t.disabled) (by_tests ts)
 
--- an allowed entry that is no Stop stands where none is due
+-- if an allowed entry is no Stop, no Stop was due in front of it
 not_due_before : (plan : PlanParts) (es : List Entry) (e : Entry) → is_allowed plan es e ≡ true → is_stop e ≡ false → is_stop_due plan es ≡ false
 not_due_before plan es (Start n a w p) allowed plain =
     let most = and_parts (not (is_stop_due plan es) && starts plan es a p (test_at plan.tests n)) (not (is_busy_in w es)) allowed in
@@ -52,7 +52,7 @@ not_due_before plan es (Settle n c) allowed plain = not-true (is_stop_due plan e
 not_due_before plan es Stop allowed plain = cc
 
 module _ (plan : PlanParts) (on : plan.stop_on_failure ≡ true) where
-  -- where something has failed, a Stop stands or is due
+  -- if some test has failed, there is a Stop or one is due
   abbrev IsStopped : List Entry → Type 0
   IsStopped es = has_failing plan es ≡ true → is_stop_due plan es ≡ false → has_stop es ≡ true
 
@@ -74,7 +74,7 @@ module _ (plan : PlanParts) (on : plan.stop_on_failure ≡ true) where
   failed_stopped es so_far =
       allowed_induction plan IsStopped stopped-snoc (λ failing not_due. absurd (true_is_false (sym failing ∙ failing-nil plan))) es so_far
 
--- with the option on, something has failed exactly where a Stop stands
+-- in a plan that stops on failure, a legal history has a failed test exactly if it has a Stop
 pub failing_is_stop : (plan : PlanParts) → IsSound plan → (es : List Entry) → is_legal plan es ≡ true → plan.stop_on_failure ≡ true → has_failing plan es ≡ has_stop es
 failing_is_stop plan sound es legal on =
     let so_far = legal_allowed plan es legal in
@@ -86,7 +86,7 @@ failing_is_stop plan sound es legal on =
     same false true one other = other refl
     same false false one other = refl
 
--- tests that are told apart by one number alone
+-- two predicates on tests that agree on each test but the one with this number
 module _ (p q : PlanTest → Bool) (n : ℕ) (same : (u : PlanTest) → (u.number == n) ≡ false → q u ≡ p u) where
   none_above : (least : ℕ) (ts : List PlanTest) → IsAscendingFrom least (map (λ (x : PlanTest). x.number) ts) → n < least → list_any p ts ≡ false → list_any q ts ≡ false
   none_above least [] ascends lt none = refl
@@ -115,14 +115,15 @@ module _ (p q : PlanTest → Bool) (n : ℕ) (same : (u : PlanTest) → (u.numbe
       or_false true = refl
       or_false false = refl
 
--- where nothing had failed, something has where this test has
+-- if no test had failed in front of the entry, some test has behind it exactly if this test has
 failing_one : (plan : PlanParts) → IsSound plan → (es : List Entry) (e : Entry) (n : ℕ) (t : PlanTest) → IsAboutOnly n e → test_at plan.tests n ≡ Some t → has_failing plan es ≡ false → has_failing plan (es ++ e ∷ []) ≡ is_failing_in (verdict_of_test plan (es ++ e ∷ []) n)
 failing_one plan sound es e n t only found none =
     any_one (λ u. is_failing_in (verdict_in plan.repeat u es)) (λ u. is_failing_in (verdict_in plan.repeat u (es ++ e ∷ []))) n
     (λ u other. ap is_failing_in (verdict_in_other plan.repeat u es e (only u.number other))) 1 plan.tests t sound.numbers none found
     ∙ sym (ap (λ (o : Option PlanTest). is_failing_in (verdict_at plan (es ++ e ∷ []) o)) found)
 
--- a Stop is due exactly where the option is on, the entry's test is then failing, and no Stop stands
+-- a Stop is due exactly if the plan stops on failure, the
+-- entry's test is then failing, and there is no Stop
 pub due_is : (plan : PlanParts) → IsSound plan → (es : List Entry) → is_legal plan es ≡ true → (e : Entry) (n : ℕ) (t : PlanTest) → IsAboutOnly n e → test_at plan.tests n ≡ Some t → is_stop_due plan (es ++ e ∷ []) ≡ (plan.stop_on_failure && is_failing_in (verdict_of_test plan (es ++ e ∷ []) n) && not (has_stop es))
 due_is plan sound es legal e n t only found =
     due-snoc plan es e
@@ -138,7 +139,7 @@ due_is plan sound es legal e n t only found =
         and_false false = refl
     by_tests true now then' fails false same one = ap (λ (b : Bool). now && not b) (same refl) ∙ ap (λ (b : Bool). b && true) (one (same refl))
 
--- behind an entry that gives its test no verdict none is due
+-- behind an entry that gives its test no verdict no Stop is due
 pub none_due : (plan : PlanParts) → IsSound plan → (es : List Entry) → is_legal plan es ≡ true → (e : Entry) (n : ℕ) (t : PlanTest) → IsAboutOnly n e → test_at plan.tests n ≡ Some t → verdict_of_test plan (es ++ e ∷ []) n ≡ None → is_stop_due plan (es ++ e ∷ []) ≡ false
 none_due plan sound es legal e n t only found none =
     due_is plan sound es legal e n t only found
@@ -149,7 +150,7 @@ none_due plan sound es legal e n t only found none =
     never true b = refl
     never false b = refl
 
--- behind an End, and behind a Settle, by how the test then stands
+-- whether a Stop is due behind an End and behind a Settle, by the test's state behind the entry
 module _ (plan : PlanParts) (sound : IsSound plan) (es : List Entry) (legal : is_legal plan es ≡ true) (n : ℕ) (t : PlanTest) (found : test_at plan.tests n ≡ Some t) where
   pub end_due : (a w : ℕ) (s : Seen) → holds_start n a w es ≡ true → is_stop_due plan (es ++ End n a w s ∷ []) ≡ (plan.stop_on_failure && is_failing_in (verdict_of_state (state_after plan.repeat (length (attempts_of t.number t.rules es) + 1) (verdict_of t.rules s))) && not (has_stop es))
   end_due a w s holds =
@@ -161,7 +162,7 @@ module _ (plan : PlanParts) (sound : IsSound plan) (es : List Entry) (legal : is
       due_is plan sound es legal (Settle n c) n t (about_settle n c) found
       ∙ ap (λ (o : Option Verdict). plan.stop_on_failure && is_failing_in o && not (has_stop es)) (verdict_settled plan es n t found c pending)
 
--- with the Stop that is due, where one is, the tests stand as without it
+-- the tests stand the same with a due Stop and without it
 module _ (plan : PlanParts) (es : List Entry) where
   same_with_stop : {A : Type 0} (f : List Entry → A) → f (es ++ Stop ∷ []) ≡ f es → f (with_due_stop plan es) ≡ f es
   same_with_stop f same = by_due (is_stop_due plan es)
@@ -182,7 +183,7 @@ module _ (plan : PlanParts) (es : List Entry) where
   pub pending_with_stop : (t : PlanTest) → is_pending plan t (with_due_stop plan es) ≡ is_pending plan t es
   pending_with_stop t = same_with_stop (λ xs. is_pending plan t xs) (pending_other plan t es Stop refl)
 
-  -- a Stop then stands where one stood, or was due behind the entry
+  -- with the due Stop there is a Stop exactly if there was one before, or one was due behind the entry
   pub stop_with_stop : (e : Entry) → is_stop e ≡ false → has_stop (with_due_stop plan (es ++ e ∷ [])) ≡ (has_stop es || is_stop_due plan (es ++ e ∷ []))
   stop_with_stop e plain = by_due (is_stop_due plan (es ++ e ∷ []))
     where

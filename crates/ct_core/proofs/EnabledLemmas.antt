@@ -1,4 +1,4 @@
--- The queue of a sound plan has its enabled tests, and what is said of one of them leaves the others.
+-- The queue of a sound plan has the plan's enabled tests, and a change of one test leaves the others.
 use Rattle.std.proofs.Common.{◌≡◌, ◌∙◌, sym, ap, Bool, true, false, ℕ, List, [], ◌∷◌, get_or, refl, inl, inr}
 use Rattle.std.specs.Prelude.{Contains, Option, Some, None, not, ◌||◌, ◌==◌, cond, find, map}
 use Rattle.std.specs.List.{list_any}
@@ -20,7 +20,7 @@ use Rattle.ct_core.proofs.NumberLemmas.{listed, numbers_of, unlisted}
 true_is_false : true ≡ false → ⊥
 true_is_false is = cc
 
--- what stands in an order is one of it, and the other way round
+-- a test stands in an order exactly if its number is in the list
 stands_one : (order : List ℕ) (j : ℕ) → StandsIn order j → is_one_of j order ≡ true
 stands_one order j stands = list_any_at (λ (n : ℕ). n == j) order (place_of order j) 0 stands (passes_at_first (λ (n : ℕ). n == j) order 0 stands)
 
@@ -50,7 +50,7 @@ module _ (plan : PlanParts) (sound : IsSound plan) where
   in_queue : (j : ℕ) → is_one_of j plan.queue ≡ is_one_of j (numbers_of (λ (t : PlanTest). not t.disabled) plan.tests)
   in_queue j = list_any-IsPermutation (λ (n : ℕ). n == j) plan.queue (map (λ (t : PlanTest). t.number) (enabled plan.tests)) sound.queue
 
-  -- each test of the queue is an enabled one
+  -- each test of the queue is an enabled test of the plan
   pub queued_enabled : (j : ℕ) → StandsIn plan.queue j → IsEnabled plan j
   queued_enabled j stands = by_test (test_at plan.tests j) refl
     where
@@ -81,7 +81,7 @@ module _ (plan : PlanParts) (sound : IsSound plan) where
       ∙ listed (λ (u : PlanTest). not u.disabled) 1 plan.tests t sound.numbers itself
       ∙ ap not enabled)
 
--- what is said of one test leaves whether the others are out
+-- a change of whether one test is out leaves the others
 pub out_other : (ready : ReadyValue) (n j : ℕ) (is : Bool) → StandsIn ready.order n → StandsIn ready.order j → (j ≡ n → ⊥) → is_out (with_out ready n is) j ≡ is_out ready j
 out_other ready n j is stands there apart =
     get_or-set_other ready.outs (place_of ready.order n) (place_of ready.order j) is false (λ same. apart (places_apart ready.order j n there stands same))

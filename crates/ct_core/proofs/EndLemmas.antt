@@ -1,4 +1,4 @@
--- What a run keeps as an attempt ends.
+-- A run is kept when an attempt ends.
 use Rattle.std.proofs.Common.{◌≡◌, ◌∙◌, sym, ap, subst, Bool, true, false, ℕ, ◌+◌, ◌<◌, ◌≤◌, List, [], ◌∷◌, ◌++◌, length, refl, arith, length-append, get_or}
 use Rattle.std.specs.Prelude.{AllPairs, Option, Some, None, not, ◌&&◌, slice_get, slice_set, if◌then◌else◌}
 use Rattle.std.proofs.lemmas.List.{length-map, take_all}
@@ -37,7 +37,8 @@ use Rattle.ct_core.proofs.StateLemmas.{state_after, verdict_ended}
 use Rattle.ct_core.proofs.StandingLemmas.{open_at, states_ended, unfinished_less, unfinished_same}
 use Rattle.ct_core.proofs.WaitingLemmas.{again_queued, again_settleable, again_stopped, end_out, end_stands, over_queued, over_settleable, over_stopped}
 
--- the parts behind an attempt that ended: its test is as `state` says, what it used is given back, and nothing else changed
+-- the parts behind an attempt that ended: its test is in `state`,
+-- what the test used is given back, and nothing else changed
 pub record IsClosed (place : ℕ) (t : PlanTest) (placement : Option Placement) (state : State) (old new : Parts) : Type 0 where
   pub states : new.states.items ≡ slice_set old.states.items place state
   pub in_use : Gives t placement old.in_use new.in_use
@@ -46,13 +47,13 @@ pub record IsClosed (place : ℕ) (t : PlanTest) (placement : Option Placement) 
   pub stopped : new.stopped ≡ old.stopped
   pub unfinished : new.unfinished ≡ old.unfinished
 
--- what is read at the place of an open state is that state
+-- reading the place of an open state returns that state
 pub open_is : (states : List State) (place k : ℕ) (p : Option Placement) (x : State) → place < length states → slice_get states place ≡ Some (Open k p) → x ≡ get_or states place x → x ≡ Open k p
 open_is states place k p x within here read =
     let found : Some x ≡ Some (Open k p) = sym (slice_get_read states (length states) place x refl within read) ∙ here in
     cc
 
--- the open state that is read at a place
+-- the attempts and the placement of an open state, as it is read at its place
 pub open_read : (states : List State) (place k e : ℕ) (p q : Option Placement) (x : State) → place < length states → slice_get states place ≡ Some (Open k p) → x ≡ get_or states place x → x ≡ Open e q → (e ≡ k) × (q ≡ p)
 open_read states place k e p q x within here read is =
     let found : Some x ≡ Some (Open k p) = sym (slice_get_read states (length states) place x refl within read) ∙ here in
@@ -63,7 +64,7 @@ module _ (plan : PlanParts) (es : List Entry) (room : ℕ) (parts : Parts) (kept
   abbrev more : List Entry
   more = es ++ End n a w s ∷ []
 
-  -- how many attempts have ended in front, and what this one comes to
+  -- how many attempts of the test have ended so far, and the verdict of this one
   abbrev pub ended : ℕ
   ended = length (attempts_of t.number t.rules es)
 
@@ -87,7 +88,7 @@ module _ (plan : PlanParts) (es : List Entry) (room : ℕ) (parts : Parts) (kept
       let placed = open_placed plan es n held.start t so_far held.opens found in
       give_possible plan (open_starts es) n held.start t parts.in_use (used_slots placed.front) kept.told.in_use held.opens found placed.placed
 
-  -- it is the attempt behind those that ended
+  -- the attempt is the one after the attempts that have ended
   pub next : a ≡ ended + 1
   next =
       let same : held.test ≡ t = let both : Some held.test ≡ Some t = sym held.found ∙ found in cc in
@@ -117,7 +118,7 @@ module _ (plan : PlanParts) (es : List Entry) (room : ℕ) (parts : Parts) (kept
   pub is_gone : parts.stopped ≡ false → is_out parts.ready n ≡ true
   is_gone runs = end_out plan kept.told.sound es n t found a w s so_far holds parts.ready (kept.queued.ready (going_on runs))
 
-  -- less is in use
+  -- what is in use agrees with the open starts once the test gave back what it used
   used : (new : InUse) → Gives t placement parts.in_use new → IsInUse plan (open_starts more) new
   used new gives =
       subst (λ (rs : List Running). IsInUse plan rs new) (sym (held.closes s))
@@ -154,7 +155,7 @@ module _ (plan : PlanParts) (es : List Entry) (room : ℕ) (parts : Parts) (kept
   pub ended_verdict : verdict_of_test plan more n ≡ verdict_of_state (state_after plan.repeat (ended + 1) verdict)
   ended_verdict = verdict_ended plan es n t found so_far a w s holds
 
-  -- the test is tried again
+  -- the case that the test is tried again
   module _ (again : is_repeated plan.repeat (ended + 1) (Some verdict) ≡ true) where
     state : state_after plan.repeat (ended + 1) verdict ≡ Pending (ended + 1)
     state = ap (λ (b : Bool). if b then Pending (ended + 1) else Final verdict) again
@@ -207,7 +208,7 @@ module _ (plan : PlanParts) (es : List Entry) (room : ℕ) (parts : Parts) (kept
             subst (λ (m : List Bool). AreSettleable plan more [] m) (sym (marks ∙ ap (λ (b : Bool). if b then slice_set parts.settleable place true else parts.settleable) is))
             (again_settleable plan kept.told.sound es n t found a w s so_far holds no_verdict parts.settleable (sym kept.told.stopped ∙ is) kept.queued.settleable)
 
-  -- the test is final
+  -- the case that the test is final
   module _ (over : is_repeated plan.repeat (ended + 1) (Some verdict) ≡ false) where
     last : state_after plan.repeat (ended + 1) verdict ≡ Final verdict
     last = ap (λ (b : Bool). if b then Pending (ended + 1) else Final verdict) over

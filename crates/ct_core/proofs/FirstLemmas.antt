@@ -1,4 +1,4 @@
--- What the parts of a run say before any entry.
+-- The parts of a run agree with the empty history.
 use Rattle.std.proofs.Common.{◌≡◌, ◌∙◌, sym, ap, Bool, true, false, not, cond, ◌&&◌, ℕ, suc, ◌+◌, ◌<◌, ◌≤◌, List, [], ◌∷◌, length, map, filter, set, ltb, slice_get, is_none, ⊎_elim, refl, subst, arith, inl, inr}
 use Rattle.std.specs.Prelude.{Option, Some, None}
 use Rattle.std.proofs.lemmas.Bool.{cases_eq, cases_lt, lt-ltb, le-ltb}
@@ -24,7 +24,7 @@ use Rattle.ct_core.specs.Waiting.{AreSettleable, IsQueued, followers_of}
 use Rattle.ct_core.proofs.BeginLemmas.{begins_queued}
 use Rattle.ct_core.proofs.StateLemmas.{state_first}
 
--- each test stands so before any entry
+-- the first states are the states of the empty history
 first_states_of : (plan : PlanParts) → map first_state plan.tests ≡ states_of plan []
 first_states_of plan = by_tests plan.tests
   where
@@ -34,7 +34,7 @@ first_states_of plan = by_tests plan.tests
         ap (λ (s : State). s ∷ map first_state ts) (sym (state_first plan.repeat t))
         ∙ ap (λ (ss : List State). state_of plan.repeat [] t ∷ ss) (by_tests ts)
 
--- those that are not disabled are not final
+-- at first the tests that are not final are the enabled ones
 unfinished_enabled : (ts : List PlanTest) → count_unfinished (map first_state ts) ≡ length (enabled ts)
 unfinished_enabled [] = refl
 unfinished_enabled (t ∷ ts) = by_disabled t.disabled (unfinished_enabled ts)
@@ -45,7 +45,7 @@ unfinished_enabled (t ∷ ts) = by_disabled t.disabled (unfinished_enabled ts)
     by_disabled true rest = rest
     by_disabled false rest = ap suc rest
 
--- so as many are not final as stand in the queue
+-- at first as many tests are not final as the queue has
 unfinished_first : (plan : PlanParts) → IsSound plan → length plan.queue ≡ count_unfinished (states_of plan [])
 unfinished_first plan sound =
     sym (length_permutation plan.queue (map (λ (t : PlanTest). t.number) (enabled plan.tests)) sound.queue)
@@ -53,7 +53,8 @@ unfinished_first plan sound =
     ∙ sym (unfinished_enabled plan.tests)
     ∙ ap (λ (ss : List State). count_unfinished ss) (first_states_of plan)
 
--- the marks stand at the places, of those before one, of the tests that may be settled before any entry
+-- of the places before `end`, exactly those of tests that may
+-- be settled before any entry are marked; no other place is
 abbrev pub AreSettleableTo : List PlanTest → List Bool → ℕ → Type 0
 AreSettleableTo tests marks end = (place : ℕ) → is_marked marks place ≡ (ltb place end && settles_first (slice_get tests place))
 
@@ -84,7 +85,7 @@ settleable_more tests marks new end t mark there is made marked =
           (settleable_set tests marks end mark (omega (arith, within, marked.0)) (is ∙ sym (ap (λ (o : Option PlanTest). settles_first o) there)) marked.1),
     )
 
--- behind the last test there is none
+-- once `end` is past the last test, the marks are right for each place
 pub settleable_all : (tests : List PlanTest) (marks : List Bool) (end : ℕ) → length tests ≤ end → AreSettleableTo tests marks end → (place : ℕ) → is_marked marks place ≡ settles_first (slice_get tests place)
 settleable_all tests marks end all marked place =
     marked place
@@ -96,12 +97,12 @@ settleable_all tests marks end all marked place =
           ∙ sym (ap (λ (o : Option PlanTest). settles_first o) none)
     ]
 
--- tests that wait for as many as they have predecessors are those that wait before any entry
+-- a set of tests with the first counts, none of them out, agrees with the empty history
 pub queued_first : (plan : PlanParts) → IsSound plan → (counts lines bunches : List ℕ) (ready : ReadyValue) → counts ≡ first_counts plan → AreLinesOf plan lines → ready ≡ none_out plan.queue counts lines bunches → IsQueued plan [] [] ready
 queued_first plan sound counts lines bunches ready counted are is =
     subst (λ (r : ReadyValue). IsQueued plan [] [] r) (sym (is ∙ ap (λ (ns : List ℕ). none_out plan.queue ns lines bunches) counted)) (begins_queued plan sound lines bunches are)
 
--- what the parts say one by one, they say together
+-- if each part agrees with the empty history, the run is kept
 pub begun : (plan : PlanParts) (parts : Parts) → IsSound plan → parts.states.items ≡ map first_state plan.tests → parts.unfinished ≡ length plan.queue → IsInUse plan [] parts.in_use → parts.followers.items ≡ map (λ (t : PlanTest). followers_of plan.tests t.number) plan.tests → IsQueued plan [] [] parts.ready → AreBunchesOf plan parts.keys.items parts.ready.bunches → AreSettleable plan [] [] parts.settleable → parts.stopped ≡ false → IsKept plan [] 0 parts
 begun plan parts sound states unfinished in_use followers ready bunches settleable stopped = record {
   legal = legal-nil plan;

@@ -1,4 +1,4 @@
--- The tests that wait for each test, one predecessor of one test after the other.
+-- The followers of each test, listed one predecessor of one test after the other.
 use Rattle.std.proofs.Common.{◌≡◌, ◌∙◌, sym, ap, subst, Bool, true, false, ℕ, zero, suc, ◌+◌, ◌<◌, ◌≤◌, List, [], ◌∷◌, ◌++◌, length, get_or, set, take, map, arith, refl, inl, inr}
 use Rattle.std.specs.Prelude.{Some, None, filter, not, ◌&&◌, ◌||◌, ◌==◌, cond}
 use Rattle.std.specs.List.{list_any}
@@ -15,7 +15,7 @@ use Rattle.ct_core.specs.Standing.{IsPlaceOf}
 use Rattle.ct_core.specs.Followers.{follows, followers_among, followers_of, is_one_of}
 use Rattle.ct_core.proofs.PlaceLemmas.{number_at, numbers}
 
--- a number, where it is wanted
+-- a list of this number if true, else the empty list
 abbrev pub one_if : Bool → ℕ → List ℕ
 one_if true number = number ∷ []
 one_if false number = []
@@ -27,7 +27,7 @@ one_mapped p t = by_passed (p t)
     by_passed true = refl
     by_passed false = refl
 
--- the followers among the tests up to a place, and among one more
+-- the followers among one more test are the followers so far, and the new test if it follows
 pub followers-more : (tests : List PlanTest) (at : ℕ) (t : PlanTest) (number : ℕ) → at < length tests → t ≡ get_or tests at t → followers_of (take (at + 1) tests) number ≡ followers_of (take at tests) number ++ one_if (follows number t) t.number
 followers-more tests at t number lt is =
     ap (λ (ts : List PlanTest). followers_of ts number) (take_more tests at t lt ∙ ap (λ (x : PlanTest). take at tests ++ x ∷ []) (sym is))
@@ -35,14 +35,14 @@ followers-more tests at t number lt is =
     ∙ map-append (λ (x : PlanTest). x.number) (filter (follows number) (take at tests)) (filter (follows number) (t ∷ []))
     ∙ ap (λ (ns : List ℕ). followers_of (take at tests) number ++ ns) (one_mapped (follows number) t)
 
--- two ways to list for each test are the same where they agree on its number
+-- two functions list the same for all tests if they agree on each test's number
 pub map-agrees : (f g : ℕ → List ℕ) (tests : List PlanTest) → ((k : ℕ) → k < length tests → f (number_at tests k) ≡ g (number_at tests k)) → map (λ (t : PlanTest). f t.number) tests ≡ map (λ (t : PlanTest). g t.number) tests
 map-agrees f g [] same = refl
 map-agrees f g (t ∷ tests) same =
     ap (λ (ns : List ℕ). ns ∷ map (λ (x : PlanTest). f x.number) tests) (same 0 (omega arith))
     ∙ ap (λ (rest : List (List ℕ)). g t.number ∷ rest) (map-agrees f g tests (λ k lt. same (suc k) (omega (arith, lt))))
 
--- what is put behind the list of the test with this number
+-- the lists by number, with one number put behind the list of one test
 abbrev pub put_behind : (ℕ → List ℕ) → ℕ → ℕ → ℕ → List ℕ
 put_behind f j number other = f other ++ one_if (j == other) number
 
@@ -53,7 +53,7 @@ later_unchanged f j number least (t ∷ tests) ascends less =
     ap (λ (ns : List ℕ). ns ∷ map (λ (x : PlanTest). f x.number) tests) (sym (append-nil (f t.number)) ∙ ap (λ (b : Bool). f t.number ++ one_if b number) (sym other))
     ∙ ap (λ (rest : List (List ℕ)). put_behind f j number t.number ∷ rest) (later_unchanged f j number (t.number + 1) tests ascends.1 (omega (arith, ascends.0, less)))
 
--- the list at the place of the test is longer by one, and the others stay
+-- the list at the test's place is longer by one, and the others stay
 pub put-at : (f : ℕ → List ℕ) (j number least : ℕ) (tests : List PlanTest) (place : ℕ) → IsAscendingFrom least (numbers tests) → place < length tests → number_at tests place ≡ j → set (map (λ (t : PlanTest). f t.number) tests) place (get_or (map (λ (t : PlanTest). f t.number) tests) place [] ++ number ∷ []) ≡ map (λ (t : PlanTest). put_behind f j number t.number) tests
 put-at f j number least [] place ascends lt is = absurd (omega (arith, lt))
 put-at f j number least (t ∷ tests) zero ascends lt is =
@@ -76,7 +76,7 @@ put-at f j number least (t ∷ tests) (suc place) ascends lt is =
 apart : false ≡ true → ⊥
 apart is = cc
 
--- where no test has the number, all stay
+-- if no test has the number, all lists stay
 pub put-nowhere : (f : ℕ → List ℕ) (j number : ℕ) (tests : List PlanTest) → test_at tests j ≡ None → map (λ (t : PlanTest). f t.number) tests ≡ map (λ (t : PlanTest). put_behind f j number t.number) tests
 put-nowhere f j number [] none = refl
 put-nowhere f j number (t ∷ tests) none = elim (cases_Bool (t.number == j)) [
@@ -105,11 +105,11 @@ one_more true true number apart = let no : true ≡ false = apart refl in cc
 one_more true false number apart = refl
 one_more false b number apart = refl
 
--- the list of each test, after some predecessors of the test at a place
+-- the list of the test with a number, after some predecessors of the test `t`
 abbrev pub listed : List PlanTest → PlanTest → List ℕ → ℕ → List ℕ
 listed earlier t before number = followers_of earlier number ++ one_if (is_one_of number before) t.number
 
--- one predecessor more
+-- the lists after one more predecessor
 pub listed-more : (earlier : List PlanTest) (t : PlanTest) (before : List ℕ) (i j number : ℕ) → IsAscendingFrom 1 before → i < length before → j ≡ get_or before i j → put_behind (listed earlier t (take i before)) j t.number number ≡ listed earlier t (take (i + 1) before) number
 listed-more earlier t before i j number ascends lt is =
     append_assoc (followers_of earlier number) (one_if (is_one_of number (take i before)) t.number) (one_if (j == number) t.number)
@@ -123,13 +123,13 @@ listed-more earlier t before i j number ascends lt is =
     default_read (n ∷ ns) zero d in' = refl
     default_read (n ∷ ns) (suc k) d in' = default_read ns k d (omega (arith, in'))
 
--- of the predecessors of the tests, those of one ascend
+-- the predecessors of the test at a place ascend
 pub ascends-at : (tests : List PlanTest) (at : ℕ) (t : PlanTest) → AllAscend (λ (x : PlanTest). x.before) tests → at < length tests → t ≡ get_or tests at t → IsAscendingFrom 1 t.before
 ascends-at [] at t all lt is = absurd (omega (arith, lt))
 ascends-at (x ∷ tests) zero t all lt is = subst (λ (y : PlanTest). IsAscendingFrom 1 y.before) (sym is) all.0
 ascends-at (x ∷ tests) (suc at) t all lt is = ascends-at tests at t all.1 (omega (arith, lt)) is
 
--- no predecessor yet
+-- the lists before the first predecessor
 pub listed-none : (earlier tests : List PlanTest) (t : PlanTest) → followers_among earlier tests ≡ map (λ (x : PlanTest). listed earlier t [] x.number) tests
 listed-none earlier tests t = map-agrees (followers_of earlier) (listed earlier t []) tests (λ k lt. sym (append-nil (followers_of earlier (number_at tests k))))
 
@@ -143,15 +143,15 @@ module _ (tests earlier : List PlanTest) (t : PlanTest) (before : List ℕ) (i j
   all-more : map (λ (x : PlanTest). put_behind (listed earlier t (take i before)) j t.number x.number) tests ≡ map (λ (x : PlanTest). listed earlier t (take (i + 1) before) x.number) tests
   all-more = map-agrees (put_behind (listed earlier t (take i before)) j t.number) (listed earlier t (take (i + 1) before)) tests (λ k inner. listed-more earlier t before i j (number_at tests k) up lt is)
 
-  -- the list at the place of the predecessor is longer by the test
+  -- if the predecessor has a place, the list there is longer by the test
   pub put-more : (place : ℕ) → IsPlaceOf tests j place → set (map (λ (x : PlanTest). listed earlier t (take i before) x.number) tests) place (get_or (map (λ (x : PlanTest). listed earlier t (take i before) x.number) tests) place [] ++ t.number ∷ []) ≡ map (λ (x : PlanTest). listed earlier t (take (i + 1) before) x.number) tests
   put-more place there = put-at (listed earlier t (take i before)) j t.number 1 tests place ascends there.within (number_found tests j place t there) ∙ all-more
 
-  -- the predecessor is no test of the plan
+  -- if the predecessor is no test of the plan, all lists stay
   pub put-no_more : test_at tests j ≡ None → map (λ (x : PlanTest). listed earlier t (take i before) x.number) tests ≡ map (λ (x : PlanTest). listed earlier t (take (i + 1) before) x.number) tests
   put-no_more none = put-nowhere (listed earlier t (take i before)) j t.number tests none ∙ all-more
 
--- a disabled test waits for none
+-- a disabled test is in no list
 pub followers-disabled : (tests : List PlanTest) (at : ℕ) (t : PlanTest) → at < length tests → t ≡ get_or tests at t → t.disabled ≡ true → followers_among (take at tests) tests ≡ followers_among (take (at + 1) tests) tests
 followers-disabled tests at t lt is off =
     map-agrees (followers_of (take at tests)) (followers_of (take (at + 1) tests)) tests (λ k inner.
@@ -159,7 +159,7 @@ followers-disabled tests at t lt is off =
     ∙ ap (λ (b : Bool). followers_of (take at tests) (number_at tests k) ++ one_if (not b && is_one_of (number_at tests k) t.before) t.number) (sym off)
     ∙ sym (followers-more tests at t (number_at tests k) lt is))
 
--- all predecessors of a test that is not disabled
+-- a test that is not disabled is in the list of each of its predecessors
 pub followers-enabled : (tests : List PlanTest) (at : ℕ) (t : PlanTest) → at < length tests → t ≡ get_or tests at t → t.disabled ≡ false → map (λ (x : PlanTest). listed (take at tests) t t.before x.number) tests ≡ followers_among (take (at + 1) tests) tests
 followers-enabled tests at t lt is on =
     map-agrees (listed (take at tests) t t.before) (followers_of (take (at + 1) tests)) tests (λ k inner.

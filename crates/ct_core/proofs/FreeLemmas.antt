@@ -1,4 +1,4 @@
--- What a placement that is right for a test takes of the free slots, and gives back.
+-- What a placement that is right for a test takes of the free slots, and what it gives back.
 use Rattle.std.proofs.Common.{◌≡◌, sym, subst, true, false, ℕ, ◌≤◌, List, [], ◌∷◌}
 use Rattle.std.specs.Prelude.{Option, Some, None, IfSome}
 use Rattle.std.proofs.lemmas.Bool.{and_parts}
@@ -13,7 +13,7 @@ use Rattle.ct_history.specs.Rules.{is_placed}
 use Rattle.ct_core.specs.Slots.{resources_of, used_of}
 use Rattle.ct_core.specs.InUse.{HasFreeFor, HasTaken}
 
--- a right placement is there and free
+-- the resources of a right placement are there and have its slots free
 pub free_for : (free : Option FreeValue) (needs : List Need) (placement : Option Placement) → is_placed (resources_of free) needs (used_of free) placement ≡ true → HasFreeFor free placement
 free_for None needs None placed = tt
 free_for None needs (Some p) placed = cc
@@ -23,7 +23,7 @@ free_for (Some free) (need ∷ needs) (Some p) placed =
     let both = and_parts (is_placement free.resources (need ∷ needs) p.picks) (fits_beside free.resources (used_at free) p.picks) placed in
     (placed-there free.resources (need ∷ needs) p.picks both.0, both.1)
 
--- a placement that was right once can be given back, where it is among what is used
+-- a placement that was right once can be given back, if its slots are among those in use
 pub taken_for : (free : Option FreeValue) (resources : Option (List Resource)) (needs : List Need) (used : ℕ → ℕ) (placement : Option Placement) → resources_of free ≡ resources → is_placed resources needs used placement ≡ true → ((place : ℕ) → placed_slots place placement ≤ used_of free place) → HasTaken free placement
 taken_for None resources needs used None same placed most = tt
 taken_for None resources needs used (Some p) same placed most =
@@ -39,13 +39,13 @@ taken_for (Some free) resources (need ∷ needs) used (Some p) same placed most 
     let both = and_parts (is_placement free.resources (need ∷ needs) p.picks) (fits_beside free.resources used p.picks) here in
     (placed-there free.resources (need ∷ needs) p.picks both.0, most)
 
--- what is used of each resource is all that counts
+-- whether a placement is right depends only on the slots that are used of each resource
 pub placed_beside : (resources : Option (List Resource)) (needs : List Need) (used other : ℕ → ℕ) (placement : Option Placement) → ((place : ℕ) → used place ≡ other place) → is_placed resources needs used placement ≡ true → is_placed resources needs other placement ≡ true
 placed_beside resources needs used other placement same placed =
     let all : used ≡ other = λ j place. same place j in
     subst (λ (f : ℕ → ℕ). is_placed resources needs f placement ≡ true) all placed
 
--- what is used of each resource, where some are given
+-- the slots that are used of each resource, if resources are given
 pub used_if_some : (free : Option FreeValue) (used : ℕ → ℕ) → ((place : ℕ) → used_of free place ≡ used place) → IfSome free (λ f. (place : ℕ) → used_at f place ≡ used place)
 used_if_some None used same = tt
 used_if_some (Some free) used same = same

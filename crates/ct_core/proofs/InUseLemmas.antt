@@ -1,4 +1,5 @@
--- What the open starts use together, with one start more, with one less, and beside a test that may start.
+-- What the open starts use together: with one more start,
+-- with one less, and beside a test that may start.
 use Rattle.std.proofs.Common.{◌≡◌, ◌≢◌, ◌∙◌, sym, ap, subst, Bool, true, false, ℕ, suc, ◌+◌, ◌^◌, ◌<◌, ◌≤◌, List, [], ◌∷◌, ◌++◌, length, get_or, arith, refl, inl, inr, leb-true}
 use Rattle.std.specs.Prelude.{Option, Some, All, AllPairs, find, filter, not, ◌&&◌, ◌||◌, ◌==◌, bytes_eq, cond, nat_le, nat_lt, sum_by}
 use Rattle.std.specs.List.{list_any, list_all}
@@ -26,7 +27,7 @@ use Rattle.ct_core.specs.declared.in_use.InUse.{InUse}
 use Rattle.ct_core.specs.InUse.{CanGive, CanTake, Gives, IsInUse, KnowsLocks, Takes, has_room_beside, is_excluded_beside}
 use Rattle.ct_core.proofs.FreeLemmas.{placed_beside, taken_for, used_if_some}
 
--- what is known stays known
+-- if each lock is known as before, the locks of all tests stay known
 still_known : (tests : List PlanTest) (old new : InUse) → ((name : List ℕ) → knows new.locks name ≡ knows old.locks name) → KnowsLocks tests old → KnowsLocks tests new
 still_known tests old new same known = λ k d lt.
     let all : knows new.locks ≡ knows old.locks = λ j name. same name j in
@@ -39,7 +40,7 @@ any_one p rs r = list_any-append p rs (r ∷ []) ∙ ap (λ (b : Bool). list_any
     or_false true = refl
     or_false false = refl
 
--- one start more is in use together with the others
+-- once a test takes what it needs, what is in use agrees with the starts and the new one
 pub taken : (plan : PlanParts) (rs : List Running) (r : Running) (t : PlanTest) (old new : InUse) → IsInUse plan rs old → test_at plan.tests r.test ≡ Some t → Takes t r.placement old new → IsInUse plan (rs ++ r ∷ []) new
 taken plan rs r t old new is found takes = record {
   processors =
@@ -61,14 +62,14 @@ taken plan rs r t old new is found takes = record {
   slots = λ place. omega (arith, takes.slots place, is.slots place, sum_by_push (λ (q : Running). placed_slots place q.placement) rs r);
 }
 
--- one start taken out of some, and the others
+-- a list of starts is one start and the others, for each sum and each search
 record IsTakenOut (tests : List PlanTest) (rs : List Running) (r : Running) (others : List Running) : Type 0 where
   sums : (f : Running → ℕ) → sum_by f rs ≡ f r + sum_by f others
   lengths : length rs ≡ length others + 1
   anys : (p : Running → Bool) → list_any p rs ≡ (p r || list_any p others)
   alone : list_any (λ (q : Running). exclude (test_at tests r.test) (test_at tests q.test)) others ≡ false
 
--- the others, where the start of one test is taken out
+-- the starts of all tests but one
 abbrev others_of : ℕ → List Running → List Running
 others_of n rs = filter (λ (q : Running). not (q.test == n)) rs
 
@@ -78,7 +79,7 @@ pairs-head R x xs all = λ k d lt. all 0 (suc k) d (omega arith) (omega (arith, 
 pairs-tail : (R : Running → Running → Type 0) (x : Running) (xs : List Running) → AllPairs R (x ∷ xs) → AllPairs R xs
 pairs-tail R x xs all = λ i j d less lt. all (suc i) (suc j) d (omega (arith, less)) (omega (arith, lt))
 
--- a start of another test than all of these takes none of them out
+-- if no start of the list is of the test, all of them stay
 others-all : (n : ℕ) (x : Running) (xs : List Running) → (x.test == n) ≡ true → All (λ (y : Running). x.test ≢ y.test) xs → others_of n xs ≡ xs
 others-all n x [] here all = refl
 others-all n x (y ∷ ys) here all =
@@ -109,7 +110,7 @@ swapped true false c = refl
 swapped false true c = refl
 swapped false false c = refl
 
--- the one start of a test is taken out
+-- the only start of a test is taken out of the list
 taken_out : (tests : List PlanTest) (n : ℕ) (rs : List Running) (r : Running) → find (λ (q : Running). q.test == n) rs ≡ Some r → AllPairs (λ (x y : Running). x.test ≢ y.test) rs → AllPairs (GetAlong tests) rs → IsTakenOut tests rs r (others_of n rs)
 taken_out tests n [] r is once along = cc
 taken_out tests n (x ∷ xs) r is once along = elim (cases_Bool (x.test == n)) [
@@ -142,7 +143,7 @@ taken_out tests n (x ∷ xs) r is once along = elim (cases_Bool (x.test == n)) [
       subst (λ (os : List Running). IsTakenOut tests (x ∷ xs) r os) others behind
 ]
 
--- what two tests that get along have
+-- what holds of two tests that get along
 record GoTogether (one other : Option PlanTest) : Type 0 where
   shares : shares_name (locks_of one) (locks_of other) ≡ false
   first : is_serial one ≡ false
@@ -161,7 +162,7 @@ any_less p q less (r ∷ rs) none =
     let both = or_parts (q r) (list_any q rs) none in
     ap (λ (b : Bool). b || list_any p rs) (less r both.0) ∙ any_less p q less rs both.1
 
--- a name of one list that stands in the other is shared
+-- if two lists share no name, a name of the one is not in the other
 shared_among : (name : List ℕ) (names others : List (List ℕ)) → shares_name names others ≡ false → is_among name names ≡ true → is_among name others ≡ false
 shared_among name [] others apart among = cc
 shared_among name (x ∷ xs) others apart among =
@@ -171,13 +172,13 @@ shared_among name (x ∷ xs) others apart among =
       | inr other ↦ shared_among name xs others both.1 (sym (ap (λ (b : Bool). b || is_among name xs) other) ∙ among)
     ]
 
--- what stays of a disjunction, once its first part is taken away
+-- the second part of a disjunction stays once the first is taken away
 left_over : (old new mine theirs : Bool) → old ≡ (mine || theirs) → new ≡ (old && not mine) → (mine ≡ true → theirs ≡ false) → new ≡ theirs
 left_over old new true theirs was is apart = is ∙ ap (λ (b : Bool). b && false) was ∙ sym (apart refl)
 left_over old new false true was is apart = is ∙ ap (λ (b : Bool). b && true) was
 left_over old new false false was is apart = is ∙ ap (λ (b : Bool). b && true) was
 
--- where the start of a test is given back, the others are in use together
+-- once a test gives back what it used, what is in use agrees with the other starts
 pub given : (plan : PlanParts) (rs : List Running) (n : ℕ) (r : Running) (t : PlanTest) (old new : InUse) → IsInUse plan rs old → find (λ (q : Running). q.test == n) rs ≡ Some r → AllPairs (λ (x y : Running). x.test ≢ y.test) rs → AllPairs (GetAlong plan.tests) rs → test_at plan.tests n ≡ Some t → Gives t r.placement old new → IsInUse plan (filter (λ (q : Running). not (q.test == n)) rs) new
 given plan rs n r t old new is finds once along looked gives =
     let out = taken_out plan.tests n rs r finds once along in
@@ -223,7 +224,7 @@ found_any : (p : Running → Bool) (rs : List Running) (r : Running) → find p 
 found_any p [] r is = cc
 found_any p (x ∷ xs) r is = omega arith
 
--- what holds of each test holds of the one that is looked up
+-- what holds of each test holds of the test that is looked up
 looked_up : (P : PlanTest → Type 0) (n : ℕ) (tests : List PlanTest) (t : PlanTest) → test_at tests n ≡ Some t → All P tests → P t
 looked_up P n [] t is all = cc
 looked_up P n (x ∷ xs) t is all = elim (cases_Bool (x.number == n)) [
@@ -263,7 +264,7 @@ take_possible plan entries n t placement u is looked may level few =
           ∙ placed_beside plan.resources t.needs (used_slots entries) (used_of u.free) placement (λ place. sym (is.slots place)) parts.placed;
     }
 
--- what is free beside the open starts
+-- what is in use has the plan's resources, and the slots that the open starts use
 pub free_beside : (plan : PlanParts) (entries : List Entry) (u : InUse) → IsInUse plan (open_starts entries) u → IsFreeBeside plan entries u.free
 free_beside plan entries u is = record {
   resources = is.resources;
@@ -288,7 +289,7 @@ any_either p q (x ∷ xs) = ap (λ (b : Bool). p x || q x || b) (any_either p q 
     in_pairs false true false d = refl
     in_pairs false false c d = refl
 
--- some start holds a lock that the test names: looked at by lock, or by start
+-- a search by lock and a search by start agree on whether some start holds a lock that the test names
 any_shared : (tests : List PlanTest) (names : List (List ℕ)) (rs : List Running) → list_any (λ (name : List ℕ). list_any (λ (r : Running). is_among name (locks_of (test_at tests r.test))) rs) names ≡ list_any (λ (r : Running). shares_name names (locks_of (test_at tests r.test))) rs
 any_shared tests [] rs = sym (any_nowhere rs)
 any_shared tests (name ∷ names) rs =
@@ -318,7 +319,7 @@ turned false true false = refl
 turned false false true = refl
 turned false false false = refl
 
--- what is in use excludes a test just where an open test does
+-- what is in use excludes a test exactly if an open test excludes it
 excluded_beside : (plan : PlanParts) (rs : List Running) (u : InUse) (t : PlanTest) → IsInUse plan rs u → is_excluded_beside u t ≡ list_any (λ (r : Running). exclude (Some t) (test_at plan.tests r.test)) rs
 excluded_beside plan rs u t is =
     ap (λ (b : Bool). b || t.serial && nat_lt 0 u.open_count || list_any (is_held u.locks) t.locks) is.serial
@@ -328,7 +329,7 @@ excluded_beside plan rs u t is =
     ∙ turned (list_any (λ (r : Running). is_serial (test_at plan.tests r.test)) rs) (t.serial && nat_lt 0 (length rs)) (list_any (λ (r : Running). shares_name t.locks (locks_of (test_at plan.tests r.test))) rs)
     ∙ sym (excluded_any plan.tests t rs)
 
--- there is room beside what is in use just where there is room by the history
+-- there is room beside what is in use exactly if the history has room
 pub room_beside : (plan : PlanParts) (entries : List Entry) (u : InUse) (t : PlanTest) → IsInUse plan (open_starts entries) u → has_room_beside plan.level u t ≡ has_room plan t entries
 room_beside plan entries u t is =
     ap (λ (n : ℕ). nat_le (t.processors + n) plan.level && not (is_excluded_beside u t)) is.processors

@@ -1,4 +1,4 @@
--- Which entry is allowed next, and what it makes of a legal history.
+-- Which entry is allowed next, and that a legal history stays legal with it.
 use Rattle.std.proofs.Common.{◌≡◌, ◌∙◌, sym, ap, subst, Bool, true, false, ℕ, ◌+◌, ◌≤◌, List, [], ◌∷◌, ◌++◌, length, refl, arith, length-append, inl, inr}
 use Rattle.std.specs.Prelude.{Option, Some, None, map, not, ◌&&◌, ◌||◌, ◌==◌, if◌then◌else◌}
 use Rattle.std.proofs.lemmas.Bool.{and_from, cases_Bool, false_from_ne_true}
@@ -28,11 +28,11 @@ or_falses : (b : Bool) → (b || (false || false)) ≡ b
 or_falses true = refl
 or_falses false = refl
 
--- an entry that is no Stop leaves whether one stands
+-- an entry that is no Stop leaves whether there is a Stop
 pub stop_stays : (es : List Entry) (e : Entry) → is_stop e ≡ false → has_stop (es ++ e ∷ []) ≡ has_stop es
 stop_stays es e plain = stop-snoc es e ∙ ap (λ (b : Bool). has_stop es || (b || false)) plain ∙ or_falses (has_stop es)
 
--- a Stop takes one place at most
+-- a Stop takes at most one place
 pub one_place_most : (es : List Entry) → stop_places es ≤ 1
 one_place_most es = by (has_stop es)
   where
@@ -44,7 +44,7 @@ or_stop : (b : Bool) → (b || (true || false)) ≡ true
 or_stop true = refl
 or_stop false = refl
 
--- the start of the looked up test, as its next attempt, is what 'may start' allows
+-- a Start of the test that was looked up is allowed if the test may start and the attempt is its next
 starts_found : (plan : PlanParts) (es : List Entry) (o : Option PlanTest) (p : Option Placement) (a : ℕ) → may_start_at plan es p o ≡ true → a ≡ attempt_after es o → starts plan es a p o ≡ true
 starts_found plan es None p a may next = may
 starts_found plan es (Some t) p a may next = and_from (may_start plan t p es) (is_next_attempt t a es) may (eq_test a (length (attempts_of t.number t.rules es) + 1) next)
@@ -69,14 +69,15 @@ module _ (plan : PlanParts) (es : List Entry) (legal : is_legal plan es ≡ true
   pub end_allowed : (t a w : ℕ) (s : Seen) → holds_start t a w es ≡ true → is_allowed plan es (Is.End t a w s) ≡ true
   end_allowed t a w s holds = and_from (not (is_stop_due plan es)) (holds_start t a w es) (legal_not_due plan es legal) holds
 
--- an entry with the Stop that it makes due: the history is legal, and as many places are needed as before
+-- behind an entry and the Stop that it makes due, the
+-- history is legal, and needs as many places as before
 pub record IsFinalStep (plan : PlanParts) (es : List Entry) (e : Entry) (more : List Entry) : Type 0 where
   pub legal : is_legal plan more ≡ true
   pub opens : length (open_starts more) ≡ length (open_starts (es ++ e ∷ []))
   pub places : length more + stop_places more ≡ length es + 1 + stop_places es
 
 module _ (plan : PlanParts) (ascends : IsAscendingFrom 1 (map (λ (t : PlanTest). t.number) plan.tests)) (es : List Entry) (legal : is_legal plan es ≡ true) where
-  -- a due Stop is the first
+  -- if a Stop is due, there was none before
   pub due_first : (e : Entry) → is_stop_due plan (es ++ e ∷ []) ≡ true → has_stop es ≡ false
   due_first e due =
       false_from_ne_true (has_stop es)

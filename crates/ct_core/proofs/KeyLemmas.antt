@@ -1,4 +1,4 @@
--- The bunches of a run stay as they are: no step changes a key, or the bunch of a place.
+-- The bunches of a run stay right: no step changes a key, or the bunch of a place.
 use Rattle.std.proofs.Common.{◌≡◌, sym, subst, ℕ, List}
 use Rattle.std.specs.Prelude.{Option}
 use Rattle.ct_history.specs.declared.plan.PlanParts.{PlanParts}

@@ -1,5 +1,5 @@
--- Tests that ask for the same: where one that is due can't start, none of them can. So where no head of a line can start, no
--- test can.
+-- Tests with the same demand: if a due one can't start, no
+-- other can. So if no head of a line can start, no test can.
 use Rattle.std.proofs.Common.{◌≡◌, ◌∙◌, sym, ap, subst, Bool, true, false, not, ◌&&◌, ◌||◌, ℕ, ◌+◌, ◌<◌, List, [], ◌∷◌, ◌++◌, length, map, take, get_or, nat_le, arith, inl, inr}
 use Rattle.std.specs.Prelude.{Option, Some, None, option_map, option_and_then}
 use Rattle.std.specs.List.{list_any}
@@ -29,7 +29,7 @@ same_exclude t u o locks serial =
     ∙ ap (λ (b : Bool). shares_name u.locks (locks_of o) || b || is_serial o) serial
 
 module _ (plan : PlanParts) (es : List Entry) where
-  -- there is room for one where there is for the other
+  -- of two tests with the same demand, both have room or neither has
   same_room : (t u : PlanTest) → AskAlike t u → has_room plan t es ≡ has_room plan u es
   same_room t u alike =
       let processors : t.processors ≡ u.processors = ap (λ (d : Demand). d.processors) alike in
@@ -66,7 +66,7 @@ module _ (plan : PlanParts) (es : List Entry) where
             ∙ and_from (not (has_stop es) && is_pending plan t es && is_ready plan t es && has_room plan t es) (is_placed plan.resources t.needs (used_slots es) p) four placed;
       }
 
-  -- where one that is due can't start, nor can another that asks for the same
+  -- if a due test can't start, no other test with the same demand can
   pub none_alike : (n m : ℕ) → IsDue plan es n → demand_of_test plan n ≡ demand_of_test plan m → (CanStart plan es n → ⊥) → CanStart plan es m → ⊥
   none_alike n m due alike none can = none (due_starts n m due alike can)
 
@@ -75,7 +75,7 @@ module _ (plan : PlanParts) where
   demand_there place within =
       ap (λ (o : Option ℕ). option_and_then (demand_of_test plan) o) (slice_get-get_or plan.queue place 0 within)
 
-  -- one place more has its line
+  -- one more place has its line
   pub lines_more : (lines : List ℕ) (place line : ℕ) → place < length plan.queue → demand_at plan line ≡ demand_at plan place → map (demand_at plan) lines ≡ map (demand_of_test plan) (take place plan.queue) → map (demand_at plan) (lines ++ line ∷ []) ≡ map (demand_of_test plan) (take (place + 1) plan.queue)
   lines_more lines place line within alike before =
       map-append (demand_at plan) lines (line ∷ [])
@@ -98,23 +98,23 @@ module _ (plan : PlanParts) (lines : List ℕ) (are : AreLinesOf plan lines) whe
       ∙ ap (λ (ds : List (Option Demand)). get_or ds place None) are.alike
       ∙ get_or-map (demand_of_test plan) plan.queue place 0 None within
 
-  -- at the place of its line, and at its own, the same is asked for
+  -- the test at a place and the test at the place of its line have the same demand
   pub line_demand : (place : ℕ) → place < length plan.queue → demand_at plan (get_or lines place 0) ≡ demand_at plan place
   line_demand place within = line_alike place within ∙ sym (demand_there plan place within)
 
-  -- the tests of one line ask for the same
+  -- the tests of one line have the same demand
   pub one_line : (place other : ℕ) → place < length plan.queue → other < length plan.queue → get_or lines place 0 ≡ get_or lines other 0 → demand_of_test plan (get_or plan.queue place 0) ≡ demand_of_test plan (get_or plan.queue other 0)
   one_line place other within inside same =
       sym (line_alike place within) ∙ ap (λ (line : ℕ). demand_at plan line) same ∙ line_alike other inside
 
--- two lists that are the same up to an item, and that item too
+-- two lists that agree up to a position, and at it, agree up to the next
 pub same_more : {A : Type 0} (xs ys : List A) (i : ℕ) (x y : A) → i < length xs → i < length ys → x ≡ get_or xs i x → y ≡ get_or ys i y → x ≡ y → take i xs ≡ take i ys → take (i + 1) xs ≡ take (i + 1) ys
 same_more xs ys i x y lt within is at same before =
     take_more_same xs ys i x lt within before (sym is ∙ same ∙ at ∙ ap (λ z. get_or ys i z) (sym same))
 
--- a look at the heads of the lines alone
+-- it suffices to look at the heads of lines
 module _ (plan : PlanParts) (sound : IsSound plan) (es : List Entry) (r : ReadyValue) (q : IsQueued plan es [] r) (on : has_stop es ≡ false) (unsettled : NoneSettles plan es) where
-  -- behind a head that can't start no test of its line can
+  -- if the head of a line can't start, no test of the line can
   behind_head : (place : ℕ) → place < length plan.queue → (head : HasHead r place) → (CanStart plan es (get_or plan.queue head.at 0) → ⊥) → CanStart plan es (get_or plan.queue place 0) → ⊥
   behind_head place within head none =
       let upto = head.upto in
@@ -122,7 +122,7 @@ module _ (plan : PlanParts) (sound : IsSound plan) (es : List Entry) (r : ReadyV
       let due = next_due plan es head.at (member_may plan sound es r q head.at on unsettled head.head.member) on in
       none_alike plan es (get_or plan.queue head.at 0) (get_or plan.queue place 0) due (one_line plan r.lines q.lines head.at place inside within head.same) none
 
-  -- where no head before an end can start, no test there can
+  -- if no head in front of an end can start, no test in front of it can
   pub none_headed : (end : ℕ) → ((place : ℕ) → place < end → place < length plan.queue → IsHead r place → CanStart plan es (get_or plan.queue place 0) → ⊥) → (place : ℕ) → place < end → place < length plan.queue → CanStart plan es (get_or plan.queue place 0) → ⊥
   none_headed end none place before within = elim (cases_Bool (is_member r place)) [
     | inl member ↦

@@ -1,4 +1,4 @@
--- Which locks are known and which are held, once the entry of one of them has changed.
+-- Which locks are known and which are held, once the entry of one lock has changed.
 use Rattle.std.proofs.Common.{◌≡◌, ◌∙◌, sym, ap, Bool, true, false, ℕ, List, get_or, cond, refl}
 use Rattle.std.specs.Prelude.{Option, Some, All, not, ◌&&◌, ◌||◌, bytes_eq, is_some, unwrap_or}
 use Rattle.std.specs.List.{list_any, list_all}
@@ -29,7 +29,7 @@ module _ {Y : Type 0} where
     updated_by before now name asked held updates true is = ap (hold_of now) ((bytes_eq-Decides asked name).0 is) ∙ updates.1
     updated_by before now name asked held updates false is = kept_apart name asked before.entries now.entries is updates.3
 
-    -- the entry of one lock was changed
+    -- the entry of one lock was changed, and the entries of the others stay
     pub updated : (before now : IndexMap (Vec ℕ Y) Bool S) (name : List ℕ) (held : Bool) → UpdatesBy (λ (one other : Vec ℕ Y). bytes_eq one.items other.items) (λ (lock : Vec ℕ Y). bytes_eq name lock.items) before now (Some held) → (asked : List ℕ) → hold_of now asked ≡ cond (bytes_eq asked name) (Some held) (hold_of before asked)
     updated before now name held updates asked = updated_by before now name asked held updates (bytes_eq asked name) refl
 
@@ -41,7 +41,7 @@ or_false : (b : Bool) → b ≡ (b || false)
 or_false true = refl
 or_false false = refl
 
--- one more lock is known, or the same ones
+-- one more lock is known, or the same locks are
 pub known_more : (now before : Option Bool) (held is : Bool) → now ≡ cond is (Some held) before → is_some now ≡ (is_some before || is)
 known_more now before held true same = ap is_some same ∙ or_true (is_some before)
 known_more now before held false same = ap is_some same ∙ or_false (is_some before)
@@ -58,7 +58,7 @@ pub none_still : (now before : Option Bool) (is : Bool) → now ≡ cond is (Som
 none_still now before true same none = ap (λ (o : Option Bool). unwrap_or o false) same
 none_still now before false same none = ap (λ (o : Option Bool). unwrap_or o false) same ∙ none
 
--- one lock more is held, or held no longer
+-- one more lock is held, or one is held no longer
 pub held_more : (now before among is : Bool) → now ≡ cond is true (before || among) → now ≡ (before || (among || is))
 held_more now true among true same = same
 held_more now true among false same = same
@@ -75,11 +75,11 @@ held_less now true false false same = same
 held_less now false among true same = same
 held_less now false among false same = same
 
--- a name of a list stands in it
+-- each name of a list is among the names of the list
 pub among_all : (names : List (List ℕ)) → All (λ name. is_among name names ≡ true) names
 among_all names = λ k d lt. list_any_at (λ other. bytes_eq (get_or names k d) other) names k d lt ((bytes_eq-Decides (get_or names k d) (get_or names k d)).1 refl)
 
--- where the known locks are those that tests name, each test's are known
+-- if the known locks are the locks that the tests name, each lock of each test is known
 pub knows_named : (locks : Locks) (tests : List PlanTest) → ((name : List ℕ) → knows locks name ≡ list_any (λ (t : PlanTest). is_among name t.locks) tests) → All (λ (t : PlanTest). list_all (knows locks) t.locks ≡ true) tests
 knows_named locks tests known = λ k d lt.
     let t = get_or tests k d in

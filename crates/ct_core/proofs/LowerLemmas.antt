@@ -1,4 +1,4 @@
--- What it does to the parts that wait when the followers of a test are lowered one after another.
+-- The ready set and the marks stay right when the followers of a test are lowered one after another.
 use Rattle.std.proofs.Common.{◌≡◌, ◌∙◌, sym, ap, subst, Bool, true, false, not, cond, ◌&&◌, ◌||◌, ◌==◌, if◌then◌else◌, ℕ, zero, suc, ◌+◌, ◌-◌, ◌<◌, ◌≤◌, List, [], ◌∷◌, length, filter, drop, set, All, Contains, slice_get, is_some, is_none, refl, arith, inl, inr}
 use Rattle.std.specs.Prelude.{Option, Some, None}
 use Rattle.std.specs.List.{list_all}
@@ -25,7 +25,7 @@ use Rattle.ct_core.proofs.AllowedLemmas.{number_at}
 use Rattle.ct_core.proofs.EnabledLemmas.{enabled_stands}
 use Rattle.ct_core.proofs.QueueLemmas.{ascend-drop, ascend-filter, none_lesser, numbers_of, one_place}
 
--- no predecessor is left exactly where each is final
+-- each predecessor is final exactly if the number of predecessors that are not final is 0
 none_left : (verdict : ℕ → Option Verdict) (js : List ℕ) → list_all (λ j. is_some (verdict j)) js ≡ (length (filter (λ j. is_none (verdict j)) js) == 0)
 none_left verdict [] = refl
 none_left verdict (j ∷ js) = by_verdict (verdict j) (none_left verdict js)
@@ -45,7 +45,8 @@ not_not : (b : Bool) → not (not b) ≡ b
 not_not true = refl
 not_not false = refl
 
--- while no Stop stands, a pending test is settled so where its predecessors are final
+-- without a Stop, a test may be settled if it is pending and
+-- its predecessors are final, with the cause of `cause_then`
 pub settle_going : (plan : PlanParts) (t : PlanTest) (es : List Entry) → has_stop es ≡ false → settle_cause plan t es ≡ (if follows_finals plan t es && is_pending plan t es then cause_then plan es t else None)
 settle_going plan t es on = by_parts (is_pending plan t es) (has_stop es) (follows_finals plan t es) (cause_then plan es t) on
   where
@@ -56,7 +57,8 @@ settle_going plan t es on = by_parts (is_pending plan t es) (has_stop es) (follo
     by_parts false false true c is = refl
     by_parts false false false c is = refl
 
--- the set says of a test that is none of those left whether it is pending and its predecessors are final
+-- for a test that is not in `left`, the ready set tells
+-- whether it is pending and its predecessors are final
 pub ready_says : (plan : PlanParts) (es : List Entry) (left : List ℕ) (r : ReadyValue) (n : ℕ) (t : PlanTest) → IsQueued plan es left r → StandsIn plan.queue n → is_one_of n left ≡ false → test_at plan.tests n ≡ Some t → is_ready r n ≡ (follows_finals plan t es && is_pending plan t es)
 ready_says plan es left r n t q stands once found =
     let here : StandsIn r.order n = subst (λ (o : List ℕ). StandsIn o n) (sym q.order) stands in
@@ -72,7 +74,7 @@ ready_says plan es left r n t q stands once found =
     ∙ ap (λ (b : Bool). b && not (not (is_pending plan t es))) (sym (follows_by_count plan t es))
     ∙ ap (λ (b : Bool). follows_finals plan t es && b) (not_not (is_pending plan t es))
 
--- one of those left has a predecessor to lower, and once it is lowered the rest is left
+-- the count of the first test of `left` is lowered, and the rest of `left` remains
 module _ (plan : PlanParts) (es : List Entry) (n : ℕ) (left : List ℕ) (r : ReadyValue) (q : IsQueued plan es (n ∷ left) r) (stands : StandsIn plan.queue n) where
   here : StandsIn r.order n
   here = subst (λ (o : List ℕ). StandsIn o n) (sym q.order) stands
@@ -113,7 +115,7 @@ module _ (plan : PlanParts) (es : List Entry) (n : ℕ) (left : List ℕ) (r : R
     lines = q.lines;
   }
 
--- a test has been lowered that stands at this place, and these are left
+-- the count of the test at this place has been lowered, and the tests of `left` remain
 pub record IsLowered (plan : PlanParts) (es : List Entry) (n : ℕ) (left : List ℕ) (t : PlanTest) (place : ℕ) (r : ReadyValue) : Type 0 where
   pub goes_on : has_stop es ≡ false
   pub stands : StandsIn plan.queue n
@@ -129,7 +131,7 @@ module _ (plan : PlanParts) (sound : IsSound plan) (es : List Entry) (n : ℕ) (
   number : t.number ≡ n
   number = number_at plan.tests n t low.found
 
-  -- while it is left it has no mark
+  -- in front of the step the test has no mark
   unmarked : is_marked m place ≡ false
   unmarked =
       marks.marked place
@@ -137,7 +139,7 @@ module _ (plan : PlanParts) (sound : IsSound plan) (es : List Entry) (n : ℕ) (
       ∙ ap (λ (b : Bool). is_some (settle_cause plan t es) && not (b || is_one_of t.number left)) (eq_is n t.number (sym number))
       ∙ and_right (is_some (settle_cause plan t es)) false refl
 
-  -- then it has one where it may be settled
+  -- behind the step the test is to be marked exactly if it may be settled
   settles_here : settles_but plan es left (slice_get plan.tests place) ≡ is_some (settle_cause plan t es)
   settles_here =
       ap (λ (o : Option PlanTest). settles_but plan es left o) there
@@ -184,7 +186,7 @@ module _ (plan : PlanParts) (sound : IsSound plan) (es : List Entry) (n : ℕ) (
       settle_going plan t es low.goes_on
       ∙ ap (λ (b : Bool). if b then cause_then plan es t else None) (sym (ready_says plan es left r n t low.queued low.stands low.once low.found))
 
-  -- a test that is not ready can't be settled either
+  -- if the test is not ready, it can't be settled, and the marks stay right
   pub marks_waiting : is_ready r n ≡ false → AreSettleable plan es left m
   marks_waiting is = kept (cause_by_ready ∙ ap (λ (b : Bool). if b then cause_then plan es t else None) is)
 
@@ -197,7 +199,7 @@ module _ (plan : PlanParts) (sound : IsSound plan) (es : List Entry) (n : ℕ) (
   pub marks_settled : (c : Cause) → is_ready r n ≡ true → cause_then plan es t ≡ Some c → AreSettleable plan es left (set m place true)
   marks_settled c is some = with_mark c (cause_ready is ∙ some)
 
-  -- so the place is to be marked where the test is ready and has a cause
+  -- the marks are right once the place is marked if the test is ready and has a cause
   pub marks_follow : AreSettleable plan es left (if is_ready r n && is_some (cause_then plan es t) then set m place true else m)
   marks_follow = by_cases (is_ready r n) refl (cause_then plan es t) refl
     where
@@ -213,7 +215,8 @@ contains_both : (first n : ℕ) (ns ms : List ℕ) → (Contains ns n → Contai
 contains_both first n ns ms more (zero, lt, same) = (zero, omega arith, same)
 contains_both first n ns ms more (suc k, lt, same) = contains_behind first n ms (more (k, omega (arith, lt), same))
 
--- what passes one test passes a wider one
+-- if each test that passes `p` passes `q`, a number among
+-- the tests that pass `p` is among those that pass `q`
 more_kept : (p q : PlanTest → Bool) → ((t : PlanTest) → p t ≡ true → q t ≡ true) → (ts : List PlanTest) (n : ℕ) → Contains (numbers_of (filter p ts)) n → Contains (numbers_of (filter q ts)) n
 more_kept p q wider [] n is = is
 more_kept p q wider (t ∷ ts) n is = elim (cases_Bool (p t)) [
@@ -238,7 +241,7 @@ module _ (plan : PlanParts) (sound : IsSound plan) (n : ℕ) where
       (more_kept (λ (t : PlanTest). not t.disabled && is_one_of n t.before) (λ (t : PlanTest). not t.disabled) (λ t both. (and_parts (not t.disabled) (is_one_of n t.before) both).0) plan.tests m is))
       (followers_of plan.tests n) (All-contains_itself (followers_of plan.tests n))
 
-  -- the next follower stands in the queue, and is none of those behind it
+  -- the next follower stands in the queue, and is not among the followers behind it
   pub follower_stands : (at m : ℕ) (rest : List ℕ) → drop at (followers_of plan.tests n) ≡ m ∷ rest → StandsIn plan.queue m
   follower_stands at m rest is =
       All-head (λ k. StandsIn plan.queue k) m rest
@@ -251,7 +254,7 @@ module _ (plan : PlanParts) (sound : IsSound plan) (n : ℕ) where
       (ascend-drop 1 at (followers_of plan.tests n) (ascend-filter (λ (t : PlanTest). not t.disabled && is_one_of n t.before) 1 plan.tests sound.numbers)) in
       none_lesser (m + 1) m rest ascends.1 (omega arith)
 
--- the next follower of a test, while it and those behind it are left
+-- the next follower of a test, while it and the followers behind it remain
 module _ (plan : PlanParts) (sound : IsSound plan) (es : List Entry) (n at m : ℕ) (rest : List ℕ) (next : drop at (followers_of plan.tests n) ≡ m ∷ rest) (r : ReadyValue) (q : IsQueued plan es (drop at (followers_of plan.tests n)) r) where
   queued_here : IsQueued plan es (m ∷ rest) r
   queued_here = subst (λ (ks : List ℕ). IsQueued plan es ks r) next q

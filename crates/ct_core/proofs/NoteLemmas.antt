@@ -1,4 +1,4 @@
--- What a run keeps as it notes, of one test that waits for a final one, that it does so no longer.
+-- A run is kept when it notes that a test is final, at one test that waited for it.
 use Rattle.std.proofs.Common.{◌≡◌, ◌∙◌, sym, ap, subst, Bool, true, false, ℕ, ◌+◌, ◌<◌, List, [], ◌∷◌, length, drop, get_or, refl, arith, inl, inr, suc}
 use Rattle.std.specs.Prelude.{Option, Some, None, ◌==◌, cond, is_some, slice_set}
 use Rattle.std.proofs.lemmas.Bool.{cases_Bool}
@@ -21,11 +21,11 @@ use Rattle.ct_core.proofs.AllowedLemmas.{number_at}
 use Rattle.ct_core.proofs.EnabledLemmas.{IsEnabled, queued_enabled}
 use Rattle.ct_core.proofs.LowerLemmas.{IsLowered, follower_lowerable, follower_lowered, follower_lowers, follower_stands, marks_settled, marks_unsettled, marks_waiting}
 
--- the test that is read at the place of a number has it
+-- the test that is read at the place of a number is the test with this number
 pub found_here : (ts : List PlanTest) (n here : ℕ) (t : PlanTest) → IsPlaceOf ts n here → t ≡ get_or ts here t → test_at ts n ≡ Some t
 found_here ts n here t at is = sym at.there ∙ slice_get_read ts (length ts) here t refl at.within is
 
--- a test that is there has a place
+-- a test that was found has a place
 pub place_exists : (ts : List PlanTest) (n : ℕ) (t : PlanTest) → test_at ts n ≡ Some t → (place : ℕ) × IsPlaceOf ts n place
 place_exists [] n t found = cc
 place_exists (x ∷ xs) n t found = elim (cases_Bool (x.number == n)) [
@@ -36,7 +36,7 @@ place_exists (x ∷ xs) n t found = elim (cases_Bool (x.number == n)) [
       (suc at.0, record { within = omega (arith, within); there = at.1.there ∙ sym (ap (λ (b : Bool). cond b (Some x) (test_at xs n)) other) })
 ]
 
--- the tests that wait for the one at a place
+-- the tests that wait for the test at a place
 pub record WaitFor (plan : PlanParts) (parts : Parts) (place : ℕ) : Type 0 where
   pub number : ℕ
   pub same : followers_at parts place ≡ followers_of plan.tests number
@@ -55,7 +55,7 @@ waiting_for plan es parts place told there = elim ((slice_get_cases plan.tests p
   | inr none ↦ absurd (omega (arith, there, none.0))
 ]
 
--- they are those that wait for its number
+-- the followers at a test's place are the tests that wait for its number
 pub followers_are : (plan : PlanParts) (es : List Entry) (parts : Parts) (n place : ℕ) → AreTold plan es parts → IsPlaceOf plan.tests n place → followers_at parts place ≡ followers_of plan.tests n
 followers_are plan es parts n place told at = elim ((slice_get_cases plan.tests place).1) [
   | inl some ↦
@@ -68,7 +68,7 @@ followers_are plan es parts n place told at = elim ((slice_get_cases plan.tests 
   | inr none ↦ absurd (let within = at.within in omega (arith, within, none.0))
 ]
 
--- what is read at the place are they
+-- the list that is read at a place is the list of the followers there
 pub read_waiting : (plan : PlanParts) (es : List Entry) (parts : Parts) (place : ℕ) → AreTold plan es parts → place < length plan.tests → (ws : List ℕ) → ws ≡ get_or parts.followers.items place ws → ws ≡ followers_at parts place
 read_waiting plan es parts place told there ws is =
     let long : length parts.followers.items ≡ length plan.tests = ap length told.followers ∙ length-map plan.tests (λ (t : PlanTest). followers_of plan.tests t.number) in

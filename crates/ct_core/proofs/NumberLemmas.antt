@@ -24,7 +24,7 @@ none_listed p m least (x ∷ xs) ascends lt =
       | inr gone ↦ ap (λ (b : Bool). is_one_of m (map (λ (t : PlanTest). t.number) (cond b (x ∷ filter p xs) (filter p xs)))) gone ∙ rest
     ]
 
--- a test's number is one of them exactly where the test passes
+-- a test's number is among the numbers of the tests that pass exactly if the test passes
 pub listed : (p : PlanTest → Bool) (least : ℕ) (ts : List PlanTest) (t : PlanTest) → IsAscendingFrom least (map (λ (x : PlanTest). x.number) ts) → test_at ts t.number ≡ Some t → is_one_of t.number (numbers_of p ts) ≡ p t
 listed p least [] t ascends found = cc
 listed p least (x ∷ xs) t ascends found =
@@ -53,7 +53,7 @@ listed p least (x ∷ xs) t ascends found =
           ]
     ]
 
--- a number that no test has is none of them
+-- a number that no test has is not among the numbers of the tests that pass
 pub unlisted : (p : PlanTest → Bool) (ts : List PlanTest) (m : ℕ) → test_at ts m ≡ None → is_one_of m (numbers_of p ts) ≡ false
 unlisted p [] m none = refl
 unlisted p (x ∷ xs) m none = elim (cases_Bool (x.number == m)) [

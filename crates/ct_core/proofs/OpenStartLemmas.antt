@@ -1,4 +1,5 @@
--- The open starts of an allowed history: a test has one at most, as its next attempt, and is not final meanwhile.
+-- The open starts of an allowed history: a test has at most
+-- one, of its next attempt, and is not final meanwhile.
 use Rattle.std.proofs.Common.{◌≡◌, ◌≢◌, ◌⊎◌, ◌∙◌, sym, ap, subst, Bool, true, false, ℕ, zero, suc, ◌+◌, ◌<◌, List, [], ◌∷◌, ◌++◌, length, get_or, refl, arith, append_assoc, inl, inr}
 use Rattle.std.specs.Prelude.{Option, Some, None, not, ◌&&◌, ◌||◌, ◌==◌, cond, find, filter, All, AllPairs, Contains, if◌then◌else◌}
 use Rattle.std.specs.List.{list_any}
@@ -35,7 +36,7 @@ pub use Rattle.ct_core.proofs.AllowedLemmas.{IsAboutOnly, IsUndecided, about_end
 true_is_false : true ≡ false → ⊥
 true_is_false is = cc
 
--- a pending test has no open start
+-- if no open start is of the test, then the open start at each position is of another test
 closed_unlike : (n : ℕ) (rs : List Running) → list_any (λ (r : Running). r.test == n) rs ≡ false → (k : ℕ) (d : Running) → k < length rs → (get_or rs k d).test ≢ n
 closed_unlike n rs closed k d lt same = true_is_false (sym (list_any_at (λ (r : Running). r.test == n) rs k d lt (eq_is (get_or rs k d).test n same)) ∙ closed)
 
@@ -50,18 +51,18 @@ module _ (plan : PlanParts) (es : List Entry) where
       let closed = (undecided plan settled.test es settled.pending).closed in
       closed_unlike n (open_starts es) (subst (λ (m : ℕ). is_open_in m es ≡ false) (number_at plan.tests n settled.test settled.found) closed)
 
--- an entry that opens nothing and ends nothing leaves the open starts
+-- a Settle or a Stop leaves the open starts
 pub opens_settle : (es : List Entry) (n : ℕ) (c : Cause) → open_starts (es ++ Settle n c ∷ []) ≡ open_starts es
 opens_settle es n c = open_starts-snoc es (Settle n c) refl ∙ append-nil (open_starts es)
 
 pub opens_stop : (es : List Entry) → open_starts (es ++ Stop ∷ []) ≡ open_starts es
 opens_stop es = open_starts-snoc es Stop refl ∙ append-nil (open_starts es)
 
--- a Start opens a start
+-- a Start adds itself to the open starts
 pub start_opens : (es : List Entry) (n a w : ℕ) (p : Option Placement) → open_starts (es ++ Start n a w p ∷ []) ≡ open_starts es ++ (record { test = n; attempt = a; worker = w; placement = p }) ∷ []
 start_opens es n a w p = open_starts-snoc es (Start n a w p) refl
 
--- two open starts are of two tests
+-- any two open starts are of different tests
 pub open_apart : (plan : PlanParts) (es : List Entry) → is_allowed_so_far plan es ≡ true → AllPairs (λ (x y : Running). x.test ≢ y.test) (open_starts es)
 open_apart plan es so_far = (starts_apart plan es so_far).tests
 
@@ -87,7 +88,8 @@ HasLeft plan t es = (length (attempts_of t.number t.rules es) ≡ 0) ⊎ (length
 left-same : (plan : PlanParts) (t : PlanTest) (es more : List Entry) → attempts_of t.number t.rules more ≡ attempts_of t.number t.rules es → HasLeft plan t es → HasLeft plan t more
 left-same plan t es more same left = subst (λ (vs : List Verdict). (length vs ≡ 0) ⊎ (length vs < plan.repeat.times)) (sym same) left
 
--- an open start is of a test of the plan that is not disabled and not settled, and its next attempt
+-- an open start is of a test of the plan that is neither
+-- disabled nor settled, and of the test's next attempt
 pub record IsOpenStart (plan : PlanParts) (es : List Entry) (r : Running) : Type 0 where
   pub test : PlanTest
   pub found : test_at plan.tests r.test ≡ Some test
@@ -97,7 +99,7 @@ pub record IsOpenStart (plan : PlanParts) (es : List Entry) (r : Running) : Type
   pub left : HasLeft plan test es
   pub placed : WasPlaced plan test r.placement es
 
--- two of one test are the same attempt
+-- two open starts of one test are of the same attempt
 pub same_attempt : (plan : PlanParts) (es : List Entry) (q r : Running) → IsOpenStart plan es q → IsOpenStart plan es r → q.test ≡ r.test → q.attempt ≡ r.attempt
 same_attempt plan es q r one other same =
     let both : Some one.test ≡ Some other.test = sym one.found ∙ ap (λ (n : ℕ). test_at plan.tests n) same ∙ other.found in
@@ -118,7 +120,7 @@ start-kept plan es e r start other =
       placed = placed-snoc plan t r.placement es e start.placed;
     }
 
--- the start that is held
+-- the start of this test and attempt that the worker holds
 pub record Held (n a w : ℕ) (rs : List Running) : Type 0 where
   pub start : Running
   pub there : Contains rs start
@@ -135,7 +137,7 @@ any_found p (x ∷ xs) any = elim (cases_Bool (p x)) [
       (later.0, ap (λ (b : Bool). cond b (Some x) (find p xs)) not_here ∙ later.1)
 ]
 
--- what is found stands in the list
+-- an element that is found is in the list
 pub found_in : {A : Type 0} (p : A → Bool) (xs : List A) (x : A) → find p xs ≡ Some x → Contains xs x
 found_in p xs x is = let at = found_contains p xs x is in (at.0, at.1, at.2)
 
@@ -208,7 +210,7 @@ starts-snoc plan es (Settle n c) allowed all =
 starts-snoc plan es Stop allowed all =
     subst (All (IsOpenStart plan (es ++ Stop ∷ []))) (sym (opens_stop es)) (λ k d lt. start-kept plan es Stop (get_or (open_starts es) k d) (all k d lt) refl)
 
--- each open start is of a test of the plan, as its next attempt
+-- each open start is of a test of the plan, and of the test's next attempt
 pub all_open : (plan : PlanParts) (es : List Entry) → is_allowed_so_far plan es ≡ true → All (IsOpenStart plan es) (open_starts es)
 all_open plan es so_far =
     allowed_induction plan (λ (xs : List Entry). All (IsOpenStart plan xs) (open_starts xs)) (λ xs e allowed all. starts-snoc plan xs e allowed all) (All-nil (IsOpenStart plan [])) es so_far
@@ -225,7 +227,7 @@ pub record IsOpenTest (plan : PlanParts) (es : List Entry) (n : ℕ) (r : Runnin
   pub left : HasLeft plan test es
   pub placed : WasPlaced plan test r.placement es
 
--- a test with an open start has no verdict where it is neither disabled nor settled
+-- a test with an open start has no verdict, if it is neither disabled nor settled
 no_verdict : (repeat : Repeat) (t : PlanTest) (es : List Entry) → t.disabled ≡ false → settled_cause t.number es ≡ None → is_open_in t.number es ≡ true → verdict_in repeat t es ≡ None
 no_verdict repeat t es enabled unsettled opens = by_parts t.disabled (settled_cause t.number es) (is_open_in t.number es) (is_over repeat (attempts_of t.number t.rules es)) (last_of_list (attempts_of t.number t.rules es)) enabled unsettled opens
   where
@@ -264,7 +266,7 @@ open_planned plan es n r so_far is =
       placed = start.placed;
     }
 
--- an open start stands in the list of open starts, and its placement was right when it started
+-- the placement of a test's open start was right for the test when it started
 pub open_placed : (plan : PlanParts) (es : List Entry) (n : ℕ) (r : Running) (t : PlanTest) → is_allowed_so_far plan es ≡ true → open_start n es ≡ Some r → test_at plan.tests n ≡ Some t → WasPlaced plan t r.placement es
 open_placed plan es n r t so_far is found =
     let opens = open_planned plan es n r so_far is in
@@ -272,7 +274,7 @@ open_placed plan es n r t so_far is found =
     let same : opens.test ≡ t = cc in
     subst (λ (u : PlanTest). WasPlaced plan u r.placement es) same opens.placed
 
--- where two are always of two tests, each is found by its test
+-- if any two starts are of different tests, each start is found by its test
 found_apart : (rs : List Running) (q : Running) → AllPairs (λ (x y : Running). x.test ≢ y.test) rs → Contains rs q → find (λ (r : Running). r.test == q.test) rs ≡ Some q
 found_apart [] q apart is = absurd (omega (arith, is.1))
 found_apart (r ∷ rs) q apart (zero, lt, same) =
@@ -293,7 +295,8 @@ filter_same p q (x ∷ xs) same =
     ap (λ (b : Bool). cond b (x ∷ filter p xs) (filter p xs)) (same x (0, omega arith, refl))
     ∙ ap (λ ys. cond (q x) (x ∷ ys) ys) (filter_same p q xs (λ y is. same y (suc is.0, omega (arith, is.1), is.2)))
 
--- a held start is the open start of its test, as its next attempt, and its End closes it alone
+-- a held start is the open start of its test, of the test's
+-- next attempt, and its End closes no other start
 pub record IsHeldOpen (plan : PlanParts) (es : List Entry) (n a w : ℕ) : Type 0 where
   pub start : Running
   pub opens : open_start n es ≡ Some start

@@ -1,4 +1,4 @@
--- A history that follows the queue, with one entry more.
+-- A history that follows the queue, with one more entry.
 use Rattle.std.proofs.Common.{◌≡◌, sym, ap, subst, Bool, true, false, List, [], ◌∷◌, ◌++◌, refl, inl, inr}
 use Rattle.std.specs.Prelude.{◌⊎◌, if◌then◌else◌}
 use Rattle.ct_history.specs.declared.plan.PlanParts.{PlanParts}
@@ -15,7 +15,7 @@ nil_splits : {A : Type 0} (front back : List A) (x : A) → [] ≡ front ++ x �
 nil_splits [] back x is = cc
 nil_splits (y ∷ ys) back x is = cc
 
--- an element of a list with one more is that one, or one of the list
+-- an element of a list with one more element is the new one, or an element of the old list
 snoc_splits : {A : Type 0} (xs front back : List A) (e x : A) → xs ++ e ∷ [] ≡ front ++ x ∷ back → ((xs ≡ front) × (e ≡ x)) ⊎ ((rest : List A) × (xs ≡ front ++ x ∷ rest))
 snoc_splits [] [] back e x is = let same : e ≡ x = cc in inl (refl, same)
 snoc_splits [] (y ∷ ys) back e x is = let none : [] ≡ ys ++ x ∷ back = cc in absurd (nil_splits ys back x none)
@@ -28,18 +28,18 @@ snoc_splits (z ∷ zs) (y ∷ ys) back e x is =
       | inr before ↦ let whole : (z ∷ zs) ≡ y ∷ (ys ++ x ∷ before.0) = cc in inr (before.0, whole)
     ]
 
--- a history of no entry follows the queue
+-- the empty history follows the queue
 pub follows-nil : (plan : PlanParts) → FollowsQueue plan []
 follows-nil plan = λ front x back is. absurd (nil_splits front back x is)
 
--- and so does one with the next entry more
+-- a history that follows the queue still does with the next entry behind it
 pub follows-snoc : (plan : PlanParts) (es : List Entry) (e : Entry) → FollowsQueue plan es → IsNextInOrder plan es e → FollowsQueue plan (es ++ e ∷ [])
 follows-snoc plan es e follows next = λ front x back is. elim (snoc_splits es front back e x is) [
   | inl last ↦ subst (λ (xs : List Entry). IsNextInOrder plan xs x) last.0 (subst (λ (y : Entry). IsNextInOrder plan es y) last.1 next)
   | inr before ↦ follows front x before.0 before.1
 ]
 
--- a Stop that is due leaves the order
+-- a history that follows the queue still does with the next entry and the Stop that it makes due
 pub follows_due : (plan : PlanParts) (es : List Entry) (e : Entry) → FollowsQueue plan es → IsNextInOrder plan es e → FollowsQueue plan (with_due_stop plan (es ++ e ∷ []))
 follows_due plan es e follows next = by (is_stop_due plan (es ++ e ∷ []))
   where
@@ -50,7 +50,7 @@ follows_due plan es e follows next = by (is_stop_due plan (es ++ e ∷ []))
     by true = follows-snoc plan (es ++ e ∷ []) Stop one tt
     by false = one
 
--- a run stays orderly with the next entry more, and with a Stop where that makes one due
+-- a run stays orderly with the next entry, and with a Stop if that entry makes one due
 module _ (old new : Run) (kept : IsKeptRun new) (plan : new.plan ≡ old.plan) where
   pub orderly : (es : List Entry) → entries_of new ≡ es → FollowsQueue old.plan es → IsOrderlyRun new
   orderly es is follows = record {

@@ -1,4 +1,4 @@
--- What the marks and the set of ready tests say of the choice: which test is settled, and which may start.
+-- The marks and the ready set decide the choice: which test is settled, and which may start.
 use Rattle.std.proofs.Common.{◌≡◌, ◌∙◌, sym, ap, subst, Bool, true, false, not, ◌&&◌, ◌||◌, ◌==◌, if◌then◌else◌, ℕ, ◌+◌, ◌<◌, ◌≤◌, List, [], ◌∷◌, length, take, get_or, slice_get, is_some, is_none, ltb, nat_le, refl, arith, inl, inr}
 use Rattle.std.specs.Prelude.{Option, Some, None}
 use Rattle.std.specs.List.{list_any}
@@ -25,7 +25,7 @@ use Rattle.ct_core.proofs.EnabledLemmas.{queued_enabled}
 use Rattle.ct_core.proofs.QueueLemmas.{found_place, place_there, places_ascend, stands_there, there_found}
 use Rattle.ct_core.proofs.LowerLemmas.{ready_says, settle_going}
 
--- the least test that may be settled stands at this place, and is settled with this cause
+-- the test with the lowest number that may be settled stands at this place, and has this cause
 pub record SettlesAt (plan : PlanParts) (es : List Entry) (place : ℕ) : Type 0 where
   pub test : PlanTest
   pub cause : Cause
@@ -41,7 +41,7 @@ some_cause : (o : Option Cause) → (is_some o && true) ≡ true → (c : Cause)
 some_cause None is = absurd (true≢false (sym is))
 some_cause (Some c) is = (c, refl)
 
--- the test that was looked up, where it may be settled
+-- the test that was looked up is there, and may be settled
 pub record HasCause (plan : PlanParts) (es : List Entry) (looked_up : Option PlanTest) : Type 0 where
   pub test : PlanTest
   pub cause : Cause
@@ -59,12 +59,12 @@ cause_none plan es None none = refl
 cause_none plan es (Some u) none = none u refl
 
 module _ (plan : PlanParts) (sound : IsSound plan) (es : List Entry) (m : List Bool) (marks : AreSettleable plan es [] m) where
-  -- a test at a place without a mark can't be settled
+  -- a test at a place without a mark may not be settled
   unsettled : (place : ℕ) (u : PlanTest) → is_marked m place ≡ false → slice_get plan.tests place ≡ Some u → settle_cause plan u es ≡ None
   unsettled place u bare there =
       no_cause (settle_cause plan u es) (sym (marks.marked place ∙ ap (λ (o : Option PlanTest). settles_but plan es [] o) there) ∙ bare)
 
-  -- nor one of a lesser number
+  -- a test with a lower number than the first marked one may not be settled
   unsettled_lesser : (place n : ℕ) (t u : PlanTest) → NoneWithin m 0 0 place → slice_get plan.tests place ≡ Some t → n < t.number → test_at plan.tests n ≡ Some u → settle_cause plan u es ≡ None
   unsettled_lesser place n t u none there less found =
       let at = found_place plan.tests n u found in
@@ -84,7 +84,7 @@ module _ (plan : PlanParts) (sound : IsSound plan) (es : List Entry) (m : List B
         ]
       ]
 
-  -- the least mark is that of the least test that may be settled
+  -- the least marked place is that of the test with the lowest number that may be settled
   pub least_mark_settles : (place : ℕ) → IsLeastWithin m 0 0 (length m) place → SettlesAt plan es place
   least_mark_settles place least =
       let at = has_cause plan es (slice_get plan.tests place) (sym (marks.marked place) ∙ least.marked) in
@@ -99,7 +99,7 @@ module _ (plan : PlanParts) (sound : IsSound plan) (es : List Entry) (m : List B
         };
       }
 
-  -- where there is no mark no test may be settled
+  -- if no place is marked, no test may be settled
   pub no_mark_settles : NoneWithin m 0 0 (length m) → NoneSettles plan es
   no_mark_settles none = λ n. cause_none plan es (test_at plan.tests n) (λ u found.
       let at = found_place plan.tests n u found in
@@ -107,7 +107,8 @@ module _ (plan : PlanParts) (sound : IsSound plan) (es : List Entry) (m : List B
       let room = marks.room in
       unsettled at.0 u (none at.0 (omega arith) (omega arith) (omega (arith, within, room))) at.1)
 
--- a test that may be settled is so because of a Stop, or else of its setups, or of what was known before the run
+-- the cause of a test that may be settled: a Stop if there
+-- is one, else what its setups and its fixed cause tell
 pub cause_stopped : (plan : PlanParts) (t : PlanTest) (es : List Entry) → has_stop es ≡ true → is_some (settle_cause plan t es) ≡ true → settle_cause plan t es ≡ Some Stopped
 cause_stopped plan t es stop some = by_parts (is_pending plan t es) (has_stop es) (if follows_finals plan t es then cause_behind (first_unpassed plan t es) t.fixed else None) stop some
   where
@@ -125,13 +126,13 @@ cause_going plan t es on some =
     by_cases true c has = refl
     by_cases false c has = absurd (true≢false (sym has))
 
--- a test that has neither a setup that did not pass nor a fixed cause is not kept from running
+-- if no cause is found, each setup has passed and there is no fixed cause
 not_kept : (setup : Option ℕ) (fixed : Option Cause) → cause_behind setup fixed ≡ None → (is_none setup ≡ true) × (is_none fixed ≡ true)
 not_kept None None none = (refl, refl)
 not_kept None (Some c) none = absurd (none-some c (sym none))
 not_kept (Some s) fixed none = absurd (none-some (Fixture s) (sym none))
 
--- the test at this place of the queue is pending and ready, and may start where there is room for it
+-- the test at this place of the queue is pending and ready, and may start if there is room for it
 pub record MayBeNext (plan : PlanParts) (es : List Entry) (place : ℕ) : Type 0 where
   pub test : PlanTest
   pub within : place < length plan.queue
@@ -178,7 +179,7 @@ module _ (plan : PlanParts) (sound : IsSound plan) (es : List Entry) (r : ReadyV
             ∙ ap (λ (b : Bool). b && has_room plan t es) ready;
       }
 
-  -- a test that is no member can't start
+  -- a test that is not a member can't start
   pub no_member : (place : ℕ) → place < length plan.queue → is_member r place ≡ false → CanStart plan es (get_or plan.queue place 0) → ⊥
   no_member place within none can =
       let n = get_or plan.queue place 0 in
@@ -189,11 +190,11 @@ module _ (plan : PlanParts) (sound : IsSound plan) (es : List Entry) (r : ReadyV
       let follows = and_parts (follows_finals plan t es) (is_none (first_unpassed plan t es)) ready.0 in
       true≢false (sym (member_says place t within at.found ∙ and_from (follows_finals plan t es) (is_pending plan t es) follows.0 may.pending) ∙ none)
 
--- none of these tests may start where none at all may
+-- if no test at all may start, none of these may
 none_starts : (plan : PlanParts) (es : List Entry) (numbers : List ℕ) → ((n : ℕ) → CanStart plan es n → ⊥) → NoneStarts plan es numbers
 none_starts plan es numbers none = λ i d within. none (get_or numbers i d)
 
--- what a test that can start shows
+-- a test that may start was found, and each condition for its start holds
 pub found_parts : (plan : PlanParts) (es : List Entry) (p : Option Placement) (o : Option PlanTest) → may_start_at plan es p o ≡ true → (t : PlanTest) × (o ≡ Some t) × MayStart plan t p es
 found_parts plan es p None may = absurd (true≢false (sym may))
 found_parts plan es p (Some t) may = (t, refl, may_start-parts plan t p es may)
@@ -205,13 +206,13 @@ none_stopped plan es numbers stop = none_starts plan es numbers (λ n can.
     let may = parts.2 in
     true≢false (sym stop ∙ may.goes_on))
 
--- how many places stand up to the given one
+-- how many places there are up to the given one; 0 if none is given
 abbrev pub places_to : Option ℕ → ℕ
 places_to None = 0
 places_to (Some given) = given + 1
 
 module _ (plan : PlanParts) (es : List Entry) where
-  -- tests of the queue in front of a place, one by one and all together
+  -- if no test in front of a place can start, none of the list up to there can
   pub none_before : (k : ℕ) → ((place : ℕ) → place < k → place < length plan.queue → CanStart plan es (get_or plan.queue place 0) → ⊥) → NoneStarts plan es (take k plan.queue)
   none_before k none = λ place d within.
       let len = length-take k plan.queue in
@@ -220,7 +221,7 @@ module _ (plan : PlanParts) (es : List Entry) where
       let same : get_or (take k plan.queue) place d ≡ get_or plan.queue place 0 = get_or-take k plan.queue place d before ∙ get_or_default plan.queue place d 0 inside in
       subst (λ (n : ℕ). CanStart plan es n → ⊥) (sym same) (none place before inside)
 
--- where one test passes and each that does passes another, one passes the other
+-- if each element that passes `p` passes `q`, and some element passes `p`, some element passes `q`
 any_wider : {A : Type 0} (p q : A → Bool) → ((x : A) → p x ≡ true → q x ≡ true) → (xs : List A) → list_any p xs ≡ true → list_any q xs ≡ true
 any_wider p q wider [] any = any
 any_wider p q wider (x ∷ xs) any = elim (cases_Bool (p x)) [
@@ -228,7 +229,7 @@ any_wider p q wider (x ∷ xs) any = elim (cases_Bool (p x)) [
   | inr not_here ↦ or_right (q x) (list_any q xs) (any_wider p q wider xs (sym (ap (λ (b : Bool). b || list_any p xs) not_here) ∙ any))
 ]
 
--- a test that runs alone excludes each
+-- a serial test excludes each other test
 serial_excludes : (one other : Option PlanTest) → is_serial other ≡ true → exclude one other ≡ true
 unfolding exclude
 serial_excludes one other serial = last (shares_name (locks_of one) (locks_of other)) (is_serial one) (is_serial other) serial
@@ -239,7 +240,7 @@ serial_excludes one other serial = last (shares_name (locks_of one) (locks_of ot
     last false false c is = is
 
 module _ (plan : PlanParts) (sound : IsSound plan) (es : List Entry) (numbers : List ℕ) where
-  -- where all processors are used no test may start
+  -- if all processors are used, no test may start
   pub none_when_full : plan.level ≤ used_processors plan.tests es → NoneStarts plan es numbers
   none_when_full full = none_starts plan es numbers (λ n can.
       let parts = found_parts plan es can.placement (test_at plan.tests n) can.may in
@@ -250,7 +251,7 @@ module _ (plan : PlanParts) (sound : IsSound plan) (es : List Entry) (numbers : 
       let most = leb-true (t.processors + used_processors plan.tests es) plan.level may.processors in
       omega (arith, full, least, most))
 
-  -- nor where a test that runs alone is open
+  -- if a serial test is open, no test may start
   pub none_beside_serial : list_any (λ (u : Running). is_serial (test_at plan.tests u.test)) (open_starts es) ≡ true → NoneStarts plan es numbers
   none_beside_serial alone = none_starts plan es numbers (λ n can.
       let parts = found_parts plan es can.placement (test_at plan.tests n) can.may in

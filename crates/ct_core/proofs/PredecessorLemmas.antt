@@ -1,4 +1,4 @@
--- The verdicts of a test's predecessors and setups, where one test becomes final.
+-- The verdicts of a test's predecessors and setups, when one test becomes final.
 use Rattle.std.proofs.Common.{◌≡◌, ◌∙◌, sym, ap, Bool, true, false, ℕ, suc, ◌+◌, List, [], ◌∷◌, length, refl, arith, inl, inr}
 use Rattle.std.specs.Prelude.{Option, Some, None, is_some, is_none, not, ◌&&◌, ◌||◌, ◌==◌, cond, filter, find, if◌then◌else◌}
 use Rattle.std.specs.List.{list_any, list_all}
@@ -14,11 +14,11 @@ use Rattle.ct_core.proofs.QueueLemmas.{none_lesser}
 true_is_false : true ≡ false → ⊥
 true_is_false is = cc
 
--- one, or none
+-- 1 if true, else 0
 abbrev pub one_if : Bool → ℕ
 one_if b = if b then 1 else 0
 
--- none of the setups, where it is none of the predecessors
+-- a number that is not a predecessor is not a setup
 pub none_of_setups : (n : ℕ) (js ss : List ℕ) → list_all (λ s. list_any (λ j. j == s) js) ss ≡ true → is_one_of n js ≡ false → is_one_of n ss ≡ false
 none_of_setups n js [] among none = refl
 none_of_setups n js (s ∷ ss) among none =
@@ -30,7 +30,7 @@ none_of_setups n js (s ∷ ss) among none =
       | inr other ↦ ap (λ (b : Bool). b || is_one_of n ss) other ∙ none_of_setups n js ss both.1 none
     ]
 
--- where all are final, none is not
+-- if all tests are final, the number of tests that are not final is 0
 pub none_open : (f : ℕ → Option Verdict) (js : List ℕ) → list_all (λ j. is_some (f j)) js ≡ true → length (filter (λ j. is_none (f j)) js) ≡ 0
 none_open f [] all = refl
 none_open f (j ∷ js) all =
@@ -41,7 +41,7 @@ none_open f (j ∷ js) all =
     not_none None some = cc
     not_none (Some v) some = refl
 
--- what is final stays, and what passed
+-- each verdict stays: final tests stay final, and passed tests stay passed
 module _ (f g : ℕ → Option Verdict) (keeps : (j : ℕ) (v : Verdict) → f j ≡ Some v → g j ≡ Some v) where
   some_is : (o : Option Verdict) → is_some o ≡ true → (v : Verdict) × (o ≡ Some v)
   some_is None some = cc
@@ -70,7 +70,7 @@ module _ (f g : ℕ → Option Verdict) (keeps : (j : ℕ) (v : Verdict) → f j
         absurd (true_is_false (sym none ∙ ap (λ (b : Bool). is_none (cond (not b) (Some j) (find (λ k. not (is_passed_verdict (f k))) js))) failed))
   ]
 
--- verdicts before and behind, that differ at one number at most
+-- verdicts before and behind, which differ for one number at most
 module _ (f g : ℕ → Option Verdict) (n : ℕ) (same : (j : ℕ) → (j == n) ≡ false → g j ≡ f j) where
   pub same_all : (js : List ℕ) → is_one_of n js ≡ false → list_all (λ j. is_some (g j)) js ≡ list_all (λ j. is_some (f j)) js
   same_all [] none = refl
@@ -94,7 +94,7 @@ module _ (f g : ℕ → Option Verdict) (n : ℕ) (same : (j : ℕ) → (j == n)
       ∙ ap (λ (ks : List ℕ). cond (is_none (f j)) (j ∷ ks) ks) (same_open js both.1)
 
   module _ (before : f n ≡ None) where
-    -- where it is one of these, not all were final
+    -- if the number is in the list, not all were final before
     pub not_all : (js : List ℕ) → is_one_of n js ≡ true → list_all (λ j. is_some (f j)) js ≡ false
     not_all [] one = cc
     not_all (j ∷ js) one = elim (cases_Bool (j == n)) [
@@ -105,7 +105,7 @@ module _ (f g : ℕ → Option Verdict) (n : ℕ) (same : (j : ℕ) → (j == n)
           ap (λ (b : Bool). is_some (f j) && b) (not_all js (sym (ap (λ (b : Bool). b || is_one_of n js) other) ∙ one)) ∙ and_false (is_some (f j))
     ]
 
-    -- where it is one of these, one less is not final
+    -- if the number is in the list, one less is not final behind
     pub one_less : is_none (g n) ≡ false → (least : ℕ) (js : List ℕ) → IsAscendingFrom least js → length (filter (λ j. is_none (f j)) js) ≡ length (filter (λ j. is_none (g j)) js) + one_if (is_one_of n js)
     one_less behind least [] ascends = refl
     one_less behind least (j ∷ js) ascends =

@@ -1,4 +1,4 @@
--- Where the tests of a plan stand: by their number, by their place, and in the queue.
+-- The places of the tests of a plan: by their number, by their place, and in the queue.
 use Rattle.std.proofs.Common.{◌≡◌, ◌∙◌, sym, subst, Bool, false, not, cond, ◌==◌, eqb, ℕ, zero, suc, ◌+◌, ◌<◌, ◌≤◌, List, [], ◌∷◌, length, map, filter, get_or, drop, Contains, slice_get, refl, arith, inl, inr}
 use Rattle.std.specs.Prelude.{Some}
 use Rattle.std.specs.List.{IsDistinct}
@@ -27,7 +27,7 @@ use Rattle.ct_core.specs.Waiting.{is_one_of}
 abbrev pub numbers_of : List PlanTest → List ℕ
 numbers_of tests = map (λ (t : PlanTest). t.number) tests
 
--- numbers that ascend from one on do so from a lesser one on
+-- numbers that ascend from one bound also ascend from a lower bound
 ascend_sooner : (most least : ℕ) (ns : List ℕ) → least ≤ most → IsAscendingFrom most ns → IsAscendingFrom least ns
 ascend_sooner most least [] le ascends = tt
 ascend_sooner most least (n ∷ ns) le ascends = (omega (arith, le, ascends.0), ascends.1)
@@ -48,7 +48,7 @@ ascend-drop least zero ns ascends = ascends
 ascend-drop least (suc at) [] ascends = tt
 ascend-drop least (suc at) (n ∷ ns) ascends = ascend_sooner (n + 1) least (drop at ns) (omega (arith, ascends.0)) (ascend-drop (n + 1) at ns ascends.1)
 
--- a number below those is none of them
+-- a number below the bound is not among the numbers
 pub none_lesser : (least n : ℕ) (ns : List ℕ) → IsAscendingFrom least ns → n < least → is_one_of n ns ≡ false
 none_lesser least n [] ascends less = refl
 none_lesser least n (m ∷ ms) ascends less =
@@ -60,7 +60,7 @@ all_behind least (m ∷ ms) ascends =
     All-cons (λ n. least ≤ n) m ms ascends.0
     (All-weaker (λ n. m + 1 ≤ n) (λ n. least ≤ n) (λ n more. omega (arith, more, ascends.0)) ms (all_behind (m + 1) ms ascends.1))
 
--- of numbers that ascend, each is below those behind it
+-- of numbers that ascend, each is below each later one
 pairs_ascend : (least : ℕ) (ns : List ℕ) → IsAscendingFrom least ns → AllPairs (λ one other. one < other) ns
 pairs_ascend least [] ascends = λ i j d before within. absurd (omega (arith, before, within))
 pairs_ascend least (m ∷ ms) ascends =
@@ -84,7 +84,7 @@ places_ascend least (x ∷ xs) zero (suc q) t u ascends there other less =
     subst (λ (y : PlanTest). y.number < u.number) (same_Some x t there) (omega (arith, later))
 places_ascend least (x ∷ xs) (suc p) (suc q) t u ascends there other less = places_ascend (x.number + 1) xs p q t u ascends.1 there other (omega (arith, less))
 
--- tests of one number stand at one place
+-- tests with the same number stand at the same place
 pub one_place : (ts : List PlanTest) (p q : ℕ) (t u : PlanTest) → IsAscendingFrom 1 (numbers_of ts) → slice_get ts p ≡ Some t → slice_get ts q ≡ Some u → t.number ≡ u.number → p ≡ q
 one_place ts p q t u ascends there other same = elim (cases_order p q) [
   | inl is ↦ is
@@ -104,7 +104,7 @@ found_place ts n t found =
 pub there_found : (ts : List PlanTest) (place : ℕ) (t : PlanTest) → IsAscendingFrom 1 (numbers_of ts) → slice_get ts place ≡ Some t → test_at ts t.number ≡ Some t
 there_found ts place t ascends there = contained_at 1 ts t ascends (place, slice_get_within ts place t there, get_or_from_slice_get ts place t t there)
 
--- a test stands in an order that contains it
+-- if a list contains a test's number, the test stands in it as an order
 pub stands_from_contains : (order : List ℕ) (n : ℕ) → Contains order n → StandsIn order n
 stands_from_contains order n is = elim (cases_lt (place_of order n) (length order)) [
   | inl stands ↦ stands
@@ -135,7 +135,7 @@ module _ (plan : PlanParts) (sound : IsSound plan) where
       AllPairs-from_IsDistinct Decides-eqb plan.queue
       (IsDistinct-IsPermutation eqb eqb_flips ns plan.queue (IsPermutation-sym plan.queue ns sound.queue) distinct_numbers)
 
-  -- and has at most as many as the plan
+  -- the queue has at most as many tests as the plan
   pub queue_fits : length plan.queue ≤ length plan.tests
   queue_fits =
       let ns = numbers_of (enabled plan.tests) in
@@ -145,7 +145,7 @@ module _ (plan : PlanParts) (sound : IsSound plan) where
       let most = count_by-le-length (λ (t : PlanTest). not t.disabled) plan.tests in
       omega (arith, same, mapped, counted, most)
 
-  -- the test at a place of the queue stands there
+  -- the test at a place of the queue stands in the queue
   pub stands_there : (place : ℕ) → place < length plan.queue → StandsIn plan.queue (get_or plan.queue place 0)
   stands_there place within = stands_from_contains plan.queue (get_or plan.queue place 0) (Contains-get_or plan.queue place 0 within)
 

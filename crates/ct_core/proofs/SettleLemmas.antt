@@ -1,4 +1,4 @@
--- What a run keeps as it settles a test.
+-- A run is kept when it settles a test.
 use Rattle.std.proofs.Common.{◌≡◌, ◌∙◌, sym, ap, subst, Bool, true, false, ℕ, ◌+◌, ◌≤◌, List, [], ◌∷◌, ◌++◌, length, refl, arith, length-append}
 use Rattle.std.specs.Prelude.{Option, Some, None, not, ◌&&◌, slice_get, slice_set}
 use Rattle.ct_verdict.specs.declared.verdict.Cause.{Cause}
@@ -31,7 +31,7 @@ use Rattle.ct_core.proofs.StateLemmas.{verdict_settled}
 use Rattle.ct_core.proofs.StandingLemmas.{pending_settles, states_settled, unfinished_less}
 use Rattle.ct_core.proofs.WaitingLemmas.{settle_member, settle_queued, settle_settleable, settle_stands, settle_stopped}
 
--- the test that is settled
+-- the test that is settled, and what holds of it in front of its Settle
 pub record SettledTest (plan : PlanParts) (es : List Entry) (n : ℕ) (c : Cause) : Type 0 where
   pub test : PlanTest
   pub found : test_at plan.tests n ≡ Some test
@@ -57,7 +57,7 @@ module _ (plan : PlanParts) (es : List Entry) (room : ℕ) (parts : Parts) (kept
   going_on : parts.stopped ≡ false → has_stop es ≡ false
   going_on runs = sym kept.told.stopped ∙ runs
 
-  -- it stands in the queue, and is a member of the set
+  -- while there is no Stop, the test stands in the queue, and is a member of the ready set
   pub stands_queued : parts.stopped ≡ false → StandsIn parts.ready.order n
   stands_queued runs =
       subst (λ (o : List ℕ). StandsIn o n) (sym (kept.queued.ready (going_on runs)).order) (settle_stands plan kept.told.sound es n one.test one.found c one.has)

@@ -1,4 +1,4 @@
--- How the tests of a plan stand, with one entry more, and how many are not final.
+-- The states of the tests of a plan, with one more entry, and how many are not final.
 use Rattle.std.proofs.Common.{◌≡◌, ◌∙◌, sym, ap, subst, Bool, true, false, ℕ, zero, suc, ◌+◌, ◌<◌, ◌≤◌, List, [], ◌∷◌, ◌++◌, length, refl, arith}
 use Rattle.std.specs.Prelude.{Option, Some, None, option_and_then, option_map, is_some, is_none, not, ◌&&◌, ◌==◌, cond, filter, map, slice_get, slice_set, if◌then◌else◌}
 use Rattle.std.specs.List.{list_all}
@@ -26,7 +26,7 @@ use Rattle.ct_core.specs.Standing.{IsPlaceOf, count_unfinished, open_start, stat
 use Rattle.ct_core.proofs.OpenStartLemmas.{IsAboutOnly, about_end, about_settle, about_start, number_at}
 pub use Rattle.ct_core.proofs.StateLemmas.{attempts_few, open_other, pending_other, pending_state, state_after, state_ended, state_first, state_open, state_other, state_pending, state_settled, state_started, verdict_ended, verdict_in_other, verdict_other, verdict_settled, verdict_standing, verdict_started, verdict_state}
 
--- how a test stands is found at its place
+-- the state at a test's place is the state of the test
 pub state_at : (plan : PlanParts) (es : List Entry) (n place : ℕ) (t : PlanTest) → IsPlaceOf plan.tests n place → test_at plan.tests n ≡ Some t → slice_get (states_of plan es) place ≡ Some (state_of plan.repeat es t)
 state_at plan es n place t here found =
     slice_get-map (state_of plan.repeat es) plan.tests place ∙ ap (λ (o : Option PlanTest). option_map (state_of plan.repeat es) o) (here.there ∙ found)
@@ -40,7 +40,7 @@ verdict_state_at plan es n place here =
     by_test None = refl
     by_test (Some t) = sym (verdict_state plan.repeat t es)
 
--- the number of a test at a place of a list that ascends
+-- the number of each test is at least the bound from which the numbers ascend
 place_bound : (least : ℕ) (ts : List PlanTest) (place : ℕ) (t : PlanTest) → IsAscendingFrom least (map (λ (x : PlanTest). x.number) ts) → slice_get ts place ≡ Some t → least ≤ t.number
 place_bound least [] place t ascends is = cc
 place_bound least (x ∷ xs) zero t ascends is = let same : x ≡ t = cc in subst (λ (y : PlanTest). least ≤ y.number) same ascends.0
@@ -55,7 +55,8 @@ module _ (f g : PlanTest → State) (n : ℕ) (same : (u : PlanTest) → (u.numb
       ap (λ (s : State). s ∷ map g xs) (same x other)
       ∙ ap (λ (ss : List State). f x ∷ ss) (same_above (x.number + 1) xs ascends.1 (omega (arith, lt, le)))
 
-  -- where all but the test at a place stand as before, one place is set
+  -- if all states but that of the test at a place are as
+  -- before, the new list is the old one with that place set
   set_one : (least : ℕ) (ts : List PlanTest) (place : ℕ) (t : PlanTest) → IsAscendingFrom least (map (λ (x : PlanTest). x.number) ts) → slice_get ts place ≡ Some t → t.number ≡ n → map g ts ≡ slice_set (map f ts) place (g t)
   set_one least [] place t ascends is number = cc
   set_one least (x ∷ xs) zero t ascends is number =
@@ -68,13 +69,13 @@ module _ (f g : PlanTest → State) (n : ℕ) (same : (u : PlanTest) → (u.numb
       ap (λ (s : State). s ∷ map g xs) (same x other) ∙ ap (λ (ss : List State). f x ∷ ss) (set_one (x.number + 1) xs k t ascends.1 is number)
 
 module _ (plan : PlanParts) (es : List Entry) (n place : ℕ) (t : PlanTest) (here : IsPlaceOf plan.tests n place) (found : test_at plan.tests n ≡ Some t) where
-  -- an entry about one test sets its place
+  -- an entry about one test sets the state at its place
   pub states_set : IsSound plan → (e : Entry) (s : State) → IsAboutOnly n e → state_of plan.repeat (es ++ e ∷ []) t ≡ s → states_of plan (es ++ e ∷ []) ≡ slice_set (states_of plan es) place s
   states_set sound e s only is =
       set_one (state_of plan.repeat es) (state_of plan.repeat (es ++ e ∷ [])) n (λ u unlike. state_other plan.repeat u es e (only u.number unlike)) 1 plan.tests place t sound.numbers (here.there ∙ found) (number_at plan.tests n t found)
       ∙ ap (λ (x : State). slice_set (states_of plan es) place x) is
 
-  -- a pending test stands so, as does one that may start or be settled
+  -- the state at the place of a pending test; then of a test that may start or be settled
   pub pending_at : is_pending plan t es ≡ true → slice_get (states_of plan es) place ≡ Some (Pending (length (attempts_of t.number t.rules es)))
   pending_at pending = state_at plan es n place t here found ∙ ap Some (state_pending plan es n t found pending)
 
@@ -84,7 +85,7 @@ module _ (plan : PlanParts) (es : List Entry) (n place : ℕ) (t : PlanTest) (he
   pub pending_settles : (c : Cause) → settle_cause plan t es ≡ Some c → slice_get (states_of plan es) place ≡ Some (Pending (length (attempts_of t.number t.rules es)))
   pending_settles c is = pending_at (settled_pending plan t es c is)
 
-  -- a test that is open stands so
+  -- the state at the place of an open test
   pub open_at : is_allowed_so_far plan es ≡ true → (r : Running) → open_start n es ≡ Some r → slice_get (states_of plan es) place ≡ Some (Open (length (attempts_of t.number t.rules es)) r.placement)
   open_at so_far r is = state_at plan es n place t here found ∙ ap Some (state_open plan es n t found so_far r is)
 
@@ -102,7 +103,7 @@ module _ (plan : PlanParts) (es : List Entry) (n place : ℕ) (t : PlanTest) (he
   pub states_settled : IsSound plan → (c : Cause) → is_pending plan t es ≡ true → states_of plan (es ++ Settle n c ∷ []) ≡ slice_set (states_of plan es) place (Final (NotRun c))
   states_settled sound c pending = states_set sound (Settle n c) (Final (NotRun c)) (about_settle n c) (state_settled plan es n t found c pending)
 
--- a Stop leaves how the tests stand
+-- a Stop leaves all states
 pub states_stopped : (plan : PlanParts) (es : List Entry) → states_of plan (es ++ Stop ∷ []) ≡ states_of plan es
 states_stopped plan es = by_tests plan.tests
   where
@@ -112,7 +113,7 @@ states_stopped plan es = by_tests plan.tests
         ap (λ (s : State). s ∷ map (state_of plan.repeat (es ++ Stop ∷ [])) ts) (state_other plan.repeat t es Stop refl)
         ∙ ap (λ (ss : List State). state_of plan.repeat es t ∷ ss) (by_tests ts)
 
--- how many are not final, with one place set
+-- the count of states that are not final, with one place set
 pub unfinished_same : (xs : List State) (place : ℕ) (old new : State) → slice_get xs place ≡ Some old → is_none (verdict_of_state new) ≡ is_none (verdict_of_state old) → count_unfinished (slice_set xs place new) ≡ count_unfinished xs
 unfinished_same [] place old new at same = cc
 unfinished_same (x ∷ xs) zero old new at same =
@@ -142,7 +143,7 @@ unfinished_less (x ∷ xs) (suc k) old new at was is = by_test (is_none (verdict
     by_test true less = omega (arith, less)
     by_test false less = less
 
--- none is left exactly where each test is final
+-- the count is 0 exactly if each test is final
 pub all_finished : (plan : PlanParts) (es : List Entry) → (count_unfinished (states_of plan es) == 0) ≡ are_all_final plan es
 all_finished plan es = by_tests plan.tests
   where

@@ -1,4 +1,4 @@
--- What a run keeps as an attempt starts.
+-- A run is kept when an attempt starts.
 use Rattle.std.proofs.Common.{◌≡◌, ◌∙◌, sym, ap, subst, Bool, true, false, ℕ, ◌+◌, ◌<◌, ◌≤◌, ◌^◌, List, [], ◌∷◌, ◌++◌, length, refl, arith, length-append}
 use Rattle.std.specs.Prelude.{Option, Some, None, slice_get, slice_set}
 use Rattle.std.proofs.lemmas.List.{length-map}
@@ -30,8 +30,8 @@ use Rattle.ct_core.proofs.OpenStartLemmas.{start_opens}
 use Rattle.ct_core.proofs.StandingLemmas.{pending_starts, states_started, unfinished_same}
 use Rattle.ct_core.proofs.WaitingLemmas.{start_member, start_queued, start_settleable, start_stands}
 
--- the parts behind a start: its test is open with this placement, what it uses is taken, it is ready no longer, and
--- nothing else changed
+-- the parts behind a start: its test is open with this placement, what the test
+-- uses is taken, and the test is out of the ready set; nothing else changed
 pub record IsBegun (place number ended : ℕ) (t : PlanTest) (placement : Option Placement) (old new : Parts) : Type 0 where
   pub states : new.states.items ≡ slice_set old.states.items place (Open ended placement)
   pub in_use : Takes t placement old.in_use new.in_use
@@ -42,7 +42,7 @@ pub record IsBegun (place number ended : ℕ) (t : PlanTest) (placement : Option
   pub stopped : new.stopped ≡ old.stopped
   pub unfinished : new.unfinished ≡ old.unfinished
 
--- the test that starts
+-- the test that starts, and what holds of it in front of the start
 pub record StartedTest (plan : PlanParts) (es : List Entry) (n : ℕ) (p : Option Placement) (a : ℕ) : Type 0 where
   pub test : PlanTest
   pub found : test_at plan.tests n ≡ Some test

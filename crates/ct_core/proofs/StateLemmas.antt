@@ -1,4 +1,4 @@
--- How one test stands, with one entry more.
+-- The state of one test, with one more entry.
 use Rattle.std.proofs.Common.{◌≡◌, ◌∙◌, sym, ap, subst, Bool, true, false, ℕ, ◌+◌, ◌<◌, ◌^◌, List, [], ◌∷◌, ◌++◌, length, refl, arith, inl, inr, length-append}
 use Rattle.std.specs.Prelude.{Option, Some, None, is_some, not, ◌&&◌, ◌||◌, ◌==◌, cond, find, filter, filter_map, if◌then◌else◌}
 use Rattle.std.specs.List.{list_any, cons_option}
@@ -31,7 +31,7 @@ use Rattle.ct_core.proofs.OpenStartLemmas.{HasLeft, attempts-snoc, attempts_othe
 true_is_false : true ≡ false → ⊥
 true_is_false is = cc
 
--- what stands in a list and passes is found
+-- some element of a list passes exactly if one is found
 any_is_found : {A : Type 0} (p : A → Bool) (xs : List A) → list_any p xs ≡ is_some (find p xs)
 any_is_found p [] = refl
 any_is_found p (x ∷ xs) = elim (cases_Bool (p x)) [
@@ -40,7 +40,7 @@ any_is_found p (x ∷ xs) = elim (cases_Bool (p x)) [
       ap (λ (b : Bool). b || list_any p xs) other ∙ any_is_found p xs ∙ sym (ap (λ (b : Bool). is_some (cond b (Some x) (find p xs))) other)
 ]
 
--- how a test stands by what a history says of it alone: its open start, its cause, its attempts
+-- the verdict of a test by its own facts in a history: its open start, its cause, its attempts
 abbrev verdict_from : Repeat → PlanTest → Option Running → Option Cause → List Verdict → Option Verdict
 verdict_from repeat t start cause attempts =
     if t.disabled then Some Disabled else settled_or cause (if not (is_some start) && is_over repeat attempts then last_of_list attempts else None)
@@ -53,7 +53,7 @@ verdict_is repeat es t =
     ap (λ (b : Bool). if t.disabled then Some Disabled else settled_or (settled_cause t.number es) (if not b && is_over repeat (attempts_of t.number t.rules es) then last_of_list (attempts_of t.number t.rules es) else None))
     (any_is_found (λ (r : Running). r.test == t.number) (open_starts es))
 
--- what a history says of a test alone
+-- a history's facts about one test: its open start, its cause and its attempts
 record Says (t : PlanTest) (es : List Entry) (start : Option Running) (cause : Option Cause) (attempts : List Verdict) : Type 0 where
   opens : open_start t.number es ≡ start
   settled : settled_cause t.number es ≡ cause
@@ -137,7 +137,7 @@ says_same t es e other = record {
 says_itself : (t : PlanTest) (es : List Entry) → Says t es (open_start t.number es) (settled_cause t.number es) (attempts_of t.number t.rules es)
 says_itself t es = record { opens = refl; settled = refl; ended = refl }
 
--- an entry that is not about a test leaves how it stands
+-- an entry that is not about a test leaves its state
 pub state_other : (repeat : Repeat) (t : PlanTest) (es : List Entry) (e : Entry) → is_about t.number e ≡ false → state_of repeat (es ++ e ∷ []) t ≡ state_of repeat es t
 state_other repeat t es e other =
     state_by repeat (es ++ e ∷ []) t (open_start t.number es) (settled_cause t.number es) (attempts_of t.number t.rules es) (says_same t es e other)
@@ -147,7 +147,7 @@ pub verdict_in_other : (repeat : Repeat) (t : PlanTest) (es : List Entry) (e : E
 verdict_in_other repeat t es e other =
     verdict_by repeat (es ++ e ∷ []) t (open_start t.number es) (settled_cause t.number es) (attempts_of t.number t.rules es) (says_same t es e other) ∙ sym (verdict_is repeat es t)
 
--- and its verdict
+-- an entry that is not about a test leaves its verdict
 pub verdict_other : (plan : PlanParts) (es : List Entry) (e : Entry) (n : ℕ) → is_about n e ≡ false → verdict_of_test plan (es ++ e ∷ []) n ≡ verdict_of_test plan es n
 verdict_other plan es e n other = by_test (test_at plan.tests n) (λ t found. number_at plan.tests n t found)
   where
@@ -155,7 +155,7 @@ verdict_other plan es e n other = by_test (test_at plan.tests n) (λ t found. nu
     by_test None number = refl
     by_test (Some t) number = verdict_in_other plan.repeat t es e (ap (λ (m : ℕ). is_about m e) (number t refl) ∙ other)
 
--- neither final nor open, by how the test stands
+-- a test is pending exactly if its state is
 pub pending_state : (plan : PlanParts) (t : PlanTest) (es : List Entry) → is_pending plan t es ≡ is_pending_state (state_of plan.repeat es t)
 pending_state plan t es =
     ap (λ (b : Bool). not (is_final_in plan.repeat t es) && not b) (any_is_found (λ (r : Running). r.test == t.number) (open_starts es))
@@ -178,7 +178,7 @@ verdict_standing None None k = refl
 pub verdict_state : (repeat : Repeat) (t : PlanTest) (es : List Entry) → verdict_of_state (state_of repeat es t) ≡ verdict_in repeat t es
 verdict_state repeat t es = verdict_standing (verdict_in repeat t es) (open_start t.number es) (length (attempts_of t.number t.rules es))
 
--- at first a test is final where it is disabled, and otherwise pending
+-- in the empty history a test is final if it is disabled, else pending
 pub state_first : (repeat : Repeat) (t : PlanTest) → state_of repeat [] t ≡ (if t.disabled then Final Disabled else Pending 0)
 state_first repeat t = by_disabled t.disabled
   where
@@ -190,11 +190,12 @@ last-snoc : {A : Type 0} (o : Option A) (xs : List A) (x : A) → last_behind o 
 last-snoc o [] x = refl
 last-snoc o (y ∷ ys) x = last-snoc (Some y) ys x
 
--- behind so many attempts, of which this was the last, a test is tried again or final
+-- the state behind so many attempts, of which the last had
+-- this verdict: the test is tried again, or final
 abbrev pub state_after : Repeat → ℕ → Verdict → State
 state_after repeat k v = if is_repeated repeat k (Some v) then Pending k else Final v
 
--- how the test with a number stands
+-- the state of the test with this number
 module _ (plan : PlanParts) (es : List Entry) (n : ℕ) (t : PlanTest) (found : test_at plan.tests n ≡ Some t) where
   number : t.number ≡ n
   number = number_at plan.tests n t found
@@ -209,7 +210,7 @@ module _ (plan : PlanParts) (es : List Entry) (n : ℕ) (t : PlanTest) (found : 
       none None is = refl
       none (Some r) is = cc
 
-  -- a pending test stands so
+  -- the state of a pending test
   pub state_pending : is_pending plan t es ≡ true → state_of plan.repeat es t ≡ Pending (length (attempts_of t.number t.rules es))
   state_pending pending = by_parts (verdict_in plan.repeat t es) (open_start t.number es) (sym (pending_state plan t es) ∙ pending)
     where
@@ -218,7 +219,7 @@ module _ (plan : PlanParts) (es : List Entry) (n : ℕ) (t : PlanTest) (found : 
       by_parts None (Some r) is = cc
       by_parts None None is = refl
 
-  -- an open test stands so
+  -- the state of an open test
   pub state_open : is_allowed_so_far plan es ≡ true → (r : Running) → open_start n es ≡ Some r → state_of plan.repeat es t ≡ Open (length (attempts_of t.number t.rules es)) r.placement
   state_open so_far r is =
       let opens = open_planned plan es n r so_far is in
@@ -294,7 +295,7 @@ module _ (plan : PlanParts) (es : List Entry) (n : ℕ) (t : PlanTest) (found : 
       first-snoc [] x none = refl
       first-snoc (y ∷ ys) x none = cc
 
-  -- the verdict of a test by how it stands, behind one entry more
+  -- the verdict of a test behind one more entry is the verdict of its state
   verdict_behind : (e : Entry) (s : State) → state_of plan.repeat (es ++ e ∷ []) t ≡ s → verdict_of_test plan (es ++ e ∷ []) n ≡ verdict_of_state s
   verdict_behind e s is = ap (λ (o : Option PlanTest). verdict_at plan (es ++ e ∷ []) o) found ∙ sym (verdict_state plan.repeat t (es ++ e ∷ [])) ∙ ap verdict_of_state is
 
@@ -307,7 +308,7 @@ module _ (plan : PlanParts) (es : List Entry) (n : ℕ) (t : PlanTest) (found : 
   pub verdict_settled : (c : Cause) → is_pending plan t es ≡ true → verdict_of_test plan (es ++ Settle n c ∷ []) n ≡ Some (NotRun c)
   verdict_settled c pending = verdict_behind (Settle n c) (Final (NotRun c)) (state_settled c pending)
 
-  -- one attempt more of an open test is counted
+  -- the attempts of an open test and one more fit in 32 bits
   pub attempts_few : is_allowed_so_far plan es ≡ true → plan.repeat.times < 2 ^ 32 → (a w : ℕ) → holds_start n a w es ≡ true → length (attempts_of t.number t.rules es) + 1 < 2 ^ 32
   attempts_few so_far small a w holds =
       let held = held_open plan es n a w so_far holds in

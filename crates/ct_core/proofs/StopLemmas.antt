@@ -7,7 +7,7 @@ use Rattle.ct_queue.specs.Marks.{is_marked}
 use Rattle.ct_core.specs.declared.state.State.{State}
 use Rattle.ct_core.specs.Parts.{is_pending_at_place}
 
--- one place more
+-- the marks are right up to one more place
 pub marked-more : (before now more : List Bool) (states : List State) (n : ℕ) (b : Bool) → n < length now → b ≡ is_pending_at_place states n → more ≡ set now n b
     → ((place : ℕ) → is_marked now place ≡ cond (ltb place n) (is_pending_at_place states place) (is_marked before place))
     → (place : ℕ) → is_marked more place ≡ cond (ltb place (n + 1)) (is_pending_at_place states place) (is_marked before place)

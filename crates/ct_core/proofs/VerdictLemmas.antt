@@ -12,7 +12,7 @@ use Rattle.ct_core.specs.Parts.{AreTold}
 use Rattle.ct_core.specs.Standing.{IsPlaceOf, state_of, states_of, verdict_of_state}
 use Rattle.ct_core.proofs.StandingLemmas.{verdict_state_at}
 
--- a test has the verdict that it stands with at its place
+-- the verdict of a test is the verdict of the state at its place
 pub verdict_there : (plan : PlanParts) (es : List Entry) (parts : Parts) (n place : ℕ) (s : State) → AreTold plan es parts → IsPlaceOf plan.tests n place → s ≡ get_or parts.states.items place s → verdict_of_state s ≡ verdict_of_test plan es n
 verdict_there plan es parts n place s told here is =
     let mapped : length (states_of plan es) ≡ length plan.tests = length-map plan.tests (state_of plan.repeat es) in

@@ -36,7 +36,7 @@ use Rattle.ct_core.proofs.PredecessorLemmas.{none_open}
 use Rattle.ct_core.proofs.EnabledLemmas.{enabled_queued}
 use Rattle.ct_core.proofs.StateLemmas.{pending_other, pending_state, verdict_other, verdict_settled, verdict_started}
 
--- an entry about one test changes this one alone
+-- an entry about one test changes no other test
 changes_one : (plan : PlanParts) (es : List Entry) (e : Entry) (n : ℕ) → is_stop e ≡ false → IsAboutOnly n e → ChangesOne plan es (es ++ e ∷ []) n
 changes_one plan es e n plain only = record {
   stops = stop_stays es e plain;
@@ -48,7 +48,7 @@ not_some : {A : Type 0} (o : Option A) → is_some o ≡ false → o ≡ None
 not_some None none = refl
 not_some (Some x) none = cc
 
--- a pending test whose predecessors are final is a member of the set
+-- a pending test whose predecessors are final is a member of the ready set
 ready_member : (plan : PlanParts) → IsSound plan → (es : List Entry) (n : ℕ) (t : PlanTest) → test_at plan.tests n ≡ Some t → (r : ReadyValue) → IsQueued plan es [] r → is_pending plan t es ≡ true → follows_finals plan t es ≡ true → Queue.is_ready r n ≡ true
 ready_member plan sound es n t found r queued pending follows =
     let stands = enabled_queued plan sound n t found (undecided plan t es pending).enabled in
@@ -75,7 +75,7 @@ module _ (plan : PlanParts) (sound : IsSound plan) (es : List Entry) (n : ℕ) (
   none_settles : (xs : List Entry) → settle_cause plan t xs ≡ None → settles_but plan xs [] (Some t) ≡ false
   none_settles xs none = ap (λ (c : Option Cause). is_some c && true) none
 
-  -- a final test is not pending, nor is an open one
+  -- neither a final test nor an open one is pending
   final_done : (xs : List Entry) → is_none (verdict_of_test plan xs n) ≡ false → is_pending plan t xs ≡ false
   final_done xs final = by_verdict (verdict_in plan.repeat t xs) (is_open_in t.number xs) (sym (ap (λ (o : Option Verdict). is_none o) (own_verdict xs)) ∙ final)
     where
@@ -94,7 +94,7 @@ module _ (plan : PlanParts) (sound : IsSound plan) (es : List Entry) (n : ℕ) (
   pending_none : is_pending plan t es ≡ true → verdict_of_test plan es n ≡ None
   pending_none pending = own_verdict es ∙ not_some (verdict_in plan.repeat t es) (pending-parts plan t es pending).unfinished
 
-  -- a test that may start
+  -- the case that the test may start
   module _ (a w : ℕ) (p : Option Placement) (may : may_start plan t p es ≡ true) where
     abbrev started : List Entry
     started = es ++ Start n a w p ∷ []
@@ -123,7 +123,7 @@ module _ (plan : PlanParts) (sound : IsSound plan) (es : List Entry) (n : ℕ) (
     start_verdict : verdict_of_test plan started n ≡ verdict_of_test plan es n
     start_verdict = verdict_started plan es n t found a w p start_pending ∙ sym (pending_none start_pending)
 
-    -- stands in the queue, and is a member of the set
+    -- the test stands in the queue, and is a member of the ready set
     pub start_stands : StandsIn plan.queue n
     start_stands = enabled_queued plan sound n t found (undecided plan t es start_pending).enabled
 
@@ -133,7 +133,7 @@ module _ (plan : PlanParts) (sound : IsSound plan) (es : List Entry) (n : ℕ) (
         let both = and_parts (follows_finals plan t es) (is_none (first_unpassed plan t es)) most.0 in
         ready_member plan sound es n t found r queued start_pending both.0
 
-    -- its Start takes it out, and leaves which tests may be settled
+    -- the Start of the test takes it out of the ready set, and leaves which tests may be settled
     pub start_queued : (r : ReadyValue) → IsQueued plan es [] r → IsQueued plan started [] (with_out r n true)
     start_queued r queued =
         queue_set plan sound es started n t found start_changes [] r true (counts_same plan sound es started n t found start_changes start_verdict) start_stands (ap not (open_busy started start_open)) queued
@@ -145,7 +145,7 @@ module _ (plan : PlanParts) (sound : IsSound plan) (es : List Entry) (n : ℕ) (
         let now = none_settles started (no_cause plan t started (open_busy started start_open)) in
         marks_stay plan sound es started n t found start_changes [] m (others_same plan sound es started n t found start_changes start_verdict) (now ∙ sym was) marks
 
-  -- a test with an open attempt that ends
+  -- the case that an open attempt of the test ends
   module _ (a w : ℕ) (s : Seen) (so_far : is_allowed_so_far plan es ≡ true) (holds : holds_start n a w es ≡ true) where
     abbrev ended : List Entry
     ended = es ++ End n a w s ∷ []
@@ -181,14 +181,14 @@ module _ (plan : PlanParts) (sound : IsSound plan) (es : List Entry) (n : ℕ) (
         let held = held_open plan es n a w so_far holds in
         open_is_ready plan es so_far n t found held.start held.opens
 
-    -- it is out in front
+    -- the test is out of the ready set in front of the End
     pub end_out : (r : ReadyValue) → IsQueued plan es [] r → is_out r n ≡ true
     end_out r queued = queued.outs n end_stands ∙ ap not (ap (λ (o : Option PlanTest). is_pending_at plan es o) found ∙ end_busy)
 
     none_settled : settles_but plan es [] (Some t) ≡ false
     none_settled = none_settles es (no_cause plan t es end_busy)
 
-    -- it goes on
+    -- the case that the test goes on
     module _ (goes_on : verdict_of_test plan ended n ≡ None) where
       again_verdict : verdict_of_test plan ended n ≡ verdict_of_test plan es n
       again_verdict = goes_on ∙ sym end_unfinished
@@ -209,20 +209,20 @@ module _ (plan : PlanParts) (sound : IsSound plan) (es : List Entry) (n : ℕ) (
       again_queued r queued =
           queue_set plan sound es ended n t found end_changes [] r false (counts_same plan sound es ended n t found end_changes again_verdict) end_stands (ap not again_pending) queued
 
-      -- while no Stop stands it may not be settled: it was ready, and is again
+      -- while there is no Stop the test may not be settled, since it was ready and is ready again
       pub again_settleable : (m : List Bool) → has_stop es ≡ false → AreSettleable plan es [] m → AreSettleable plan ended [] m
       again_settleable m on marks =
           let ready = ready_same plan sound es ended n t found end_changes again_verdict t ∙ end_ready in
           let now = none_settles ended (no_cause_ready plan t ended (end_changes.stops ∙ on) ready) in
           marks_stay plan sound es ended n t found end_changes [] m (others_same plan sound es ended n t found end_changes again_verdict) (now ∙ sym none_settled) marks
 
-      -- behind a Stop it may
+      -- behind a Stop the test may be settled
       pub again_stopped : (m : List Bool) (place : ℕ) → has_stop es ≡ true → IsPlaceOf plan.tests n place → AreSettleable plan es [] m → AreSettleable plan ended [] (slice_set m place true)
       again_stopped m place stop here marks =
           let now : settles_but plan ended [] (Some t) ≡ true = ap (λ (b : Bool). b && true) (cause_stopped plan t ended (end_changes.stops ∙ stop) ∙ again_pending) in
           marks_set plan sound es ended n t found end_changes [] m place true here (others_stopped plan sound es ended n t found end_changes stop) now marks
 
-    -- it is final
+    -- the case that the test is final
     module _ (v : Verdict) (is : verdict_of_test plan ended n ≡ Some v) where
       final : is_none (verdict_of_test plan ended n) ≡ false
       final = ap (λ (o : Option Verdict). is_none o) is
@@ -242,7 +242,7 @@ module _ (plan : PlanParts) (sound : IsSound plan) (es : List Entry) (n : ℕ) (
       over_stopped m stop marks =
           marks_stay plan sound es ended n t found end_changes [] m (others_stopped plan sound es ended n t found end_changes stop) (over_settles []) marks
 
-  -- a test that may be settled
+  -- the case that the test may be settled
   module _ (c : Cause) (has : settle_cause plan t es ≡ Some c) where
     abbrev settled : List Entry
     settled = es ++ Settle n c ∷ []
@@ -256,7 +256,7 @@ module _ (plan : PlanParts) (sound : IsSound plan) (es : List Entry) (n : ℕ) (
     pub settle_stands : StandsIn plan.queue n
     settle_stands = enabled_queued plan sound n t found (undecided plan t es settle_pending).enabled
 
-    -- its Settle makes it final
+    -- the Settle of the test makes it final
     settle_final : is_none (verdict_of_test plan settled n) ≡ false
     settle_final = ap (λ (o : Option Verdict). is_none o) (verdict_settled plan es n t found c settle_pending)
 
@@ -288,7 +288,7 @@ module _ (plan : PlanParts) (sound : IsSound plan) (es : List Entry) (n : ℕ) (
     settle_stopped m place stop here marks =
         marks_set plan sound es settled n t found settle_changes [] m place false here (others_stopped plan sound es settled n t found settle_changes stop) (settle_done []) marks
 
--- behind a Stop the pending tests may be settled
+-- behind a Stop, marks at exactly the pending tests are right
 pub stop_settleable : (plan : PlanParts) (es : List Entry) (m : List Bool) → length plan.tests ≤ length m → ((place : ℕ) → is_marked m place ≡ is_pending_at plan es (slice_get plan.tests place)) → AreSettleable plan (es ++ Stop ∷ []) [] m
 stop_settleable plan es m room marked = record {
   room = room;

@@ -13,7 +13,7 @@ use Rattle.ct_core.specs.declared.state.State.TheVariants.{Pending, Final}
 abbrev pub first_state : PlanTest → State
 first_state t = if t.disabled then Final Disabled else Pending 0
 
--- how many predecessors the test that was looked up has
+-- how many predecessors the test that was looked up has; 0 if there is no test
 abbrev pub count_before : Option PlanTest → ℕ
 count_before None = 0
 count_before (Some t) = length t.before
@@ -22,7 +22,8 @@ count_before (Some t) = length t.before
 abbrev pub first_counts : PlanParts → List ℕ
 first_counts plan = map (λ (n : ℕ). count_before (test_at plan.tests n)) plan.queue
 
--- the test that was looked up is not disabled, waits for none, and can't run at all: it may be settled before any entry
+-- the test that was looked up is there and may be settled before any
+-- entry: it is not disabled, has no predecessor, and has a fixed cause
 abbrev pub settles_first : Option PlanTest → Bool
 settles_first None = false
 settles_first (Some t) = not t.disabled && length t.before == 0 && is_some t.fixed

@@ -1,5 +1,5 @@
--- Which tests of a queue wait for one lock, and stand in one bunch. Source: CMake manual, cmake-properties(7),
--- RESOURCE_LOCK. The bunches are this project's own.
+-- The bunches of a queue: tests with the same key, which is a lock, or, without a key, with the same
+-- demand. Source: CMake manual, cmake-properties(7), RESOURCE_LOCK. The bunches are this project's own.
 use Rattle.std.specs.Prelude.{◌≡◌, ℕ, ◌<◌, ⊤, Bool, true, false, not, ◌==◌, List, length, All, Option, Some, None, option_and_then, slice_get, slice_index, slice_index_or, if◌then◌else◌}
 use Rattle.ct_history.specs.declared.plan.PlanTest.{PlanTest}
 use Rattle.ct_history.specs.declared.plan.PlanParts.{PlanParts}
@@ -15,17 +15,20 @@ use Rattle.ct_core.specs.Lines.{demand_at}
 abbrev pub test_in_queue : PlanParts → ℕ → Option PlanTest
 test_in_queue plan place = option_and_then (test_at plan.tests) (slice_get plan.queue place)
 
--- the lock of a test at a position in its list, where one is given and the test has no needs to be placed
+-- the lock at a position in the test's list of locks; none if the
+-- test, the position or the lock is missing, or if the test has needs
 abbrev pub lock_at : Option PlanTest → Option ℕ → Option (List ℕ)
 lock_at None position = None
 lock_at (Some t) None = None
 lock_at (Some t) (Some at) = if length t.needs == 0 then slice_get t.locks at else None
 
--- the lock that the test at a place of the queue waits for together with others, if there is one
+-- the key of the test at a place of the queue: the lock that
+-- it waits for together with other tests, if there is one
 abbrev pub key_at : PlanParts → List (Option ℕ) → ℕ → Option (List ℕ)
 key_at plan keys place = lock_at (test_in_queue plan place) (slice_index_or keys place None)
 
--- each test of the queue has as its bunch a place there of a test that waits for the same lock, or asks for the same
+-- the bunch of each test of the queue is a place of the queue. The
+-- test there has the same key, and if that is none, the same demand.
 pub record AreBunchesOf (plan : PlanParts) (keys : List (Option ℕ)) (bunches : List ℕ) : Type 0 where
   pub many : length bunches ≡ length plan.queue
   pub within : All (λ bunch. bunch < length plan.queue) bunches
@@ -37,30 +40,31 @@ abbrev pub is_free_lock : (List ℕ → Bool) → Option (List ℕ) → Bool
 is_free_lock is_held None = false
 is_free_lock is_held (Some lock) = not (is_held lock)
 
--- beside what is in use there is room for the test that was looked up
+-- the test that was looked up is there, and has room beside what is in use
 abbrev pub has_room_at : PlanParts → InUse → Option PlanTest → Bool
 has_room_at plan in_use None = false
 has_room_at plan in_use (Some t) = has_room_beside plan.level in_use t
 
--- the place stands in front of an end; where none is given, each place does
+-- the place stands in front of the end, if an end is given
 abbrev pub IsBefore : Option ℕ → ℕ → Type 0
 IsBefore None place = ⊤
 IsBefore (Some end) place = place < end
 
--- each head in front of an end is of a seen bunch
+-- the bunch of each head in front of the end was seen: it has a head up to the given place
 abbrev pub NoNewBunchTo : ReadyValue → Option ℕ → Option ℕ → Type 0
 NoNewBunchTo ready given end = (head : ℕ) → IsHead ready head → IsBefore end head → IsOfSeenBunch ready given head
 
--- the first head of a new bunch, in front of an end
+-- a head of a new bunch is found, in front of the end; each earlier head is of a bunch that was seen
 pub record IsNewBunchTo (ready : ReadyValue) (given end : Option ℕ) (found : ℕ) : Type 0 where
   pub new : IsOfNewBunch ready given found
   pub before : IsBefore end found
 
--- of the bunch of a place, none of the heads behind it and in front of an end may start
+-- no test may start at a head of the place's bunch that is behind the place and in front of the end
 abbrev pub NoneOfBunch : PlanParts → List Entry → ReadyValue → ℕ → Option ℕ → Type 0
 NoneOfBunch plan entries ready place end = (head : ℕ) → place < head → IsBefore end head → slice_index ready.bunches head ≡ slice_index ready.bunches place → IsHead ready head → CanStart plan entries (slice_index plan.queue head) → ⊥
 
--- of the bunch of a place, the first head behind it and in front of an end whose test may start, without a placement
+-- a head of the place's bunch is found, behind the place and in front of the end. Its test may
+-- start without a placement, and no test may start at a head of the bunch between the two.
 pub record IsFirstOfBunch (plan : PlanParts) (entries : List Entry) (ready : ReadyValue) (place : ℕ) (end : Option ℕ) (found : ℕ) : Type 0 where
   pub behind : place < found
   pub before : IsBefore end found

@@ -1,4 +1,4 @@
--- What a run does next, by what its history says. The order of the cases is this project's choice.
+-- What a run does next, as its history tells. The order of the cases is this project's choice.
 use Rattle.std.specs.Prelude.{◌≡◌, ◌⊎◌, ℕ, ◌+◌, ◌<◌, Bool, true, false, List, ◌∷◌, ◌++◌, length, All, Option, Some, None}
 use Rattle.ct_alloc.specs.declared.placement.Placement.{Placement}
 use Rattle.ct_verdict.specs.declared.verdict.Cause.{Cause}
@@ -13,7 +13,8 @@ use Rattle.ct_core.specs.declared.choice.Startable.{Startable}
 use Rattle.ct_core.specs.declared.choice.Choice.{Choice}
 use Rattle.ct_core.specs.declared.choice.Choice.TheVariants.{Done, Settle, Start, Wait}
 
--- the number of the next attempt of the test that was looked up: one more than its Ends so far
+-- the number of the next attempt of the test that was looked
+-- up: one more than its Ends so far; 1 if there is no test
 abbrev pub attempt_after : List Entry → Option PlanTest → ℕ
 attempt_after entries None = 1
 attempt_after entries (Some t) = length (attempts_of t.number t.rules entries) + 1
@@ -26,12 +27,12 @@ NoneSettles plan entries = (number : ℕ) → settle_cause_of_test plan entries 
 abbrev pub NoneStarts : PlanParts → List Entry → List ℕ → Type 0
 NoneStarts plan entries numbers = All (λ number. CanStart plan entries number → ⊥) numbers
 
--- the test may be settled with this cause, and no test of a lesser number may with any
+-- the test may be settled with this cause, and no test with a lower number may be settled
 pub record IsLeastToSettle (plan : PlanParts) (entries : List Entry) (number : ℕ) (cause : Cause) : Type 0 where
   pub may : settle_cause_of_test plan entries number ≡ Some cause
   pub least : (n : ℕ) → n < number → settle_cause_of_test plan entries n ≡ None
 
--- the test may start with this placement, and no earlier one of the queue may with any
+-- the test may start with this placement, and no test in front of it in the queue may start
 pub record IsFirstToStart (plan : PlanParts) (entries : List Entry) (number : ℕ) (placement : Option Placement) : Type 0 where
   pub earlier : List ℕ
   pub later : List ℕ
@@ -39,13 +40,14 @@ pub record IsFirstToStart (plan : PlanParts) (entries : List Entry) (number : �
   pub may : may_start_at plan entries placement (test_at plan.tests number) ≡ true
   pub first : NoneStarts plan entries earlier
 
--- the next attempt of this test, which may start with its placement
+-- `start` is the next attempt of the test, with a placement by which the test may start
 pub record IsStartOf (plan : PlanParts) (entries : List Entry) (number : ℕ) (start : Startable) : Type 0 where
   pub test : start.test ≡ number
   pub may : may_start_at plan entries start.placement (test_at plan.tests number) ≡ true
   pub next : start.attempt ≡ attempt_after entries (test_at plan.tests number)
 
--- the next attempt of the first test in the queue that may start, with its placement
+-- `start` is the next attempt of the first test in the
+-- queue that may start, with a placement by which it may
 pub record IsStartable (plan : PlanParts) (entries : List Entry) (start : Startable) : Type 0 where
   pub first : IsFirstToStart plan entries start.test start.placement
   pub next : start.attempt ≡ attempt_after entries (test_at plan.tests start.test)
@@ -62,13 +64,12 @@ pub record SomeSettles (plan : PlanParts) (entries : List Entry) : Type 0 where
   pub cause : Cause
   pub may : settle_cause_of_test plan entries number ≡ Some cause
 
--- the test that was looked up may start wherever its needs are met
+-- the test that was looked up is there, and may start as soon as its needs are met
 abbrev pub may_start_if_placed_at : PlanParts → List Entry → Option PlanTest → Bool
 may_start_if_placed_at plan entries None = false
 may_start_if_placed_at plan entries (Some t) = may_start_if_placed plan t entries
 
--- some test of the queue may start with any placement for its needs, or has no needs and may start; no
--- earlier one may start with any placement
+-- some test of the queue may start as soon as its needs are met, and no test in front of it may start
 pub record SomeIsToPlace (plan : PlanParts) (entries : List Entry) : Type 0 where
   pub earlier : List ℕ
   pub number : ℕ
@@ -77,12 +78,14 @@ pub record SomeIsToPlace (plan : PlanParts) (entries : List Entry) : Type 0 wher
   pub may : may_start_if_placed_at plan entries (test_at plan.tests number) ≡ true
   pub first : NoneStarts plan entries earlier
 
--- what comes next takes memory: some test is not final, and one may be settled, or else one may start or is to be placed
+-- what comes next takes memory: some test is not final. Either a test may be
+-- settled; or none may, and some test may start as soon as its needs are met.
 pub record TakesMemory (plan : PlanParts) (entries : List Entry) : Type 0 where
   pub unfinished : are_all_final plan entries ≡ false
   pub goes_on : SomeSettles plan entries ⊎ (NoneSettles plan entries × SomeIsToPlace plan entries)
 
--- what a choice says: the first that holds of these
+-- what each choice says: every test is final; the least test may be settled with this cause; no test
+-- may be settled, and this is the next start; or nothing can be done while some attempt is open
 abbrev pub IsChoice : PlanParts → List Entry → Choice → Type 0
 IsChoice plan entries Done = are_all_final plan entries ≡ true
 IsChoice plan entries (Settle number cause) = IsLeastToSettle plan entries number cause

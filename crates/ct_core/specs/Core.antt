@@ -16,7 +16,7 @@ use Rattle.ct_core.specs.Choice.{IsFirstToStart, IsLeastToSettle, IsStuck, NoneS
 use Rattle.ct_core.specs.Ticket.{start_of}
 use Rattle.ct_core.specs.CoreValue.{CoreValue}
 
--- the entries, with a Stop behind them where one is due
+-- the entries, with a Stop behind them if one is due
 abbrev pub with_due_stop : PlanParts → List Entry → List Entry
 with_due_stop plan entries = if is_stop_due plan entries then entries ++ Stop ∷ [] else entries
 
@@ -24,11 +24,12 @@ with_due_stop plan entries = if is_stop_due plan entries then entries ++ Stop �
 abbrev pub with_entry : CoreValue → Entry → CoreValue
 with_entry core entry = record core { entries = core.entries ++ entry ∷ [] }
 
--- the core with one entry more, and with a Stop directly behind it where that entry makes one due
+-- the core with one entry more, and with a Stop directly behind it if that entry makes one due
 abbrev pub with_final : CoreValue → Entry → CoreValue
 with_final core entry = record core { entries = with_due_stop core.plan (core.entries ++ entry ∷ []) }
 
--- the first test in the queue that may start does: the ticket is for its next attempt, by this worker
+-- the run was not given up, and no test may be settled. The first test of the queue
+-- that may start has started: the ticket is for its next attempt, by this worker.
 pub record StartsFirst (old : CoreValue) (worker : ℕ) (ticket : Ticket) (new : CoreValue) : Type 0 where
   pub goes_on : old.aborted ≡ false
   pub unsettled : NoneSettles old.plan old.entries
@@ -37,33 +38,35 @@ pub record StartsFirst (old : CoreValue) (worker : ℕ) (ticket : Ticket) (new :
   pub by : ticket.worker ≡ worker
   pub appended : new ≡ with_entry old (start_of ticket)
 
--- the least test that may be settled is
+-- the run was not given up, and of the tests that may be
+-- settled the one with the lowest number was settled
 pub record SettlesLeast (old : CoreValue) (test : ℕ) (new : CoreValue) : Type 0 where
   pub cause : Cause
   pub goes_on : old.aborted ≡ false
   pub least : IsLeastToSettle old.plan old.entries test cause
   pub appended : new ≡ with_final old (Settle test cause)
 
--- nothing can be done before an attempt ends, and some attempt is open
+-- the run was not given up, nothing can be done before an
+-- attempt ends, some attempt is open, and nothing changed
 pub record Waits (old new : CoreValue) : Type 0 where
   pub goes_on : old.aborted ≡ false
   pub stuck : IsStuck old.plan old.entries
   pub busy : is_idle old.entries ≡ false
   pub kept : new ≡ old
 
--- every test is final
+-- the run was not given up, every test is final, and nothing changed
 pub record IsDone (old new : CoreValue) : Type 0 where
   pub goes_on : old.aborted ≡ false
   pub final : are_all_final old.plan old.entries ≡ true
   pub kept : new ≡ old
 
--- memory was wanting, where what comes next takes some
+-- the run was not given up, memory was wanting for what comes next, and nothing changed
 pub record LacksMemory (old new : CoreValue) : Type 0 where
   pub goes_on : old.aborted ≡ false
   pub takes : TakesMemory old.plan old.entries
   pub kept : new ≡ old
 
--- what an answer of `next` says
+-- what each answer of `next` says of the core in front of the call and behind it
 abbrev pub IsNext : CoreValue → ℕ → Next → CoreValue → Type 0
 IsNext old worker (Start ticket) new = StartsFirst old worker ticket new
 IsNext old worker (Settled test) new = SettlesLeast old test new

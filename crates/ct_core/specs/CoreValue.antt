@@ -1,4 +1,4 @@
--- What a core is to its callers. This project's own.
+-- The value of a core, as its callers see it. This project's own.
 use Rattle.std.specs.Prelude.{Bool, List}
 use Rattle.ct_history.specs.declared.plan.PlanParts.{PlanParts}
 use Rattle.ct_history.specs.declared.history.Entry.{Entry}

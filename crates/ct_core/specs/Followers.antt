@@ -3,7 +3,7 @@ use Rattle.std.specs.Prelude.{ℕ, Bool, not, ◌&&◌, List, map, filter, ◌==
 use Rattle.std.specs.List.{list_any}
 use Rattle.ct_history.specs.declared.plan.PlanTest.{PlanTest}
 
--- the number is one of these
+-- the number is one of these numbers
 abbrev pub is_one_of : ℕ → List ℕ → Bool
 is_one_of number numbers = list_any (λ n. n == number) numbers
 
@@ -15,6 +15,6 @@ follows number t = not t.disabled && is_one_of number t.before
 abbrev pub followers_of : List PlanTest → ℕ → List ℕ
 followers_of tests number = map (λ (t : PlanTest). t.number) (filter (follows number) tests)
 
--- for each test of the plan, in order, those of some tests that wait for it
+-- for each of these tests, in order, the numbers of the tests among `some` that wait for it
 abbrev pub followers_among : List PlanTest → List PlanTest → List (List ℕ)
 followers_among some tests = map (λ (t : PlanTest). followers_of some t.number) tests

@@ -8,7 +8,7 @@ use Rattle.ct_core.specs.declared.gate.Ended.{Ended}
 use Rattle.ct_core.specs.declared.gate.Request.{Request}
 use Rattle.ct_core.specs.declared.gate.Told.{Told}
 
--- the attempt ended since memory was wanting
+-- the attempt ended for want of memory
 abbrev pub is_no_memory : How → Bool
 is_no_memory (Exited code) = false
 is_no_memory Signalled = false
@@ -26,45 +26,47 @@ is_not_started NotStarted = true
 is_not_started (Lacks place) = false
 is_not_started NoMemory = false
 
--- an attempt of which nothing is told hears nothing and exits with 0 at once
+-- the line for an attempt that the world does not name: nothing is heard, and it exits with 0 at once
 abbrev pub untold : ℕ → ℕ → Told
 untold test attempt = record { test = test; attempt = attempt; heard = []; ended = record { how = Exited (pos 0); micros = 0 } }
 
--- what a world tells of an attempt: its first entry of that test and attempt
+-- what a world tells of an attempt: its first line of that test and attempt, else `untold`
 abbrev pub told : List Told → ℕ → ℕ → Told
 told world test attempt = unwrap_or (find (λ (t : Told). t.test == test && t.attempt == attempt) world) (untold test attempt)
 
--- what a gate tells: what each attempt comes to, the attempts and the requests that were run so far, where it tells
--- these, and how many could not be started
+-- what a gate tells: what each attempt comes to, and the attempts and requests that
+-- were run so far, each of the three if it is known; and how many faults it has counted
 pub record GateTell : Type 0 where
   pub world : Option (List Told)
   pub asked : Option (List Asked)
   pub sent : Option (List Request)
   pub faults : ℕ
 
--- what a call that ended so is recorded as: nothing where memory was wanting
+-- what a gate records of a call that ended like this: the item, or nothing if memory was wanting
 abbrev pub recorded : {A : Type 0} → How → A → List A
 recorded how item = if is_no_memory how then [] else item ∷ []
 
--- the test and the attempt that a gate was asked
+-- the record of a call: the test and the attempt that the gate was asked to run
 abbrev pub asked_for : ℕ → ℕ → Asked
 asked_for test attempt = record { test = test; attempt = attempt }
 
--- an answer is the told one, or memory was wanting
+-- the answer is the one that the world tells, unless memory was wanting or the world is not known
 abbrev pub IsTold : Option (List Told) → ℕ → ℕ → Ended → Type 0
 IsTold world test attempt ended = is_no_memory ended.how ≡ false → IfSome world (λ w. ended ≡ (told w test attempt).ended)
 
--- each text that stood before is followed by what is told, unless memory was wanting
+-- the ear heard what the world tells, behind what it had heard
+-- before, unless memory was wanting or the world is not known
 abbrev pub HearsTold : Option (List Told) → ℕ → ℕ → How → (List ℕ → Type 0) → (List ℕ → Type 0) → Type 0
 HearsTold world test attempt how before now = is_no_memory how ≡ false → IfSome world (λ w. (text : List ℕ) → before text → now (text ++ (told w test attempt).heard))
 
--- the count of faults never falls, it rose where the attempt was not started, and it stays where it was
+-- the count of faults rose if the attempt was not started, and else stays; it never falls
 pub record HasStartCause (before now : ℕ) (how : How) : Type 0 where
   pub later : before ≤ now
   pub failed : is_not_started how ≡ true → Rose before now
   pub unfailed : is_not_started how ≡ false → now ≡ before
 
--- a request was run: the answer and what the ear heard are told, and the call is recorded, unless memory was wanting
+-- a request was run. Unless memory was wanting, the answer and what the ear heard are as the world
+-- tells, and the call is recorded. The world stays, and the count of faults follows the answer.
 pub record RunsRequest (request : Request) (before now : GateTell) (heard_before heard_now : List ℕ → Type 0) (ended : Ended) : Type 0 where
   pub told : IsTold before.world request.test request.attempt ended
   pub heard : HearsTold before.world request.test request.attempt ended.how heard_before heard_now

@@ -17,7 +17,8 @@ use Rattle.ct_core.specs.declared.in_use.InUse.{InUse}
 abbrev pub KnowsLocks : List PlanTest → InUse → Type 0
 KnowsLocks tests u = All (λ (t : PlanTest). list_all (knows u.locks) t.locks ≡ true) tests
 
--- it is what these starts use together
+-- the value says what these starts use together; it has the
+-- plan's resources, and knows each lock that a test names
 pub record IsInUse (plan : PlanParts) (starts : List Running) (u : InUse) : Type 0 where
   pub processors : u.processors ≡ sum_by (λ (r : Running). processors_of (test_at plan.tests r.test)) starts
   pub opens : u.open_count ≡ length starts
@@ -37,7 +38,7 @@ pub record Takes (t : PlanTest) (placement : Option Placement) (old new : InUse)
   pub resources : resources_of new.free ≡ resources_of old.free
   pub slots : (place : ℕ) → used_of new.free place ≡ used_of old.free place + placed_slots place placement
 
--- what is in use after a test with this placement has ended; no other test held its locks
+-- what is in use after a test with this placement has ended, if no other test held its locks
 pub record Gives (t : PlanTest) (placement : Option Placement) (old new : InUse) : Type 0 where
   pub processors : new.processors ≡ old.processors - t.processors
   pub opens : new.open_count ≡ old.open_count - 1
@@ -47,23 +48,26 @@ pub record Gives (t : PlanTest) (placement : Option Placement) (old new : InUse)
   pub resources : resources_of new.free ≡ resources_of old.free
   pub slots : (place : ℕ) → used_of new.free place ≡ used_of old.free place - placed_slots place placement
 
--- an open test excludes this one
+-- some open test and this test exclude each other
 abbrev pub is_excluded_beside : InUse → PlanTest → Bool
 is_excluded_beside u t = u.serial || t.serial && nat_lt 0 u.open_count || list_any (is_held u.locks) t.locks
 
--- beside what is in use there are processors for a test, and no open test excludes it
+-- the test has room: its processors and the used ones are
+-- together at most the level, and no open test excludes it
 abbrev pub has_room_beside : ℕ → InUse → PlanTest → Bool
 has_room_beside level u t =
     nat_le (t.processors + u.processors) level && not (is_excluded_beside u t)
 
--- what a placement takes is there and free; where no resources are given, it takes none
+-- the resources of a placement are there and have its slots
+-- free. Without resources there is no placement.
 abbrev pub HasFreeFor : Option FreeValue → Option Placement → Type 0
 HasFreeFor None None = Unit {0}
 HasFreeFor None (Some p) = ⊥
 HasFreeFor (Some free) None = Unit {0}
 HasFreeFor (Some free) (Some p) = (are_there free.resources p.picks ≡ true) × (fits_beside free.resources (used_at free) p.picks ≡ true)
 
--- what a placement gives back is there and used; where no resources are given, it gives none
+-- the resources of a placement are there and have its slots
+-- in use. Without resources there is no placement.
 abbrev pub HasTaken : Option FreeValue → Option Placement → Type 0
 HasTaken None None = Unit {0}
 HasTaken None (Some p) = ⊥

@@ -5,7 +5,7 @@ use Rattle.std.specs.declared.vec.Vec.{Vec}
 use Rattle.indexmap.specs.IndexMap.{IndexMap, get_by}
 use Rattle.ct_core.specs.declared.locks.Locks.{Locks}
 
--- whether a lock is held, where it is known
+-- whether a lock is held, if it is known
 abbrev pub hold_of : {Y S : Type 0} → IndexMap (Vec ℕ Y) Bool S → List ℕ → Option Bool
 hold_of {Y} held name = get_by (λ (lock : Vec ℕ Y). bytes_eq name lock.items) held
 

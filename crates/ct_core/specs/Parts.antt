@@ -1,4 +1,4 @@
--- What a core keeps beside its history, so that it need not look through it. This project's own.
+-- What a core keeps beside its history, so that no call has to search the history. This project's own.
 use Rattle.std.specs.Prelude.{◌≡◌, ℕ, ◌+◌, ◌<◌, ◌≤◌, Bool, ◌&&◌, not, true, false, List, [], length, map, Option, Some, None, slice_get, slice_set, nat_lt, slice_index_or, if◌then◌else◌}
 use Rattle.ct_verdict.specs.declared.verdict.Cause.{Cause}
 use Rattle.ct_verdict.specs.declared.verdict.Verdict.TheVariants.{NotRun}
@@ -22,7 +22,7 @@ use Rattle.ct_core.specs.InUse.{IsInUse}
 use Rattle.ct_core.specs.Standing.{count_unfinished, is_pending_state, states_of}
 use Rattle.ct_core.specs.Waiting.{AreSettleable, IsQueued, followers_of}
 
--- the test that was looked up is pending
+-- the state that was looked up is there, and is pending
 abbrev pub is_pending_in : Option State → Bool
 is_pending_in None = false
 is_pending_in (Some s) = is_pending_state s
@@ -31,8 +31,8 @@ is_pending_in (Some s) = is_pending_state s
 abbrev pub is_pending_at_place : List State → ℕ → Bool
 is_pending_at_place states place = is_pending_in (slice_get states place)
 
--- the state of each test of a sound plan, what the open ones use, and whether there is a Stop agree with the
--- history; the followers agree with the plan
+-- the plan is sound. The states, what is in use and whether there is
+-- a Stop agree with the history. The followers agree with the plan.
 pub record AreTold (plan : PlanParts) (entries : List Entry) (parts : Parts) : Type 0 where
   pub sound : IsSound plan
   pub states : parts.states.items ≡ states_of plan entries
@@ -40,18 +40,19 @@ pub record AreTold (plan : PlanParts) (entries : List Entry) (parts : Parts) : T
   pub stopped : parts.stopped ≡ has_stop entries
   pub followers : parts.followers.items ≡ map (λ (t : PlanTest). followers_of plan.tests t.number) plan.tests
 
--- the tests that are ready, and those that may be settled, are as the history says, but for those of `left`; those of one
--- bunch wait for one lock, or ask for the same
+-- the marks of the tests that may be settled agree with the history. While there is no Stop, the ready
+-- set and the bunches agree with the plan and the history. The tests of `left` are not updated yet.
 pub record AreQueued (plan : PlanParts) (entries : List Entry) (left : List ℕ) (parts : Parts) : Type 0 where
   pub ready : has_stop entries ≡ false → IsQueued plan entries left parts.ready
   pub bunches : has_stop entries ≡ false → AreBunchesOf plan parts.keys.items parts.ready.bunches
   pub settleable : AreSettleable plan entries left parts.settleable
 
--- while something is open there is room for each end and a Stop, so that an end takes no memory
+-- while an attempt is open, the room suffices for an End of each open
+-- attempt and for a Stop that may still come, so an End takes no memory
 abbrev pub HasRoom : List Entry → ℕ → Parts → Type 0
 HasRoom entries room parts = 0 < parts.in_use.open_count → length entries + parts.in_use.open_count + stop_places entries ≤ room
 
--- the history is legal, and each part agrees with it
+-- the history is legal, it has room for what is still to end, and each part agrees with it
 pub record IsKept (plan : PlanParts) (entries : List Entry) (room : ℕ) (parts : Parts) : Type 0 where
   pub legal : is_legal plan entries ≡ true
   pub reserved : HasRoom entries room parts
@@ -59,8 +60,8 @@ pub record IsKept (plan : PlanParts) (entries : List Entry) (room : ℕ) (parts 
   pub unfinished : parts.unfinished ≡ count_unfinished parts.states.items
   pub queued : AreQueued plan entries [] parts
 
--- the last entry made the test final with this verdict; only these are not updated yet: the number of tests
--- that are not final, its followers, a due Stop
+-- the last entry made the test final with this verdict. Only three parts are not updated
+-- yet: the number of tests that are not final, the test's followers, and a due Stop.
 pub record IsConcluding (plan : PlanParts) (entries : List Entry) (room : ℕ) (number : ℕ) (verdict : Verdict) (parts : Parts) : Type 0 where
   pub allowed : is_allowed_so_far plan entries ≡ true
   pub final : verdict_of_test plan entries number ≡ Some verdict
@@ -72,11 +73,11 @@ pub record IsConcluding (plan : PlanParts) (entries : List Entry) (room : ℕ) (
   pub waiting : has_stop entries ≡ false → AreQueued plan entries (followers_of plan.tests number) parts
   pub stopped : has_stop entries ≡ true → AreSettleable plan entries [] parts.settleable
 
--- the tests that wait for the one at a place
+-- the numbers of the tests that wait for the test at a place; none for a place past the last test
 abbrev pub followers_at : Parts → ℕ → List ℕ
 followers_at parts place = slice_index_or parts.followers.items place []
 
--- nothing changed but which tests are ready and which may be settled
+-- only the ready set and the marks of the tests that may be settled can have changed
 pub record IsLowered (old new : Parts) : Type 0 where
   pub states : new.states.items ≡ old.states.items
   pub unfinished : new.unfinished ≡ old.unfinished
@@ -85,7 +86,8 @@ pub record IsLowered (old new : Parts) : Type 0 where
   pub followers : new.followers.items ≡ old.followers.items
   pub stopped : new.stopped ≡ old.stopped
 
--- the test at this place is pending again, after so many attempts: ready, or to be settled behind a Stop
+-- the test at this place is pending again, after so many attempts. Without a
+-- Stop it is no longer out of the ready set; behind a Stop it may be settled.
 pub record GoesOn (place number attempts : ℕ) (old new : Parts) : Type 0 where
   pub states : new.states.items ≡ slice_set old.states.items place (Pending attempts)
   pub unfinished : new.unfinished ≡ old.unfinished
@@ -96,7 +98,8 @@ pub record GoesOn (place number attempts : ℕ) (old new : Parts) : Type 0 where
   pub ready : old.stopped ≡ false → new.ready ≡ with_out old.ready number false
   pub settleable : new.settleable ≡ (if old.stopped then slice_set old.settleable place true else old.settleable)
 
--- the test at this place is settled
+-- the test at this place is settled with this cause: it is final,
+-- out of the ready set if there is no Stop, and not marked
 pub record IsSettled (place number : ℕ) (cause : Cause) (old new : Parts) : Type 0 where
   pub states : new.states.items ≡ slice_set old.states.items place (Final (NotRun cause))
   pub unfinished : new.unfinished ≡ old.unfinished
@@ -107,7 +110,8 @@ pub record IsSettled (place number : ℕ) (cause : Cause) (old new : Parts) : Ty
   pub ready : old.stopped ≡ false → new.ready ≡ with_out old.ready number true
   pub settleable : new.settleable ≡ slice_set old.settleable place false
 
--- a Stop stands: of the tests at so many places, those that are pending may be settled
+-- a Stop is noted. Among the first `places` places exactly
+-- those of pending tests are marked, and each other mark stays.
 pub record IsStoppedTo (places : ℕ) (old new : Parts) : Type 0 where
   pub states : new.states.items ≡ old.states.items
   pub unfinished : new.unfinished ≡ old.unfinished
@@ -118,6 +122,6 @@ pub record IsStoppedTo (places : ℕ) (old new : Parts) : Type 0 where
   pub room : length new.settleable ≡ length old.settleable
   pub marked : (place : ℕ) → is_marked new.settleable place ≡ (if nat_lt place places then is_pending_at_place old.states.items place else is_marked old.settleable place)
 
--- a Stop stands: each test that is pending may be settled
+-- a Stop is noted, and exactly the pending tests are marked: each of them may be settled
 abbrev pub IsStopped : Parts → Parts → Type 0
 IsStopped old new = IsStoppedTo (length old.states.items) old new

@@ -3,6 +3,6 @@ use Rattle.std.specs.Prelude.{ℕ, List, if◌then◌else◌}
 use Rattle.ct_history.specs.declared.history.Entry.{Entry}
 use Rattle.ct_history.specs.History.{has_stop}
 
--- the places that a Stop may still take
+-- how many places a Stop may still take: 0 if there is a Stop, else 1
 abbrev pub stop_places : List Entry → ℕ
 stop_places entries = if has_stop entries then 0 else 1

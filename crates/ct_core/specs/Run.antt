@@ -8,29 +8,30 @@ use Rattle.ct_core.specs.Choice.{IsChoice}
 use Rattle.ct_core.specs.Order.{FollowsQueue}
 use Rattle.ct_core.specs.Parts.{IsConcluding, IsKept}
 
--- what happened in the run
+-- the entries of the run's history
 abbrev pub entries_of : Run → List Entry
 entries_of run = run.history.entries.items
 
--- its history is legal, and its parts agree with it
+-- the run's history is legal, and its parts agree with the history
 abbrev pub IsKeptRun : Run → Type 0
 IsKeptRun run = IsKept run.plan (entries_of run) (vec_capacity run.history.entries) run.parts
 
--- it is kept, and its history follows the queue
+-- the run is kept, and its history follows the queue
 pub record IsOrderlyRun (run : Run) : Type 0 where
   pub kept : IsKeptRun run
   pub order : FollowsQueue run.plan (entries_of run)
 
--- where an answer to wait is remembered, there is nothing to do but wait
+-- if the core remembers that it answered `Wait`, then `Wait` is still the right choice
 abbrev pub WaitsStill : Bool → Run → Type 0
 WaitsStill true run = IsChoice run.plan (entries_of run) Wait
 WaitsStill false run = ⊤
 
--- what a core keeps: an orderly run, and an answer to wait as long as it holds
+-- what holds of each core: its run is orderly, and a remembered `Wait` is still the right choice
 pub record IsKeptCore (run : Run) (waits : Bool) : Type 0 where
   pub orderly : IsOrderlyRun run
   pub still : WaitsStill waits run
 
--- its last entry made the test final with this verdict, and that alone is not noted yet
+-- the run's last entry made the test final with this verdict,
+-- and only what follows from that is not updated yet
 abbrev pub IsConcludingRun : ℕ → Verdict → Run → Type 0
 IsConcludingRun number verdict run = IsConcluding run.plan (entries_of run) (vec_capacity run.history.entries) number verdict run.parts

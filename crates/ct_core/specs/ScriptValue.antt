@@ -1,4 +1,4 @@
--- What a gate that follows a script is to its callers. This project's own.
+-- The value of a gate that follows a script, as its callers see it. This project's own.
 use Rattle.std.specs.Prelude.{◌≡◌, ℕ, ◌+◌, ◌-◌, ◌*◌, ◌^◌, min, nat_lt, true, false, List, Some, [], ◌∷◌, ◌++◌, if◌then◌else◌}
 use Rattle.std.specs.List.Sorted.{IsNonDecreasingBy, IsPartitionPoint}
 use Rattle.ct_verdict.specs.declared.attempt.How.{How}
@@ -7,14 +7,15 @@ use Rattle.ct_core.specs.declared.gate.Request.{Request}
 use Rattle.ct_core.specs.declared.gate.Told.{Told}
 use Rattle.ct_core.specs.Gate.{GateTell, asked_for, is_not_started}
 
--- its world, what it was asked and sent so far, and how many attempts were not started
+-- the gate's world, the attempts and the requests that it
+-- was given so far, and how many attempts were not started
 pub record ScriptValue : Type 0 where
   pub world : List Told
   pub asked : List Asked
   pub sent : List Request
   pub faults : ℕ
 
--- what a gate that follows a script tells: all
+-- what a gate that follows a script tells: its world, its attempts, its requests and its count of faults
 abbrev pub told_of_script : ScriptValue → GateTell
 told_of_script gate = record { world = Some gate.world; asked = Some gate.asked; sent = Some gate.sent; faults = gate.faults }
 
@@ -22,7 +23,7 @@ told_of_script gate = record { world = Some gate.world; asked = Some gate.asked;
 abbrev pub Records : ScriptValue → Request → ScriptValue → Type 0
 Records old request new = new ≡ record old { asked = old.asked ++ asked_for request.test request.attempt ∷ []; sent = old.sent ++ request ∷ [] }
 
--- an attempt that was not started raised the count, and nothing else changed
+-- the count of faults rose by one if the attempt was not started, up to 2^64 - 1; nothing else changed
 abbrev pub CountsStart : ScriptValue → How → ScriptValue → Type 0
 CountsStart old how new = new ≡ record old { faults = (if is_not_started how then min (old.faults + 1) (2 ^ 64 - 1) else old.faults) }
 
@@ -30,11 +31,11 @@ CountsStart old how new = new ≡ record old { faults = (if is_not_started how t
 abbrev pub rank : ℕ → ℕ → ℕ
 rank test attempt = test * 2 ^ 32 + attempt
 
--- what is told stands in the order of test and attempt
+-- the lines of the world are in the order of test and attempt
 abbrev pub AreInOrder : List Told → Type 0
 AreInOrder world = IsNonDecreasingBy (λ (t : Told). rank t.test t.attempt) world
 
--- in front of this place stands what has a lower rank, and from it on what has not
+-- each line in front of the place has a lower rank than the one sought, and no line from the place on has
 abbrev pub IsPlaceOf : ℕ → List Told → ℕ → Type 0
 IsPlaceOf sought world place =
     IsPartitionPoint (λ (t : Told). nat_lt (rank t.test t.attempt) sought ≡ true) (λ (t : Told). nat_lt (rank t.test t.attempt) sought ≡ false) world place

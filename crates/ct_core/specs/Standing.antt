@@ -1,4 +1,5 @@
--- How the tests of a plan stand by a history. Source: CMake manual, ctest(1), --repeat; the states are this project's own.
+-- The states of the tests of a plan, as a history tells them. Source:
+-- CMake manual, ctest(1), --repeat; the states are this project's own.
 use Rattle.std.specs.Prelude.{◌≡◌, ℕ, ◌<◌, Bool, true, false, List, length, map, filter, find, Option, Some, None, is_none, slice_get, ◌==◌}
 use Rattle.ct_verdict.specs.declared.verdict.Verdict.{Verdict}
 use Rattle.ct_verdict.specs.declared.repeat.Repeat.{Repeat}
@@ -11,37 +12,38 @@ use Rattle.ct_history.specs.Verdicts.{verdict_in, verdict_of_test}
 use Rattle.ct_core.specs.declared.state.State.{State}
 use Rattle.ct_core.specs.declared.state.State.TheVariants.{Pending, Open, Final}
 
--- the open start of a test
+-- the open start of a test, if there is one
 abbrev pub open_start : ℕ → List Entry → Option Running
 open_start test entries = find (λ (r : Running). r.test == test) (open_starts entries)
 
--- final with a verdict, or open with a placement, or pending, after so many attempts that have ended
+-- the state by the verdict, the open start and the number of ended attempts:
+-- final if there is a verdict, else open if there is an open start, else pending
 abbrev pub standing : Option Verdict → Option Running → ℕ → State
 standing (Some v) running attempts = Final v
 standing None (Some r) attempts = Open attempts r.placement
 standing None None attempts = Pending attempts
 
--- the state of a test
+-- the state of a test, as the history tells it
 abbrev pub state_of : Repeat → List Entry → PlanTest → State
 state_of repeat entries t = standing (verdict_in repeat t entries) (open_start t.number entries) (length (attempts_of t.number t.rules entries))
 
--- how each test of the plan stands, in order
+-- the state of each test of the plan, in order
 abbrev pub states_of : PlanParts → List Entry → List State
 states_of plan entries = map (state_of plan.repeat entries) plan.tests
 
--- the verdict of a test that stands so
+-- the verdict of a test in this state, if it is final
 abbrev pub verdict_of_state : State → Option Verdict
 verdict_of_state (Pending attempts) = None
 verdict_of_state (Open attempts placement) = None
 verdict_of_state (Final v) = Some v
 
--- a test that stands so is neither final nor open
+-- a test in this state is neither final nor open
 abbrev pub is_pending_state : State → Bool
 is_pending_state (Pending attempts) = true
 is_pending_state (Open attempts placement) = false
 is_pending_state (Final v) = false
 
--- how many of these are not final
+-- how many of these states are not final
 abbrev pub count_unfinished : List State → ℕ
 count_unfinished states = length (filter (λ s. is_none (verdict_of_state s)) states)
 

@@ -19,15 +19,15 @@ attempt_of ticket = ticket.attempt
 abbrev pub worker_of : Ticket → ℕ
 worker_of ticket = ticket.worker
 
--- where the needs of the attempt are met, if it has any
+-- the placement of the attempt, if it has one
 abbrev pub placement_of : Ticket → Option Placement
 placement_of ticket = ticket.placement
 
--- the start that gave out the ticket
+-- the Start that gave out the ticket
 abbrev pub start_of : Ticket → Entry
 start_of ticket = Start ticket.test ticket.attempt ticket.worker ticket.placement
 
--- the end of the ticket's attempt
+-- the End of the ticket's attempt
 abbrev pub end_of : Ticket → Seen → Entry
 end_of ticket seen = End ticket.test ticket.attempt ticket.worker seen
 

@@ -14,12 +14,12 @@ use Rattle.ct_core.specs.Lines.{AreLinesOf}
 use Rattle.ct_core.specs.Standing.{open_before}
 pub use Rattle.ct_core.specs.Followers.{followers_of, is_one_of}
 
--- how many predecessors of the test that was looked up are not final
+-- how many predecessors of the test that was looked up are not final; 0 if there is no test
 abbrev pub open_before_at : PlanParts → List Entry → Option PlanTest → ℕ
 open_before_at plan entries None = 0
 open_before_at plan entries (Some t) = open_before plan entries t
 
--- the test that was looked up is neither final nor open
+-- the test that was looked up is there, and is neither final nor open
 abbrev pub is_pending_at : PlanParts → List Entry → Option PlanTest → Bool
 is_pending_at plan entries None = false
 is_pending_at plan entries (Some t) = is_pending plan t entries
@@ -28,8 +28,9 @@ is_pending_at plan entries (Some t) = is_pending plan t entries
 abbrev pub cause_then : PlanParts → List Entry → PlanTest → Option Cause
 cause_then plan entries t = cause_behind (first_unpassed plan t entries) t.fixed
 
--- each test of the queue is in the set with the number of its predecessors that are not final, a test of
--- `left` with one more; final and open tests are out; tests of one line have the same demand
+-- the ready set has the order of the queue. A test's count is the number of its
+-- predecessors that are not final, plus one for a test of `left`. A test is out
+-- exactly if it is final or open. The tests of one line have the same demand.
 pub record IsQueued (plan : PlanParts) (entries : List Entry) (left : List ℕ) (ready : ReadyValue) : Type 0 where
   pub order : ready.order ≡ plan.queue
   pub counted : length ready.counts ≡ length plan.queue
@@ -38,17 +39,19 @@ pub record IsQueued (plan : PlanParts) (entries : List Entry) (left : List ℕ) 
   pub outs : (n : ℕ) → StandsIn plan.queue n → is_out ready n ≡ not (is_pending_at plan entries (test_at plan.tests n))
   pub lines : AreLinesOf plan ready.lines
 
--- the test that was looked up may be settled, and is none of `left`
+-- the test that was looked up is there, may be settled, and is not in `left`
 abbrev pub settles_but : PlanParts → List Entry → List ℕ → Option PlanTest → Bool
 settles_but plan entries left None = false
 settles_but plan entries left (Some t) = is_some (settle_cause plan t entries) && not (is_one_of t.number left)
 
--- the marks stand at the places of the tests that may be settled, but for those of `left`
+-- there is room for a mark of each test, and exactly the
+-- tests that may be settled and are not in `left` are marked
 pub record AreSettleable (plan : PlanParts) (entries : List Entry) (left : List ℕ) (marks : List Bool) : Type 0 where
   pub room : length plan.tests ≤ length marks
   pub marked : (place : ℕ) → is_marked marks place ≡ settles_but plan entries left (slice_get plan.tests place)
 
--- the test with this number waits for nothing but room: it is pending and ready, and no Stop stands
+-- the test with this number is in the plan, pending and
+-- ready, and there is no Stop: it waits for room alone
 pub record IsDue (plan : PlanParts) (entries : List Entry) (number : ℕ) : Type 0 where
   pub test : PlanTest
   pub planned : test_at plan.tests number ≡ Some test

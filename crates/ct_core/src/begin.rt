@@ -20,8 +20,8 @@ use ct_verdict::Verdict;
 use std::alloc::Global;
 
 impl Parts {
-    /// Makes the parts of a run before its first entry. More tests than 32-bit places can name are answered
-    /// as want of memory.
+    /// Makes the parts of a run before its first entry. It also returns
+    /// `NoMemory` if there are more tests than 32-bit places can name.
     pub(crate) fn begin(alloc: Global, plan: &PlanParts) -> Result<Parts, NoMemory>
         requires { IsSound plan.now }
         ensures { IfOk result (λ parts. IsKept plan.now [] 0 parts) }
@@ -44,7 +44,7 @@ impl Parts {
     }
 }
 
-/// Says of each test how it stands before any entry.
+/// Lists the state of each test before any entry.
 fn first_states(alloc: Global, tests: &[PlanTest]) -> Result<Vec<State>, NoMemory>
     ensures { IfOk result (λ states. states.items ≡ map first_state tests.now) }
 {

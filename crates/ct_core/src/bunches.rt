@@ -11,8 +11,10 @@ use ct_history::{PlanParts, PlanTest};
 use indexmap::IndexMap;
 use std::alloc::Global;
 
-/// Chooses for each test of the queue which of its locks it waits for together with others: the one that most tests
-/// name. Any choice is right; this one makes the fewest bunches.
+/// Chooses the key of each test of the queue: the lock that it waits for together with other tests.
+///
+/// Any of its locks is right. The chosen one is the lock
+/// that the most tests name, which keeps bunches few.
 pub(crate) fn keys_of(alloc: Global, plan: &PlanParts) -> Result<Vec<Option<u32>>, NoMemory>
     requires { IsAscendingFrom 1 (map (λ t. t.number) plan.now.tests) }
 {
@@ -25,7 +27,7 @@ pub(crate) fn keys_of(alloc: Global, plan: &PlanParts) -> Result<Vec<Option<u32>
     Ok(keys)
 }
 
-/// Chooses one of the locks of the test with this number, if there are some.
+/// Chooses one of the locks of the test with this number, if it has any.
 fn key_of(counts: &IndexMap<Vec<u8>, u32>, tests: &[PlanTest], number: u32) -> Option<u32>
     requires { IsAscendingFrom 1 (map (λ t. t.number) tests.now) }
 {
@@ -58,7 +60,7 @@ fn count_of(counts: &IndexMap<Vec<u8>, u32>, lock: &Name) -> u32 {
     counts.get(lock.bytes()).copied().unwrap_or(0)
 }
 
-/// Finds the position of the lock with the greatest count.
+/// Finds the position of the lock with the greatest count, if there is a lock.
 fn most_named(counts: &IndexMap<Vec<u8>, u32>, locks: &[Name]) -> Option<u32> {
     let mut found = None;
     let mut most = 0;
@@ -72,7 +74,8 @@ fn most_named(counts: &IndexMap<Vec<u8>, u32>, locks: &[Name]) -> Option<u32> {
     found
 }
 
-/// Lends the lock that the test at a place of the queue waits for together with others.
+/// Lends the key of the test at a place of the queue: the
+/// lock that it waits for together with other tests.
 pub(crate) fn key_at<'a>(plan: &'a PlanParts, keys: &[Option<u32>], place: u32) -> Option<&'a Name>
     requires { IsAscendingFrom 1 (map (λ t. t.number) plan.now.tests) }
     ensures { option_copied result ≡ key_at plan.now keys.now place }
@@ -86,8 +89,8 @@ pub(crate) fn key_at<'a>(plan: &'a PlanParts, keys: &[Option<u32>], place: u32) 
     }
 }
 
-/// Gives each test of the queue its bunch: the place of the first one that waits for the same lock, or, where it waits for
-/// none, its line.
+/// Lists the bunch of each test of the queue: the place of the first
+/// test with the same key, or its line if the test has no key.
 pub(crate) fn bunches_of(
     alloc: Global,
     plan: &PlanParts,
@@ -108,8 +111,8 @@ pub(crate) fn bunches_of(
     Ok(bunches)
 }
 
-/// Gives the bunch of the test at a place of this line: one that is known by its lock, or a new one, which is known from
-/// then on.
+/// Returns the bunch of the test at a place of this line: a bunch that
+/// is known by its lock, or a new one, which is known from then on.
 fn bunch_of(
     alloc: Global,
     plan: &PlanParts,
@@ -138,7 +141,8 @@ fn bunch_of(
     Ok(place)
 }
 
-/// Gives a test that waits for no lock its line as its bunch, if the test at that place waits for none either.
+/// Returns the bunch of a test without a key: its line if
+/// the test at that place has no key either, else its place.
 fn unlocked_bunch(plan: &PlanParts, keys: &[Option<u32>], line: u32, place: u32) -> u32
     requires ascends { IsAscendingFrom 1 (map (λ t. t.number) plan.now.tests) }
     requires within { place < length plan.now.queue }
@@ -155,7 +159,7 @@ fn unlocked_bunch(plan: &PlanParts, keys: &[Option<u32>], line: u32, place: u32)
     }
 }
 
-/// Tells whether a test at this place of the queue waits for the lock.
+/// Tells whether the lock is the key of the test at this place of the queue.
 fn is_bunch_for(plan: &PlanParts, keys: &[Option<u32>], bunch: u32, lock: &Name) -> bool
     requires { IsAscendingFrom 1 (map (λ t. t.number) plan.now.tests) }
     ensures { IsTrue result → key_at plan.now keys.now bunch ≡ Some lock.now }

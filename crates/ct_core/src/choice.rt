@@ -32,7 +32,7 @@ pub(crate) struct Startable {
     pub(crate) placement: Option<Placement>,
 }
 
-/// What a run does next, by what its history says.
+/// What a run does next, as its history tells.
 pub(crate) enum Choice {
     /// Every test is final.
     Done,
@@ -45,9 +45,10 @@ pub(crate) enum Choice {
 }
 
 impl Run {
-    /// Chooses the first that holds: all is done, a test may be settled, a test may start.
+    /// Returns the first choice that holds: all tests are
+    /// final, a test may be settled, a test may start, wait.
     ///
-    /// Memory is taken only to look for a placement.
+    /// It takes memory only to look for a placement.
     pub(crate) fn choose(&self, alloc: Global) -> Result<Choice, NoMemory>
         requires { IsKeptRun self.now }
         ensures ok { IfOk result (λ choice. IsChoice self.now.plan (entries_of self.now) choice) }
@@ -83,7 +84,7 @@ impl Run {
         }
     }
 
-    /// Gives the cause of a test that may be settled.
+    /// Returns the cause of a test that may be settled.
     fn cause(&self, test: &PlanTest) -> Option<Cause>
         requires { AreTold self.now.plan (entries_of self.now) self.now.parts }
         ensures { result ≡ (if has_stop (entries_of self.now) then Some Stopped else cause_then self.now.plan (entries_of self.now) test.now) }
@@ -95,7 +96,7 @@ impl Run {
         }
     }
 
-    /// Gives the cause that a test is settled with once its predecessors are final, where there is one.
+    /// Returns the cause that a test is settled with once its predecessors are final, if there is one.
     pub(crate) fn cause_then(&self, test: &PlanTest) -> Option<Cause>
         requires { AreTold self.now.plan (entries_of self.now) self.now.parts }
         ensures { result ≡ cause_then self.now.plan (entries_of self.now) test.now }
@@ -130,8 +131,8 @@ impl Run {
 
     /// Finds the first test of the queue that may start, with its placement.
     ///
-    /// It tries the first ready test of each line alone: where that one can't start, no other of its line can. And of a
-    /// bunch, whose tests wait for one lock, it tries the first of the first line alone as long as that lock is held.
+    /// Of each line it tries the first ready test alone: if that test can't start, no other of the
+    /// line can. Of a bunch whose lock is held it tries only the first ready test of the first line.
     fn first_to_start(&self, alloc: Global) -> Result<Option<Startable>, NoMemory>
         requires kept { IsKeptRun self.now }
         requires unsettled { NoneSettles self.now.plan (entries_of self.now) }
@@ -160,7 +161,7 @@ impl Run {
         }
     }
 
-    /// Finds the first head of a new bunch behind a place and in front of an end.
+    /// Finds the first head of a new bunch that is behind a place and in front of an end.
     fn next_bunch(&self, behind: Option<u32>, end: Option<u32>) -> Option<u32>
         ensures { MatchOption result (NoNewBunchTo self.now.parts.ready behind end) (λ first. IsNewBunchTo self.now.parts.ready behind end first) }
     {
@@ -172,7 +173,7 @@ impl Run {
         }
     }
 
-    /// Finds the next attempt of a test that is ready, and its placement, where it may start with some.
+    /// Finds the next attempt of a ready test, with its placement, if the test may start.
     fn next_start(&self, alloc: Global, number: u32) -> Result<Option<Startable>, NoMemory>
         requires kept { IsKeptRun self.now }
         requires due { IsDue self.now.plan (entries_of self.now) number }
@@ -197,7 +198,7 @@ impl Run {
         }
     }
 
-    /// Counts the next attempt of a test that may start wherever its needs are met.
+    /// Returns the number of the next attempt of a test that may start as soon as its needs are met.
     fn next_attempt(&self, number: u32) -> u32
         requires kept { IsKeptRun self.now }
         requires due { IsDue self.now.plan (entries_of self.now) number }
@@ -213,7 +214,7 @@ impl Run {
         }
     }
 
-    /// Gives the next attempt of a test that may start without a placement.
+    /// Returns the next attempt of a test that may start without a placement.
     fn start_unplaced(&self, number: u32) -> Startable
         requires kept { IsKeptRun self.now }
         requires due { IsDue self.now.plan (entries_of self.now) number }
@@ -227,9 +228,11 @@ impl Run {
         }
     }
 
-    /// Finds, behind the first head of a bunch, which can't start, and in front of an end, the first one that may start.
+    /// Finds the first head of a bunch whose test may start,
+    /// behind its first head, which can't, and in front of an end.
     ///
-    /// Where the lock of the bunch is held, none may; nor where it has none, since its tests then ask for the same.
+    /// If the lock of the bunch is held, none may start. If the bunch has
+    /// no lock, none may either, since its tests have the same demand.
     fn first_of_bunch(&self, first: u32, end: Option<u32>) -> Option<u32>
         requires kept { IsKeptRun self.now }
         requires goes_on { has_stop (entries_of self.now) ≡ false }
@@ -279,7 +282,7 @@ impl Run {
     }
 }
 
-/// Tells whether a place stands in front of an end, if one is given.
+/// Tells whether a place stands in front of the end, if an end is given.
 fn is_before(place: u32, end: Option<u32>) -> bool
     ensures { IsTrue result ↔ IsBefore end place }
 {

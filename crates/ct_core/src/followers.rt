@@ -7,7 +7,7 @@ use ct_base::{List, NoMemory};
 use ct_history::PlanTest;
 use std::alloc::Global;
 
-/// Lists, by the place of each test, the tests that wait for it.
+/// Lists for each test, by its place, the tests that wait for it.
 pub(crate) fn followers(alloc: Global, tests: &[PlanTest]) -> Result<Vec<List<u32>>, NoMemory>
     requires numbers { IsAscendingFrom 1 (map (λ t. t.number) tests.now) }
     requires before { AllAscend (λ t. t.before) tests.now }

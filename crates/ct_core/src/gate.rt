@@ -23,9 +23,9 @@ pub struct Request {
     pub dir: Name,
     /// The whole environment of the program.
     pub env: List<Pair>,
-    /// How long it may run, in microseconds; `None` is no limit.
+    /// How long the program may run, in microseconds; `None` is no limit.
     pub limit: Option<u64>,
-    /// The files that have to be there before it starts.
+    /// The files that have to be there before the program starts.
     pub required: List<Name>,
 }
 
@@ -96,7 +96,7 @@ pub struct Told {
     pub ended: Ended,
 }
 
-/// That a gate was asked to run an attempt of a test.
+/// The record that a gate was asked to run an attempt of a test.
 #[derive(Clone, Copy, Debug, PartialEq, Eq)]
 pub struct Asked {
     pub test: u32,
@@ -105,8 +105,8 @@ pub struct Asked {
 
 /// What runs the programs of tests.
 ///
-/// `tells` is what each attempt comes to, and the attempts and the requests that were run so far,
-/// where the gate tells these; and how many starts and waits failed, which never falls.
+/// `tells` has what each attempt comes to, and the attempts and requests that were run so far, each
+/// if the gate tells it. It also has how many starts and waits failed, a count that never falls.
 pub trait Gate {
     ghost tells: { Self → GateTell };
 

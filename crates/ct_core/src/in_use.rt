@@ -20,11 +20,11 @@ pub(crate) struct InUse {
     /// Whether a serial test is open.
     pub(crate) serial: bool,
     pub(crate) locks: Locks,
-    /// What is free of the plan's resources, where some are given.
+    /// What is free of the plan's resources, if they are given.
     pub(crate) free: Option<Free>,
 }
 
-/// Says that nothing is in use yet.
+/// Makes the value of a run in which nothing is in use yet.
 pub(crate) fn nothing(alloc: Global, plan: &PlanParts) -> Result<InUse, NoMemory>
     ensures { IfOk result (λ in_use. IsInUse plan.now [] in_use) }
 {
@@ -37,8 +37,8 @@ pub(crate) fn nothing(alloc: Global, plan: &PlanParts) -> Result<InUse, NoMemory
     })
 }
 
-/// Copies the plan's resources, if there are any. More than 32-bit places can name are answered as want of
-/// memory.
+/// Copies the plan's resources, if there are any. It also returns
+/// `NoMemory` if there are more resources than 32-bit places can name.
 fn all_free(alloc: Global, plan: &PlanParts) -> Result<Option<Free>, NoMemory>
     ensures whole { IfOk result (λ free. resources_of free ≡ plan.now.resources) }
     ensures unused { IfOk result (λ free. (place : ℕ) → used_of free place ≡ 0) }
@@ -60,7 +60,8 @@ impl InUse {
         self.has_processors(level, test.processors) && !self.excludes(test)
     }
 
-    /// Tells whether no further test can start before an attempt ends: all processors are in use, or a serial test runs.
+    /// Tells whether no further test can start before an attempt
+    /// ends: all processors are in use, or a serial test runs.
     pub(crate) fn is_full(&self, level: u32) -> bool
         ensures { result ≡ (nat_le level self.now.processors || self.now.serial) }
     {
@@ -81,7 +82,7 @@ impl InUse {
             || self.locks.is_any_held(test.locks.as_slice())
     }
 
-    /// Has a test with this placement use what it needs.
+    /// Adds what a test with this placement needs to what is in use.
     pub(crate) fn take(&mut self, test: &PlanTest, placement: Option<&Placement>)
         requires { CanTake test.now (option_copied placement) self.old }
         ensures { Takes test.now (option_copied placement.entry) self.old self.new }
@@ -93,7 +94,7 @@ impl InUse {
         take_slots(&mut self.free, placement);
     }
 
-    /// Has a test with this placement give back what it used.
+    /// Takes what a test with this placement used away from what is in use.
     pub(crate) fn give(&mut self, test: &PlanTest, placement: Option<&Placement>)
         requires { CanGive test.now (option_copied placement) self.old }
         ensures { Gives test.now (option_copied placement.entry) self.old self.new }

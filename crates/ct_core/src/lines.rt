@@ -9,10 +9,10 @@ use ct_history::{PlanParts, PlanTest};
 use indexmap::IndexMap;
 use std::alloc::Global;
 
-/// Gives each test of the queue its line: the place of the first one that asks for the same.
+/// Lists the line of each test of the queue: the place of the first test with the same demand.
 ///
-/// A line is looked up by a text of what its tests ask for, and the tests are then compared. If tests that
-/// ask for different things share a text, there are more lines, but no wrong one.
+/// A line is looked up by a text of the demand, and the tests are then compared.
+/// If different demands share a text, there are more lines, but no wrong one.
 pub(crate) fn lines_of(alloc: Global, plan: &PlanParts) -> Result<List<u32>, NoMemory>
     requires ascends { IsAscendingFrom 1 (map (λ t. t.number) plan.now.tests) }
     requires few { length plan.now.queue < 2 ^ 32 }
@@ -53,7 +53,7 @@ fn line_of(
     Ok(place)
 }
 
-/// Tells whether a test at this place of the queue asks for the same.
+/// Tells whether the test at this place of the queue has the same demand.
 fn is_line_for(plan: &PlanParts, line: u32, test: &PlanTest) -> bool
     requires { IsAscendingFrom 1 (map (λ t. t.number) plan.now.tests) }
     ensures { IsTrue result → demand_at plan.now line ≡ Some (demand_of test.now) }
@@ -75,7 +75,7 @@ pub(crate) fn test_in(plan: &PlanParts, place: u32) -> Option<&PlanTest>
     Some(&tests[here])
 }
 
-/// Tells whether two tests ask for the same.
+/// Tells whether two tests have the same demand.
 fn asks_alike(one: &PlanTest, other: &PlanTest) -> bool
     ensures { IsTrue result ↔ AskAlike one.now other.now }
 {
@@ -119,7 +119,7 @@ fn is_same_need(need: &Need, other: &Need) -> bool
     need.group == other.group && need.slots == other.slots && need.kind.is(&other.kind)
 }
 
-/// Writes what a test asks for, so that the tests that ask for the same are found by one text.
+/// Writes the demand of a test as a text, the same text for the same demand.
 fn text_of(alloc: Global, test: &PlanTest) -> Result<Vec<u8>, NoMemory> {
     let mut text = Vec::from_slice(alloc, &test.processors.to_le_bytes())?;
     text.push(u8::from(test.serial))?;

@@ -16,7 +16,7 @@ pub(crate) struct Locks {
     held: IndexMap<Vec<u8>, bool>,
 }
 
-/// Knows the locks that some tests name, of which none is held.
+/// Makes the locks that these tests name, of which none is held.
 pub(crate) fn none_held(alloc: Global, tests: &[PlanTest]) -> Result<Locks, NoMemory>
     ensures known { IfOk result (λ locks. (name : List ℕ) → knows locks name ≡ list_any (λ t. is_among name t.locks) tests.now) }
     ensures none { IfOk result (λ locks. (name : List ℕ) → is_held locks name ≡ false) }
@@ -48,7 +48,7 @@ impl Locks {
         }
     }
 
-    /// Holds these locks from now on.
+    /// Marks these locks as held.
     pub(crate) fn hold(&mut self, names: &[Name])
         requires { list_all (knows self.old) names.now ≡ true }
         ensures known { (name : List ℕ) → knows self.new name ≡ knows self.old name }
@@ -59,7 +59,7 @@ impl Locks {
         }
     }
 
-    /// Holds these locks no longer.
+    /// Marks these locks as not held.
     pub(crate) fn release(&mut self, names: &[Name])
         requires { list_all (knows self.old) names.now ≡ true }
         ensures known { (name : List ℕ) → knows self.new name ≡ knows self.old name }

@@ -8,10 +8,10 @@ use ct_base::List;
 use ct_queue::{Marks, Ready};
 use ct_verdict::{Cause, Verdict};
 
-/// What a run keeps beside its history, so that it need not look through it.
+/// What a run keeps beside its history, so that no call has to search the history.
 #[derive(Drop)]
 pub(crate) struct Parts {
-    /// How each test stands, by its place in the plan.
+    /// The state of each test, by its place in the plan.
     pub(crate) states: Vec<State>,
     /// How many tests are not final.
     pub(crate) unfinished: usize,
@@ -19,13 +19,14 @@ pub(crate) struct Parts {
     pub(crate) in_use: InUse,
     /// The tests that wait for each test, by its place in the plan.
     pub(crate) followers: Vec<List<u32>>,
-    /// By place in the queue, which of a test's locks it waits for together with others: a position in its list.
+    /// The key of each test, by its place in the queue: the position, in the
+    /// test's list, of the lock that it waits for together with other tests.
     pub(crate) keys: Vec<Option<u32>>,
-    /// The tests that are ready to start, as long as no Stop stands.
+    /// The tests that are ready to start; right only while there is no Stop.
     pub(crate) ready: Ready,
     /// The places of the tests that may be settled.
     pub(crate) settleable: Marks,
-    /// Whether a Stop stands.
+    /// Whether there is a Stop.
     pub(crate) stopped: bool,
 }
 
@@ -61,7 +62,7 @@ impl Parts {
         }
     }
 
-    /// Notes that a Stop stands: each test that is pending may be settled.
+    /// Notes that there is a Stop: each test that is pending may be settled.
     pub(crate) fn stop(&mut self)
         requires { length self.old.states.items ≤ length self.old.settleable }
         ensures { IsStopped self.old self.new }

@@ -20,7 +20,7 @@ use ct_history::{Entry, History, Plan, PlanParts};
 use ct_verdict::{Cause, Seen, Verdict, one};
 use std::mem;
 
-/// A run of a plan: what happened in it, and what that says of it now.
+/// A run of a plan: its history, and the parts that follow from the history.
 #[derive(Drop)]
 pub(crate) struct Run {
     pub(crate) plan: Plan,
@@ -65,7 +65,7 @@ impl Run {
         Ok(())
     }
 
-    /// Ends an attempt that is open, and gives the test's verdict where it is now final. It takes no memory.
+    /// Ends an open attempt, and returns the test's verdict if the test is now final. It takes no memory.
     pub(crate) fn end(
         &mut self,
         number: u32,

@@ -22,7 +22,7 @@ pub enum Next {
     Done,
     /// The run was given up.
     Aborted,
-    /// Memory was wanting for what comes next, and all is as before.
+    /// Memory was wanting for what comes next, and nothing changed.
     NoMemory,
 }
 
@@ -60,7 +60,7 @@ impl Core {
     ghost use Rattle.ct_history.specs.Plan.{IsSound};
     ghost use Rattle.ct_history.specs.Verdicts.{verdict_of_test};
 
-    /// Opens a run of the plan, with the empty history. Where memory is wanting the plan comes back.
+    /// Opens a run of the plan, with the empty history. If memory is wanting it returns the plan.
     pub fn open(alloc: Global, plan: Plan) -> Result<Core, Plan>
         ensures ok { IfOk result (λ core. core ≡ record { plan = plan; entries = []; aborted = false }) }
         ensures err { IfErr result (λ back. back ≡ plan) }
@@ -98,21 +98,27 @@ impl Core {
         &self.run.history
     }
 
-    /// Gives the verdict of the test with this number, where it is final, in a time that grows with the
-    /// logarithm of the tests.
+    /// Returns the verdict of the test with this number, if it is final,
+    /// in a time that grows with the logarithm of the number of tests.
     pub fn verdict(&self, test: u32) -> Option<Verdict>
         ensures { result ≡ verdict_of_test self.now.plan self.now.entries test }
     {
         self.run.verdict(test)
     }
 
-    /// Says what this worker has to do next, and appends the entry of that step to the history.
+    /// Returns what this worker has to do next, and appends the entry of that step to the history.
     ///
-    /// The first that holds: the run was given up; every test is final; a test may be settled, and
-    /// the least is; a test may start, and the first in the queue does; wait for an end. So some
-    /// attempt is open after `Wait`, and until one ends `Wait` is answered at once. Memory can be
-    /// wanting where an entry is to be appended, and while a placement is looked for: it never is in
-    /// a run that was given up, or whose tests are all final.
+    /// The answer is the first of these that holds:
+    ///
+    /// - The run was given up.
+    /// - Every test is final.
+    /// - A test may be settled: the one with the lowest number is settled.
+    /// - A test may start: the first of the queue that may start has its start.
+    /// - Wait for an attempt to end.
+    ///
+    /// After `Wait` some attempt is open, and until one ends the answer is `Wait` at
+    /// once. Memory can be wanting to append an entry or to look for a placement. It
+    /// never is in a run that was given up, or whose tests are all final.
     pub fn next(&mut self, worker: u32) -> Next
         requires { is_busy_in worker self.old.entries ≡ false }
         ensures { IsNext self.old worker result self.new }
@@ -136,10 +142,10 @@ impl Core {
         }
     }
 
-    /// Ends the attempt of a ticket, and gives the test's verdict where it is now final.
+    /// Ends the attempt of a ticket, and returns the test's verdict if the test is now final.
     ///
-    /// Where that is the first verdict that makes the run fail, and the plan stops at one, a Stop
-    /// stands directly behind the end. It takes no memory: `next` made the room.
+    /// If that is the first verdict that makes the run fail, and the plan stops at one,
+    /// a Stop follows directly behind the end. It takes no memory: `next` made the room.
     pub fn finish(&mut self, ticket: Ticket, seen: Seen) -> Option<Verdict>
         requires { holds_ticket ticket self.old.entries ≡ true }
         ensures appended { self.new ≡ with_final self.old (end_of ticket seen) }
@@ -155,14 +161,14 @@ impl Core {
         self.run.end(test, attempt, worker, seen)
     }
 
-    /// Gives the run up: from now on nothing starts, and what is open may end.
+    /// Gives the run up: from now on nothing starts, and open attempts may end.
     pub fn abort(&mut self)
         ensures { self.new ≡ record self.old { aborted = true } }
     {
         self.aborted = true;
     }
 
-    /// Takes the run apart.
+    /// Returns the plan and the history of the run.
     pub fn into_parts(self) -> (Plan, History)
         ensures plan { result.0 ≡ self.plan }
         ensures history { result.1.entries.items ≡ self.entries }

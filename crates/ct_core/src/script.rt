@@ -11,8 +11,8 @@ use std::marker::Model;
 
 /// A gate that runs nothing and answers as its world tells.
 ///
-/// Where the world stands in the order of test and attempt, the time to find an attempt in it grows with the
-/// logarithm of its length, and else with its length.
+/// If the world is in the order of test and attempt, the time to find an attempt
+/// grows with the logarithm of the world's length, else with its length.
 #[derive(Debug, Drop)]
 pub struct ScriptGate {
     world: World,
@@ -32,7 +32,7 @@ impl Model for ScriptGate {
 impl ScriptGate {
     ghost use Rattle.ct_core.specs.ScriptValue.{CountsStart, Records};
 
-    /// Makes a gate of this world, which was asked nothing yet.
+    /// Makes a gate with this world, which has run no attempt yet.
     pub fn new(alloc: Global, world: List<Told>) -> ScriptGate
         ensures { result ≡ record { world = world; asked = []; sent = []; faults = 0 } }
     {
@@ -44,21 +44,21 @@ impl ScriptGate {
         }
     }
 
-    /// Lends the attempts that it was asked to run, in order.
+    /// Lends the attempts that the gate was asked to run, in order.
     pub fn asked(&self) -> &List<Asked>
         ensures { result.now ≡ self.now.asked }
     {
         &self.asked
     }
 
-    /// Lends the requests that it was sent, in order.
+    /// Lends the requests that were sent to the gate, in order.
     pub fn sent(&self) -> &List<Request>
         ensures { result.now ≡ self.now.sent }
     {
         &self.sent
     }
 
-    /// Counts the attempts that were not started.
+    /// Returns how many attempts were not started.
     pub fn faults(&self) -> u64
         ensures { result ≡ self.now.faults }
     {
@@ -92,7 +92,7 @@ impl ScriptGate {
         }
     }
 
-    /// Records a request, whole or not at all.
+    /// Records a request and its attempt, or neither if memory is wanting.
     fn record(&mut self, alloc: Global, request: &Request) -> Result<(), NoMemory>
         ensures ok { OnOk result (Records self.old request.now self.new) }
         ensures err { OnErr result (self.new ≡ self.old) }
@@ -151,7 +151,7 @@ impl Gate for ScriptGate {
     }
 }
 
-/// What is told of attempts, and whether it stands in their order.
+/// The lines of a world, and whether they are in the order of test and attempt.
 #[derive(Debug, Drop)]
 struct World {
     told: List<Told>,
@@ -178,7 +178,7 @@ impl World {
         World { told, in_order }
     }
 
-    /// Finds the first that is told of an attempt.
+    /// Finds the first line of an attempt.
     fn find(&self, test: u32, attempt: u32) -> Option<&Told>
         ensures { option_copied result ≡ find (λ t. t.test == test && t.attempt == attempt) self.now }
     {
@@ -192,7 +192,7 @@ impl World {
     }
 }
 
-/// Tells whether no attempt stands behind a later one.
+/// Tells whether the lines are in the order of test and attempt.
 fn are_in_order(told: &[Told]) -> bool
     ensures { result ≡ true → AreInOrder told.now }
 {
@@ -204,7 +204,7 @@ fn are_in_order(told: &[Told]) -> bool
     true
 }
 
-/// Finds the first that is told of an attempt, where that stands in the order of attempts.
+/// Finds the first line of an attempt, among lines in the order of test and attempt.
 fn find_in_order(told: &[Told], test: u32, attempt: u32) -> Option<&Told>
     requires { AreInOrder told.now }
     ensures { option_copied result ≡ find (λ t. t.test == test && t.attempt == attempt) told.entry.now }
@@ -219,7 +219,7 @@ fn find_in_order(told: &[Told], test: u32, attempt: u32) -> Option<&Told>
     }
 }
 
-/// Finds where a rank belongs in what is told: in front stand those of lower rank.
+/// Finds the place where a rank belongs among the lines: each line in front of it has a lower rank.
 fn place_of(told: &[Told], sought: u64) -> usize
     requires { AreInOrder told.now }
     ensures { IsPlaceOf sought told.now result }
@@ -227,7 +227,7 @@ fn place_of(told: &[Told], sought: u64) -> usize
     told.partition_point(|told| rank(told) < sought)
 }
 
-/// The rank of what is told in the order of attempts.
+/// Returns the rank of a line in the order of test and attempt.
 fn rank(told: &Told) -> u64
     ensures is { result ≡ rank told.now.test told.now.attempt }
     ensures low { told.now.attempt < 2 ^ 32 }
@@ -235,7 +235,7 @@ fn rank(told: &Told) -> u64
     rank_of(told.test, told.attempt)
 }
 
-/// The rank of an attempt in the order of test and attempt.
+/// Returns the rank of an attempt in the order of test and attempt.
 fn rank_of(test: u32, attempt: u32) -> u64
     ensures { result ≡ rank test attempt }
 {

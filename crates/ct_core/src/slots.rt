@@ -6,16 +6,16 @@ use ct_alloc::{Free, Pick, Placement};
 use ct_base::{List, Need, NoMemory};
 use std::alloc::Global;
 
-/// Where the needs of a test are met now.
+/// The answer to where the needs of a test are met now.
 #[derive(Drop)]
 pub(crate) enum Place {
-    /// No placement for them fits beside what is used.
+    /// No placement for the needs fits beside what is used.
     Nowhere,
-    /// By this placement, or without one where none is wanted.
+    /// This placement meets the needs; `None` if the test wants no placement.
     Here(Option<Placement>),
 }
 
-/// Places the needs of a test on what is free, where resources are given and it has needs.
+/// Places the needs of a test on what is free, if resources are given and the test has needs.
 pub(crate) fn place_for(
     alloc: Global,
     free: Option<&Free>,

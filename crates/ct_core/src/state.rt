@@ -12,7 +12,7 @@ pub(crate) enum State {
     Pending(u32),
     /// An attempt is open with this placement; the number of attempts that ended before it.
     Open(u32, Option<Placement>),
-    /// It has this verdict.
+    /// Final, with this verdict.
     Final(Verdict),
 }
 

@@ -16,21 +16,21 @@ pub struct Ticket {
 impl Ticket {
     ghost use Rattle.ct_core.specs.Ticket.{attempt_of, placement_of, test_of, worker_of};
 
-    /// The number of the test.
+    /// Returns the number of the test.
     pub fn test(&self) -> u32
         ensures { result ≡ test_of self.now }
     {
         self.test
     }
 
-    /// Which attempt of the test it is, from 1.
+    /// Returns the number of the attempt, from 1.
     pub fn attempt(&self) -> u32
         ensures { result ≡ attempt_of self.now }
     {
         self.attempt
     }
 
-    /// The worker that started it.
+    /// Returns the worker that started the attempt.
     pub fn worker(&self) -> u32
         ensures { result ≡ worker_of self.now }
     {

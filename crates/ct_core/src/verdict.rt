@@ -8,7 +8,7 @@ use crate::run::Run;
 use ct_verdict::Verdict;
 
 impl Run {
-    /// Gives the verdict of the test with this number, where it is final.
+    /// Returns the verdict of the test with this number, if it is final.
     pub(crate) fn verdict(&self, number: u32) -> Option<Verdict>
         requires { AreTold self.now.plan (entries_of self.now) self.now.parts }
         ensures { result ≡ verdict_of_test self.now.plan (entries_of self.now) number }

@@ -7,7 +7,7 @@ use Rattle.ct_core.specs.declared.gate.Told.{Told}
 use Rattle.ct_core.specs.ScriptValue.{AreInOrder, IsPlaceOf, rank}
 use Rattle.ct_core.proofs.script.find_in_order.Goals as goal
 
--- the first that passes is found behind those that do not
+-- if an element passes and none in front of it does, the search finds it
 found_at : (p : Told → Bool) (xs : List Told) (place : ℕ) (x : Told) →
     AllWithin (λ y. p y ≡ false) xs 0 place → place < length xs → x ≡ get_or xs place x → p x ≡ true →
     find p xs ≡ Some x
@@ -17,7 +17,7 @@ found_at p (y ∷ ys) (suc place) x before within is passes =
     ap (λ (b : Bool). cond b (Some y) (find p ys)) (before 0 y (omega arith) (omega arith))
     ∙ found_at p ys place x (λ k d low high. before (suc k) d (omega arith) (omega (arith, high))) (omega (arith, within)) is passes
 
--- where none passes none is found
+-- if no element passes, the search finds none
 none_found : (p : Told → Bool) (xs : List Told) → AllWithin (λ y. p y ≡ false) xs 0 (length xs) →
     find p xs ≡ None
 none_found p [] none = refl
@@ -25,7 +25,7 @@ none_found p (y ∷ ys) none =
     ap (λ (b : Bool). cond b (Some y) (find p ys)) (none 0 y (omega arith) (omega arith)) ∙ none_found p ys (λ k d low high. none (suc k) d (omega arith) (omega (arith, high)))
 
 module _ (test attempt : ℕ) where
-  -- what has another rank is told of another attempt
+  -- a line with another rank is a line of another attempt
   other : (t : Told) → (rank t.test t.attempt ≡ rank test attempt → ⊥) →
       (t.test == test && t.attempt == attempt) ≡ false
   other t differs = false_from_ne_true (t.test == test && t.attempt == attempt) same
