@@ -1,6 +1,6 @@
--- What a run begins with: how each test stands, how many predecessors it waits for, and whether it can't run at all.
--- Source: CMake manual, cmake-properties(7), DEPENDS, DISABLED, FIXTURES_REQUIRED; ctest(1), Resource Allocation.
--- The words are this project's own.
+-- What a run begins with: the state of each test, how many predecessors it waits for, and
+-- whether it can't run at all. Source: CMake manual, cmake-properties(7), DEPENDS, DISABLED,
+-- FIXTURES_REQUIRED; ctest(1), Resource Allocation. The words are this project's own.
 use Rattle.std.specs.Prelude.{ℕ, Bool, false, not, ◌&&◌, ◌==◌, List, length, map, Option, Some, None, is_some, if◌then◌else◌}
 use Rattle.ct_verdict.specs.declared.verdict.Verdict.TheVariants.{Disabled}
 use Rattle.ct_history.specs.declared.plan.PlanTest.{PlanTest}

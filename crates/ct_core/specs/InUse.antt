@@ -1,5 +1,5 @@
--- What the open starts of a run use together: processors, slots, locks. Source: CMake manual, cmake-properties(7),
--- PROCESSORS, RESOURCE_LOCK, RUN_SERIAL; ctest(1), Resource Allocation.
+-- What the open starts of a run use together: processors, slots, locks. Source: CMake manual,
+-- cmake-properties(7), PROCESSORS, RESOURCE_LOCK, RUN_SERIAL; ctest(1), Resource Allocation.
 use Rattle.std.specs.Prelude.{◌≡◌, ℕ, ◌+◌, ◌-◌, ◌^◌, ◌<◌, ◌≤◌, Bool, true, not, ◌&&◌, ◌||◌, List, length, sum_by, Option, Some, None, All, nat_le, nat_lt}
 use Rattle.std.specs.List.{list_any, list_all}
 use Rattle.ct_alloc.specs.declared.placement.Placement.{Placement}

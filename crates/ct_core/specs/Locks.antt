@@ -1,5 +1,5 @@
--- The locks that the tests of a plan name, and which of them are held. Source: CMake manual, cmake-properties(7),
--- RESOURCE_LOCK.
+-- The locks that the tests of a plan name, and which of them are
+-- held. Source: CMake manual, cmake-properties(7), RESOURCE_LOCK.
 use Rattle.std.specs.Prelude.{ℕ, Bool, false, List, Option, is_some, unwrap_or, bytes_eq}
 use Rattle.std.specs.declared.vec.Vec.{Vec}
 use Rattle.indexmap.specs.IndexMap.{IndexMap, get_by}

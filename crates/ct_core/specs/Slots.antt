@@ -1,5 +1,5 @@
--- What is free of the resources of a plan, and where the needs of a test are met. Source: CMake manual, ctest(1),
--- Resource Allocation.
+-- What is free of the resources of a plan, and where the needs of a
+-- test are met. Source: CMake manual, ctest(1), Resource Allocation.
 use Rattle.std.specs.Prelude.{◌≡◌, ℕ, true, List, Option, Some, None, IfSome, option_map}
 use Rattle.ct_base.specs.declared.defs.Need.{Need}
 use Rattle.ct_base.specs.declared.defs.Resource.{Resource}

@@ -65,7 +65,8 @@ fn first_state(test: &PlanTest) -> State
     }
 }
 
-/// Makes the set of ready tests: each test of the queue with the number of its predecessors, its line and its bunch.
+/// Makes the ready set: each test of the queue with the
+/// number of its predecessors, its line and its bunch.
 fn first_ready(alloc: Global, plan: &PlanParts, keys: &[Option<u32>]) -> Result<Ready, NoMemory>
     requires sound { IsSound plan.now }
     requires few { length plan.now.tests < 2 ^ 32 - 1 }

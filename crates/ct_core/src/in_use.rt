@@ -12,7 +12,8 @@ use std::alloc::Global;
 
 /// What the open starts of a run use together.
 ///
-/// Source: CMake manual, cmake-properties(7), PROCESSORS, RESOURCE_LOCK, RUN_SERIAL; ctest(1), Resource Allocation.
+/// Source: CMake manual, cmake-properties(7), PROCESSORS,
+/// RESOURCE_LOCK, RUN_SERIAL; ctest(1), Resource Allocation.
 #[derive(Drop)]
 pub(crate) struct InUse {
     pub(crate) processors: u64,

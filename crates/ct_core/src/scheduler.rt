@@ -28,8 +28,8 @@ pub enum Next {
 
 /// Decides which attempt starts when, and keeps the history of the run.
 ///
-/// Contracts see its plan, its entries and whether it was aborted. It also keeps the state of each test, so a
-/// call costs only what it changes.
+/// Contracts see the plan, the entries and whether the run was given up. The
+/// core also keeps the state of each test, so a call costs only what it changes.
 #[derive(Drop)]
 pub struct Core {
     run: Run,
