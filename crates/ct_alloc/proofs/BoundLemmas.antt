@@ -1,4 +1,4 @@
--- Bounds on packings: what the sizes weigh is at most what the free slots weigh.
+-- Bounds on packings: the weight of the sizes is at most the weight of the free slots.
 use Rattle.std.proofs.Common.{◌≡◌, ◌∙◌, sym, ap, refl, ℕ, suc, ◌+◌, ◌-◌, ◌*◌, ◌/◌, ◌<◌, ◌≤◌, Bool, true, false, cond, List, [], ◌∷◌, length, drop, get_or, arith, drop-cons}
 use Rattle.std.specs.Prelude.{sum_by, nat_le}
 use Rattle.std.specs.List.{remove}
@@ -9,7 +9,7 @@ use Rattle.std.proofs.lemmas.Bool.Decides.{nat_tests}
 use Rattle.ct_alloc.specs.Packing.{IsPacking, CannotPack, one_from, reaching, rooms}
 use Rattle.ct_alloc.proofs.PackLemmas.{left, packing-less}
 
--- a size weighs at most what its card then weighs less
+-- putting a size on a card lowers the card's weight by at least the weight of the size
 abbrev pub Weighs : (ℕ → ℕ) → (ℕ → ℕ) → Type 0
 Weighs size_weight card_weight = (size free : ℕ) → size ≤ free → size_weight size + card_weight (free - size) ≤ card_weight free
 

@@ -1,5 +1,5 @@
--- The places of each kind: what a look-up gives once a place was put behind the others of its kind, and the first place
--- of a kind that has room.
+-- The places of each kind: what a look-up returns once a place was put behind
+-- the others of its kind, and the first place of a kind that has room.
 use Rattle.std.proofs.Common.{◌≡◌, ◌∙◌, sym, ap, subst, refl, ℕ, ◌+◌, ◌<◌, ◌≤◌, Bool, true, false, cond, bytes_eq, List, [], ◌∷◌, ◌++◌, length, drop, get_or, Some, arith, append_assoc, nat_le}
 use Rattle.std.specs.Prelude.{slice_get}
 use Rattle.std.specs.List.{list_any}
@@ -48,7 +48,7 @@ module _ {Y Z : Type 0} where
     noted_by before now kind asked places place true is pushed put = put ∙ pushed ∙ ap (λ k. places_for before k ++ place ∷ []) ((bytes_eq-Decides kind asked).0 is)
     noted_by before now kind asked places place false is pushed put = put
 
-    -- a place was put behind those of a kind
+    -- a place was put behind the places of a kind
     pub noted : (before now : IndexMap (Vec ℕ Y) (Vec ℕ Z) S) (kind here : List ℕ) (places : Vec ℕ Z) (place : ℕ) → UpdatesBy (λ (one other : Vec ℕ Y). bytes_eq one.items other.items) (λ (name : Vec ℕ Y). bytes_eq kind name.items) before now (Some places) → here ≡ places_for before kind → places.items ≡ here ++ place ∷ [] → (asked : List ℕ) → places_for now asked ≡ cond (bytes_eq kind asked) (places_for before asked ++ place ∷ []) (places_for before asked)
     noted before now kind here places place updates kept pushed asked =
         noted_by before now kind asked places.items place (bytes_eq kind asked) refl (pushed ∙ ap (λ xs. xs ++ place ∷ []) kept) (updated before now kind asked places updates (bytes_eq kind asked) refl)
@@ -57,18 +57,18 @@ cards-by : (old now rest : List ℕ) (place : ℕ) (is : Bool) → now ≡ cond 
 cards-by old now rest place true noted = ap (λ places. places ++ rest) noted ∙ append_assoc old (place ∷ []) rest
 cards-by old now rest place false noted = ap (λ places. places ++ rest) noted
 
--- the places so far and those of the resources that are left, one resource on
+-- the places so far and the places of the remaining resources are all places, one resource further on
 pub cards-next : (old now kind : List ℕ) (resources : List Resource) (place : ℕ) (resource : Resource) → place < length resources → resource ≡ get_or resources place resource → now ≡ cond (bytes_eq resource.kind kind) (old ++ place ∷ []) old → now ++ cards_from (place + 1) kind (drop (place + 1) resources) ≡ old ++ cards_from place kind (drop place resources)
 cards-next old now kind resources place resource inside is noted =
     cards-by old now (cards_from (place + 1) kind (drop (place + 1) resources)) place (bytes_eq resource.kind kind) noted
     ∙ ap (λ (r : Resource). old ++ cards_from place kind (r ∷ drop (place + 1) resources)) is
     ∙ sym (at_drop_more (λ rs. old ++ cards_from place kind rs) resources place resource inside)
 
--- the need's slots are free at the place
+-- as many slots as the need asks for are free at the place
 abbrev pub has_slots : FreeValue → Need → ℕ → Bool
 has_slots free need place = nat_le need.slots (free_at free place)
 
--- where none of the places of the need's kind has its slots free, no place has room
+-- if no place of the need's kind has its slots free, no place has room for it
 pub none-with-room : (free : FreeValue) (need : Need) (cards : List ℕ) → cards ≡ cards_from 0 need.kind free.resources → list_any (has_slots free need) cards ≡ false → (place : ℕ) → HasRoom free need place → ⊥
 none-with-room free need cards is none place has =
     let below : index_of place (cards_from 0 need.kind free.resources) < length (cards_from 0 need.kind free.resources) = card-there need.kind 0 free.resources place place (omega arith) has.kind in

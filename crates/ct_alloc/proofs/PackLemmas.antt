@@ -1,4 +1,5 @@
--- Packings, one size after another: a packing is one of a size's card and of the other sizes on what is left free.
+-- Packings, one size after another: a packing is the card of one
+-- size, and a packing of the other sizes on what is left free.
 use Rattle.std.proofs.Common.{◌≡◌, ◌≢◌, ◌∙◌, sym, ap, subst, refl, ℕ, zero, suc, ◌+◌, ◌-◌, ◌<◌, ◌≤◌, Bool, true, false, cond, ◌==◌, List, [], ◌∷◌, length, get_or, arith, nat_lt, length-set, get_or-set_same, get_or-set_other, set-set, below_more}
 use Rattle.std.proofs.lemmas.List.{set-get_or}
 use Rattle.std.specs.List.{insert, remove, list_all}
@@ -11,7 +12,7 @@ use Rattle.ct_alloc.specs.Packing.{load, IsPacking, CannotPack}
 abbrev pub share : ℕ → ℕ → ℕ → ℕ
 share card on size = cond (on == card) size 0
 
--- a size taken out of the middle takes its share along
+-- the load of a card is the share of one size and the load of the other sizes
 pub load-at : (card k : ℕ) (sizes cards : List ℕ) (on : ℕ) → k < length sizes → k ≤ length cards → load card sizes (insert cards k on) ≡ share card on (get_or sizes k 0) + load card (remove sizes k) cards
 load-at card k [] cards on inside below = absurd (omega arith)
 load-at card zero (size ∷ sizes) cards on inside below = refl
@@ -55,7 +56,7 @@ all-at p k [] inside all = absurd (omega arith)
 all-at p zero (card ∷ cards) inside all = (and_parts (p card) (list_all p cards) all).0
 all-at p (suc k) (card ∷ cards) inside all = all-at p k cards (omega arith) (and_parts (p card) (list_all p cards) all).1
 
--- what is left free once a size is on a card
+-- the free slots that are left once a size is on a card
 abbrev pub left : List ℕ → ℕ → ℕ → List ℕ
 left free card size = set free card (get_or free card 0 - size)
 
@@ -85,7 +86,7 @@ left-share free on card size more inside le = by_test (on == card) refl le
         let other : card ≢ on = grind (arith, nat_tests) in
         omega (arith, get_or-set_other free on card (get_or free on 0 - size) 0 other)
 
--- one size more, on a card that has room for it
+-- a packing of the others with one more size on a card that has room for it is a packing
 pub packing-more : (free sizes : List ℕ) (k on : ℕ) (cards : List ℕ) → k < length sizes → on < length free → get_or sizes k 0 ≤ get_or free on 0 → IsPacking (left free on (get_or sizes k 0)) (remove sizes k) cards → IsPacking free sizes (insert cards k on)
 packing-more free sizes k on cards inside there fits packs =
     let count : length cards ≡ length (remove sizes k) = packs.count in
@@ -99,7 +100,7 @@ packing-more free sizes k on cards inside there fits packs =
           omega (arith, sum, share-left free on card (get_or sizes k 0) (load card (remove sizes k) cards) there fits (packs.room card));
     }
 
--- the card of one size in a packing, which has room for it, and the packing of the others
+-- the parts of a packing: the card of one size, which has room for it, and a packing of the other sizes
 pub record Parts (free sizes : List ℕ) (k on : ℕ) (cards : List ℕ) : Type 0 where
   pub there : on < length free
   pub fits : get_or sizes k 0 ≤ get_or free on 0
@@ -138,14 +139,14 @@ hopeless-all free sizes k inside none = λ some.
     let parts = packing-less free sizes k some.0 inside some.1 in
     none (get_or some.0 k 0) parts.there parts.fits (remove some.0 k, parts.packs)
 
--- taken back from the card, the slots are free as they were
+-- once a size is taken back from its card, the free slots are as before
 pub left-back : (free : List ℕ) (card size : ℕ) → card < length free → size ≤ get_or free card 0 → set (left free card size) card (get_or (left free card size) card 0 + size) ≡ free
 left-back free card size inside fits =
     let at : get_or (left free card size) card 0 ≡ get_or free card 0 - size = get_or-set_same free card (get_or free card 0 - size) 0 inside in
     let whole : get_or (left free card size) card 0 + size ≡ get_or free card 0 = omega (arith, at) in
     set-set free card (get_or free card 0 - size) (get_or (left free card size) card 0 + size) ∙ ap (λ n. set free card n) whole ∙ set-get_or free card 0
 
--- the cards tried so far lead to nothing, and all slots are free as they were
+-- on each card tried so far the size leads to no packing, and the free slots are as before
 abbrev pub IsTried : List ℕ → List ℕ → List ℕ → ℕ → ℕ → Type 0
 IsTried free before sizes k tried = (free ≡ before) × ((card : ℕ) → card < tried → IsHopeless free sizes k card)
 

@@ -1,4 +1,4 @@
--- The slots that picks take of a resource, pick by pick, and what it is to fit, resource by resource.
+-- The slots that picks take of a resource, pick by pick, and whether picks fit, resource by resource.
 use Rattle.std.proofs.Common.{◌≡◌, ◌≢◌, ◌∙◌, sym, ap, subst, refl, ℕ, zero, suc, ◌+◌, ◌-◌, ◌<◌, ◌≤◌, ◌^◌, ◌⊎◌, inl, inr, ⊎_elim, Bool, true, false, cond, ◌==◌, List, [], ◌∷◌, ◌++◌, length, take, drop, append-nil, get_or, arith, nat_lt, length-set, get_or-set_same, get_or-set_other, drop-cons, leb-true}
 use Rattle.std.specs.Prelude.{nat_le, slice_get, None, filter}
 use Rattle.std.specs.List.{list_all}
@@ -12,7 +12,7 @@ use Rattle.ct_alloc.specs.declared.placement.Pick.{Pick}
 use Rattle.ct_alloc.specs.Placement.{slots_at, fits_from, fits_beside}
 use Rattle.ct_alloc.specs.Free.{IsWithinSlots, are_there, slot_counts}
 
--- what one pick takes of a resource
+-- how many slots one pick takes of a resource
 abbrev pub taken : ℕ → Pick → ℕ
 taken place pick = cond (pick.resource == place) pick.slots 0
 
@@ -36,7 +36,8 @@ all-pick p [] i pick inside is all = absurd (omega arith)
 all-pick p (first ∷ picks) zero pick inside is all = ap p is ∙ (and_parts (p first) (list_all p picks) all).0
 all-pick p (first ∷ picks) (suc i) pick inside is all = all-pick p picks i pick (omega arith) is (and_parts (p first) (list_all p picks) all).1
 
--- what is used so far and what the other picks take are what was used and what all picks take
+-- while picks are added: the slots used so far and the slots of the
+-- remaining picks are the slots used before and the slots of all picks
 pub record IsAdding (used before : List ℕ) (picks rest : List Pick) : Type 0 where
   pub count : length used ≡ length before
   pub sums : (place : ℕ) → get_or used place 0 + slots_at place rest ≡ get_or before place 0 + slots_at place picks
@@ -68,7 +69,8 @@ own-slots picks i pick inside is =
     let own : (pick.resource == pick.resource) ≡ true = grind (arith, nat_tests) in
     slots-drop pick.resource picks i pick inside is ∙ ap (λ b. cond b pick.slots 0 + slots_at pick.resource (drop (i + 1) picks)) own
 
--- what is used still, less what the other picks take, is what was used less what all picks take
+-- while picks are taken away: the slots still used and the slots of all
+-- picks are the slots used before and the slots of the remaining picks
 pub record IsTaking (used before : List ℕ) (picks rest : List Pick) : Type 0 where
   pub count : length used ≡ length before
   pub sums : (place : ℕ) → get_or used place 0 + slots_at place picks ≡ get_or before place 0 + slots_at place rest
@@ -92,7 +94,7 @@ taking-more used before picks i pick inside is there enough so = record {
         let here = get_or-set_other used pick.resource place (get_or used pick.resource 0 - pick.slots) 0 other in
         omega (arith, step, here, so.sums place)
 
--- what fits from a place on, and what each resource has room for
+-- picks fit from a place on exactly if each resource from there on has room for them
 pub fits-each : (first : ℕ) (resources : List Resource) (used : ℕ → ℕ) (picks : List Pick) → fits_from first resources used picks ≡ true → (at place : ℕ) → place ≡ first + at → at < length resources → used place + slots_at place picks ≤ get_or (slot_counts resources) at 0
 fits-each first [] used picks fits at place is inside = absurd (omega arith)
 fits-each first (r ∷ rs) used picks fits zero place is inside =
@@ -145,7 +147,7 @@ both-ways true b f g = sym (f refl)
 both-ways false true f g = g refl
 both-ways false false f g = refl
 
--- picks fit where the resource of each of them has room for all the picks on it
+-- picks fit exactly if the resource of each pick has room for all the picks on it
 pub fits-by-picks : (resources : List Resource) (used : List ℕ) (picks : List Pick) → IsWithinSlots resources used → are_there resources picks ≡ true → list_all (have_room resources used picks) picks ≡ fits_beside resources (λ place. get_or used place 0) picks
 fits-by-picks resources used picks within there = both-ways _ _
     (λ have. each-fits 0 resources (λ place. get_or used place 0) picks (λ at inside.
@@ -157,7 +159,7 @@ fits-by-picks resources used picks within there = both-ways _ _
     (picked-or-not resources used picks picks at have)))))
     (λ fits. all-have resources used picks picks fits there)
 
--- picks that are there take nothing of what is not
+-- picks on resources that are there take no slots at a place without a resource
 pub none-beyond : (resources : List Resource) (picks : List Pick) (place : ℕ) → are_there resources picks ≡ true → length resources ≤ place → slots_at place picks ≡ 0
 none-beyond resources [] place there beyond = refl
 none-beyond resources (pick ∷ picks) place there beyond =
@@ -166,7 +168,7 @@ none-beyond resources (pick ∷ picks) place there beyond =
     let other : (pick.resource == place) ≡ false = grind (arith, nat_tests) in
     slots-cons place pick picks ∙ ap (λ b. cond b pick.slots 0 + slots_at place picks) other ∙ (let zeros : 0 + slots_at place picks ≡ 0 = omega (arith, none-beyond resources picks place both.1 beyond) in zeros)
 
--- what fits is within the slots of each resource
+-- if picks fit, the used slots and their slots are within the slots of each resource
 pub within-each : (resources : List Resource) (used : List ℕ) (picks : List Pick) → IsWithinSlots resources used → are_there resources picks ≡ true → fits_beside resources (λ place. get_or used place 0) picks ≡ true → (place : ℕ) → get_or used place 0 + slots_at place picks ≤ get_or (slot_counts resources) place 0
 within-each resources used picks within there fits place = by_test (nat_lt place (length resources)) refl
   where
@@ -206,13 +208,13 @@ pick-there n picks i pick inside is all =
     let below : nat_lt pick.resource n ≡ true = all-pick (λ (p : Pick). nat_lt p.resource n) picks i pick inside is all in
     grind (arith, nat_tests)
 
--- where there is no resource there are no slots
+-- a place without a resource has no slots
 pub no-slots : (resources : List Resource) (place : ℕ) → slice_get resources place ≡ None → get_or (slot_counts resources) place 0 ≡ 0
 no-slots [] place none = refl
 no-slots (r ∷ rs) zero none = cc
 no-slots (r ∷ rs) (suc place) none = no-slots rs place none
 
--- one resource more, whose slots are few
+-- one more resource, whose slots are below the bound, keeps all slots below it
 pub bounded-more : (resources : List Resource) (r : Resource) (most place : ℕ) → ((at : ℕ) → get_or (slot_counts resources) at 0 < most) → r.slots < most → get_or (slot_counts (resources ++ r ∷ [])) place 0 < most
 bounded-more [] r most zero all here = here
 bounded-more [] r most (suc place) all here = all 0

@@ -1,4 +1,4 @@
--- Placements and the places of their picks: the one fits where the other is met.
+-- Placements and the places of their picks: a placement fits exactly if the needs are met at its places.
 use Rattle.std.proofs.Common.{◌≡◌, ◌∙◌, sym, ap, subst, refl, ℕ, zero, suc, ◌+◌, ◌<◌, ◌≤◌, Bool, true, false, cond, ◌==◌, List, [], ◌∷◌, ◌++◌, length, map, take, get_or, arith, nat_lt}
 use Rattle.std.specs.Prelude.{◌&&◌, slice_get, Option, Some, None, bytes_eq}
 use Rattle.std.proofs.lemmas.List.{map-append, take_all, take_more}
@@ -14,7 +14,7 @@ use Rattle.ct_alloc.specs.Packing.{load}
 use Rattle.ct_alloc.specs.Spread.{IsSpread, NoneSpread, are_of_kind, is_of_kind, sizes_of}
 use Rattle.ct_alloc.proofs.PickLemmas.{each-fits, fits-each, none-beyond, slots-cons}
 
--- what it is to meet a need
+-- what holds of a pick that meets a need
 pub record Meets (resources : List Resource) (need : Need) (pick : Pick) : Type 0 where
   pub group : (need.group == pick.group) ≡ true
   pub kind : bytes_eq need.kind pick.kind ≡ true
@@ -83,7 +83,7 @@ placed-there resources (need ∷ needs) (pick ∷ picks) all =
     let inside = named-there pick resources pick.resource m.named in
     and_from (nat_lt pick.resource (length resources)) (are_there resources picks) (grind (arith, nat_tests)) (placed-there resources needs picks both.1)
 
--- a placement that fits meets the needs at the places of its picks
+-- if a placement fits, the needs are met at the places of its picks
 pub spread-placed : (free : FreeValue) (needs : List Need) (picks : List Pick) → is_placement free.resources needs picks ≡ true → fits_beside free.resources (used_at free) picks ≡ true → IsSpread free needs (places_of picks)
 spread-placed free needs picks placed fits = record {
   kinds = placed-kinds free.resources needs picks placed;
@@ -101,7 +101,7 @@ spread-placed free needs picks placed fits = record {
 pub none-fits : (free : FreeValue) (needs : List Need) → NoneSpread free needs → NoneFits free needs
 none-fits free needs none = λ some. none (places_of some.picks) (spread-placed free needs some.picks some.placed some.fits)
 
--- picks at the places where the needs are met are a placement that fits
+-- if the needs are met at some places, a placement with its picks at these places fits
 pub fitting-spread : (free : FreeValue) (needs : List Need) (places : List ℕ) (picks : List Pick) → IsWithinSlots free.resources free.used → IsSpread free needs places → is_placement free.resources needs picks ≡ true → places_of picks ≡ places → IsFitting free needs picks
 fitting-spread free needs places picks within spread placed same = record {
   placed = placed;
@@ -114,7 +114,7 @@ fitting-spread free needs places picks within spread placed same = record {
         let loads : load at (sizes_of needs) (places_of picks) ≡ load at (sizes_of needs) places = ap (λ (ps : List ℕ). load at (sizes_of needs) ps) same in
         omega (arith, slots-load at free.resources needs picks placed, loads, spread.room at, within.within at)
 
--- one need more, and its pick
+-- one more need, and its pick
 pub placed-more : (resources : List Resource) (needs : List Need) (picks : List Pick) (need : Need) (pick : Pick) → is_placement resources needs picks ≡ true → meets resources need pick ≡ true → is_placement resources (needs ++ need ∷ []) (picks ++ pick ∷ []) ≡ true
 placed-more resources [] [] need pick all here = and_from (meets resources need pick) true here refl
 placed-more resources [] (first ∷ picks) need pick all here = cc
@@ -123,7 +123,7 @@ placed-more resources (first ∷ needs) (other ∷ picks) need pick all here =
     let both = and_parts (meets resources first other) (is_placement resources needs picks) all in
     and_from (meets resources first other) (is_placement resources (needs ++ need ∷ []) (picks ++ pick ∷ [])) both.0 (placed-more resources needs picks need pick both.1 here)
 
--- as many places as needs, each of a resource of the kind
+-- if each need has a place with a resource of its kind, there are as many places as needs
 pub spread-length : (resources : List Resource) (needs : List Need) (places : List ℕ) → are_of_kind resources needs places ≡ true → length places ≡ length needs
 spread-length resources [] [] all = refl
 spread-length resources [] (place ∷ places) all = cc
@@ -164,7 +164,7 @@ pick-meets resources need pick resource of is group kind slots id =
       named = ap (λ (o : Option Resource). names_resource pick o) there ∙ and_from (bytes_eq resource.kind pick.kind) (bytes_eq resource.id pick.id) (ap (λ k. bytes_eq resource.kind k) kind ∙ here) ((bytes_eq-Decides resource.id pick.id).1 (sym id));
     })
 
--- the first needs have picks, at their places
+-- the first `count` needs have picks, at their places
 abbrev pub PlacedSo : List Resource → List Need → List ℕ → List Pick → ℕ → Type 0
 PlacedSo resources needs places picks count = (is_placement resources (take count needs) picks ≡ true) × (places_of picks ≡ take count places)
 

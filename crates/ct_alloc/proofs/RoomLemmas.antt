@@ -1,4 +1,5 @@
--- Cards tried from the roomiest down: what a failed try says of other cards, and of equal sizes behind it.
+-- Cards tried from the roomiest down: what follows from a
+-- failed try for other cards, and for equal sizes behind it.
 use Rattle.std.proofs.Common.{◌≡◌, ◌≢◌, ◌∙◌, sym, ap, subst, refl, ℕ, zero, suc, ◌+◌, ◌-◌, ◌<◌, ◌≤◌, ⊎_elim, Bool, true, false, cond, ◌==◌, List, [], ◌∷◌, length, map, get_or, arith, nat_lt, length-set, get_or-set_same, get_or-set_other}
 use Rattle.std.specs.List.{insert, remove, list_all}
 use Rattle.std.proofs.Math.ListN.{set}
@@ -9,7 +10,8 @@ use Rattle.ct_alloc.specs.Packing.{load, IsNext, IsPacking, LiesBelow}
 use Rattle.ct_alloc.proofs.PackLemmas.{IsHopeless, left, packing-less, packing-more, remove-length, share}
 use Rattle.ct_alloc.proofs.TwinLemmas.{hopeless-twin}
 
--- the best of the cards looked at: it has room, less than the limit, and as much as any other of less
+-- the best of the cards that were looked at: it has room for the
+-- size, and the most room of all with less room than the limit
 pub record IsRoomiest (free : List ℕ) (size below seen best : ℕ) : Type 0 where
   pub there : best < length free
   pub fits : size ≤ get_or free best 0
@@ -32,7 +34,8 @@ insert-at zero cards on inside = refl
 insert-at (suc k) [] on inside = absurd (omega arith)
 insert-at (suc k) (card ∷ cards) on inside = insert-at k cards on (omega arith)
 
--- where each packing has the size on a card with less room, a card with as much is hopeless
+-- if each packing has the size on a card with less room than
+-- a limit, a card with the limit's room or more is hopeless
 pub hopeless-lies : (free sizes : List ℕ) (k size room card : ℕ) → k < length sizes → card < length free → get_or sizes k 0 ≡ size → LiesBelow free sizes size room → room ≤ get_or free card 0 → IsHopeless free sizes k card
 hopeless-lies free sizes k size room card inside there is lies roomy = λ fits some.
     let packs : IsPacking (left free card (get_or sizes k 0)) (remove sizes k) some.0 = some.1 in
@@ -43,7 +46,8 @@ hopeless-lies free sizes k size room card inside there is lies roomy = λ fits s
     let same : get_or free (get_or (insert some.0 k card) k 0) 0 ≡ get_or free card 0 = ap (λ (c : ℕ). get_or free c 0) at in
     absurd (omega (arith, less, same))
 
--- an equal size behind one on a card is on none with more room than the card had, where those lead to nothing
+-- a size is put on a card, and all cards with more room are hopeless. Then
+-- an equal size behind it is on no card with more room than the card had.
 pub lies-rest : (free sizes : List ℕ) (k card size : ℕ) → card < length free → get_or sizes k 0 ≡ size → size ≤ get_or free card 0 → ((other : ℕ) → other < length free → get_or free card 0 < get_or free other 0 → IsHopeless free sizes k other) → LiesBelow (left free card size) (remove sizes k) size (get_or free card 0 + 1)
 lies-rest free sizes k card size there is fits none = λ cards at packs inside same. by_test cards at packs inside same (nat_lt (get_or (left free card size) (get_or cards at 0) 0) (get_or free card 0 + 1)) refl
   where
@@ -73,7 +77,7 @@ lies-rest free sizes k card size there is fits none = λ cards at packs inside s
         packing-more (left free (get_or cards at 0) size) (remove sizes k) at card (remove cards at) inside (omega (arith, many_other, there)) (omega (arith, kept_card, same, fits)) second in
         absurd (none (get_or cards at 0) beyond (omega (arith, kept, more)) (omega (arith, is, fits, kept, more)) (insert (remove cards at) at card, subst (λ (s : ℕ). IsPacking (left free (get_or cards at 0) s) (remove sizes k) (insert (remove cards at) at card)) (sym is) whole))
 
--- what lies on the one card goes to the other
+-- the card of a size once all sizes on one card are moved to another
 abbrev pub moved : ℕ → ℕ → ℕ → ℕ
 moved card other on = cond (on == card) other on
 
@@ -129,7 +133,7 @@ moved-within card other n (on ∷ cards) inside all =
     by_test here true t = rw t (grind (arith, nat_tests))
     by_test here false t = rw t here
 
--- what lies on a card that a size fills fits where the size lies
+-- the sizes on a card that the size fills fit on the card where the size lies
 pub packing-moved : (free sizes cards : List ℕ) (card other size : ℕ) → card < length free → other < length free → card ≢ other → get_or free card 0 ≡ size → size ≤ get_or free other 0 → IsPacking (left free other size) sizes cards → IsPacking (left free card size) sizes (map (λ c. moved card other c) cards)
 packing-moved free sizes cards card other size a b apart full fits packs =
     let many : length (left free other size) ≡ length free = length-set free other (get_or free other 0 - size) in
@@ -162,7 +166,7 @@ packing-moved free sizes cards card other size a b apart full fits packs =
         let no_other : place ≢ other = grind (arith, nat_tests) in
         omega (arith, load-rest card other place sizes cards no_card no_other, packs.room place, get_or-set_other free other place (get_or free other 0 - size) 0 no_other, get_or-set_other free card place (get_or free card 0 - size) 0 no_card)
 
--- where a card that the size fills leads to no packing, none does
+-- if a card that the size fills is hopeless, each other card is hopeless
 pub hopeless-filled : (free sizes : List ℕ) (k card other : ℕ) → card < length free → other < length free → get_or free card 0 ≡ get_or sizes k 0 → IsHopeless free sizes k card → IsHopeless free sizes k other
 hopeless-filled free sizes k card other a b full none = by_test (card == other) refl
   where
@@ -172,7 +176,7 @@ hopeless-filled free sizes k card other a b full none = by_test (card == other) 
         let apart : card ≢ other = grind (arith, nat_tests) in
         none (omega (arith, full)) (map (λ c. moved card other c) some.0, packing-moved free (remove sizes k) some.0 card other (get_or sizes k 0) a b apart full fits some.1)
 
--- the roomiest card leads to nothing, so none with as much room does
+-- if the roomiest card below the limit is hopeless, each card with at least its room is
 pub tried-next : (free sizes : List ℕ) (k below card : ℕ) → card < length free → ((other : ℕ) → other < length free → get_or free other 0 < below → get_or free other 0 ≤ get_or free card 0) → ((other : ℕ) → other < length free → below ≤ get_or free other 0 → IsHopeless free sizes k other) → IsHopeless free sizes k card → (other : ℕ) → other < length free → get_or free card 0 ≤ get_or free other 0 → IsHopeless free sizes k other
 tried-next free sizes k below card there most tried here other inside roomy = by_below (nat_lt (get_or free other 0) below) refl (card == other) refl
   where
@@ -185,7 +189,8 @@ tried-next free sizes k below card there most tried here other inside roomy = by
         let le = most other inside less in
         hopeless-twin free sizes k card other there inside apart (omega (arith, le, roomy)) here
 
--- where all cards have less room than a limit, so does the card of each size
+-- if all cards have less room than a limit, each packing
+-- has its sizes on cards with less room than the limit
 pub lies-all : (free sizes : List ℕ) (card size last limit : ℕ) → card < length free → ((at : ℕ) → get_or free at 0 < limit) → LiesBelow (left free card size) sizes last limit
 lies-all free sizes card size last limit there all = λ cards at packs inside same. by_test (get_or cards at 0) (get_or cards at 0 == card) refl
   where
@@ -197,7 +202,7 @@ lies-all free sizes card size last limit there all = λ cards at packs inside sa
         let apart : on ≢ card = grind (arith, nat_tests) in
         omega (arith, all on, get_or-set_other free card on (get_or free card 0 - size) 0 apart)
 
--- the card that was chosen is one of all that have less room than the limit
+-- if the size does not fill the chosen card, that card is the roomiest with less room than the limit
 chosen-most : (free : List ℕ) (size below card : ℕ) → IsNext free size below card → get_or free card 0 ≢ size → (get_or free card 0 < below) × ((other : ℕ) → other < length free → get_or free other 0 < below → get_or free other 0 ≤ get_or free card 0)
 chosen-most free size below card next apart = ⊎_elim (λ full. absurd (apart full)) (λ most. most) next.chosen
 
@@ -222,7 +227,8 @@ tried-on before free now sizes k below card room tried same next apart here is =
       (λ other inside roomy. tried-next free sizes k below card next.there (chosen-most free (get_or sizes k 0) below card next apart).1 tried.1 here other inside (omega (arith, is, roomy))),
 )
 
--- at the start, cards with the room of the limit or more are hopeless, since each packing has equal sizes below it
+-- at the start, each card with the limit's room or more is hopeless,
+-- since each packing has the equal sizes on cards with less room
 pub tried-lies : (free sizes : List ℕ) (k last limit : ℕ) → k < length sizes → get_or sizes k 0 ≡ last → LiesBelow free sizes last limit → IsTriedFrom free free sizes k limit
 tried-lies free sizes k last limit inside is lies = (refl, λ card there roomy. hopeless-lies free sizes k last limit card inside there is lies roomy)
 

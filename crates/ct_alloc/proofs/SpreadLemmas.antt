@@ -1,4 +1,4 @@
--- Needs spread over resources: kind by kind, and the needs of one kind as a packing on its cards.
+-- The spread of needs over resources: kind by kind, with the needs of one kind as a packing on its cards.
 use Rattle.std.proofs.Common.{◌≡◌, ◌∙◌, sym, ap, subst, refl, ℕ, zero, suc, ◌+◌, ◌<◌, ◌≤◌, Bool, true, false, cond, ◌==◌, List, [], ◌∷◌, length, map, get_or, arith, nat_lt}
 use Rattle.std.proofs.lemmas.List.{get_or-map, get_or_past, length-map}
 use Rattle.std.specs.Prelude.{not, ◌&&◌, slice_get, Option, Some, None, filter, bytes_eq}
@@ -53,7 +53,7 @@ kept-load p place (need ∷ needs) (at ∷ places) = by_test (kept-load p place 
     by_test again true t = rw t (omega arith)
     by_test again false t = rw t (omega arith)
 
--- where all needs are met, so are those that pass a test
+-- if all needs are met, the needs that pass a test are met
 pub spread-kept : (p : Need → Bool) (free : FreeValue) (needs : List Need) (places : List ℕ) → IsSpread free needs places → IsSpread free (filter p needs) (kept p needs places)
 spread-kept p free needs places spread = record {
   kinds = kept-kinds p free.resources needs places spread.kinds;
@@ -101,7 +101,7 @@ interleaved-load kind place resources (need ∷ needs) here rest a b = by_test (
         let again = f here rest mine both.1 in
         rw t (omega (arith, again))
 
--- needs that all differ in kind from a resource take nothing of it
+-- needs whose kinds all differ from the kind of a resource take nothing of it
 none-here : (p : Need → Bool) (place : ℕ) (resources : List Resource) (needs : List Need) (places : List ℕ) → ((need : Need) → p need ≡ true → is_of_kind need.kind (slice_get resources place) ≡ false) → are_of_kind resources (filter p needs) places ≡ true → load place (sizes_of (filter p needs)) places ≡ 0
 none-here p place resources [] [] differ all = refl
 none-here p place resources [] (at ∷ places) differ all = refl
@@ -136,7 +136,7 @@ kind-differs one other (Some r) is differ = by_test (bytes_eq r.kind other) refl
 kind-same : (one other : List ℕ) (r : Option Resource) → is_of_kind one r ≡ false → bytes_eq other one ≡ true → is_of_kind other r ≡ false
 kind-same one other r is same = ap (λ k. is_of_kind k r) (same-kind other one same) ∙ is
 
--- the needs of a kind and the others do not meet, so both fit together
+-- the needs of a kind and the other needs share no resource, so both are met together
 pub spread-interleaved : (kind : List ℕ) (free : FreeValue) (needs : List Need) (here rest : List ℕ) → IsSpread free (filter (asks_kind kind) needs) here → IsSpread free (filter (asks_other kind) needs) rest → IsSpread free needs (interleaved kind needs here rest)
 spread-interleaved kind free needs here rest mine others = record {
   kinds = interleaved-kinds kind free.resources needs here rest mine.kinds others.kinds;
@@ -157,7 +157,7 @@ spread-interleaved kind free needs here rest mine others = record {
         none-here (asks_kind kind) place free.resources needs here (λ need same. kind-same kind need.kind (slice_get free.resources place) t same) mine.kinds in
         omega (arith, interleaved-load kind place free.resources needs here rest mine.kinds others.kinds, none, others.room place)
 
--- where a number stands in a list, or the list's length
+-- the position of a number in a list; the list's length if it is not there
 abbrev pub index_of : ℕ → List ℕ → ℕ
 index_of n [] = 0
 index_of n (first ∷ rest) = cond (first == n) 0 (suc (index_of n rest))
@@ -184,7 +184,7 @@ above kind place (r ∷ rs) i inside = by_test (above kind (place + 1) rs) (byte
         let below : i < length (cards_from (place + 1) kind rs) = rw t at inside in
         rw t (omega (arith, again i below))
 
--- each card stands in the list once
+-- each card is in the list once
 card-own : (kind : List ℕ) (place : ℕ) (resources : List Resource) (i : ℕ) → i < length (cards_from place kind resources) → index_of (get_or (cards_from place kind resources) i 0) (cards_from place kind resources) ≡ i
 card-own kind place [] i inside = absurd (omega arith)
 card-own kind place (r ∷ rs) i inside = by_test (card-own kind (place + 1) rs) (bytes_eq r.kind kind) refl i inside
@@ -260,7 +260,7 @@ at-card n j cards inside own = by_test (get_or cards j 0 == n) refl
             let yes : (get_or cards j 0 == n) ≡ true = grind (arith, nat_tests) in
             absurd (true≢false (sym yes ∙ t))
 
--- what is taken of a resource is what is taken of its card
+-- the slots taken of a resource are the slots taken of its card
 load-cards : (kind : List ℕ) (resources : List Resource) (place : ℕ) (sizes found : List ℕ) → list_all (λ card. nat_lt card (length (cards_from 0 kind resources))) found ≡ true → load place sizes (map (λ card. get_or (cards_from 0 kind resources) card 0) found) ≡ load (index_of place (cards_from 0 kind resources)) sizes found
 load-cards kind resources place [] found all = refl
 load-cards kind resources place (size ∷ sizes) [] all = refl
@@ -287,7 +287,7 @@ kinds-cards kind resources (need ∷ needs) (card ∷ found) alike count all =
     (ap (λ k. is_of_kind k (slice_get resources at)) (same-kind need.kind kind mine.0) ∙ of)
     (kinds-cards kind resources needs found mine.1 (omega arith) both.1)
 
--- a packing on the cards of the kind meets the needs
+-- if there is a packing on the cards of the kind, the needs are met at the places of the cards
 pub spread-packed : (free : FreeValue) (kind : List ℕ) (needs : List Need) (found : List ℕ) → list_all (asks_kind kind) needs ≡ true → IsPacking (free_of free kind) (sizes_of needs) found → IsSpread free needs (map (λ card. get_or (cards_of free kind) card 0) found)
 spread-packed free kind needs found alike packs =
     let cards : List ℕ = cards_of free kind in
@@ -355,7 +355,7 @@ load-beyond n card (size ∷ sizes) (first ∷ found) all beyond =
     let none : share card first size ≡ 0 = ap (λ b. cond b size 0) other in
     omega (arith, none, again)
 
--- where the needs are met, they are packed on the cards of the kind
+-- if the needs are met, their cards are a packing on the cards of the kind
 pub packed-spread : (free : FreeValue) (kind : List ℕ) (needs : List Need) (places : List ℕ) → list_all (asks_kind kind) needs ≡ true → IsSpread free needs places → IsPacking (free_of free kind) (sizes_of needs) (map (λ place. index_of place (cards_of free kind)) places)
 packed-spread free kind needs places alike spread =
     let both = within-cards kind free.resources needs places alike spread.kinds in
@@ -378,7 +378,7 @@ packed-spread free kind needs places alike spread =
 pub none-packed : (free : FreeValue) (kind : List ℕ) (needs : List Need) → list_all (asks_kind kind) needs ≡ true → (CanPack (free_of free kind) (sizes_of needs) → ⊥) → NoneSpread free needs
 none-packed free kind needs alike none = λ places spread. none (map (λ place. index_of place (cards_of free kind)) places, packed-spread free kind needs places alike spread)
 
--- the needs that pass a test all pass it, and are no more
+-- the filtered needs all pass the test, and are no more than before
 pub filter-all : (p : Need → Bool) (needs : List Need) → list_all p (filter p needs) ≡ true
 filter-all p [] = refl
 filter-all p (need ∷ needs) = by_test (filter-all p needs) (p need) refl
@@ -395,7 +395,7 @@ filter-less p (need ∷ needs) = by_test (filter-less p needs) (p need) refl
     by_test again true t = rw t (omega arith)
     by_test again false t = rw t (omega arith)
 
--- the first need is none of another kind than its own
+-- without the needs of the first need's kind there are fewer needs
 pub others-less : (need : Need) (needs : List Need) → length (filter (asks_other need.kind) (need ∷ needs)) < suc (length needs)
 others-less need needs =
     let own : asks_other need.kind need ≡ false = ap (λ b. not b) (kind-self need.kind) in

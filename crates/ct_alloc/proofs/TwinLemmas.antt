@@ -1,4 +1,4 @@
--- Of cards with the same free slots one stands for all: packings with the two in each other's place.
+-- Two cards with the same free slots can change places in a packing, so a try of one of them is enough.
 use Rattle.std.proofs.Common.{◌≡◌, ◌≢◌, ◌∙◌, sym, ap, subst, refl, ℕ, ◌-◌, ◌<◌, Bool, true, false, cond, ◌==◌, List, [], ◌∷◌, length, map, get_or, arith, nat_lt, length-set, get_or-set_same, get_or-set_other}
 use Rattle.std.specs.List.{remove, list_all}
 use Rattle.std.proofs.lemmas.Bool.{and_parts, and_from}
@@ -7,7 +7,7 @@ use Rattle.std.proofs.lemmas.List.{length-map}
 use Rattle.ct_alloc.specs.Packing.{load, IsPacking}
 use Rattle.ct_alloc.proofs.PackLemmas.{IsHopeless, left, share}
 
--- the card in the other one's place
+-- the card, if these two cards change places
 abbrev pub twin : ℕ → ℕ → ℕ → ℕ
 twin one other card = cond (card == one) other (cond (card == other) one card)
 
@@ -66,7 +66,7 @@ twin-left free one other size place a b apart same = by_test (place == one) refl
         let no_other : place ≢ other = grind (arith, nat_tests) in
         rw (e, f) (get_or-set_other free other place (get_or free other 0 - size) 0 no_other ∙ sym (get_or-set_other free one place (get_or free one 0 - size) 0 no_one))
 
--- where one card leads to no packing, neither does another one with the same free slots
+-- if a size on one card leads to no packing, neither does it on another card with the same free slots
 pub hopeless-twin : (free sizes : List ℕ) (k one other : ℕ) → one < length free → other < length free → one ≢ other → get_or free one 0 ≡ get_or free other 0 → IsHopeless free sizes k one → IsHopeless free sizes k other
 hopeless-twin free sizes k one other a b apart same none = λ fits some.
     let size : ℕ = get_or sizes k 0 in

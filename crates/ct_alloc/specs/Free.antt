@@ -7,7 +7,7 @@ use Rattle.ct_base.specs.declared.defs.Resource.{Resource}
 use Rattle.ct_alloc.specs.declared.placement.Pick.{Pick}
 use Rattle.ct_alloc.specs.Placement.{SomeFits, fits_beside, is_placement}
 
--- the resources of a machine, and what is used of each
+-- the resources of a machine, and how many slots of each are used
 pub record FreeValue : Type 0 where
   pub resources : List Resource
   pub used : List ℕ
@@ -20,14 +20,14 @@ used_at free place = slice_index free.used place
 abbrev pub slot_counts : List Resource → List ℕ
 slot_counts resources = map (λ (r : Resource). r.slots) resources
 
--- no more slots of a resource are used than it has; slots and the number of resources fit in 32 bits
+-- no resource has more slots in use than it has; slots and the number of resources fit in 32 bits
 pub record IsWithinSlots (resources : List Resource) (used : List ℕ) : Type 0 where
   pub count : length used ≡ length resources
   pub few : length resources < 2 ^ 32 - 1
   pub bounded : (place : ℕ) → slice_index (slot_counts resources) place < 2 ^ 32
   pub within : (place : ℕ) → slice_index used place ≤ slice_index (slot_counts resources) place
 
--- each pick is on a resource that is there
+-- the resource of each pick is there
 abbrev pub are_there : List Resource → List Pick → Bool
 are_there resources picks = list_all (λ (pick : Pick). nat_lt pick.resource (length resources)) picks
 

@@ -5,12 +5,12 @@ use Rattle.ct_base.specs.declared.defs.Need.{Need}
 use Rattle.ct_base.specs.declared.defs.Resource.{Resource}
 use Rattle.ct_alloc.specs.declared.placement.Pick.{Pick}
 
--- the pick names this resource, by kind and id
+-- the resource is there, and the pick names it by kind and id
 abbrev pub names_resource : Pick → Option Resource → Bool
 names_resource pick None = false
 names_resource pick (Some resource) = bytes_eq resource.kind pick.kind && bytes_eq resource.id pick.id
 
--- the pick meets the need, on a resource of its kind
+-- the pick meets the need: the same group, kind and slots, on a resource that is there and that it names
 abbrev pub meets : List Resource → Need → Pick → Bool
 meets resources need pick =
     need.group == pick.group && bytes_eq need.kind pick.kind && need.slots == pick.slots && names_resource pick (slice_get resources pick.resource)
@@ -26,12 +26,14 @@ is_placement resources (need ∷ needs) (pick ∷ picks) = meets resources need 
 abbrev pub slots_at : ℕ → List Pick → ℕ
 slots_at place picks = sum_by (λ (p : Pick). p.slots) (filter (λ (p : Pick). p.resource == place) picks)
 
--- from this place on, what is used of each resource and the picks on it are at most its slots
+-- for each resource, from this place on, the used slots and
+-- the slots of the picks are together at most its slots
 abbrev pub fits_from : ℕ → List Resource → (ℕ → ℕ) → List Pick → Bool
 fits_from place [] used picks = true
 fits_from place (resource ∷ resources) used picks = nat_le (used place + slots_at place picks) resource.slots && fits_from (place + 1) resources used picks
 
--- the picks fit beside what is used of each resource
+-- the picks fit: the used slots and the slots of the picks
+-- are together at most the slots of each resource
 abbrev pub fits_beside : List Resource → (ℕ → ℕ) → List Pick → Bool
 fits_beside resources used picks = fits_from 0 resources used picks
 

@@ -1,8 +1,8 @@
 ghost use Rattle.std.specs.Prelude.{◌≡◌, ◌<◌, true, sum_by};
 ghost use Rattle.ct_alloc.specs.Packing.{CannotPack, one_from, reaching, rooms};
 
-/// Tells whether, for some size, the sizes from it on are too many or take too many slots for the cards: then
-/// no packing exists.
+/// Tells whether no packing exists by this bound: for some size, the sizes
+/// that are not smaller are too many for the cards, or take too many slots.
 pub fn is_overfull(free: &[u32], sizes: &[u32]) -> bool
     ensures { result ≡ true → CannotPack free.now sizes.now }
 {
@@ -14,7 +14,8 @@ pub fn is_overfull(free: &[u32], sizes: &[u32]) -> bool
     false
 }
 
-/// Tells that sizes cannot be packed, since those that reach a least one are too many or too much for the cards.
+/// Tells whether the sizes of at least `least` are too many for
+/// the cards, or take too many slots; then no packing exists.
 fn is_overfull_from(free: &[u32], sizes: &[u32], least: u32) -> bool
     ensures { result ≡ true → CannotPack free.now sizes.now }
 {
@@ -27,7 +28,7 @@ fn is_overfull_from(free: &[u32], sizes: &[u32], least: u32) -> bool
     false
 }
 
-/// Adds up the amounts that reach a least one.
+/// Adds up the amounts that are at least `least`.
 fn sum_from(amounts: &[u32], least: u32) -> u128
     ensures { result ≡ sum_by (reaching least) amounts.now }
 {
@@ -40,7 +41,7 @@ fn sum_from(amounts: &[u32], least: u32) -> u128
     sum
 }
 
-/// Counts the amounts that reach a least one.
+/// Counts the amounts that are at least `least`.
 fn count_from(amounts: &[u32], least: u32) -> u128
     ensures { result ≡ sum_by (one_from least) amounts.now }
 {
@@ -53,7 +54,7 @@ fn count_from(amounts: &[u32], least: u32) -> u128
     count
 }
 
-/// Counts how many sizes of a least one the cards have room for.
+/// Counts how many sizes of `least` the cards have room for.
 fn rooms_for(free: &[u32], least: u32) -> u128
     requires { 0 < least }
     ensures { result ≡ sum_by (rooms least) free.now }

@@ -19,7 +19,7 @@ pub(crate) fn by_kind_of(alloc: Global, resources: &[Resource]) -> Result<ByKind
     Ok(by_kind)
 }
 
-/// Puts one more place behind those of a kind.
+/// Puts one more place behind the places of a kind.
 fn note(alloc: Global, by_kind: &mut ByKind, kind: &[u8], place: usize) -> Result<(), NoMemory>
     ensures { OnOk result ((asked : Bytes ℕ) → places_for by_kind.new asked ≡ (if bytes_eq kind.now asked
         then places_for by_kind.old asked ++ place ∷ []

@@ -48,9 +48,9 @@ impl Free {
         })
     }
 
-    /// Places needs beside what is used now: gives a placement that fits, or `None` where none does.
+    /// Places needs beside what is used now: returns a placement that fits, or `None` if none does.
     ///
-    /// Which one it gives is this project's choice: it places kind after kind, the greatest need first.
+    /// Which one it returns is this project's choice: it places kind after kind, the greatest need first.
     pub fn place(&self, alloc: Global, needs: &List<Need>) -> Result<Option<Placement>, NoMemory>
         ensures exact { IfOk result (λ found. MatchOption found (NoneFits self.now needs.now) (λ placement. IsFitting self.now needs.now placement.picks)) }
     {
@@ -80,7 +80,7 @@ impl Free {
         Ok(Some(interleaved(alloc, kind, needs, here.as_slice(), rest.as_slice())?))
     }
 
-    /// Finds the place of a resource for each of some needs, which all have one kind.
+    /// Finds the place of a resource for each of these needs, which all have one kind.
     fn spread_kind(
         &self,
         alloc: Global,
@@ -132,7 +132,7 @@ impl Free {
         places_at(&self.by_kind, kind)
     }
 
-    /// Lists what is free of the resources at some places.
+    /// Lists the free slots of the resources at these places.
     fn free_of(&self, alloc: Global, places: &[usize]) -> Result<Vec<u32>, NoMemory>
         ensures { IfOk result (λ free. free.items ≡ map (λ place. free_at self.now place) places.now) }
     {
@@ -184,7 +184,7 @@ impl Free {
         take_at_most(picks, place, self.free_at(place))
     }
 
-    /// Counts the slots that are free of the resource at a place: 0 where there is none.
+    /// Returns how many slots of the resource at a place are free; 0 if there is no resource.
     fn free_at(&self, place: usize) -> u32
         ensures { result ≡ free_at self.now place }
     {
@@ -215,7 +215,7 @@ impl Free {
     }
 }
 
-/// Meets a need at the place of a resource.
+/// Makes the pick that meets a need at the place of a resource.
 fn pick_of(
     alloc: Global,
     need: &Need,
@@ -237,7 +237,7 @@ fn pick_of(
     })
 }
 
-/// Picks out the needs of a kind.
+/// Lists the needs of this kind.
 fn of_kind<'a>(alloc: Global, kind: &Name, needs: &[&'a Need]) -> Result<Vec<&'a Need>, NoMemory>
     ensures { IfOk result (λ mine. map (λ n. n.now) mine.items ≡ filter (asks_kind kind.now) (map (λ n. n.now) needs.now)) }
 {
@@ -250,7 +250,7 @@ fn of_kind<'a>(alloc: Global, kind: &Name, needs: &[&'a Need]) -> Result<Vec<&'a
     Ok(mine)
 }
 
-/// Picks out the needs of other kinds than this one.
+/// Lists the needs of other kinds than this one.
 fn of_other_kinds<'a>(
     alloc: Global,
     kind: &Name,
@@ -278,7 +278,7 @@ fn sizes_of(alloc: Global, needs: &[&Need]) -> Result<Vec<u32>, NoMemory>
     Ok(sizes)
 }
 
-/// Names the places of cards that are counted within their kind.
+/// Lists the places of cards that are counted within their kind.
 fn places_of(alloc: Global, cards: &[usize], found: &[usize]) -> Result<Vec<usize>, NoMemory>
     requires within { list_all (λ card. nat_lt card (length cards.now)) found.now ≡ true }
     ensures { IfOk result (λ places. places.items ≡ map (λ card. slice_index cards.now card) found.now) }
@@ -290,7 +290,7 @@ fn places_of(alloc: Global, cards: &[usize], found: &[usize]) -> Result<Vec<usiz
     Ok(places)
 }
 
-/// Puts the places for a kind and those for the others into the order of the needs.
+/// Merges the places for a kind and the places for the other kinds in the order of the needs.
 fn interleaved(
     alloc: Global,
     kind: &Name,
@@ -339,7 +339,7 @@ fn copy_of(alloc: Global, resource: &Resource) -> Result<Resource, NoMemory>
     })
 }
 
-/// Tells whether picks take so many slots of the resource at a place at most.
+/// Tells whether picks take at most this many slots of the resource at a place.
 fn take_at_most(picks: &[Pick], place: usize, most: u32) -> bool
     ensures { result ≡ nat_le (slots_at place picks.now) most }
 {

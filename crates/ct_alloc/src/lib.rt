@@ -1,6 +1,7 @@
 //! Placements of a test's needs on the machine's resources.
 //!
-//! Hands up: `Free`, which places needs beside what is used, and `Placement`, which a start carries, with its `Pick`s.
+//! Hands up: `Free`, which places needs beside what is used;
+//! `Placement`, which a start carries, with its `Pick`s.
 //! Stands on: ct_base and `indexmap`.
 //! Read first: `specs/Placement.antt`, `specs/Free.antt`, then `free.rt`.
 #![tactic(auto)]

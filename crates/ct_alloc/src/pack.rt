@@ -5,7 +5,8 @@ use crate::bound::is_overfull;
 use ct_base::NoMemory;
 use std::alloc::Global;
 
-/// Packs sizes on cards of so many free slots: gives the card of each size, or `None` where there is no packing.
+/// Packs sizes on cards with these free slots. It returns
+/// the card of each size, or `None` if there is no packing.
 pub fn pack(alloc: Global, free: &mut [u32], sizes: &[u32]) -> Result<Option<Vec<usize>>, NoMemory>
     ensures exact { IfOk result (λ found. MatchOption found (CannotPack free.old sizes.now) (λ cards. IsPacking free.old sizes.now cards.items)) }
 {
@@ -13,10 +14,11 @@ pub fn pack(alloc: Global, free: &mut [u32], sizes: &[u32]) -> Result<Option<Vec
     pack_below(alloc, free, sizes, 0, limit)
 }
 
-/// Packs sizes on cards, where each size equal to the last one packed lies on a card with less room than a limit.
+/// Packs sizes on cards. Each size equal to the last one
+/// packed lies on a card with less room than a limit.
 ///
-/// The greatest size is tried first, on one card of each room, the roomiest first. A card with just its room is tried
-/// alone.
+/// The greatest size is tried first, on one card of each room, the
+/// roomiest first. If a card has just its room, only that card is tried.
 fn pack_below(
     alloc: Global,
     free: &mut [u32],
@@ -60,7 +62,7 @@ fn pack_below(
     Ok(None)
 }
 
-/// Finds the greatest size, the first of several.
+/// Finds the position of the greatest size, the first if several are equal.
 fn greatest(sizes: &[u32]) -> Option<usize>
     ensures { MatchOption result (length sizes.now ≡ 0) (λ at. at < length sizes.now) }
 {
@@ -74,7 +76,7 @@ fn greatest(sizes: &[u32]) -> Option<usize>
     best
 }
 
-/// Gives a room that is above that of each card.
+/// Returns a room that is above the room of each card.
 fn above_all(free: &[u32]) -> u64
     ensures { (card : ℕ) → slice_index free.now card < result }
 {
@@ -87,7 +89,8 @@ fn above_all(free: &[u32]) -> u64
     above
 }
 
-/// Finds the card to try for a size: one with just its room, or else the roomiest with less room than a limit.
+/// Finds the card to try for a size: a card with just its
+/// room, else the roomiest with less room than a limit.
 fn next_card(free: &[u32], size: u32, below: u64) -> Option<usize>
     ensures { MatchOption result ((card : ℕ) → card < length free.now → size ≤ slice_index free.now card → below ≤ slice_index free.now card) (λ card. IsNext free.now size below card) }
 {
@@ -109,7 +112,7 @@ fn filled_card(free: &[u32], size: u32) -> Option<usize>
     None
 }
 
-/// Finds the roomiest card that has room for a size, of those with less room than a limit.
+/// Finds the roomiest card that has room for a size, among the cards with less room than a limit.
 fn roomiest(free: &[u32], size: u32, below: u64) -> Option<usize>
     ensures { MatchOption result ((card : ℕ) → card < length free.now → size ≤ slice_index free.now card → below ≤ slice_index free.now card) (λ card. IsNext free.now size below card) }
 {

@@ -1,4 +1,5 @@
--- The steps by which spots are given to places: sizes of lines, first spots, a spot for each place, a place for each spot.
+-- The steps that give spots to places: sizes of lines, first
+-- spots, a spot for each place, a place for each spot.
 use Rattle.std.proofs.Common.{ℕ, ◌≡◌, ◌≢◌, ◌+◌, ◌<◌, ◌≤◌, List, [], ◌∷◌, ◌++◌, take, length, get_or, set, refl, sym, ap, ◌∙◌, ⊎_elim, arith, AllPairs}
 use Rattle.std.proofs.lemmas.Bool.{cases_eq}
 use Rattle.std.proofs.Math.Seq.{get_or-append_seam}
@@ -8,7 +9,7 @@ use Rattle.ct_queue.specs.Lines.{AreNumbered}
 use Rattle.ct_queue.specs.Spots.{IsTable, first_spot, size_of, spot_of}
 use Rattle.ct_queue.proofs.SpotLemmas.{first_fits, first_more, first_none, size_more, size_stays, spot_below}
 
--- one place more is counted
+-- one more place is counted
 pub sizes_more : (lines sizes : List ℕ) (place : ℕ) → AreNumbered lines → place < length lines → IsTable (size_of (take place lines)) (length lines) sizes → IsTable (size_of (take (place + 1) lines)) (length lines) (set sizes (get_or lines place 0) (get_or sizes (get_or lines place 0) 0 + 1))
 sizes_more lines sizes place numbered within sized = record {
   long = length-set sizes (get_or lines place 0) (get_or sizes (get_or lines place 0) 0 + 1) ∙ sized.long;
@@ -24,7 +25,7 @@ sizes_more lines sizes place numbered within sized = record {
       (cases_eq at (get_or lines place 0));
 }
 
--- the lines up to one have their first spots, and the others still their sizes
+-- the lines before `end` have their first spots, and the others still their sizes
 pub record AreBegun (lines : List ℕ) (end before : ℕ) (firsts : List ℕ) : Type 0 where
   pub long : length firsts ≡ length lines
   pub passed : before ≡ first_spot lines end
@@ -63,7 +64,7 @@ begun_fits lines firsts end before within kept =
 pub begun_all : (lines firsts : List ℕ) (end before : ℕ) → length lines ≤ end → AreBegun lines end before firsts → IsTable (first_spot lines) (length lines) firsts
 begun_all lines firsts end before all kept = record { long = kept.long; reads = λ line there. kept.begun line (omega arith) }
 
--- the places up to one have their spots, and each line knows its next one
+-- the places before `end` have their spots, and each line has its next free spot
 pub record AreDealt (lines : List ℕ) (end : ℕ) (next spots : List ℕ) : Type 0 where
   pub long : length next ≡ length lines
   pub dealt : length spots ≡ end
@@ -117,7 +118,7 @@ module _ (lines next spots : List ℕ) (end : ℕ) (numbered : AreNumbered lines
         (cases_eq line (get_or lines end 0));
   }
 
--- each place before one is found by its spot
+-- each place before `end` is found by its spot
 pub record AreFoundTo (spots : List ℕ) (end : ℕ) (places : List ℕ) : Type 0 where
   pub long : length places ≡ length spots
   pub found : (place : ℕ) → place < end → get_or places (get_or spots place 0) 0 ≡ place

@@ -1,5 +1,5 @@
--- Heads of lines in bunches: what the first one of a bunch says of those in front of it, and that they stay right when a
--- member comes or goes.
+-- Heads of lines in bunches: the first head of a bunch decides about the
+-- heads in front of it. The heads stay right when a member comes or goes.
 use Rattle.std.proofs.Common.{ℕ, ◌≡◌, ◌<◌, ◌≤◌, false, List, length, replicate, sym, ◌∙◌, ⊎_elim, arith, Option, Some, None, MatchOption}
 use Rattle.std.proofs.lemmas.Bool.{cases_lt, true≢false}
 use Rattle.std.proofs.lemmas.List.{get_or_past, get_or-replicate, length-replicate}
@@ -12,7 +12,7 @@ use Rattle.ct_queue.proofs.HeadLemmas.{heads_none}
 abbrev pub bunched_of : LinesValue → LinesValue → BunchedValue
 bunched_of value heads = record { lines = value.lines; bunches = heads.lines; members = value.members }
 
--- where no member stands there is no head
+-- without members there are no heads
 pub bunches_none : (lines bunches : List ℕ) → length bunches ≡ length lines → AreHeadsInBunches (none_in lines) (none_in bunches)
 bunches_none lines bunches many = record {
   bunched = many;
@@ -27,7 +27,8 @@ bunches_none lines bunches many = record {
         (cases_lt place (length bunches))
 
 module _ (value heads : LinesValue) (kept : AreHeads value heads.members) where
-  -- of the bunch of a head a head stands no further on, and none of it from a place on where none is the first there
+  -- if no place between `from` and a head has the first head of
+  -- a bunch, the bunch of that head has a head before `from`
   of_bunch_before : (from place : ℕ) → IsHeadIn value place → ((at : ℕ) → at ≤ place → from ≤ at → IsHeadIn heads at → ⊥) → IsOfBunchBefore heads.lines (IsHeadIn value) from place
   of_bunch_before from place head none =
       let first = head_of heads.lines (is_marked heads.members) place (kept.all place head) in
@@ -64,7 +65,7 @@ module _ (value heads : LinesValue) (kept : AreHeads value heads.members) where
     least = λ other behind before same head. true≢false (sym (kept.all other head) ∙ next.least other behind before same);
   }
 
-  -- what is found of the bunches
+  -- what a search of the bunches finds is right for the lines
   pub new_bunch_found : (from : ℕ) (found : Option ℕ) → MatchOption found (NoHeadFrom heads from) (IsLeastHeadFrom heads from) → MatchOption found (NoNewBunchFrom (bunched_of value heads) from) (IsOfNewBunchFrom (bunched_of value heads) from)
   new_bunch_found from None none = no_new_bunch from none
   new_bunch_found from (Some found) least = of_new_bunch from found least

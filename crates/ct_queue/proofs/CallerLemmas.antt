@@ -1,4 +1,5 @@
--- For crates above: which tests a change leaves as they were, by place and by number, and what the changed one becomes.
+-- For the crates above: which tests a change leaves as they were,
+-- by place and by number, and what it makes of the changed test.
 use Rattle.std.proofs.Common.{ℕ, ◌≡◌, ◌-◌, ◌<◌, ◌≤◌, zero, suc, Bool, true, false, not, ◌&&◌, eqb, ltb, List, length, get_or, refl, sym, ap, ◌∙◌, arith, ◌⊎◌, inl, inr, ⊎_elim}
 use Rattle.std.proofs.lemmas.Bool.{cases_Bool, cases_eq, eqb-true, eq-eqb, ne_eqb}
 use Rattle.std.proofs.lemmas.List.{get_or-set_same, get_or-set_other}
@@ -10,14 +11,14 @@ use Rattle.ct_queue.specs.Lines.{IsHeadOf}
 pub test_at_place : (order : List ℕ) (test : ℕ) → StandsIn order test → get_or order (place_of order test) 0 ≡ test
 test_at_place order test stands = eqb-true (get_or order (place_of order test) 0) test (passes_at_first (λ t. eqb t test) order 0 stands)
 
--- in an order that names each test once, a test at a place has that place
+-- in an order that names each test once, the test at a place has that place
 pub place_of_test : (order : List ℕ) (place : ℕ) → NamesOnce order → place < length order → place_of order (get_or order place 0) ≡ place
 place_of_test order place once within =
     position_or_len_is (λ t. eqb t (get_or order place 0)) order place 0 (omega arith)
     (λ k before. ne_eqb (get_or order k 0) (get_or order place 0) (once k place 0 before within))
     (λ _. eq-eqb (get_or order place 0) (get_or order place 0) refl)
 
--- two tests of the order stand at two places
+-- tests of the order at the same place are the same test
 pub places_apart : (order : List ℕ) (one other : ℕ) → StandsIn order one → StandsIn order other → place_of order one ≡ place_of order other → one ≡ other
 places_apart order one other first second same =
     sym (test_at_place order one first) ∙ ap (λ (p : ℕ). get_or order p 0) same ∙ test_at_place order other second
@@ -27,12 +28,12 @@ pub lowered_elsewhere : (ready : ReadyValue) (test place : ℕ) → (place ≡ p
 lowered_elsewhere ready test place other =
     ap (λ (n : ℕ). ltb place (length ready.order) && eqb n 0 && not (is_out_at ready place)) (get_or-set_other ready.counts (place_of ready.order test) place (count_of ready test - 1) 0 other)
 
--- and what is said of one test leaves membership at each other place
+-- a change of whether one test is out leaves membership at each other place
 pub with_out_elsewhere : (ready : ReadyValue) (test place : ℕ) (is : Bool) → (place ≡ place_of ready.order test → ⊥) → is_member (with_out ready test is) place ≡ is_member ready place
 with_out_elsewhere ready test place is other =
     ap (λ (b : Bool). ltb place (length ready.order) && eqb (count_at ready place) 0 && not b) (get_or-set_other ready.outs (place_of ready.order test) place is false other)
 
--- so each other test of the order stays as it was
+-- a change of one test leaves whether each other test of the order is ready
 pub lowered_others : (ready : ReadyValue) (test other : ℕ) → StandsIn ready.order test → StandsIn ready.order other → (other ≡ test → ⊥) → is_ready (lowered ready test) other ≡ is_ready ready other
 lowered_others ready test other stands there apart =
     lowered_elsewhere ready test (place_of ready.order other) (λ same. apart (places_apart ready.order other test there stands same))
@@ -41,14 +42,14 @@ pub with_out_others : (ready : ReadyValue) (test other : ℕ) (is : Bool) → St
 with_out_others ready test other is stands there apart =
     with_out_elsewhere ready test (place_of ready.order other) is (λ same. apart (places_apart ready.order other test there stands same))
 
--- a member has a head of its line, at its own place or before it
+-- the line of the place has a head, at the place or before it
 pub record HasHeadOf (lines : List ℕ) (is_in : ℕ → Bool) (place : ℕ) : Type 0 where
   pub at : ℕ
   pub upto : at ≤ place
   pub same : get_or lines at 0 ≡ get_or lines place 0
   pub head : IsHeadOf lines is_in at
 
--- a ready test has one
+-- in the ready set, the line of the place has a head, at the place or before it
 abbrev pub HasHead : ReadyValue → ℕ → Type 0
 HasHead ready place = HasHeadOf ready.lines (is_member ready) place
 
@@ -78,7 +79,7 @@ module _ (lines : List ℕ) (is_in : ℕ → Bool) (place : ℕ) where
 pub head_of_line : (ready : ReadyValue) (place : ℕ) → is_member ready place ≡ true → HasHead ready place
 head_of_line ready place is = head_of ready.lines (is_member ready) place is
 
--- the changed test itself: its count is one less, or it is out as was said
+-- the changed test itself: its count is one less, or it is out as the call set it
 pub count_lowered : (ready : ReadyValue) (test : ℕ) → place_of ready.order test < length ready.counts → count_of (lowered ready test) test ≡ count_of ready test - 1
 count_lowered ready test within = get_or-set_same ready.counts (place_of ready.order test) (count_of ready test - 1) 0 within
 

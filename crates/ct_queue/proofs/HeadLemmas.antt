@@ -1,4 +1,4 @@
--- The marks on heads: what they say of the heads, and that they stay right when a member comes or goes.
+-- The marks on heads: they tell where the heads are, and stay right when a member comes or goes.
 use Rattle.std.proofs.Common.{ℕ, ◌≡◌, ◌<◌, ◌≤◌, Bool, true, false, List, length, get_or, set, replicate, refl, sym, ap, ◌∙◌, subst, ⊎_elim, arith, Option, Some, None, IfSome, MatchOption}
 use Rattle.std.proofs.lemmas.Bool.{cases_eq, cases_lt, true≢false}
 use Rattle.std.proofs.lemmas.Grind.{get_or-set_at}
@@ -25,7 +25,7 @@ module _ (value : LinesValue) (heads : List Bool) (kept : AreHeads value heads) 
     least = λ place behind before head. true≢false (sym (kept.all place head) ∙ least.least place behind (omega arith) before);
   }
 
--- where no member stands there is no head
+-- without members and without marks, the marks on heads are right
 pub heads_none : (lines : List ℕ) (heads : List Bool) → length lines ≤ length heads → ((place : ℕ) → is_marked heads place ≡ false) → AreHeads (none_in lines) heads
 heads_none lines heads room none = record {
   room = room;
@@ -40,11 +40,11 @@ heads_none lines heads room none = record {
         (λ (past : length lines ≤ place). get_or_past (replicate (length lines) false) place false (omega (arith, length-replicate (length lines) false)))
         (cases_lt place (length lines))
 
--- what was found of a line: its head, or that no member stands there
+-- what was found of a line: its head, or that it has no member
 abbrev pub IsFoundIn : LinesValue → ℕ → Option ℕ → Type 0
 IsFoundIn value line found = MatchOption found (NoneOfLine value line) (IsHeadOfLine value line)
 
--- the marks stand at the heads of all lines but one
+-- the marks are right for all lines but this one, whose places have no mark
 record AreHeadsBut (value : LinesValue) (line : ℕ) (heads : List Bool) : Type 0 where
   pub room : length value.lines ≤ length heads
   pub marked : (place : ℕ) → is_marked heads place ≡ true → IsHeadIn value place
@@ -140,7 +140,7 @@ heads_raised value line (Some at) heads kept is = record {
     here : (place : ℕ) → place ≡ at → is_marked (set heads at true) place ≡ true
     here place same = get_or-set_at heads at place true false same (let room = kept.room in omega (arith, is.within))
 
--- so the marks stand right again once the head of the changed line is found anew
+-- the marks are right once the old head of the changed line loses its mark and its new head gets one
 pub heads_set : (value : LinesValue) (heads : List Bool) (changed : ℕ) (member : Bool) (before after : Option ℕ) → AreHeads value heads → IsFoundIn value (line_in value changed) before → IsFoundIn (with_member value changed member) (line_in value changed) after → AreHeads (with_member value changed member) (with_mark (with_mark heads before false) after true)
 heads_set value heads changed member before after kept was is =
     heads_raised (with_member value changed member) (line_in value changed) after (with_mark heads before false)

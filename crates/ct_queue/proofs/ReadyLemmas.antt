@@ -1,4 +1,4 @@
--- What a set of ready tests keeps, when it is made and when one test changes, and what its marks say of its members.
+-- A ready set is kept when it is made and when one test changes, and its marks tell its members.
 use Rattle.std.proofs.Common.{ℕ, ◌≡◌, ◌+◌, ◌-◌, ◌<◌, ◌≤◌, ◌^◌, Bool, true, false, cond, not, ◌&&◌, eqb, ltb, List, [], ◌∷◌, map, length, get_or, set, replicate, Option, Some, refl, sym, ap, ◌∙◌, subst, ⊎_elim, arith}
 use Rattle.std.specs.BTreeMap as tree
 use Rattle.std.specs.Ordering.{nat_cmp, is_eq}
@@ -20,7 +20,7 @@ count_in s = s.count
 abbrev out_in : Standing → Bool
 out_in s = s.is_out
 
--- tests in an order, with their counts, with which of them are out, in lines and in bunches
+-- the ready set of this order, with these counts, these tests out, these lines and these bunches
 abbrev tests_of : List ℕ → List ℕ → List Bool → List ℕ → List ℕ → ReadyValue
 tests_of order counts outs lines bunches = record { order = order; counts = counts; outs = outs; lines = lines; bunches = bunches }
 
@@ -29,7 +29,7 @@ pub found_at : (places : tree.BTreeMap ℕ ℕ) (order : List ℕ) (test : ℕ) 
 found_at places order test found stands =
     subst (λ (t : ℕ). tree.get nat_cmp places t ≡ Some (place_of order test)) (test_at_place order test stands) (found (place_of order test) stands)
 
--- two numbers that differ compare so
+-- the comparison of two different numbers is not that of equal numbers
 cmp_apart : (x y : ℕ) → (x ≡ y → ⊥) → tree.is_at (nat_cmp x) y ≡ false
 cmp_apart x y apart =
     ⊎_elim
@@ -37,7 +37,7 @@ cmp_apart x y apart =
     (λ (more : y ≤ x). ap (λ b. is_eq (cond b Less (cond (eqb x y) Equal Greater))) (le-ltb x y more) ∙ ap (λ b. is_eq (cond b Equal Greater)) (ne_eqb x y apart))
     (cases_lt x y)
 
--- one test more is found by its number
+-- one more test is found by its number
 pub found_more : (order : List ℕ) (places now : tree.BTreeMap ℕ ℕ) (place : ℕ) → NamesOnce order → place < length order → ((k : ℕ) → k < place → tree.get nat_cmp places (get_or order k 0) ≡ Some k) → tree.Updates nat_cmp places now (get_or order place 0) (Some place) → (k : ℕ) → k < place + 1 → tree.get nat_cmp now (get_or order k 0) ≡ Some k
 found_more order places now place once within found updates k before =
     ⊎_elim
@@ -51,7 +51,7 @@ same_member : (here there : Bool) (count other : ℕ) (is was : Bool) → here �
 same_member here there count other is was e f g =
     ap (λ (b : Bool). b && eqb count 0 && not is) e ∙ ap (λ (n : ℕ). there && eqb n 0 && not is) f ∙ ap (λ (b : Bool). there && eqb other 0 && not b) g
 
--- the test at a place stands so from now on, and a member stands there if it is one
+-- the test at a place gets this standing, and the place has a member exactly if the test is ready
 module _ (order : List ℕ) (places : tree.BTreeMap ℕ ℕ) (standings : List Standing) (lines : BunchedValue) (place : ℕ) (s : Standing) (mark : Bool) (kept : IsReadySet order places standings lines) (within : place < length order) (is : mark ≡ (eqb s.count 0 && not s.is_out)) where
   marked_here : (q : ℕ) → q ≡ place → is_marked (set lines.members place mark) q ≡ is_member (ready_of order (set standings place s) lines.lines lines.bunches) q
   marked_here q same =
@@ -124,7 +124,7 @@ get_or_replicate n k =
     (λ (beyond : n ≤ k). get_or_past (replicate n false) k false (subst (λ (len : ℕ). len ≤ k) (sym (length-replicate n false)) beyond))
     (cases_lt k n)
 
--- marks at the tests whose count is 0 stand at the members, as long as none is out
+-- marks at exactly the places whose count is 0 are at the members, if no test is out
 marked_new : (order counts lines bunches : List ℕ) (marks : List Bool) → length counts ≡ length order → AreMarkedAtZero counts marks → (place : ℕ) → is_marked marks place ≡ is_member (ready_of order (map waiting counts) lines bunches) place
 marked_new order counts lines bunches marks one marked q =
     let out : get_or (map out_in (map waiting counts)) q false ≡ false = ap (λ (l : List Bool). get_or l q false) (outs_waiting counts) ∙ get_or_replicate (length counts) q in
@@ -149,26 +149,26 @@ kept_new order counts places lines few found one lined bunched seated in_lines =
   in_lines = marked_new order counts lines.lines lines.bunches lines.members one in_lines;
 }
 
--- places that are each a line of its own have numbers below their number
+-- if each place is a line of its own, the lines are numbered
 pub own_numbered : (places : ℕ) → AreNumbered (own_lines places)
 own_numbered places place within =
     let long = length-range_with_len 0 places in
     let reads = get_or-range_with_len 0 places place 0 (omega arith) in
     omega arith
 
--- a member's place is one of the order
+-- the place of a member is in the order
 pub member_within : (ready : ReadyValue) (place : ℕ) → is_member ready place ≡ true → place < length ready.order
 member_within ready place is =
     let first = and_parts (ltb place (length ready.order) && eqb (count_at ready place) 0) (not (is_out_at ready place)) is in
     let second = and_parts (ltb place (length ready.order)) (eqb (count_at ready place) 0) first.0 in
     ltb-true place (length ready.order) second.0
 
--- past the end of the order no member stands
+-- no place past the end of the order has a member
 member_past : (ready : ReadyValue) (place : ℕ) → length ready.order ≤ place → is_member ready place ≡ false
 member_past ready place past =
     ap (λ (b : Bool). b && eqb (count_at ready place) 0 && not (is_out_at ready place)) (le-ltb place (length ready.order) past)
 
--- a look at each place behind the given one: none of those before an end is a member
+-- a look at each place behind the given one, while no place before `end` has a member
 module _ (ready : ReadyValue) (given : Option ℕ) (from : ℕ) (reaches : (place : ℕ) → IsBehind given place → from ≤ place) (begins : (place : ℕ) → from ≤ place → IsBehind given place) where
   pub none_behind : (end : ℕ) → length ready.order ≤ end → ((place : ℕ) → from ≤ place → place < end → is_member ready place ≡ false) → NoneBehind ready given
   none_behind end all none place behind =
@@ -182,7 +182,7 @@ module _ (ready : ReadyValue) (given : Option ℕ) (from : ℕ) (reaches : (plac
   }
 
 module _ (order : List ℕ) (places : tree.BTreeMap ℕ ℕ) (standings : List Standing) (lines : BunchedValue) (kept : IsReadySet order places standings lines) where
-  -- a head of the tests is a head of their lines, and the other way round
+  -- a place has a head of the ready set exactly if it has a head of the lines
   head_here : (place : ℕ) → IsHeadIn (lines_in lines) place → IsHead (ready_of order standings lines.lines lines.bunches) place
   head_here place head = record {
     member = sym (kept.in_lines place) ∙ head.member;
@@ -232,7 +232,7 @@ module _ (order : List ℕ) (places : tree.BTreeMap ℕ ℕ) (standings : List S
       earlier = λ place before head. seen_here place (new.earlier place before (head_there place head));
     }
 
--- the marks say of the places up to one which of them have the count 0
+-- of the places before `end`, exactly those whose count is 0 are marked
 abbrev pub AreMarkedTo : List ℕ → List Bool → ℕ → Type 0
 AreMarkedTo counts marks end = (place : ℕ) → is_marked marks place ≡ (ltb place end && eqb (get_or counts place 0) 0)
 

@@ -1,4 +1,5 @@
--- The search for the least marked place below a node, from what is found below the two nodes under it.
+-- The search for the least marked place below a node, put
+-- together from the searches below the two nodes under it.
 use Rattle.std.proofs.Common.{ℕ, ◌≡◌, ◌+◌, ◌*◌, ◌/◌, ◌<◌, ◌≤◌, Bool, true, false, List, length, ap, ◌∙◌, ⊎_elim, arith, Option, Some, None, MatchOption}
 use Rattle.std.proofs.Math.Nat.{le-mul_of_pos_right}
 use Rattle.std.proofs.lemmas.Bool.{cases_lt}
@@ -7,7 +8,7 @@ use Rattle.std.specs.Int.{IsPowerOfTwo}
 use Rattle.ct_queue.specs.Marks.{is_marked, marks_of, IsTree, NoneWithin, IsLeastWithin}
 use Rattle.ct_queue.proofs.TreeLemmas.{bare_below, positive_power}
 
--- the mark of a place is that of its node
+-- the mark of a place is the mark of its node
 mark_at : (nodes : List Bool) (place : ℕ) → is_marked (marks_of nodes) place ≡ is_marked nodes (length nodes / 2 + place)
 mark_at nodes place = get_or-drop (length nodes / 2) nodes place false
 

@@ -1,4 +1,5 @@
--- Spots of places in lines: how the counts grow that give them, that no two places share one, and what the marks on them say.
+-- Spots of places in lines: how the counts grow, that no two
+-- places share a spot, and what the marks on spots tell.
 use Rattle.std.proofs.Common.{ℕ, ◌≡◌, ◌≢◌, ◌+◌, ◌<◌, ◌≤◌, Bool, false, cond, eqb, ltb, List, [], ◌∷◌, map, take, length, get_or, set, replicate, refl, sym, ap, ◌∙◌, subst, ⊎_elim, arith, AllPairs}
 use Rattle.std.proofs.lemmas.Bool.{cases_eq, cases_lt, cases_order, eq-eqb, ne_eqb, true≢false}
 use Rattle.std.proofs.lemmas.Bool.Decides.{nat_tests}
@@ -32,7 +33,7 @@ first_more (x ∷ lines) line =
     let rest = first_more lines line in
     omega arith
 
--- and so does each later one
+-- each later line begins behind the spots of a line
 pub first_later : (lines : List ℕ) (line other : ℕ) → line < other → first_spot lines line + size_of lines line ≤ first_spot lines other
 first_later [] line other less = omega arith
 first_later (x ∷ lines) line other less =
@@ -57,7 +58,7 @@ first_none (x ∷ lines) =
     let rest = first_none lines in
     omega arith
 
--- one place more counts in its own line, and in no other
+-- one more place counts in its own line, and in no other
 pub size_more : (lines : List ℕ) (place line : ℕ) → place < length lines → get_or lines place 0 ≡ line → size_of (take (place + 1) lines) line ≡ size_of (take place lines) line + 1
 size_more lines place line within is = count_by_more_yes (λ (l : ℕ). eqb l line) lines place 0 within (eq-eqb (get_or lines place 0) line is)
 
@@ -71,7 +72,7 @@ size_upto : (lines : List ℕ) (place other line : ℕ) → place ≤ other → 
 size_upto lines place other line upto =
     subst (λ (l : List ℕ). size_of l line ≤ size_of (take other lines) line) (take-take place other lines upto) (size_part (take other lines) place line)
 
--- a spot is one of its line, and behind those of earlier places
+-- a spot is among the spots of its line, and behind the spots of earlier places of the line
 pub spot_below : (lines : List ℕ) (place : ℕ) → place < length lines → spot_of lines place < first_spot lines (get_or lines place 0) + size_of lines (get_or lines place 0)
 spot_below lines place within =
     let more = size_more lines place (get_or lines place 0) within refl in
@@ -90,7 +91,7 @@ spot_rises lines place other before within same =
     let upto = size_upto lines (place + 1) other (get_or lines other 0) (omega arith) in
     subst (λ (line : ℕ). first_spot lines line + size_of (take place lines) line < spot_of lines other) (sym same) (omega arith)
 
--- no spot of another line lies between the first spot of a line and one of its own
+-- a spot between the first spot of a line and a spot of that line belongs to the line
 pub spot_between : (lines : List ℕ) (place other : ℕ) → place < length lines → other < length lines → first_spot lines (get_or lines place 0) ≤ spot_of lines other → spot_of lines other ≤ spot_of lines place → get_or lines other 0 ≡ get_or lines place 0
 spot_between lines place other within there behind before =
     ⊎_elim (λ same. same)
@@ -113,7 +114,7 @@ spots_apart lines place other before within same =
     let rises = spot_rises lines place other before within (sym alike) in
     omega (arith, same)
 
--- spots as listed are numbered, and each is another
+-- the listed spots are below the number of places, and no two are the same
 module _ (lines spots : List ℕ) (stand : IsTable (spot_of lines) (length lines) spots) where
   pub spots_numbered : AreNumbered spots
   spots_numbered place within =
@@ -128,7 +129,7 @@ module _ (lines spots : List ℕ) (stand : IsTable (spot_of lines) (length lines
       spots_apart lines i j before there
       (sym (stand.reads i (omega arith)) ∙ get_or_default spots i 0 d (omega arith) ∙ same ∙ get_or_default spots j d 0 within ∙ stand.reads j there)
 
--- what the marks on spots say of the lines
+-- what the marks on spots tell of the lines
 module _ (lines firsts spots places : List ℕ) (marks : List Bool) (kept : AreOnSpots lines firsts spots places marks) where
   pub spot_there : (place : ℕ) → place < length lines → get_or spots place 0 < length lines
   spot_there place within =
@@ -146,7 +147,7 @@ module _ (lines firsts spots places : List ℕ) (marks : List Bool) (kept : AreO
         back = ap (λ (p : ℕ). get_or spots p 0) found;
       }
 
-  -- a member stands at a place as its spot is marked
+  -- a place has a member exactly if its spot is marked
   member_at : (place : ℕ) → place < length lines → is_marked (map (is_marked marks) spots) place ≡ is_marked marks (get_or spots place 0)
   member_at place within = get_or-map (is_marked marks) spots place 0 false (let long = kept.all.stand.long in omega arith)
 
@@ -212,7 +213,7 @@ module _ (lines firsts spots places : List ℕ) (marks : List Bool) (kept : AreO
           (λ past. member_past place past)
           (cases_lt place (length lines))
 
-  -- what the first mark behind the spot of a place says of its line
+  -- what the first mark behind the spot of a place tells of its line
   module _ (place : ℕ) (within : place < length lines) where
     spot_behind : (other : ℕ) → place < other → other < length lines → get_or lines other 0 ≡ get_or lines place 0 → get_or spots place 0 + 1 ≤ get_or spots other 0
     spot_behind other behind there same =
@@ -291,7 +292,7 @@ module _ (lines firsts spots places : List ℕ) (marks : List Bool) (kept : AreO
           (λ past. member_past other past)
           (cases_lt other (length lines))
 
-  -- and after one change
+  -- what the marks on spots tell after the mark of one place was set
   module _ (place : ℕ) (within : place < length lines) (mark : Bool) where
     pub on_spots_set : AreOnSpots lines firsts spots places (set marks (get_or spots place 0) mark)
     on_spots_set = record {
@@ -334,7 +335,7 @@ module _ (lines firsts spots places : List ℕ) (marks : List Bool) (kept : AreO
         (length-map spots (is_marked (set marks (get_or spots place 0) mark)) ∙ sym (length-map spots (is_marked marks)) ∙ sym (length-set (map (is_marked marks) spots) place mark))
         marks_after)
 
--- where nothing is marked, no member stands
+-- without marks, the marks are on spots, and the lines have no member
 pub on_spots_none : (lines firsts spots places : List ℕ) (marks : List Bool) → AreSpots lines firsts spots places → length lines ≤ length marks → ((spot : ℕ) → is_marked marks spot ≡ false) → AreOnSpots lines firsts spots places marks
 on_spots_none lines firsts spots places marks all room none = record {
   all = all;

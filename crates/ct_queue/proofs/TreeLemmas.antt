@@ -8,7 +8,8 @@ use Rattle.std.proofs.lemmas.Grind.{get_or-set_at}
 use Rattle.std.specs.Int.{IsPowerOfTwo}
 use Rattle.ct_queue.specs.Marks.{is_marked, marks_of, IsTree}
 
--- no node that stands `span` times as far from the front as a node without a mark, or up to the next one, is marked
+-- if a node has no mark, no node from `span` times its
+-- number on and before `span` times the next number has one
 abbrev pub IsBareBelow : List Bool → ℕ → Type 0
 IsBareBelow nodes span =
     (node leaf : ℕ) → 0 < node → (node + 1) * span ≤ length nodes → is_marked nodes node ≡ false → node * span ≤ leaf → leaf < (node + 1) * span → is_marked nodes leaf ≡ false
@@ -39,7 +40,7 @@ bare_below nodes tree span power = subst (λ (s : ℕ). IsBareBelow nodes s) (sy
 pub positive_power : (n : ℕ) → IsPowerOfTwo n → 0 < n
 positive_power n power = subst (λ (m : ℕ). 0 < m) (sym power.1) (pow_pos power.0)
 
--- half of a power of two above 1 is one too
+-- half of a power of two above 1 is a power of two
 half_of_power : (k n : ℕ) → n ≡ 2 ^ k → (n ≡ 1 → ⊥) → (n ≡ 2 * (n / 2)) × IsPowerOfTwo (n / 2)
 half_of_power zero n is above = absurd (above is)
 half_of_power (suc k) n is above =
@@ -50,7 +51,7 @@ half_of_power (suc k) n is above =
 pub even_power : (n : ℕ) → IsPowerOfTwo n → (n ≡ 1 → ⊥) → (n ≡ 2 * (n / 2)) × IsPowerOfTwo (n / 2)
 even_power n power above = half_of_power power.0 n power.1 above
 
--- a tree but for the nodes above one node, with these marks on its places
+-- a tree with these marks on its places, in which only the nodes above one node may be wrong
 pub record IsRising (marks nodes : List Bool) (node : ℕ) : Type 0 where
   pub places : marks_of nodes ≡ marks
   pub even : length nodes ≡ 2 * (length nodes / 2)
@@ -59,7 +60,7 @@ pub record IsRising (marks nodes : List Bool) (node : ℕ) : Type 0 where
   pub within : node < length nodes
   pub inner : (n : ℕ) → 0 < n → n < length nodes / 2 → (2 * n ≡ node → ⊥) → (2 * n + 1 ≡ node → ⊥) → is_marked nodes n ≡ (is_marked nodes (2 * n) || is_marked nodes (2 * n + 1))
 
--- one node gets a mark, and neither it nor those right below it are the one that gets it
+-- a node stays right when another node is set that is not right below it
 same_below : (nodes : List Bool) (node n : ℕ) (mark : Bool) → (n ≡ node → ⊥) → (2 * n ≡ node → ⊥) → (2 * n + 1 ≡ node → ⊥) → is_marked nodes n ≡ (is_marked nodes (2 * n) || is_marked nodes (2 * n + 1)) → is_marked (set nodes node mark) n ≡ (is_marked (set nodes node mark) (2 * n) || is_marked (set nodes node mark) (2 * n + 1))
 same_below nodes node n mark here left right is =
     get_or-set_other nodes node n mark false here ∙ is

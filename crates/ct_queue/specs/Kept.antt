@@ -1,5 +1,5 @@
--- What a set of ready tests keeps beside its tests: the place of each test by its number, and its members in their
--- lines and bunches. This project's own.
+-- What a ready set keeps beside its tests: the place of each test by its
+-- number, and the members in their lines and bunches. This project's own.
 use Rattle.std.specs.Prelude.{◌≡◌, ℕ, ◌-◌, ◌<◌, ◌^◌, Bool, false, ◌&&◌, ◌==◌, nat_lt, List, length, map, slice_index, slice_set, Some}
 use Rattle.std.specs.BTreeMap as tree
 use Rattle.std.specs.Ordering.{nat_cmp}
@@ -12,20 +12,20 @@ use Rattle.ct_queue.specs.declared.ready.Standing.{Standing}
 abbrev pub AreFound : tree.BTreeMap ℕ ℕ → List ℕ → Type 0
 AreFound places order = (place : ℕ) → place < length order → tree.get nat_cmp places (slice_index order place) ≡ Some place
 
--- the marks stand at the places whose count is 0
+-- exactly the places whose count is 0 are marked
 abbrev pub AreMarkedAtZero : List ℕ → List Bool → Type 0
 AreMarkedAtZero counts marks = (place : ℕ) → is_marked marks place ≡ (nat_lt place (length counts) && (slice_index counts place == 0))
 
--- the tests of an order in lines and bunches, as these standings say
+-- the ready set of this order, with these standings, lines and bunches
 abbrev pub ready_of : List ℕ → List Standing → List ℕ → List ℕ → ReadyValue
 ready_of order standings lines bunches =
     record { order = order; counts = map (λ (s : Standing). s.count) standings; outs = map (λ (s : Standing). s.is_out) standings; lines = lines; bunches = bunches }
 
--- a test with this count, which is not out
+-- the standing of a test that has this count and is not out
 abbrev pub waiting : ℕ → Standing
 waiting count = record { count = count; is_out = false }
 
--- how the test at a place stands
+-- the standing of the test at a place
 abbrev pub standing_at : ReadyValue → ℕ → Standing
 standing_at ready place = record { count = count_at ready place; is_out = is_out_at ready place }
 
@@ -34,7 +34,8 @@ abbrev pub with_standing : ReadyValue → ℕ → Standing → ReadyValue
 with_standing ready place s =
     record { order = ready.order; counts = slice_set ready.counts place s.count; outs = slice_set ready.outs place s.is_out; lines = ready.lines; bunches = ready.bunches }
 
--- what holds of each set of ready tests: all tests are found, and its members stand in their lines and bunches
+-- what holds of each ready set: each test is found by its number,
+-- and exactly the ready tests are members in their lines and bunches
 pub record IsReadySet (order : List ℕ) (places : tree.BTreeMap ℕ ℕ) (standings : List Standing) (lines : BunchedValue) : Type 0 where
   pub few : length order < 2 ^ 32 - 1
   pub found : AreFound places order

@@ -1,11 +1,11 @@
--- The tests of a run in the order of their cost, and which of them are ready.
--- Source: CMake manual, ctest(1), -j; cmake-properties(7), COST. The set of ready tests is this project's own.
+-- The tests of a run in the order of their cost, and which of them are ready. Source: CMake
+-- manual, ctest(1), -j; cmake-properties(7), COST. The ready set is this project's own.
 use Rattle.std.specs.Prelude.{◌≡◌, ◌≢◌, ℕ, ◌-◌, ◌<◌, ◌≤◌, ⊤, Bool, true, false, not, ◌&&◌, ◌==◌, List, length, replicate, slice_set, slice_index, slice_index_or, AllPairs, Option, Some, None, nat_lt}
 use Rattle.std.specs.List.{position_or_len}
 use Rattle.ct_queue.specs.Lines.{IsHeadOf}
 
--- tests in an order and, by the place of a test there, how many of its predecessors are not final, whether it is out,
--- and the line and the bunch that it stands in
+-- the tests in an order. For each place of the order: how many predecessors
+-- of the test are not final, whether it is out, its line and its bunch.
 pub record ReadyValue : Type 0 where
   pub order : List ℕ
   pub counts : List ℕ
@@ -33,7 +33,7 @@ count_at ready place = slice_index_or ready.counts place 0
 abbrev pub is_out_at : ReadyValue → ℕ → Bool
 is_out_at ready place = slice_index_or ready.outs place false
 
--- a member stands at the place: a test whose predecessors are final and that is not out
+-- a member is at the place: a test whose predecessors are final and that is not out
 abbrev pub is_member : ReadyValue → ℕ → Bool
 is_member ready place = nat_lt place (length ready.order) && (count_at ready place == 0) && not (is_out_at ready place)
 
@@ -41,49 +41,50 @@ is_member ready place = nat_lt place (length ready.order) && (count_at ready pla
 abbrev pub count_of : ReadyValue → ℕ → ℕ
 count_of ready test = count_at ready (place_of ready.order test)
 
--- a test is out
+-- the test is out
 abbrev pub is_out : ReadyValue → ℕ → Bool
 is_out ready test = is_out_at ready (place_of ready.order test)
 
--- a test is a member
+-- the test is a member
 abbrev pub is_ready : ReadyValue → ℕ → Bool
 is_ready ready test = is_member ready (place_of ready.order test)
 
--- the tests in this order with these counts, in these lines and bunches, and none of them is out
+-- the tests in this order with these counts, lines and bunches; none of them is out
 abbrev pub none_out : List ℕ → List ℕ → List ℕ → List ℕ → ReadyValue
 none_out order counts lines bunches =
     record { order = order; counts = counts; outs = replicate (length order) false; lines = lines; bunches = bunches }
 
--- the same but for one predecessor of a test, which is final now
+-- the same set, with one less predecessor of the test that is not final
 abbrev pub lowered : ReadyValue → ℕ → ReadyValue
 lowered ready test =
     record { order = ready.order; counts = slice_set ready.counts (place_of ready.order test) (count_of ready test - 1); outs = ready.outs; lines = ready.lines; bunches = ready.bunches }
 
--- the same but for whether one test is out
+-- the same set, but for whether the test is out
 abbrev pub with_out : ReadyValue → ℕ → Bool → ReadyValue
 with_out ready test is =
     record { order = ready.order; counts = ready.counts; outs = slice_set ready.outs (place_of ready.order test) is; lines = ready.lines; bunches = ready.bunches }
 
--- the place stands behind a given one; where none is given, each place does
+-- the place is behind the given one, if one is given
 abbrev pub IsBehind : Option ℕ → ℕ → Type 0
 IsBehind None place = ⊤
 IsBehind (Some given) place = given < place
 
--- no member stands behind the given place
+-- no member is behind the given place
 abbrev pub NoneBehind : ReadyValue → Option ℕ → Type 0
 NoneBehind ready given = (place : ℕ) → IsBehind given place → is_member ready place ≡ false
 
--- the least place behind a given one at which a member stands
+-- the least place behind the given one that has a member
 pub record IsLeastBehind (ready : ReadyValue) (given : Option ℕ) (found : ℕ) : Type 0 where
   pub behind : IsBehind given found
   pub member : is_member ready found ≡ true
   pub least : (place : ℕ) → IsBehind given place → place < found → is_member ready place ≡ false
 
--- a head stands at the place: a member, and no member of its line stands before it
+-- a head is at the place: a member, and no earlier place of its line has a member
 abbrev pub IsHead : ReadyValue → ℕ → Type 0
 IsHead ready place = IsHeadOf ready.lines (is_member ready) place
 
--- of the bunch of a place a head stands at a place that is not behind the given one, and no further on than its own
+-- the bunch of the place was seen: it has a head at a place
+-- that is not behind the given one, nor behind the place itself
 pub record IsOfSeenBunch (ready : ReadyValue) (given : Option ℕ) (place : ℕ) : Type 0 where
   pub at : ℕ
   pub seen : IsBehind given at → ⊥
@@ -91,21 +92,22 @@ pub record IsOfSeenBunch (ready : ReadyValue) (given : Option ℕ) (place : ℕ)
   pub same : slice_index ready.bunches at ≡ slice_index ready.bunches place
   pub head : IsHead ready at
 
--- each head is of a seen bunch
+-- the bunch of each head was seen
 abbrev pub NoNewBunch : ReadyValue → Option ℕ → Type 0
 NoNewBunch ready given = (place : ℕ) → IsHead ready place → IsOfSeenBunch ready given place
 
--- a head behind the given place, and each head in front of it is of a seen bunch
+-- the first head of a new bunch: it is behind the given
+-- place, and the bunch of each earlier head was seen
 pub record IsOfNewBunch (ready : ReadyValue) (given : Option ℕ) (found : ℕ) : Type 0 where
   pub behind : IsBehind given found
   pub head : IsHead ready found
   pub earlier : (place : ℕ) → place < found → IsHead ready place → IsOfSeenBunch ready given place
 
--- no head of the bunch of a place stands behind it
+-- the bunch of the place has no head behind it
 abbrev pub NoHeadBehind : ReadyValue → ℕ → Type 0
 NoHeadBehind ready place = (other : ℕ) → place < other → slice_index ready.bunches other ≡ slice_index ready.bunches place → IsHead ready other → ⊥
 
--- the next head of the bunch of a place, behind it
+-- the next head, behind the place, of its bunch
 pub record IsNextHead (ready : ReadyValue) (place found : ℕ) : Type 0 where
   pub behind : place < found
   pub of_bunch : slice_index ready.bunches found ≡ slice_index ready.bunches place

@@ -8,13 +8,13 @@ use ct_base::NoMemory;
 use std::alloc::Global;
 use std::marker::Model;
 
-/// Which places of bunches have a member, with a search for heads: members that are the first of their bunch.
+/// Which places of bunches have a member, with a search for heads: the first member of each bunch.
 ///
 /// Each call but `new` takes no memory, and costs a few logarithms of the number of places.
 #[derive(Drop)]
 pub(crate) struct Bunches {
     members: Members,
-    // By place, whether a head stands there.
+    // By place, whether it has a head.
     heads: Marks,
 }
 
@@ -31,7 +31,7 @@ impl Model for Bunches {
 }
 
 impl Bunches {
-    /// Takes the bunch of each place. No member stands at any.
+    /// Takes the bunch of each place. No place has a member yet.
     pub fn new(alloc: Global, bunches: &[u32]) -> Result<Bunches, NoMemory>
         requires few { length bunches.now < 2 ^ 32 - 1 }
         requires numbered { AreNumbered bunches.now }
@@ -56,14 +56,14 @@ impl Bunches {
         mark_there(&mut self.heads, after, true);
     }
 
-    /// Finds the least place from one on at which a head stands.
+    /// Finds the least place from `from` on that has a head.
     pub fn first_head_from(&self, from: usize) -> Option<usize>
         ensures { MatchOption result (NoHeadFrom self.now from) (IsLeastHeadFrom self.now from) }
     {
         self.heads.first_from(from)
     }
 
-    /// Finds the next member of the bunch of a place, behind it.
+    /// Finds the next member, behind a place, of its bunch.
     pub fn next_of(&self, place: usize) -> Option<usize>
         requires { place < length self.now.lines }
         ensures { MatchOption result (NoneOfLineBehind self.now place) (IsNextOfLine self.now place) }

@@ -8,8 +8,8 @@ use ct_base::NoMemory;
 use std::alloc::Global;
 use std::marker::Model;
 
-/// Which places of lines have a member, with a search for heads, members that are the first of their line: through the
-/// bunches that lines stand in, and through the lines of one bunch.
+/// Which places of lines have a member, with two searches for heads, the first member of
+/// each line: through the bunches that lines stand in, and through the lines of one bunch.
 ///
 /// Each call but `new` takes no memory, and costs a few logarithms of the number of places.
 #[derive(Drop)]
@@ -32,7 +32,7 @@ impl Model for Lines {
 }
 
 impl Lines {
-    /// Takes the line and the bunch of each place. No member stands at any.
+    /// Takes the line and the bunch of each place. No place has a member yet.
     pub fn new(alloc: Global, lines: &[u32], bunches: &[u32]) -> Result<Lines, NoMemory>
         requires few { length lines.now < 2 ^ 32 - 1 }
         requires numbered { AreNumbered lines.now }
@@ -59,14 +59,14 @@ impl Lines {
         stand_there(&mut self.heads, after, true);
     }
 
-    /// Finds the least place from one on at which the first head of its bunch stands.
+    /// Finds the least place from `from` on that has the first head of its bunch.
     pub fn new_bunch_from(&self, from: usize) -> Option<usize>
         ensures { MatchOption result (NoNewBunchFrom self.now from) (IsOfNewBunchFrom self.now from) }
     {
         self.heads.first_head_from(from)
     }
 
-    /// Finds the next head of the bunch of a place, behind it.
+    /// Finds the next head, behind a place, of its bunch.
     pub fn next_head(&self, place: usize) -> Option<usize>
         requires { place < length self.now.bunches }
         ensures { MatchOption result (NoHeadOfBunchBehind self.now place) (IsNextHeadOfBunch self.now place) }

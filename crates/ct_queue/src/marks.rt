@@ -8,10 +8,12 @@ use std::marker::Model;
 
 /// Marks on places, which are counted from 0, with a search for the least place that is marked.
 ///
-/// Contracts see the marks by place. Each call but `new` takes no memory, and costs at most a logarithm of the
-/// number of places. It is a binary tree, stored as a heap is: node 1 is the root, the nodes below node n are
-/// 2n and 2n + 1, and the last half of the nodes are the places in order. A node with others below it is marked
-/// where one of those is.
+/// Contracts see the marks by place. Each call but `new` takes no
+/// memory, and costs at most a logarithm of the number of places.
+///
+/// It is a binary tree, stored like a heap: node 1 is the root, the nodes
+/// below node n are 2n and 2n + 1, and the second half of the nodes are
+/// the places in order. A node above others is marked if one of them is.
 #[derive(Drop)]
 pub struct Marks {
     nodes: Vec<bool>,
@@ -29,7 +31,7 @@ impl Model for Marks {
 }
 
 impl Marks {
-    /// Makes room for so many places at least, of which none is marked.
+    /// Makes room for at least this many places, none of them marked.
     pub fn new(alloc: Global, places: usize) -> Result<Marks, NoMemory>
         requires few { places < 2 ^ 32 }
         ensures room { IfOk result (λ marks. places ≤ length marks) }
@@ -41,7 +43,7 @@ impl Marks {
         })
     }
 
-    /// Marks a place, or takes its mark away.
+    /// Marks a place, or removes its mark.
     pub fn set(&mut self, place: usize, mark: bool)
         requires { place < length self.old }
         ensures { self.new ≡ slice_set self.old place mark }
@@ -74,7 +76,8 @@ fn is_marked_below(nodes: &[bool], node: usize) -> bool
     nodes[2 * node] || nodes[2 * node + 1]
 }
 
-/// Finds the least marked place from one on, among those below a node: `span` places from `low` on.
+/// Finds the least marked place from `from` on, among the
+/// places below a node: `span` places from `low` on.
 fn least(nodes: &[bool], node: usize, low: usize, span: usize, from: usize) -> Option<usize>
     requires tree { IsTree nodes.now }
     requires inside { 0 < node }

@@ -9,7 +9,7 @@ use std::marker::Model;
 
 /// Which places have a member, with a search for the first member of a line of places.
 ///
-/// Each place has a spot, and the spots of a line lie side by side, in the order of its places.
+/// Each place has a spot. The spots of a line lie side by side, in the order of the line's places.
 #[derive(Drop)]
 pub(crate) struct Members {
     lines: Vec<u32>,
@@ -17,7 +17,7 @@ pub(crate) struct Members {
     firsts: Vec<u32>,
     spots: Vec<u32>,
     places: Vec<u32>,
-    // By spot, whether a member stands there.
+    // By spot, whether its place has a member.
     marks: Marks,
 }
 
@@ -34,7 +34,7 @@ impl Model for Members {
 }
 
 impl Members {
-    /// Takes the line of each place. No member stands at any.
+    /// Takes the line of each place. No place has a member yet.
     pub fn new(alloc: Global, lines: &[u32]) -> Result<Members, NoMemory>
         requires few { length lines.now < 2 ^ 32 - 1 }
         requires numbered { AreNumbered lines.now }
@@ -54,7 +54,7 @@ impl Members {
         })
     }
 
-    /// Gives the line of a place.
+    /// Returns the line of a place.
     pub fn line(&self, place: usize) -> usize
         requires { place < length self.now.lines }
         ensures is { result ≡ slice_index self.now.lines place }
@@ -77,7 +77,7 @@ impl Members {
         }
     }
 
-    /// Finds the next member of the line of a place, behind it.
+    /// Finds the next member, behind a place, of its line.
     pub fn next_of(&self, place: usize) -> Option<usize>
         requires { place < length self.now.lines }
         ensures { MatchOption result (NoneOfLineBehind self.now place) (IsNextOfLine self.now place) }
@@ -100,7 +100,7 @@ impl Members {
     }
 }
 
-/// Gives each line its first spot.
+/// Lists the first spot of each line.
 fn first_spots(alloc: Global, lines: &[u32]) -> Result<Vec<u32>, NoMemory>
     requires few { length lines.now < 2 ^ 32 - 1 }
     requires numbered { AreNumbered lines.now }
@@ -129,7 +129,7 @@ fn sizes(alloc: Global, lines: &[u32]) -> Result<Vec<u32>, NoMemory>
     Ok(sizes)
 }
 
-/// Gives each place its spot.
+/// Lists the spot of each place.
 fn spots(alloc: Global, lines: &[u32], firsts: &[u32]) -> Result<Vec<u32>, NoMemory>
     requires few { length lines.now < 2 ^ 32 - 1 }
     requires numbered { AreNumbered lines.now }
@@ -146,7 +146,7 @@ fn spots(alloc: Global, lines: &[u32], firsts: &[u32]) -> Result<Vec<u32>, NoMem
     Ok(spots)
 }
 
-/// Gives each spot its place.
+/// Lists the place of each spot.
 fn places(alloc: Global, spots: &[u32]) -> Result<Vec<u32>, NoMemory>
     requires few { length spots.now < 2 ^ 32 - 1 }
     requires within { AreNumbered spots.now }

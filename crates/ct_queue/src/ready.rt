@@ -26,10 +26,10 @@ impl Standing {
     }
 }
 
-/// The tests of a run in the order of their cost, with those of them that are ready.
+/// The tests of a run in the order of their cost, and which of them are ready.
 ///
-/// Its members are the tests whose predecessors are final and that are not out. Each call but `new` and `in_lines` takes
-/// no memory, and costs at most a few logarithms of the number of tests.
+/// Its members are the tests whose predecessors are final and that are not out. Each call but `new`
+/// and `in_lines` takes no memory, and costs at most a few logarithms of the number of tests.
 /// Source: CMake manual, ctest(1), -j, and cmake-properties(7), COST. The set is this project's own.
 #[derive(Drop)]
 pub struct Ready {
@@ -52,8 +52,8 @@ impl Model for Ready {
 }
 
 impl Ready {
-    /// Takes the tests in their order, each with the number of its predecessors that are not final.
-    /// None of them is out, and each is a line and a bunch of its own.
+    /// Takes the tests in their order, each with the number of its predecessors that
+    /// are not final. No test is out, and each has a line and a bunch of its own.
     pub fn new(alloc: Global, order: &List<u32>, counts: &List<u32>) -> Result<Ready, NoMemory>
         requires few { length order.now < 2 ^ 32 - 1 }
         requires once { NamesOnce order.now }
@@ -64,8 +64,8 @@ impl Ready {
         Ready::in_lines(alloc, order, counts, &lines, &lines)
     }
 
-    /// Takes the tests in their order, each with the number of its predecessors that are not final, its line and its
-    /// bunch. None of them is out.
+    /// Takes the tests in their order, each with the number of its predecessors
+    /// that are not final, its line and its bunch. No test is out.
     pub fn in_lines(
         alloc: Global,
         order: &List<u32>,
@@ -107,7 +107,7 @@ impl Ready {
         self.put(place, standing);
     }
 
-    /// Takes a member out, as its attempt starts or it is final.
+    /// Takes a member out, when its attempt starts or it becomes final.
     pub fn out(&mut self, test: u32)
         requires stands { StandsIn self.old.order test }
         requires member { is_ready self.old test ≡ true }
@@ -119,7 +119,7 @@ impl Ready {
         self.put(place, standing);
     }
 
-    /// Takes a test back that is out, as its attempts go on.
+    /// Puts a test back that is out, when it is tried again.
     pub fn back(&mut self, test: u32)
         requires stands { StandsIn self.old.order test }
         requires gone { is_out self.old test ≡ true }
@@ -140,7 +140,8 @@ impl Ready {
         self.standing(place).is_ready()
     }
 
-    /// Finds the least place behind a given one, or from the front, at which a member stands, by a look at each.
+    /// Finds the least place behind the given one, or of all places
+    /// if none is given, that has a member. It looks at each place.
     pub fn after(&self, place: Option<u32>) -> Option<u32>
         ensures { MatchOption result (NoneBehind self.now place) (IsLeastBehind self.now place) }
     {
@@ -152,8 +153,8 @@ impl Ready {
         None
     }
 
-    /// Finds the least place behind a given one, or from the front, at which the first head of its bunch stands. A head
-    /// is a member with no member of its line before it.
+    /// Finds the least place behind the given one, or of all places if none is given, that has
+    /// the first head of its bunch. A head is a member with no earlier member in its line.
     pub fn new_bunch_after(&self, place: Option<u32>) -> Option<u32>
         ensures { MatchOption result (NoNewBunch self.now place) (IsOfNewBunch self.now place) }
     {
@@ -164,7 +165,7 @@ impl Ready {
         }
     }
 
-    /// Finds the next head of the bunch of a place, behind it.
+    /// Finds the next head, behind a place, of its bunch.
     pub fn next_head(&self, place: u32) -> Option<u32>
         requires { place < length self.now.order }
         ensures { MatchOption result (NoHeadBehind self.now place) (IsNextHead self.now place) }
@@ -175,7 +176,7 @@ impl Ready {
         }
     }
 
-    /// Tells how many tests the order has.
+    /// Returns how many tests the order has.
     fn len(&self) -> usize
         ensures is { result ≡ length self.now.order }
         ensures few { result < 2 ^ 32 }
@@ -194,7 +195,7 @@ impl Ready {
         }
     }
 
-    /// Tells how the test at a place stands.
+    /// Returns the standing of the test at a place.
     fn standing(&self, place: usize) -> Standing
         requires { place < length self.now.order }
         ensures { result ≡ standing_at self.now place }
@@ -212,7 +213,7 @@ impl Ready {
     }
 }
 
-/// Lists so many places, each in a line of its own.
+/// Lists this many places, each in a line of its own.
 fn own_lines(alloc: Global, places: u32) -> Result<List<u32>, NoMemory>
     ensures { IfOk result (λ lines. lines ≡ own_lines places) }
 {
@@ -220,7 +221,7 @@ fn own_lines(alloc: Global, places: u32) -> Result<List<u32>, NoMemory>
     Ok(List::from_vec(lines))
 }
 
-/// Gives the first place behind a given one, or the first of all.
+/// Returns the first place behind the given one, or the first of all if none is given.
 fn first_behind(place: Option<u32>) -> usize
     ensures reaches { (other : ℕ) → IsBehind place other → result ≤ other }
     ensures begins { (other : ℕ) → result ≤ other → IsBehind place other }
@@ -255,7 +256,8 @@ fn standings(alloc: Global, counts: &[u32]) -> Result<Vec<Standing>, NoMemory>
     Ok(standings.collect(alloc)?)
 }
 
-/// Takes the lines and bunches of tests that have these counts, and has a member stand where the count is 0.
+/// Takes the lines and bunches of tests with these counts.
+/// Exactly the places whose count is 0 have a member.
 fn lines_at_zero(
     alloc: Global,
     lines: &[u32],
