@@ -5,7 +5,7 @@ use Rattle.std.proofs.Common.{refl, sym, ap, subst, ◌∙◌, append_assoc, app
 use Rattle.ct_base.specs.Outside.{Becomes}
 use Rattle.ct_edge.specs.Heard.{Hears}
 
--- bytes that moved from what was left to what was heard
+-- the bytes heard and the bytes left now are the bytes left before
 abbrev pub Parts : List ℕ → Option (List ℕ) → Option (List ℕ) → Type 0
 Parts heard left now = Becomes left now (λ all rest. all ≡ heard ++ rest)
 
@@ -19,7 +19,7 @@ more-moved first second (Some xs) None now was is = absurd was
 more-moved first second (Some xs) (Some ys) None was is = absurd is
 more-moved first second (Some xs) (Some ys) (Some zs) was is = was ∙ ap (λ (rest : List ℕ). first ++ rest) is ∙ sym (append_assoc first second zs)
 
--- what a read consumed has moved
+-- the bytes that a read consumed have moved
 pub consumed : (left now : Option (List ℕ)) (heard : List ℕ) → Consumes left now heard → Parts heard left now
 consumed None now heard is = tt
 consumed (Some xs) None heard is = absurd is

@@ -1,4 +1,5 @@
--- What is known of files that were looked at in turn: none of them changed, and those so far are there.
+-- What is known of files that were looked at in turn: none
+-- of them changed, and the files so far are there.
 use Rattle.std.specs.Prelude.{◌≡◌, ◌+◌, ℕ, Bool, true, false, ◌&&◌, List, [], ◌∷◌, ◌++◌, take, Option, Some, None, IfSome, is_some, Result, Ok, Err, IfErr, IfOk}
 use Rattle.std.specs.List.{list_all}
 use Rattle.std.proofs.Common.{sym, ap, ap₂, subst, ◌∙◌}
@@ -9,7 +10,7 @@ use Rattle.ct_base.specs.declared.files.FilesFault.{FilesFault}
 use Rattle.ct_base.specs.declared.files.FilesFault.TheVariants.{Failed, NoMemory}
 use Rattle.ct_edge.specs.Required.{AreHeld, IsMissing}
 
--- each path holds after one more look what it held before all of them
+-- after one more look each path holds what it held before all looks
 pub kept-more : (before mid now : Option Held) → Becomes before mid SameHeld → Becomes mid now SameHeld → Becomes before now SameHeld
 kept-more None mid now was is = tt
 kept-more (Some x) None now was is = absurd was
@@ -32,7 +33,7 @@ module _ (files : List (List ℕ)) (place : ℕ) (file : List ℕ) (next : take 
       let here = ap is_some (sym (same file)) ∙ sym is in
       ap (list_all p) next ∙ list_all-append p (take place files) (file ∷ []) ∙ ap₂ (λ (a b : Bool). a && (b && true)) so here
 
-  -- behind a look that tells of no missing file one more is there
+  -- after a look that tells of no missing file one more file is there
   pub there-more : (before mid : Option Held) (seen : Result Bool FilesFault) → Becomes before mid SameHeld → IfSome before (λ held. AreHeld held (take place files)) →
       IfOk seen (λ there. IfSome mid (λ held. there ≡ is_some (held file))) → IsMissing seen false → IfSome before (λ held. AreHeld held (take (place + 1) files))
   there-more before mid (Ok true) same so is missing = one-there before mid same so is

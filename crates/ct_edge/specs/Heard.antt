@@ -1,14 +1,15 @@
--- What an ear hears of what a reader has left, where the reader tells that. This project's own.
+-- What an ear hears of the bytes that a reader has left, if the reader tells them. This project's own.
 use Rattle.std.specs.Prelude.{◌≡◌, ℕ, List, ◌++◌, Option}
 use Rattle.ct_base.specs.Outside.{Becomes}
 
--- bytes moved from the front of what was left to the ear, and none was lost
+-- the ear heard bytes from the front of what was left, and none was lost
 pub record Hears (left left_now : Option (List ℕ)) (before now : List ℕ → Type 0) : Type 0 where
   pub heard : List ℕ
   pub moved : Becomes left left_now (λ all rest. all ≡ heard ++ rest)
   pub said : (text : List ℕ) → before text → now (text ++ heard)
 
--- bytes moved from the front of an output to the ear, and behind them bytes from the front of the other, and none was lost
+-- the ear heard bytes from the front of an output, and behind
+-- them bytes from the front of the other; none was lost
 pub record HearsBoth (output output_now errors errors_now : Option (List ℕ)) (before now : List ℕ → Type 0) : Type 0 where
   pub first : List ℕ
   pub second : List ℕ

@@ -1,18 +1,19 @@
--- What the machine's files, output and gates tell: how many calls failed, and nothing else. This project's own.
+-- What the files, the output and the gates of the machine tell:
+-- how many calls failed, and nothing else. This project's own.
 use Rattle.std.specs.Prelude.{ℕ, List, Option, None, map}
 use Rattle.ct_base.specs.Outside.{FilesTell, SinkTell}
 use Rattle.ct_core.specs.Gate.{GateTell}
 use Rattle.ct_edge.specs.declared.process_gate.ProcessGate.{ProcessGate}
 
--- files of which so many calls failed
+-- what files tell after this many failed calls
 abbrev pub files_tell : ℕ → FilesTell
 files_tell faults = record { held = None; refused = None; faults = faults }
 
--- an output that holds this, where it is known, and of which so many puts failed
+-- what an output tells that holds this text, if it is known, after this many failed puts
 abbrev pub sink_tell : Option (List ℕ) → ℕ → SinkTell
 sink_tell written faults = record { written = written; pieces = None; faults = faults }
 
--- a gate of which so many starts and waits failed
+-- what a gate tells after this many failed starts and waits
 abbrev pub gate_tell : ℕ → GateTell
 gate_tell faults = record { world = None; asked = None; sent = None; faults = faults }
 

@@ -1,4 +1,4 @@
--- How a program that ran is answered, and with which variables it is started. This project's own.
+-- How a run program's end is answered, and with which variables a program is started. This project's own.
 use Rattle.std.specs.Prelude.{◌≡◌, ◌↔◌, ℕ, Bool, not, ◌==◌, ◌<◌, length, All, IsUtf8, List, [], ◌∷◌, ◌++◌, codes, ℤ, Option, Some, None, Result, Ok, Err, option_map, true, false, if◌then◌else◌}
 use Rattle.std.specs.List.{list_any}
 use Rattle.std.specs.IoError.{error_kind}
@@ -35,17 +35,17 @@ has_run Ends.NotStarted = false
 has_run (Ends.Lacks place) = false
 has_run Ends.NoMemory = false
 
--- what an error of the system comes to: want of memory exactly where it says so
+-- the fault for an error of the system: want of memory exactly if the error says so
 abbrev pub IsFaultOf : Error → StartFault → Type 0
 IsFaultOf e fault = (fault ≡ Fault.NoMemory) ↔ (error_kind e ≡ ErrorKind.OutOfMemory)
 
--- a program that ran is answered as it ended; one that did not was not started, or memory was wanting
+-- how an attempt ended, by the outcome of its run: as the program ended, not started, or want of memory
 abbrev pub how_of_run : Result How StartFault → How
 how_of_run (Ok how) = how
 how_of_run (Err Fault.Failed) = Ends.NotStarted
 how_of_run (Err Fault.NoMemory) = Ends.NoMemory
 
--- a program is given these variables and no others; of several of one name the last counts
+-- a program is given these variables and no others; of several with the same name the last counts
 pub record HasEnv {A : Type 0} (pairs : List Pair) (command : Command A) : Type 0 where
   pub alone : clears_env command ≡ true
   pub values : (name : List ℕ) → command_var command name ≡ option_map Some (held_by pairs name)
@@ -54,7 +54,7 @@ pub record HasEnv {A : Type 0} (pairs : List Pair) (command : Command A) : Type 
 abbrev pub IsTextPair : Pair → Type 0
 IsTextPair pair = IsUtf8 pair.name × IsUtf8 pair.value
 
--- a program is named, and each word that the system is given of the request is a text
+-- a program is named, and each word of the request that the system is given is a text
 pub record AreTexts (request : Request) : Type 0 where
   pub named : 0 < length request.command
   pub command : All IsUtf8 request.command
@@ -65,7 +65,8 @@ pub record AreTexts (request : Request) : Type 0 where
 abbrev pub is_bare : List ℕ → Bool
 is_bare program = not (list_any (λ byte. byte == slash) program)
 
--- a program as the system looks it up: one beside the test by its path in the folder, any other by its name
+-- a program as the system looks it up: if it is beside the
+-- test, by its path in the folder, else by its name
 abbrev pub program_as : Bool → List ℕ → List ℕ
 program_as beside program = if beside then codes "./" ++ program else program
 

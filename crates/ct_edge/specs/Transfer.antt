@@ -1,11 +1,11 @@
--- What a read takes from what a reader has left, where the reader tells that. This project's own.
+-- What a read takes from the bytes that a reader has left, if the reader tells them. This project's own.
 use Rattle.std.specs.Prelude.{◌≡◌, ℕ, ◌+◌, List, ◌++◌, take, Option, IfSome}
 use Rattle.ct_base.specs.Outside.{Becomes}
 
--- all that was left was read, or as much as the bound allows and one byte more
+-- all that was left was read, but at most one byte more than the bound
 abbrev pub ReadsUpTo : ℕ → Option (List ℕ) → List ℕ → Type 0
 ReadsUpTo most left bytes = IfSome left (λ all. bytes ≡ take (most + 1) all)
 
--- bytes moved from the front of what was left to the end of what was read, and none was lost
+-- bytes moved from the front of what was left to the end of what was read; none was lost
 abbrev pub Moves : Option (List ℕ) → List ℕ → Option (List ℕ) → List ℕ → Type 0
 Moves left before left_now now = Becomes left left_now (λ rest rest_now. before ++ rest ≡ now ++ rest_now)

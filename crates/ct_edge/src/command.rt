@@ -39,7 +39,7 @@ fn is_bare(program: &Name) -> bool
     !program.bytes().contains(&b'/')
 }
 
-/// What the system does not tell of is no file.
+/// Tells whether the path is a file. If the system tells nothing of the path, the answer is no.
 fn is_file<R: rt::Files>(rt: &R, path: &Name) -> bool {
     match text_of(path) {
         Some(path) => fs::metadata(rt, path).is_ok_and(|found| found.is_file()),
@@ -47,11 +47,11 @@ fn is_file<R: rt::Files>(rt: &R, path: &Name) -> bool {
     }
 }
 
-/// The command as the system takes it, with a pipe for each of its two outputs.
+/// Makes the command as the system takes it, with a pipe for each of its two outputs.
 ///
 /// A program name with `/` is read from the folder that the program starts in, unless it begins
-/// with `/`; one without is the file of that name in this folder where it is there, and is else
-/// looked up in the folders that its own PATH names.
+/// with `/`. A name without `/` is the file of that name in this folder, if it is there. Else
+/// it is looked up in the folders that the PATH of the program's own environment names.
 pub(crate) fn command_of(
     alloc: Global,
     request: &Request,
@@ -76,7 +76,7 @@ pub(crate) fn command_of(
     Ok(command)
 }
 
-/// The program as the system looks it up.
+/// Returns the program as the system looks it up.
 fn program_of(alloc: Global, program: &Name, beside: bool) -> Result<Name, NoMemory>
     ensures { IfOk result (λ name. name ≡ program_as beside program.now) }
 {
@@ -99,7 +99,7 @@ fn add_arguments(command: &mut Command, args: &[Name]) -> Result<(), StartFault>
     Ok(())
 }
 
-/// Gives the program these variables alone; of several of one name the last counts.
+/// Sets these variables of the program and no others; of several with the same name the last counts.
 fn set_environment(command: &mut Command, env: &[Pair]) -> Result<(), StartFault>
     ensures env { OnOk result (HasEnv env.now command.new) }
     ensures call { OnOk result (SameProgramAndArgs command.old command.new) }
@@ -113,7 +113,7 @@ fn set_environment(command: &mut Command, env: &[Pair]) -> Result<(), StartFault
     Ok(())
 }
 
-/// The word as text; one that is not UTF-8 is a start that failed.
+/// Returns the word as text. A word that is not UTF-8 is a start that failed.
 fn word_of(word: &Name) -> Result<&str, StartFault>
     ensures ok { IfOk result (λ text. text.now ≡ word.entry.now) }
     ensures text { OnErr result (IsUtf8 word.entry.now → ⊥) }

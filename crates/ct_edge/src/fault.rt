@@ -10,7 +10,7 @@ use std::io;
 /// Why a program was not run to its end.
 #[derive(Clone, Copy, Debug, PartialEq, Eq)]
 pub enum StartFault {
-    /// It could not be started, or not be waited for.
+    /// The program could not be started, or could not be waited for.
     Failed,
     /// Memory was wanting.
     NoMemory,

@@ -5,7 +5,7 @@ use std::io;
 use std::rt::Clock;
 use std::time::{Duration, Instant};
 
-/// How long a program may run, and from when on.
+/// How long a program may run, and when that time began.
 #[derive(Clone, Copy)]
 pub struct Limit {
     began: Instant,
@@ -31,7 +31,7 @@ impl Limit {
         self.micros.is_some()
     }
 
-    /// The microseconds left before the limit, at most `most`; 0 once the time is up.
+    /// Returns the microseconds left before the limit, at most `most`; 0 once the time is up.
     pub fn left<R: Clock>(&self, rt: &R, most: u64) -> io::Result<u64>
         ensures most { IfOk result (λ left. left ≤ most) }
         ensures limit { IfOk result (λ left. IfSome self.now.micros (λ limit. left ≤ limit)) }
@@ -45,7 +45,7 @@ impl Limit {
     }
 }
 
-/// The whole microseconds of a time, at most the greatest u64.
+/// Returns the whole microseconds of a time, at most the greatest u64.
 pub fn micros_of(time: Duration) -> u64
     ensures { result ≡ min (as_nanos time / 1000) (2 ^ 64 - 1) }
 {

@@ -16,14 +16,14 @@ use std::io::{ErrorKind, Read};
 use std::os::fd::{AsRawFd, RawFd};
 use std::rt::Clock;
 
-/// The longest wait for an output of a program without a limit, in microseconds: an hour.
+/// The longest single wait for an output of a program, in microseconds: an hour.
 const LONGEST_WAIT: u64 = 3_600_000_000;
 
-/// The system never finds this descriptor ready.
+/// A descriptor that the system never finds ready.
 const NO_DESCRIPTOR: RawFd = -1;
 
-/// Hands on what comes of an output and keeps what comes of the errors beside it, each as soon as it
-/// can be read, and tells whether both came to their ends within the limit.
+/// Hands what comes of an output to the ear, and keeps what comes of the errors beside it,
+/// each as soon as it can be read. Tells whether both came to their ends within the limit.
 #[tactic(auto, using(crate::proofs::HeardLemmas::hears_none, crate::proofs::HeardLemmas::hears_more))]
 pub fn read_both<C: Clock, O: Read + AsRawFd, P: Read + AsRawFd, E: Ear>(
     clock: &C,
@@ -61,7 +61,7 @@ pub fn read_both<C: Clock, O: Read + AsRawFd, P: Read + AsRawFd, E: Ear>(
     Err(StartFault::Failed)
 }
 
-/// Hands on what one read gives, and tells whether more may come.
+/// Hands what one read returns to the ear, and tells whether more may come.
 fn hear_piece<R: Read, E: Ear>(output: &mut R, ear: &mut E) -> io::Result<bool>
     ensures moved { OnOk result (Hears (R.remaining output.old) (R.remaining output.new) (E.stands_for ear.old) (E.stands_for ear.new)) }
     ensures end { IfOk result (λ more. more ≡ false → IsAtEnd (R.remaining output.new)) }
@@ -72,7 +72,7 @@ fn hear_piece<R: Read, E: Ear>(output: &mut R, ear: &mut E) -> io::Result<bool>
     Ok(got > 0)
 }
 
-/// The descriptor that tells when an output can be read, while more may come of it.
+/// Returns the descriptor that tells when an output can be read, while more may come of it.
 fn awaited<R: AsRawFd>(output: &R, more: bool) -> pollfd {
     let fd = if more {
         output.as_raw_fd()
@@ -86,8 +86,8 @@ fn awaited<R: AsRawFd>(output: &R, more: bool) -> pollfd {
     }
 }
 
-/// Waits until one of these can be read without waiting, at most so many microseconds, and tells which of
-/// them can.
+/// Waits at most this many microseconds until one of these
+/// can be read without waiting, and tells which of them can.
 ///
 /// It waits in whole milliseconds, rounded up. A signal ends the wait early.
 fn ready(mut awaited: [pollfd; 2], micros: u64) -> io::Result<[bool; 2]> {
@@ -98,7 +98,8 @@ fn ready(mut awaited: [pollfd; 2], micros: u64) -> io::Result<[bool; 2]> {
     broken_off(io::Error::from_raw_os_error(os::errno()))
 }
 
-/// The answer of a wait that failed: after a signal neither can be read, and any other error is a fault.
+/// Returns the answer of a wait that failed: after a signal
+/// neither can be read, and any other error is a fault.
 fn broken_off(fault: io::Error) -> io::Result<[bool; 2]>
     ensures signal { error_kind fault ≡ ErrorKind.Interrupted → result ≡ Ok (false ∷ false ∷ []) }
     ensures failed { error_kind fault ≢ ErrorKind.Interrupted → result ≡ Err fault }

@@ -19,11 +19,11 @@ use std::time::Instant;
 
 /// Runs the programs of tests on the machine, and waits for each.
 ///
-/// It tells nothing of them. A program has no input.
+/// Contracts see only how many starts and waits failed. A program has no input.
 #[derive(Drop)]
 pub struct ProcessGate {
     rt: HostRuntime,
-    /// The starts and waits that failed. It stands still at its last value.
+    /// How many starts and waits failed. The count stops at its last value.
     faults: u64,
 }
 
@@ -35,14 +35,14 @@ impl ProcessGate {
         ProcessGate { rt, faults: 0 }
     }
 
-    /// How many starts and waits failed.
+    /// Returns how many starts and waits failed.
     pub fn faults(&self) -> u64
         ensures { result ≡ self.now.faults }
     {
         self.faults
     }
 
-    /// Runs the program, and takes the time that this took; 0 where the clock failed.
+    /// Runs the program, and measures the time that it took; 0 if the clock failed.
     pub fn attempt<E: Ear>(&mut self, alloc: Global, request: &Request, ear: &mut E) -> Ended
         ensures cause { HasStartCause self.old.faults self.new.faults result.how }
         ensures unlimited { result.how ≡ Ends.TimedOut → IsSome request.now.limit }
@@ -87,8 +87,8 @@ impl Gate for ProcessGate {
     }
 }
 
-/// Runs the program of a request to its end, and hands what it writes to the ear. Without one of the
-/// required files it is not started.
+/// Runs the program of a request to its end, and hands what it writes to
+/// the ear. If a required file is missing, the program is not started.
 fn run_program<E: Ear>(
     rt: HostRuntime,
     alloc: Global,

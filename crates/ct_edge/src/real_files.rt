@@ -12,14 +12,14 @@ use std::alloc::Global;
 use std::io::ErrorKind;
 use std::{fs, io, rt};
 
-/// The files of the machine, which a path names as text.
+/// The files of the machine, each named by a path that is a text.
 ///
-/// A relative path begins at the folder that the process is in. It tells neither what the files
-/// hold nor which call failed last.
+/// A relative path begins at the working directory of the process.
+/// Contracts see neither what the files hold nor which call failed last.
 #[derive(Drop)]
 pub struct RealFiles<R> {
     rt: R,
-    /// The calls that failed. It stands still at its last value.
+    /// How many calls failed. The count stops at its last value.
     faults: u64,
 }
 
@@ -31,7 +31,7 @@ impl<R> RealFiles<R> {
         RealFiles { rt, faults: 0 }
     }
 
-    /// How many calls failed.
+    /// Returns how many calls failed.
     pub fn faults(&self) -> u64
         ensures { result ≡ self.now.faults }
     {
@@ -70,7 +70,7 @@ impl<R: rt::Files> Files for RealFiles<R> {
     }
 }
 
-/// Reads at most one byte more than `most`; an absent path gives `None`.
+/// Reads at most one byte more than `most`; returns `None` if there is no file at the path.
 fn read_file<R: rt::Files>(
     rt: &R,
     alloc: Global,
@@ -99,14 +99,14 @@ fn write_file<R: rt::Files>(rt: &R, path: &Name, bytes: &[u8]) -> Result<(), Fil
     answer(write_whole(&mut file, bytes))
 }
 
-/// The path as text; one that is not UTF-8 is a fault.
+/// Returns the path as text. A path that is not UTF-8 is a fault.
 fn path_of(path: &Name) -> Result<&str, FilesFault>
     ensures { IfOk result (λ text. text.now ≡ path.entry.now) }
 {
     text_of(path).ok_or(FilesFault::Failed)
 }
 
-/// What the system gave. Each of its errors is a fault.
+/// Returns what the system returned. Each of its errors is a fault.
 fn answer<T>(outcome: io::Result<T>) -> Result<T, FilesFault>
     ensures ok { IfOk outcome (λ got. result ≡ Ok got) }
     ensures failed { OnErr outcome (result ≡ Err FilesCause.Failed) }
@@ -114,8 +114,8 @@ fn answer<T>(outcome: io::Result<T>) -> Result<T, FilesFault>
     outcome.map_err(|_| FilesFault::Failed)
 }
 
-/// What the system found, and `None` where nothing is at the path, as below what is no folder. Its
-/// other errors are faults.
+/// Returns what the system found; `None` if nothing is at the path,
+/// or a part of the path is no folder. Any other error is a fault.
 fn present<T>(found: io::Result<T>) -> Result<Option<T>, FilesFault>
     ensures ok { IfOk found (λ file. result ≡ Ok (Some file)) }
     ensures absent { IfErr found (λ e. error_kind e ≡ ErrorKind.NotFound → result ≡ Ok None) }

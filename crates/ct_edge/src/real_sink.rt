@@ -8,13 +8,13 @@ use ct_base::{Sink, SinkFault};
 use std::io;
 use std::io::Write;
 
-/// A writer as a sink, as the standard output of the process.
+/// A writer as a sink, for example the standard output of the process.
 ///
-/// It tells what its writer tells, and the standard output tells nothing.
+/// Contracts see the text that the writer tells; the standard output tells none.
 #[derive(Drop)]
 pub struct RealSink<W> {
     writer: W,
-    /// The puts that failed. It stands still at its last value.
+    /// How many puts failed. The count stops at its last value.
     faults: u64,
 }
 
@@ -27,21 +27,21 @@ impl<W> RealSink<W> {
         RealSink { writer, faults: 0 }
     }
 
-    /// The writer, with what was put so far.
+    /// Lends the writer, with what was put so far.
     pub fn writer(&self) -> &W
         ensures { result.now ≡ self.now.writer }
     {
         &self.writer
     }
 
-    /// How many puts failed.
+    /// Returns how many puts failed.
     pub fn faults(&self) -> u64
         ensures { result ≡ self.now.faults }
     {
         self.faults
     }
 
-    /// Answers a put, and counts it where it failed.
+    /// Returns the result of a put, and counts the put if it failed.
     fn count(&mut self, outcome: io::Result<()>) -> Result<(), SinkFault>
         ensures ok { OnOk outcome (OnOk result (self.new ≡ self.old)) }
         ensures failed { OnErr outcome (result ≡ Err SinkCause.Failed) }

@@ -5,8 +5,8 @@ ghost use Rattle.ct_edge.specs.Required.{IsFirstMissing, IsMissing};
 use ct_base::{Files, FilesFault, Name, NoMemory};
 use std::alloc::Global;
 
-/// The place, from 0, of the first file that is missing. One that the files cannot look at is
-/// missing.
+/// Finds the place, from 0, of the first file that is
+/// missing. A file that cannot be looked at is missing.
 ///
 /// Source: CMake manual, cmake-properties(7), REQUIRED_FILES.
 pub fn first_missing<F: Files>(

@@ -8,7 +8,7 @@ use std::alloc::Global;
 use std::io;
 use std::io::{ErrorKind, Read, Write};
 
-/// Reads to the end, or one byte more than `most`, however few bytes come at a time.
+/// Reads to the end, but at most one byte more than `most`, however few bytes come at a time.
 ///
 /// It takes memory only for what has been read.
 pub fn read_up_to<R: Read>(alloc: Global, reader: &mut R, most: u64) -> Result<Blob, FilesFault>
@@ -43,9 +43,10 @@ pub fn read_piece<R: Read>(reader: &mut R, bytes: &mut Blob, most: u64) -> Resul
     }
 }
 
-/// Writes all of the piece, however few bytes are taken at a time.
+/// Writes the whole piece, however few bytes the writer takes at a time.
 ///
-/// A writer that takes nothing has failed. After an error some beginning of the piece was written.
+/// A writer that takes no byte has failed. After an error some
+/// first part of the piece was written, which may be empty.
 pub fn write_whole<W: Write>(writer: &mut W, piece: &[u8]) -> io::Result<()>
     ensures ok { OnOk result (Becomes (W.contents writer.old) (W.contents writer.new) (Adds piece.now)) }
     ensures err { OnErr result (Becomes (W.contents writer.old) (W.contents writer.new) (AddsPrefix piece.now)) }

@@ -19,10 +19,11 @@ use std::rt::Clock;
 use std::thread;
 use std::time::Duration;
 
-/// How many looks at a program that has closed its outputs come without a pause: it mostly ends at once.
+/// How many looks at a program that has closed its outputs come without a pause: it usually ends at once.
 const QUICK_LOOKS: u64 = 64;
 
-/// The first pause and the longest one, in microseconds, between two looks behind these.
+/// The first pause between two later looks, in microseconds;
+/// each further pause is twice as long, up to the longest.
 const SHORTEST_PAUSE: u64 = 100;
 
 const LONGEST_PAUSE: u64 = 20_000;
@@ -36,7 +37,7 @@ pub struct Running<O, P> {
 }
 
 impl Running<ChildStdout, ChildStderr> {
-    /// Takes the outputs of a program that was started; one without them is stopped.
+    /// Takes the outputs of a program that was started. A program without them is stopped.
     pub fn of(mut child: Child) -> Result<Running<ChildStdout, ChildStderr>, StartFault>
         ensures ok { IsSome child.stdout → IsSome child.stderr → IsOk result }
         ensures output { IfOk result (λ program. child.stdout ≡ Some program.output) }
@@ -54,11 +55,11 @@ impl Running<ChildStdout, ChildStderr> {
     }
 }
 
-/// Hands on what a program writes, its standard output while it runs and then its standard error,
-/// and tells how it ended.
+/// Hands what a program writes to the ear, its standard output while
+/// it runs and then its standard error, and tells how it ended.
 ///
-/// It returns when the program has ended and nothing holds its outputs any more, or else at the
-/// limit, when the program is stopped and its outputs are read no further.
+/// It returns when the program has ended and no process holds its outputs any more. Else
+/// it returns at the limit: it stops the program, and reads its outputs no further.
 pub fn attend<C: Clock, O: Read + AsRawFd, P: Read + AsRawFd, E: Ear>(
     clock: &C,
     alloc: Global,
@@ -84,7 +85,7 @@ pub fn attend<C: Clock, O: Read + AsRawFd, P: Read + AsRawFd, E: Ear>(
     Ok(how)
 }
 
-/// Reads both outputs of a program to their ends and waits for its own. `None` is the limit.
+/// Reads both outputs of a program to their ends and waits for its own end. `None` is the limit.
 fn watch<C: Clock, O: Read + AsRawFd, P: Read + AsRawFd, E: Ear>(
     clock: &C,
     limit: &Limit,
@@ -147,7 +148,7 @@ fn stop(child: &mut Child) -> Result<(), StartFault> {
     Ok(())
 }
 
-/// How the program ended; `None` is the limit.
+/// Returns how the program ended; `None` is the limit.
 fn how_of(ended: Option<ExitStatus>) -> How
     ensures { result ≡ how_of_end ended }
 {

@@ -1,4 +1,4 @@
--- What is seen of an attempt that a gate was asked to run, by what an ear heard of it.
+-- What is seen of an attempt that a gate was asked to run, as its ear heard it.
 use Rattle.std.proofs.Common.{◌≡◌, ◌∙◌, sym, ap, subst, Bool, true, false, ℕ, List, [], ◌∷◌, refl, arith, inl, inr}
 use Rattle.std.specs.Prelude.{◌⊎◌, Option, Some, None, IfSome, IsSomeAnd, cond}
 use Rattle.std.proofs.lemmas.Bool.{cases_Bool}
@@ -31,7 +31,7 @@ no_memory_starts Ends.NotStarted is failed = cc
 no_memory_starts (Ends.Lacks place) is failed = cc
 no_memory_starts Ends.NoMemory is failed = cc
 
--- no memory for the request: the gate is not asked
+-- if memory is wanting for the request, the gate is not asked
 pub unasked_attempt : (terms : Terms) (run : Running) (seen : Seen) (tell : GateTell) → is_no_memory seen.how ≡ true → RunsAttempt terms run seen tell tell
 unasked_attempt terms run seen tell lacks = record {
   told = λ memory. absurd (both_ways (is_no_memory seen.how) lacks memory);
@@ -47,7 +47,7 @@ module _ (terms : Terms) (run : Running) (def : TestDef) (own : Props) (there : 
   attempt_is : request.attempt ≡ run.attempt
   attempt_is = ap (λ (r : Request). r.attempt) is_of.is
 
-  -- what the ear kept is what was told
+  -- an ear that is not short kept all that it may have heard
   kept : (text : List ℕ) → ear.short ≡ false → MayHaveHeard ear text → text ≡ ear.heard
   kept text long (inl short) = absurd (both_ways ear.short short long)
   kept text long (inr is) = is
@@ -75,7 +75,7 @@ module _ (terms : Terms) (run : Running) (def : TestDef) (own : Props) (there : 
       (subst (λ (n : ℕ). IfSome old.world (λ world. seen_of own ear.heard ended ≡ seen_of own (told world request.test n).heard (told world request.test n).ended)) attempt_is
       (by_world old.world request.test request.attempt same long runs.told runs.heard)))
 
-  -- where memory was wanting for the answer, so it was for what is seen
+  -- if memory was wanting for the answer, memory was wanting for what is seen
   lacks_too : is_no_memory ended.how ≡ true → SeesEnd own ear ended seen → is_no_memory seen.how ≡ true
   lacks_too lacks (inl is) = is
   lacks_too lacks (inr (long, is)) = ap (λ (s : Seen). is_no_memory s.how) is ∙ lacks
@@ -103,7 +103,7 @@ module _ (terms : Terms) (run : Running) (def : TestDef) (own : Props) (there : 
     })
   ]
 
-  -- a start that failed is seen as one, or memory was wanting
+  -- if a failed start is seen, the answer was a failed start
   failed_too : is_not_started seen.how ≡ true → SeesEnd own ear ended seen → is_not_started ended.how ≡ true
   failed_too failed (inl lacks) = absurd (no_memory_starts seen.how lacks failed)
   failed_too failed (inr (long, is)) = sym (ap (λ (s : Seen). is_not_started s.how) is) ∙ failed

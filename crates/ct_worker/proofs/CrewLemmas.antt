@@ -21,7 +21,7 @@ add_none w = omega arith
 add_one : (w n m : ℕ) → m ≡ n + 1 → w + 1 + n ≡ w + m
 add_one w n m is = omega (arith, is)
 
--- the workers of two parts are ready where all are
+-- if all workers are ready, the workers of both parts are ready
 pub ready_parts : (jobs : Jobs) (turn : TurnValue) (w : ℕ) (xs ys : List PassValue) → AreReady jobs turn w (xs ++ ys) → AreReady jobs turn w xs × AreReady jobs turn (w + length xs) ys
 ready_parts jobs turn w [] ys ready = (tt, subst (λ (n : ℕ). AreReady jobs turn n ys) (add_none w) ready)
 ready_parts jobs turn w (x ∷ xs) ys ready =
@@ -35,7 +35,7 @@ ready_halves jobs turn w half next all xs ys is size there ready =
     let both = ready_parts jobs turn w xs ys (subst (λ (ps : List PassValue). AreReady jobs turn w ps) is ready) in
     (both.0, subst (λ (n : ℕ). AreReady jobs turn n ys) (ap (λ (n : ℕ). w + n) size ∙ sym there) both.1)
 
--- where the workers of two parts took part, all did
+-- if the workers of both parts took part, all workers did
 pub part_append : (jobs : Jobs) (olds news : List PassValue) (befores nows : List GateTell) (olds' news' : List PassValue) (befores' nows' : List GateTell) → AllTookPart jobs olds news befores nows → AllTookPart jobs olds' news' befores' nows' → AllTookPart jobs (olds ++ olds') (news ++ news') (befores ++ befores') (nows ++ nows')
 part_append jobs [] [] [] [] olds' news' befores' nows' one other = other
 part_append jobs [] [] [] (now ∷ nows) olds' news' befores' nows' one other = absurd one
@@ -60,12 +60,12 @@ split-snoc turn known w [] pass are is = (is ∙ ap (split_pass turn known) (ome
 split-snoc turn known w (p ∷ ps) pass are is =
     (are.0, split-snoc turn known (w + 1) ps pass are.1 (is ∙ ap (split_pass turn known) (sym (add_one w (length ps) (length (p ∷ ps)) (omega arith)))))
 
--- the passes were joined one after another
+-- joining one more pass behind the others is one more step
 pub joined-snoc : (keeper : Known) (passes : List PassValue) (pass : PassValue) → all_joined keeper (passes ++ pass ∷ []) ≡ with_joined (all_joined keeper passes) pass.known
 joined-snoc keeper [] pass = refl
 joined-snoc keeper (p ∷ ps) pass = joined-snoc (with_joined keeper p.known) ps pass
 
--- who joins the passes stays the same worker
+-- the worker of the pass that the others are joined into stays the same
 pub joined_worker : (keeper : Known) (passes : List PassValue) → (all_joined keeper passes).worker ≡ keeper.worker
 joined_worker keeper [] = refl
 joined_worker keeper (p ∷ ps) = joined_worker (with_joined keeper p.known) ps
@@ -77,7 +77,7 @@ goes_twice w a b c one other = record {
   others = list_any-append (is_by w) one.more other.more ∙ or_from (list_any (is_by w) one.more) (list_any (is_by w) other.more) one.others other.others;
 }
 
--- one pass more was joined
+-- one more pass was joined
 module _ (first mid new pass : PassValue) (passes : List PassValue) (was : mid ≡ record first { known = all_joined first.known passes }) where
   pub join_known : new ≡ record mid { known = with_joined mid.known pass.known } → new ≡ record first { known = all_joined first.known (passes ++ pass ∷ []) }
   join_known is =

@@ -39,11 +39,12 @@ use Rattle.ct_worker.specs.State.{EndsSo, IsFinished, IsStateNext, StateValue, b
 use Rattle.ct_worker.specs.Work.{AsksNext, EndsOwn, SeesNext, Stays}
 use Rattle.ct_worker.proofs.StopLemmas.{due_keeps}
 
--- what is seen of a state by who has the turn
+-- what the worker that has the turn sees of a state
 abbrev pub sight_of : StateValue → Sight
 sight_of s = record { plan = s.plan; base = base_of s; now = moment s.entries (is_some s.halt) }
 
--- one step of a state: plan and base stay, the history stays legal and grows by own entries, and a halt stands
+-- one step of a state: the plan and the base stay, the history stays
+-- legal and grows by the worker's own entries, and a halt stays
 pub record IsStep (worker : ℕ) (old new : StateValue) : Type 0 where
   pub plan : new.plan ≡ old.plan
   pub base : base_of new ≡ base_of old
@@ -51,7 +52,7 @@ pub record IsStep (worker : ℕ) (old new : StateValue) : Type 0 where
   pub own : AddsOwn worker old.entries new.entries
   pub halted : is_some old.halt ≡ true → is_some new.halt ≡ true
 
--- two steps, one behind the other
+-- two steps, one after the other, are a step
 pub step_then : (w : ℕ) (a b c : StateValue) → IsStep w a b → IsStep w b c → IsStep w a c
 step_then w a b c one other = record {
   plan = other.plan ∙ one.plan;
@@ -68,7 +69,7 @@ step_then w a b c one other = record {
 same_worker : (v w : ℕ) → v ≡ w → (v == w) ≡ true
 same_worker v w is = grind (arith, nat_tests)
 
--- own entries and a Stop
+-- an own entry, with the Stop that it makes due, adds only own entries
 adds_due : (w : ℕ) (plan : PlanParts) (es : List Entry) (e : Entry) → is_own w e ≡ true → AddsOwn w es (with_due_stop plan (es ++ e ∷ []))
 adds_due w plan es e own = due_keeps plan (es ++ e ∷ []) (λ xs. AddsOwn w es xs) (adds_one w es e own) (record {
   more = e ∷ Is.Stop ∷ [];
@@ -76,7 +77,7 @@ adds_due w plan es e own = due_keeps plan (es ++ e ∷ []) (λ xs. AddsOwn w es 
   own = ap (λ (b : Bool). b && (true && true)) own;
 })
 
--- entries that are none of the worker's behind a history leave what was seen of it
+-- entries that are not the worker's, behind a history, leave what the worker has seen of it
 goes_more : (w : ℕ) (seen now more : List Entry) → GoesOn w seen now → list_any (is_by w) more ≡ false → GoesOn w seen (now ++ more)
 goes_more w seen now more goes none = record {
   more = goes.more ++ more;
@@ -102,7 +103,7 @@ plan_stays w Nexts.Done old new of = ap (λ (s : StateValue). s.plan) of.follows
 plan_stays w Nexts.Aborted old new of = ap (λ (s : StateValue). s.plan) of.follows
 plan_stays w Nexts.NoMemory old new of = ap (λ (s : StateValue). s.plan) of.follows
 
--- the state was taken by a worker that holds no start
+-- the case that the turn was taken by a worker that holds no start
 module _ (w : ℕ) (known : Known) (old : StateValue) (is_worker : known.worker ≡ w) (suits : Suits known (sight_of old)) (idle : held_start known ≡ None) where
   legal : is_legal old.plan old.entries ≡ true
   legal = subst (λ (p : PlanParts). is_legal p old.entries ≡ true) (sym suits.plan) suits.legal
@@ -150,7 +151,7 @@ module _ (w : ℕ) (known : Known) (old : StateValue) (is_worker : known.worker 
       settle_goes : GoesOn w known.seen.entries core.entries
       settle_goes = subst (λ (es : List Entry). GoesOn w known.seen.entries es) (sym settled) (goes_due w old.plan known.seen.entries old.entries (Is.Settle test step.cause) refl goes)
 
-    -- the same state
+    -- the case that the state stays the same
     still : (new : StateValue) → new ≡ old → IsStep w old new
     still new same = subst (λ (s : StateValue). IsStep w old s) (sym same) (record { plan = refl; base = refl; legal = legal; own = adds_none w old.entries; halted = λ halt. halt })
 
@@ -184,7 +185,7 @@ module _ (w : ℕ) (known : Known) (old : StateValue) (is_worker : known.worker 
         first_is None = refl
         first_is (Some h) = refl
 
-    -- what the worker has then seen
+    -- what the worker has seen after the step
     module _ (pass : PassValue) (of_pass : pass.known ≡ known) (idle_before : pass.taken ≡ None) (new : StateValue) (after : PassValue) (gave : after ≡ idle_pass pass.turn (has_seen known (moment new.entries (is_some new.halt)))) where
       known_after : after.known ≡ has_seen known (moment new.entries (is_some new.halt))
       known_after = ap (λ (p : PassValue). p.known) gave
@@ -239,7 +240,7 @@ module _ (w : ℕ) (known : Known) (old : StateValue) (is_worker : known.worker 
       pub begins : (next : Next) → IsStateNext old w next new → AsksNext pass next after
       begins next of = record { pass = pass_after; follows = begins_with next of }
 
--- a step may come back
+-- after a step the turn may be given back
 pub continues : (known : Known) (old new : StateValue) → Suits known (sight_of old) → IsStep known.worker old new → Continues known (moment old.entries (is_some old.halt)) (sight_of new)
 continues known old new suits step = record {
   plan = step.plan ∙ suits.plan;
@@ -255,7 +256,7 @@ may_give pass took old new is suits step = subst (λ (p : PassValue). IsSomeAnd 
 pub gave_back : (pass took after : PassValue) (taken now : Moment) → took ≡ record pass { taken = Some taken } → after ≡ idle_pass took.turn (has_seen took.known now) → after ≡ idle_pass pass.turn (has_seen pass.known now)
 gave_back pass took after taken now is gave = gave ∙ ap (λ (p : PassValue). idle_pass p.turn (has_seen p.known now)) is
 
--- the state was taken by a worker that holds the start of a ticket
+-- the case that the turn was taken by a worker that holds the start of a ticket
 module _ (known : Known) (old : StateValue) (sound : IsSound known.plan) (suits : Suits known (sight_of old)) (ticket : Ticket) (holds : held_start known ≡ Some (run_of ticket)) (seen : Seen) where
   end_legal : is_legal old.plan old.entries ≡ true
   end_legal = subst (λ (p : PlanParts). is_legal p old.entries ≡ true) (sym suits.plan) suits.legal
@@ -334,7 +335,7 @@ module _ (known : Known) (old : StateValue) (sound : IsSound known.plan) (suits 
           idle = ap held_start known_now ∙ ap (λ (es : List Entry). open_start known.worker es) done.entries ∙ ends_open;
         }
 
-    -- the worker has seen the end, and the state fits what it then knows
+    -- the worker has seen its End, and the state fits what the worker then knows
     abbrev pub known_after_end : Known
     known_after_end = has_seen known (moment new.entries (is_some new.halt))
 

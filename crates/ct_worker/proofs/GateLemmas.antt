@@ -1,4 +1,4 @@
--- What the gate of a worker was asked, with one attempt more, and with entries that are none of the worker's.
+-- What the gate of a worker was asked, with one more attempt, and with entries that are not the worker's.
 use Rattle.std.proofs.Common.{◌≡◌, ◌∙◌, sym, ap, subst, Bool, true, false, ℕ, ◌+◌, ◌≤◌, List, [], ◌∷◌, ◌++◌, refl, arith, inl, inr, append_assoc}
 use Rattle.std.specs.Prelude.{◌⊎◌, Option, Some, None, IfSome, map, count_by, ◌==◌, ◌&&◌, ◌||◌, cond}
 use Rattle.std.specs.List.{list_any, cons_option}
@@ -23,7 +23,7 @@ use Rattle.ct_report.proofs.PutLemmas.{adds_none, adds_then_adds}
 use Rattle.ct_worker.specs.Attempt.{AsksNone, AsksOnce, RunsAttempt}
 use Rattle.ct_worker.specs.Gates.{AreRequests, SawAllTold, CountsUnstarted, IsAsked, MayMiss, SawTold, SeesTold, Sends, Terms, asked_run, ended_lacking, is_unstarted, is_unsure, lacks_for, started_by, starts_of, unstarted_count, unsure_count}
 
--- what may be missing may be so where more may
+-- runs that may be missing may still be missing if more runs may be
 may_miss-more : (may also : Running → Bool) → ((run : Running) → may run ≡ true → also run ≡ true) → (runs kept : List Running) → MayMiss may runs kept → MayMiss also runs kept
 may_miss-more may also more [] kept is = is
 may_miss-more may also more (run ∷ runs) [] is = (more run is.0, may_miss-more may also more runs [] is.1)
@@ -41,7 +41,7 @@ or_true : (b : Bool) → (b || true) ≡ true
 or_true true = refl
 or_true false = refl
 
--- an attempt that lacked memory still did with entries more, behind it or in front
+-- an attempt that lacked memory still did with more entries, behind or in front
 lacking_stays : (es more : List Entry) (run : Running) → ended_lacking es run ≡ true → ended_lacking (es ++ more) run ≡ true
 lacking_stays es more run is = list_any-append (lacks_for run) es more ∙ ap (λ (b : Bool). b || list_any (lacks_for run) more) is
 
@@ -86,7 +86,7 @@ counts_then unstarted unsure others unknown start old new first second =
     let rose = second.rose in
     record { later = omega arith; rose = omega (arith, was, rose); stays = λ none. second.stays (omega (arith, none)) ∙ first.stays (omega (arith, none)) }
 
--- what a gate was asked for some entries, and then for more, it was asked for all of them
+-- if a gate was asked for some entries, and then for more, it was asked for all of them
 pub asked_then : (terms : Terms) (w : ℕ) (start old new : GateTell) (es more : List Entry) → IsAsked terms w start old es → IsAsked terms w old new more → IsAsked terms w start new (es ++ more)
 asked_then terms w start old new es more first second = record {
   told = told_then terms.props start.world old.world w es more first.world first.told second.told;
@@ -107,7 +107,7 @@ asked_then terms w start old new es more first second = record {
 none_more : (m n : ℕ) → m ≡ n → 0 + m ≡ n
 none_more m n is = omega (arith, is)
 
--- entries that are none of the worker's
+-- the entries are not the worker's
 module _ (w : ℕ) where
   no_start : (e : Entry) → is_by w e ≡ false → started_by w e ≡ None
   no_start (Start t a v p) is = ap (λ (b : Bool). cond b (Some (record { test = t; attempt = a; worker = v; placement = p })) None) is
@@ -151,7 +151,7 @@ module _ (w : ℕ) where
   told_none props world [] is = tt
   told_none props world (e ∷ es) is = (saw_none props world e (or_left (is_by w e) (list_any (is_by w) es) is), told_none props world es (or_right (is_by w e) (list_any (is_by w) es) is))
 
-  -- for such entries a gate is not asked
+  -- for entries that are not the worker's its gate is not asked
   unasked : (terms : Terms) (tell : GateTell) (es : List Entry) → list_any (is_by w) es ≡ false → IsAsked terms w tell tell es
   unasked terms tell es is = record {
     told = by_world tell.world;
@@ -167,13 +167,13 @@ module _ (w : ℕ) where
       by_world None = tt
       by_world (Some world) = told_none terms.props world es is
 
--- what one attempt counts, by whether it was not started and whether memory was wanting
+-- how one attempt raises the count, by whether it was not started and whether memory was wanting
 counts_one : (failed lacks : Bool) (old new : ℕ) → old ≤ new → (failed ≡ true → Rose old new) → (failed ≡ false → lacks ≡ false → new ≡ old) → CountsUnstarted (cond failed 1 0) (cond (failed || lacks) 1 0) old new
 counts_one true lacks old new later rose stays = record { later = later; rose = rose refl; stays = λ one. absurd (omega (arith, one)) }
 counts_one false true old new later rose stays = record { later = later; rose = omega (arith, later); stays = λ one. absurd (omega (arith, one)) }
 counts_one false false old new later rose stays = record { later = later; rose = omega (arith, later); stays = λ none. stays refl refl }
 
--- an attempt that started and ended, with entries between that are none of the worker's
+-- an attempt that started and ended, with entries in between that are not the worker's
 module _ (t a w : ℕ) (p : Option Placement) (seen : Seen) (mid : List Entry) (others : list_any (is_by w) mid ≡ false) where
   abbrev run : Running
   run = record { test = t; attempt = a; worker = w; placement = p }
@@ -192,7 +192,7 @@ module _ (t a w : ℕ) (p : Option Placement) (seen : Seen) (mid : List Entry) (
       ∙ ap (λ (b : Bool). b && is_no_memory seen.how || false) (eq_same a)
       ∙ ap (λ (b : Bool). b || false) lacks)
 
-  -- a count that no Start is in and no entry of others
+  -- a count without the Start and without entries of others is 1 if it counts the End, else 0
   counted : (counts : Entry → Bool) (b : Bool) → ((e : Entry) → is_by w e ≡ false → counts e ≡ false) → counts (Start t a w p) ≡ false → counts (End t a w seen) ≡ b → count_by counts entries ≡ cond b 1 0
   counted counts b never start end =
       sum_by-cons (λ (e : Entry). cond (counts e) 1 0) (Start t a w p) (mid ++ End t a w seen ∷ [])
@@ -239,14 +239,14 @@ module _ (t a w : ℕ) (p : Option Placement) (seen : Seen) (mid : List Entry) (
       by_calls (inl once) = with_runs (run ∷ []) (once.request ∷ []) (inl (refl, refl)) (once.is, tt) once.asked once.sent
       by_calls (inr none) = with_runs [] [] (lacking_now none.lacks, refl) tt none.asked none.sent
 
--- where nothing ran
+-- for no entries a gate is not asked
 pub asked_none : (terms : Terms) (w : ℕ) (tell : GateTell) → IsAsked terms w tell tell []
 asked_none terms w tell = unasked w terms tell [] refl
 
--- entries that are none of the worker's leave what its gate was asked
+-- entries that are not the worker's leave what its gate was asked
 pub asked_others : (terms : Terms) (w : ℕ) (start gate : GateTell) (es more : List Entry) → list_any (is_by w) more ≡ false → IsAsked terms w start gate es → IsAsked terms w start gate (es ++ more)
 asked_others terms w start gate es more others was = asked_then terms w start gate gate es more was (unasked w terms gate more others)
 
--- one attempt more, behind whose start others went on
+-- a gate was asked for one more attempt, and other workers went on between its Start and its End
 pub asked_attempt : (terms : Terms) (w : ℕ) (start old new : GateTell) (es mid : List Entry) (t a : ℕ) (p : Option Placement) (seen : Seen) → list_any (is_by w) mid ≡ false → IsAsked terms w start old es → RunsAttempt terms (record { test = t; attempt = a; worker = w; placement = p }) seen old new → IsAsked terms w start new (es ++ (Start t a w p ∷ (mid ++ End t a w seen ∷ [])))
 asked_attempt terms w start old new es mid t a p seen others was ran = asked_then terms w start old new es (Start t a w p ∷ (mid ++ End t a w seen ∷ [])) was (asked_one t a w p seen mid others terms old new ran)

@@ -1,4 +1,4 @@
--- The line that a test brings, where it is final.
+-- The line that a test brings if it is final.
 use Rattle.std.proofs.Common.{◌≡◌, ◌∙◌, sym, true, false, ℕ, List, [], ◌∷◌, length, refl}
 use Rattle.std.specs.Prelude.{Option, Some, None, is_none, is_some, Result, Ok, cond}
 use Rattle.ct_base.specs.declared.sink.SinkFault.{SinkFault}
@@ -14,7 +14,7 @@ use Rattle.ct_report.specs.Report.{line_with, lines_of_test, lines_with, test_li
 use Rattle.ct_report.proofs.PutLemmas.{lines_as, lines_nothing, one_line as one_put}
 
 module _ (plan : PlanParts) (es : List Entry) (place n : ℕ) where
-  -- one where the test has its verdict, and else none
+  -- a test brings one line if it has a verdict, else none
   pub line_count : length (lines_of_test plan es place (Some n)) ≡ cond (is_some (verdict_of_test plan es n)) 1 0
   line_count = by_test (test_at plan.tests n)
     where
@@ -46,7 +46,7 @@ module _ (plan : PlanParts) (es : List Entry) (place n : ℕ) where
       by_test None is = refl
       by_test (Some t) is = by_verdict t (verdict_in plan.repeat t es) is
 
-  -- one with a verdict brings its line
+  -- for a test with a verdict the put of its lines is the put of one line
   pub one_line_puts : (old new : SinkTell) (result : Result (Unit {0}) SinkFault) → is_none (verdict_of_test plan es n) ≡ false → Puts (test_line plan es place (test_at plan.tests n)) old new result → PutsEach (test_line plan es place (test_at plan.tests n) ∷ []) old new result → PutsLines (lines_of_test plan es place (Some n)) old new result
   one_line_puts old new result some put each = lines_as (by_test (test_at plan.tests n) some) (one_put old new (test_line plan es place (test_at plan.tests n)) result put each)
     where

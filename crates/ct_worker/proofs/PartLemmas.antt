@@ -26,7 +26,7 @@ ready_one jobs turn w pass belongs taken number seen reach = record {
   reach = reach;
 }
 
--- so are those whose passes were split off one that has seen nothing
+-- workers whose passes were split off a pass that has seen nothing are ready
 ready_split : (jobs : Jobs) (turn : TurnValue) (known : Known) (w : ℕ) (passes : List PassValue) → known.seen ≡ moment [] false → Reach jobs known.plan → AreSplit turn known w passes → AreReady jobs turn w passes
 ready_split jobs turn known w [] seen reach are = tt
 ready_split jobs turn known w (p ∷ ps) seen reach are = (
@@ -45,13 +45,15 @@ ready_all jobs turn plan base first count (p ∷ ps) is reach split =
       ready_split jobs turn (opener plan base) 1 ps refl reach others,
     )
 
--- behind its work the pass may be joined away, and the worker's gate was asked for all that it has seen
+-- behind the worker's work its pass may be joined into another,
+-- and its gate was asked for all that the pass has seen
 pub record Worked (terms : Terms) (turn : TurnValue) (w : ℕ) (pass : PassValue) (before now : GateTell) : Type 0 where
   pub idle : IsIdle turn pass
   pub number : pass.known.worker ≡ w
   pub asked : IsAsked terms w before now pass.known.seen.entries
 
--- so it is for each of these
+-- each worker from this one on is behind its work: its pass
+-- may be joined into another, and its gate was asked
 abbrev pub AllWorked : Terms → TurnValue → ℕ → List PassValue → List GateTell → List GateTell → Type 0
 AllWorked terms turn w [] [] [] = ⊤
 AllWorked terms turn w [] [] (now ∷ nows) = ⊥
@@ -91,7 +93,7 @@ worked_split jobs turn known w (old ∷ olds) (new ∷ news) (before ∷ befores
   worked_split jobs turn known (w + 1) olds news befores nows seen are.1 part.1,
 )
 
--- the pass of worker 0 and the others behind their work, where so many were split off
+-- the pass of worker 0 and the `count` others behind their work
 pub record Parted (jobs : Jobs) (turn : TurnValue) (plan : PlanParts) (base : Base) (count : ℕ) (first : PassValue) (others : List PassValue) (befores nows : List GateTell) : Type 0 where
   pub known : first.known ≡ has_seen (record (opener plan base) { made = 1 + count }) first.known.seen
   pub ended : IsEnded first
@@ -139,7 +141,7 @@ front_of (suc n) [] ys is = absurd (omega (arith, is))
 front_of zero (x ∷ xs) ys is = absurd (omega (arith, is))
 front_of (suc n) (x ∷ xs) ys is = ap (λ (rest : List _). x ∷ rest) (front_of n xs ys (omega (arith, is)))
 
--- the same of passes that stand in a vector, behind the work on its slice
+-- passes in a vector, behind the work on a slice of it
 pub parted_in : (jobs : Jobs) (turn : TurnValue) (plan : PlanParts) (base : Base) (count : ℕ) (opens first : PassValue) (items slice news over others : List PassValue) (len : ℕ) (befores nows : List GateTell) → opens ≡ idle_pass turn.id (opener plan base) → HasSplit turn opens count items → len ≡ length items → len ≡ count + 1 → slice ≡ items → AllTookPart jobs slice news befores nows → first ≡ get_or (take len (news ++ over)) 0 first → others ≡ remove (take len (news ++ over)) 0 → Parted jobs turn plan base count first others befores nows
 parted_in jobs turn plan base count opens first items slice news over others len befores nows is split sized many slice_is part first_is others_are =
     let took = subst (λ (ps : List PassValue). AllTookPart jobs ps news befores nows) slice_is part in
@@ -147,7 +149,7 @@ parted_in jobs turn plan base count opens first items slice news over others len
     parted jobs turn plan base count opens first items news others befores nows is split (sym sized ∙ many) took
     (first_is ∙ ap (λ (ps : List PassValue). get_or ps 0 first) kept) (others_are ∙ ap (λ (ps : List PassValue). remove ps 0) kept)
 
--- so each of the passes may be joined away
+-- behind their work each pass may be joined into another
 pub all_idle : (terms : Terms) (turn : TurnValue) (w : ℕ) (passes : List PassValue) (befores nows : List GateTell) → AllWorked terms turn w passes befores nows → All (IsIdle turn) passes
 all_idle terms turn w [] befores nows all = All-nil (IsIdle turn)
 all_idle terms turn w (p ∷ ps) [] nows all = absurd all

@@ -1,4 +1,5 @@
--- What a run by several workers comes to, by what each of them saw and by what was left when their passes were joined.
+-- The result of a run by several workers, from what each of them
+-- saw and from what was left when their passes were joined.
 use Rattle.std.proofs.Common.{◌≡◌, ◌∙◌, sym, ap, subst, refl, ℕ, suc, ◌+◌, ◌<◌, ◌≤◌, true, false, List, [], ◌∷◌, ◌++◌, length, arith, append_assoc, length-append, inl, inr}
 use Rattle.std.specs.Prelude.{⊤, Contains, IfErr, Option, Some, None, is_some, All, map, ◌==◌, ◌||◌, nat_lt}
 use Rattle.std.specs.List.{list_all, list_any}
@@ -44,7 +45,7 @@ use Rattle.ct_worker.proofs.CrewLemmas.{joined_worker}
 use Rattle.ct_worker.proofs.GateLemmas.{asked_none, asked_others}
 use Rattle.ct_worker.proofs.PartLemmas.{AllWorked, Parted, Worked, all_idle, front_of}
 
--- what stays where passes are joined
+-- what stays when passes are joined
 joined_plan : (keeper : Known) (passes : List PassValue) → (all_joined keeper passes).plan ≡ keeper.plan
 joined_plan keeper [] = refl
 joined_plan keeper (p ∷ ps) = joined_plan (with_joined keeper p.known) ps
@@ -57,7 +58,7 @@ joined_made : (keeper : Known) (passes : List PassValue) → (all_joined keeper 
 joined_made keeper [] = refl
 joined_made keeper (p ∷ ps) = joined_made (with_joined keeper p.known) ps
 
--- a note more for each pass
+-- joining adds one note for each pass
 joined_notes : (keeper : Known) (passes : List PassValue) → length (all_joined keeper passes).notes ≡ length keeper.notes + length passes
 joined_notes keeper [] = omega arith
 joined_notes keeper (p ∷ ps) =
@@ -65,12 +66,12 @@ joined_notes keeper (p ∷ ps) =
     let one = length-append keeper.notes (note_of keeper p.known ∷ []) in
     omega (arith, rest, one)
 
--- a halt that the keeper had seen stays
+-- if no halt is seen after joining, the keeper had seen none before
 joined_halted : (keeper : Known) (passes : List PassValue) → (all_joined keeper passes).seen.halted ≡ false → keeper.seen.halted ≡ false
 joined_halted keeper [] is = is
 joined_halted keeper (p ∷ ps) is = or_left keeper.seen.halted p.known.seen.halted (joined_halted (with_joined keeper p.known) ps is)
 
--- the workers have the numbers of their places, from this one on
+-- the passes are for the workers from this number on, in order
 abbrev HaveNumbers : ℕ → List PassValue → Type 0
 HaveNumbers w [] = ⊤
 HaveNumbers w (pass ∷ passes) = (pass.known.worker ≡ w) × HaveNumbers (w + 1) passes
@@ -84,7 +85,7 @@ numbers terms turn w (p ∷ ps) (before ∷ befores) (now ∷ nows) all = (all.0
 unlike : (v w first : ℕ) → v ≡ first → first < w → (v == w) ≡ false
 unlike v w first is less = grind (arith, nat_tests)
 
--- a worker behind them was not noted
+-- a worker behind these passes was not noted
 unnoted : (w from : ℕ) (keeper : Known) (passes : List PassValue) → HaveNumbers from passes → from + length passes ≤ w → is_noted w keeper.notes ≡ false → is_noted w (all_joined keeper passes).notes ≡ false
 unnoted w from keeper [] have behind none = none
 unnoted w from keeper (p ∷ ps) have behind none =
@@ -96,7 +97,7 @@ unnoted w from keeper (p ∷ ps) have behind none =
 abbrev Goes : List Entry → Note → Type 0
 Goes final note = GoesOn note.worker note.seen final
 
--- the history goes on from what each of these has seen
+-- the history goes on from what each of these passes has seen
 abbrev AllGo : List Entry → List PassValue → Type 0
 AllGo final [] = ⊤
 AllGo final (pass ∷ passes) = GoesOn pass.known.worker pass.known.seen.entries final × AllGo final passes
@@ -114,7 +115,7 @@ all_go final keeper (p ∷ ps) all =
     let both = all_parts (Goes final) keeper.notes (note_of keeper p.known ∷ []) rest.0 in
     (both.0, (All-head (Goes final) (note_of keeper p.known) [] both.1, rest.1))
 
--- a gate behind the workers' was not asked
+-- the gates behind the workers' gates were not asked
 asked_rest : (terms : Terms) (w : ℕ) (rest : List GateTell) (final : List Entry) → ((v : ℕ) → w ≤ v → list_any (is_by v) final ≡ false) → AreAsked terms w rest rest final
 asked_rest terms w [] final none = tt
 asked_rest terms w (tell ∷ tells) final none = (
@@ -127,7 +128,7 @@ asked_one terms turn w pass before now final worked goes =
     subst (λ (es : List Entry). IsAsked terms w before now es) (sym goes.is)
     (asked_others terms w before now pass.known.seen.entries goes.more (subst (λ (v : ℕ). list_any (is_by v) goes.more ≡ false) worked.number goes.others) worked.asked)
 
--- the workers' gates were asked for all that they did in the end, and those behind were not asked
+-- the workers' gates were asked for all that their workers did, and the gates behind them were not asked
 asked_all : (terms : Terms) (turn : TurnValue) (w : ℕ) (passes : List PassValue) (befores nows rest : List GateTell) (final : List Entry) → AllWorked terms turn w passes befores nows → AllGo final passes → ((v : ℕ) → w + length passes ≤ v → list_any (is_by v) final ≡ false) → AreAsked terms w (befores ++ rest) (nows ++ rest) final
 asked_all terms turn w [] [] [] rest final all goes none = asked_rest terms w rest final (λ v behind. none v (omega (arith, behind)))
 asked_all terms turn w [] [] (now ∷ nows) rest final all goes none = absurd all
@@ -142,7 +143,7 @@ asked_all terms turn w (p ∷ ps) (before ∷ befores) (now ∷ nows) rest final
 true_is_false : true ≡ false → ⊥
 true_is_false is = cc
 
--- where no entry is by a worker behind the first ones, each is by one of those
+-- if no entry is by a worker behind the first ones, each entry is by one of the first
 below_one : (workers : ℕ) (e : Entry) → ((v : ℕ) → workers ≤ v → is_by v e ≡ false) → is_below workers e ≡ true
 below_one workers (Start t a w p) none = elim (cases_Bool (nat_lt w workers)) [
   | inl less ↦ less
@@ -171,7 +172,7 @@ allowed_behind plan front (x ∷ xs) ys allowed =
     let both = and_parts (is_allowed plan front x) (are_allowed_behind plan (front ++ x ∷ []) (xs ++ ys)) allowed in
     subst (λ (es : List Entry). are_allowed_behind plan es ys ≡ true) (append_assoc front (x ∷ []) xs) (allowed_behind plan (front ++ x ∷ []) xs ys both.1)
 
--- a verdict stays, whatever is allowed behind
+-- a verdict stays when allowed entries follow
 verdict_more : (plan : PlanParts) (t : PlanTest) → test_at plan.tests t.number ≡ Some t → (front more : List Entry) (v : Verdict) → are_allowed_behind plan front more ≡ true → verdict_in plan.repeat t front ≡ Some v → verdict_in plan.repeat t (front ++ more) ≡ Some v
 verdict_more plan t at front [] v allowed final = ap (verdict_in plan.repeat t) (append-nil front) ∙ final
 verdict_more plan t at front (e ∷ es) v allowed final =
@@ -190,14 +191,14 @@ finals_more plan front more allowed (t ∷ ts) at all =
     later : (u : PlanTest) → Contains ts u → Contains (t ∷ ts) u
     later u (i, less, is) = (suc i, omega (arith, less), is)
 
--- where each test was final in what a worker has seen, each is in a legal history that goes on from that
+-- if each test is final in what a worker has seen, each is final in a legal history that goes on from it
 all_final_more : (plan : PlanParts) (w : ℕ) (seen now : List Entry) → IsSound plan → is_legal plan now ≡ true → GoesOn w seen now → are_all_final plan seen ≡ true → are_all_final plan now ≡ true
 all_final_more plan w seen now sound legal goes all =
     let allowed = subst (λ (es : List Entry). are_allowed_behind plan [] es ≡ true) goes.is (legal_allowed plan now legal) in
     subst (λ (es : List Entry). are_all_final plan es ≡ true) (sym goes.is)
     (finals_more plan seen goes.more (allowed_behind plan [] seen goes.more allowed) plan.tests (λ t there. contained_at 1 plan.tests t sound.numbers there) all)
 
--- what a state shows in the turn
+-- what the turn shows of a state
 abbrev shown : StateValue → Sight
 shown s = record { plan = s.plan; base = base_of s; now = moment s.entries (is_some s.halt) }
 
@@ -287,7 +288,7 @@ module _ (jobs : Jobs) (turn : TurnValue) (plan : PlanParts) (base : Base) (coun
         halted = stops;
       }
 
--- a run that was given up before anything had started
+-- a run that was given up before anything had started is pooled
 pub unpooled_is : (terms : Terms) (workers : ℕ) (old new : StateValue) (tells : List GateTell) → old.entries ≡ [] → old.halt ≡ None → new ≡ given_up Memory old
     → PutsLines (test_lines new.plan new.entries) new.opened new.sink (put_of new.halt) → IfErr (put_of new.halt) (λ fault. IsHalted fault new.plan new.entries new.opened new.sink) → IsPooled terms workers old new tells tells
 unpooled_is terms workers old new tells fresh going is put stops =
@@ -307,7 +308,7 @@ unpooled_is terms workers old new tells fresh going is put stops =
     some_is_none : Some Memory ≡ None → ⊥
     some_is_none is = cc
 
--- the gates that stand in a vector, behind the work on its first ones
+-- the run is pooled with its gates in a vector, behind the work on the first of them
 pub pooled_in : {G : Type 0} (tells : G → GateTell) (terms : Terms) (workers : ℕ) (old new : StateValue) (items front back now over : List G) (len : ℕ) → items ≡ front ++ back → len ≡ length items → length now ≡ length front → IsPooled terms workers old new (map tells front ++ map tells back) (map tells now ++ map tells back) → IsPooled terms workers old new (map tells items) (map tells (take len ((now ++ back) ++ over)))
 pooled_in tells terms workers old new items front back now over len are sized same pooled =
     let all : length (now ++ back) ≡ len =

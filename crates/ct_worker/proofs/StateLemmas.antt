@@ -1,4 +1,4 @@
--- What the calls of a state leave of what holds of it.
+-- What holds of a state stays when its calls change it.
 use Rattle.std.proofs.Common.{◌≡◌, ◌∙◌, sym, ap, subst, true, false, Bool, ℕ, ◌+◌, List, [], ◌∷◌, ◌++◌, length, refl, length-append}
 use Rattle.std.specs.Prelude.{Option, Some, None, is_some, Result, Ok, Err, OnOk, not, ◌&&◌, ◌||◌, IfSome, IfErr}
 use Rattle.std.proofs.lemmas.List.{append-nil}
@@ -26,13 +26,13 @@ use Rattle.ct_worker.specs.Kept.{IsGoing, IsKeptState, KnowsSome}
 use Rattle.ct_worker.specs.State.{PutsLine, StateValue, first_halt, halt_of, put_of}
 use Rattle.ct_worker.proofs.StopLemmas.{due_keeps, lines_due, test_lines_due}
 
--- the put that a halt comes from is the put that it came from
+-- the result of a put is the result that its halt tells
 pub put_of_halt : (result : Result (Unit {0}) SinkFault) → put_of (halt_of result) ≡ result
 put_of_halt (Ok tt) = refl
 put_of_halt (Err Sinks.Failed) = refl
 put_of_halt (Err Sinks.NoMemory) = refl
 
--- an entry more behind those that were added
+-- one more entry behind the added ones
 added-snoc : (plan : PlanParts) (front es : List Entry) (e : Entry) → added_behind plan front (es ++ e ∷ []) ≡ with_due_stop plan (added_behind plan front es ++ e ∷ [])
 added-snoc plan front [] e = refl
 added-snoc plan front (x ∷ xs) e = added-snoc plan (with_due_stop plan (front ++ x ∷ [])) xs e
@@ -40,12 +40,12 @@ added-snoc plan front (x ∷ xs) e = added-snoc plan (with_due_stop plan (front 
 pub never_failed : Sinks.NoMemory ≡ Sinks.Failed → ⊥
 never_failed is = cc
 
--- one entry more, and a Stop behind it where one is due
+-- one more entry, with the Stop that it makes due
 module _ (plan : PlanParts) (es : List Entry) (e : Entry) where
   abbrev now : List Entry
   now = with_due_stop plan (es ++ e ∷ [])
 
-  -- the line that it brings
+  -- the line that the entry brings
   abbrev brought : List (List ℕ)
   brought = lines_of_test plan now (length (test_lines plan es) + 1) (finished_by e)
 
@@ -66,19 +66,19 @@ module _ (plan : PlanParts) (es : List Entry) (e : Entry) where
       due_keeps plan (es ++ e ∷ []) (λ xs. KnowsLines plan xs lines) behind (knows_more plan (es ++ e ∷ []) (Stop ∷ []) lines behind)
 
   module _ (opened sink : SinkTell) where
-    -- its line was put behind the others, or not
+    -- the line of the entry was put behind the others, with this result
     pub line_then : (new : SinkTell) (result : Result (Unit {0}) SinkFault) → PutsLines (test_lines plan es) opened sink (Ok tt) → PutsLines brought sink new result → PutsLines (test_lines plan now) opened new result
     line_then new result put line = lines_as (sym lines_grow) (lines_then opened sink new (test_lines plan es) brought result put line)
 
-    -- its line was not tried, for want of memory
+    -- the line of the entry was not tried, for want of memory
     pub line_stops : PutsLines (test_lines plan es) opened sink (Ok tt) → PutsLines (test_lines plan now) opened sink (Err Sinks.NoMemory)
     line_stops put = lines_as (sym lines_grow) (lines_stop opened sink (test_lines plan es) brought put)
 
-    -- its line could not be put: the run stops here
+    -- the line of the entry could not be put, so the run is halted here
     pub stops_here : (new : SinkTell) (fault : SinkFault) → PutsLines (test_lines plan es) opened sink (Ok tt) → PutsLines brought sink new (Err fault) → (fault ≡ Sinks.Failed → length brought ≡ 1) → IsHalted fault plan now opened new
     stops_here new fault put line tried = record { front = es; last = Some e; behind = []; only = refl; is = refl; middle = sink; put = put; cut = line; tried = tried }
 
-    -- it ends an attempt behind a halt
+    -- the entry ends an attempt behind a halt
     pub stops_before : (fault : SinkFault) → ends_attempt e ≡ true → IsHalted fault plan es opened sink → IsHalted fault plan now opened sink
     stops_before fault end was = record {
       front = was.front;
@@ -92,11 +92,11 @@ module _ (plan : PlanParts) (es : List Entry) (e : Entry) where
       tried = was.tried;
     }
 
-    -- its line was not tried, since the run was given up before
+    -- the line of the entry was not tried, since the run was given up before
     pub line_fails : (fault : SinkFault) → PutsLines (test_lines plan es) opened sink (Err fault) → PutsLines (test_lines plan now) opened sink (Err fault)
     line_fails fault put = lines_as (sym lines_grow) (lines_more opened sink (test_lines plan es) brought fault put)
 
--- a start brings no line
+-- an entry that finishes no test brings no line
 module _ (plan : PlanParts) (es : List Entry) (e : Entry) (starts : finished_by e ≡ None) where
   pub lines_same : test_lines plan (es ++ e ∷ []) ≡ test_lines plan es
   lines_same = test_lines-snoc plan es e ∙ ap (λ (o : Option ℕ). test_lines plan es ++ lines_of_test plan (es ++ e ∷ []) (length (test_lines plan es) + 1) o) starts ∙ append-nil (test_lines plan es)
@@ -112,7 +112,7 @@ pub none_unless : (o : Option Halt) → is_some o ≡ false → o ≡ None
 none_unless None is = refl
 none_unless (Some h) is = cc
 
--- a state whose core made one step, with an entry more
+-- a state whose core made one step, with one more entry
 module _ (core now : CoreValue) (e : Entry) (halt : Option Halt) (known : Option TestLines) (count : ℕ) (opened sink : SinkTell) (kept : IsKeptState core halt known count opened sink) (grew : now ≡ with_final core e) where
   pub knows_now : KnowsSome now known
   knows_now = subst (λ (c : CoreValue). KnowsSome c known) (sym grew) (knows_still core.plan core.entries e known kept.knows)
@@ -129,7 +129,7 @@ module _ (core now : CoreValue) (e : Entry) (halt : Option Halt) (known : Option
   lines_are : test_lines core.plan (with_due_stop core.plan (core.entries ++ e ∷ [])) ≡ test_lines now.plan now.entries
   lines_are = ap (λ (c : CoreValue). test_lines c.plan c.entries) (sym grew)
 
-  -- the run was given up before: no line is tried
+  -- the case that the run was given up before: no line is tried
   pub kept_given_up : ends_attempt e ≡ true → is_some halt ≡ true → IsKeptState now halt known count opened sink
   kept_given_up end some = record {
     aborted = aborted_now;
@@ -148,7 +148,7 @@ module _ (core now : CoreValue) (e : Entry) (halt : Option Halt) (known : Option
       by (Some Halts.Output) is put = line_fails core.plan core.entries e opened sink Sinks.Failed put
       by (Some Halts.Memory) is put = line_fails core.plan core.entries e opened sink Sinks.NoMemory put
 
-  -- it goes on
+  -- the case that the run goes on
   module _ (none : halt ≡ None) (after : CoreValue) (halted : Option Halt) where
     going : IsGoing core count
     going = kept.goes_on none
@@ -167,7 +167,7 @@ module _ (core now : CoreValue) (e : Entry) (halt : Option Halt) (known : Option
     lines_after : (put : Result (Unit {0}) SinkFault) → after ≡ record now { aborted = now.aborted || is_some (halt_of put) } → test_lines core.plan (with_due_stop core.plan (core.entries ++ e ∷ [])) ≡ test_lines after.plan after.entries
     lines_after put heeded = lines_are ∙ ap (λ (c : CoreValue). test_lines c.plan c.entries) (sym heeded)
 
-    -- where the run was given up it stops here
+    -- if the put failed, the run is halted here
     stops_after : (put : Result (Unit {0}) SinkFault) (new : SinkTell) → after ≡ record now { aborted = now.aborted || is_some (halt_of put) } → halted ≡ first_halt halt (halt_of put)
         → PutsLines (brought core.plan core.entries e) sink new put → (put ≡ Err Sinks.Failed → length (brought core.plan core.entries e) ≡ 1)
         → IfErr (put_of halted) (λ fault. IsHalted fault after.plan after.entries opened new)
@@ -181,7 +181,7 @@ module _ (core now : CoreValue) (e : Entry) (halt : Option Halt) (known : Option
         here (Ok done) cut one = tt
         here (Err fault) cut one = stops_here core.plan core.entries e opened sink new fault put_before cut (λ is_failed. one (ap (λ (f : SinkFault). Err f) is_failed))
 
-    -- memory was wanting for its attempt
+    -- the case that memory was wanting for the entry's attempt
     pub kept_lacking : after ≡ record now { aborted = now.aborted || true } → halted ≡ first_halt halt (Some Halts.Memory) → IsKeptState after halted known count opened sink
     kept_lacking heeded is = record {
       aborted = heeded_aborted (Err Sinks.NoMemory) heeded is;
@@ -194,7 +194,7 @@ module _ (core now : CoreValue) (e : Entry) (halt : Option Halt) (known : Option
         no_failed : (let r : Result (Unit {0}) SinkFault = Err Sinks.NoMemory in r) ≡ Err Sinks.Failed → ⊥
         no_failed failed = cc
 
-    -- its test may have become final, and its line was put, or could not be
+    -- the case that the entry's test may have become final: its line was put, or the put failed
     module _ (test : ℕ) (of : finished_by e ≡ Some test) (put : Result (Unit {0}) SinkFault) (new : SinkTell) (more : Option TestLines) (lines : ℕ) (says : PutsLines (lines_of_test now.plan now.entries (count + 1) (Some test)) sink new put) (heeded : after ≡ record now { aborted = now.aborted || is_some (halt_of put) }) (is : halted ≡ first_halt halt (halt_of put)) where
       line_is : lines_of_test now.plan now.entries (count + 1) (Some test) ≡ brought core.plan core.entries e
       line_is =

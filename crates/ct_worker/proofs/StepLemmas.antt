@@ -1,4 +1,4 @@
--- What a step of the core, and the line that it brings, make of a state.
+-- How a step of the core, and the line that it brings, change a state.
 use Rattle.std.proofs.Common.{◌≡◌, ◌∙◌, sym, ap, subst, true, false, Bool, ℕ, List, [], ◌∷◌, ◌++◌, length, refl}
 use Rattle.std.specs.Prelude.{Option, Some, None, is_some, Result, Ok, Err, IfErr, ◌||◌, not, ◌&&◌}
 use Rattle.std.proofs.lemmas.List.{append-nil}
@@ -31,7 +31,7 @@ use Rattle.ct_worker.specs.Lines.{PutsEnd, PutsFor}
 use Rattle.ct_worker.specs.State.{EndsSo, StateFollows, IsFinished, IsStateNext, PutsLine, StateValue, core_of, first_halt, halt_of, put_of}
 use Rattle.ct_worker.proofs.StateLemmas.{kept_given_up, kept_lacking, kept_line, knows_now, lines_same, never_failed, none_unless, puts_line, seen_as}
 
--- an attempt ended
+-- the case that an attempt ended
 module _ {S : Type 0} (tells : S → SinkTell) (core now : CoreValue) (halt : Option Halt) (old : Lines S) (opened : SinkTell) (kept : IsKeptState core halt old.known old.count opened (tells old.sink)) (ticket : Ticket) (seen : Seen) (grew : now ≡ with_final core (end_of ticket seen)) where
   entries_now : now.entries ≡ with_due_stop core.plan (core.entries ++ end_of ticket seen ∷ [])
   entries_now = ap (λ (c : CoreValue). c.entries) grew
@@ -39,7 +39,7 @@ module _ {S : Type 0} (tells : S → SinkTell) (core now : CoreValue) (halt : Op
   pub end_knows : KnowsSome now old.known
   end_knows = knows_now core now (end_of ticket seen) halt old.known old.count opened (tells old.sink) kept grew
 
-  -- behind a run that was given up
+  -- the run was given up before
   pub given_up_kept : is_some halt ≡ true → IsKeptState now halt old.known old.count opened (tells old.sink)
   given_up_kept some = kept_given_up core now (end_of ticket seen) halt old.known old.count opened (tells old.sink) kept grew refl some
 
@@ -50,7 +50,7 @@ module _ {S : Type 0} (tells : S → SinkTell) (core now : CoreValue) (halt : Op
       by None is same = cc
       by (Some h) is same = same
 
-  -- in a run that goes on
+  -- the run goes on
   module _ (goes : is_some halt ≡ false) (new : Lines S) (put : Result (Unit {0}) SinkFault) (after : CoreValue) (halted : Option Halt) (heeded : after ≡ record now { aborted = now.aborted || is_some (halt_of put) }) (is : halted ≡ first_halt halt (halt_of put)) where
     none : halt ≡ None
     none = none_unless halt goes
@@ -86,7 +86,7 @@ module _ {S : Type 0} (tells : S → SinkTell) (core now : CoreValue) (halt : Op
     end_finished says =
         subst (λ (h : Option Halt). EndsSo h (is_no_memory seen.how) (test_of ticket) (with_due_stop core.plan (core.entries ++ end_of ticket seen ∷ [])) was now_is) (sym none) (ends_so (is_no_memory seen.how) says)
 
--- the core answered what a worker has to do next
+-- the case that the core answered what a worker has to do next
 module _ {S : Type 0} (tells : S → SinkTell) (core now : CoreValue) (halt : Option Halt) (old : Lines S) (opened : SinkTell) (kept : IsKeptState core halt old.known old.count opened (tells old.sink)) (worker : ℕ) where
   goes_none : core.aborted ≡ false → halt ≡ None
   goes_none goes = none_unless halt (sym kept.aborted ∙ goes)
@@ -161,7 +161,7 @@ module _ {S : Type 0} (tells : S → SinkTell) (core now : CoreValue) (halt : Op
     halted_well : put ≡ Ok tt → halted ≡ halt
     halted_well well = is ∙ ap (λ (r : Result (Unit {0}) SinkFault). first_halt halt (halt_of r)) well ∙ or_none halt
 
-    -- nothing old_state put
+    -- the case that no line was put
     kept_well : new ≡ old → put ≡ Ok tt → IsKeptState now halt old.known old.count opened (tells old.sink) → IsKeptState after halted new.known new.count opened (tells new.sink)
     kept_well same well it =
         subst (λ (l : Lines S). IsKeptState after halted l.known l.count opened (tells l.sink)) (sym same)

@@ -23,7 +23,7 @@ use Rattle.ct_core.specs.Core.{with_due_stop}
 use Rattle.ct_report.specs.Report.{lines_of_test, lines_with, micros_by, micros_of, seconds_text, test_lines, verdict_text}
 use Rattle.ct_report.proofs.LineLemmas.{test_lines-snoc}
 
--- what holds with a Stop and without one holds where one is due
+-- what holds with a Stop and without one holds with a Stop if one is due
 pub due_keeps : (plan : PlanParts) (es : List Entry) (P : List Entry → Type 0) → P es → P (es ++ Stop ∷ []) → P (with_due_stop plan es)
 due_keeps plan es P here behind = by (is_stop_due plan es)
   where
@@ -71,7 +71,7 @@ module _ (es : List Entry) where
     pub test_lines_stop : test_lines plan (es ++ Stop ∷ []) ≡ test_lines plan es
     test_lines_stop = test_lines-snoc plan es Stop ∙ append-nil (test_lines plan es)
 
--- so with a Stop where one is due
+-- verdicts, attempts and lines stay with a Stop if one is due
 module _ (plan : PlanParts) (es : List Entry) where
   pub lines_due : (place : ℕ) (o : Option ℕ) → lines_of_test plan (with_due_stop plan es) place o ≡ lines_of_test plan es place o
   lines_due place o = due_keeps plan es (λ xs. lines_of_test plan xs place o ≡ lines_of_test plan es place o) refl (lines_stop es plan place o)

@@ -20,7 +20,7 @@ use Rattle.ct_worker.specs.Work.{AsksNext, AsksSince, EndsAndAsks, EndsOwn, Goes
 use Rattle.ct_worker.proofs.GateLemmas.{asked_attempt, asked_none, asked_others, asked_then}
 use Rattle.ct_worker.proofs.StopLemmas.{due_keeps}
 
--- while only others went on, the gate was not asked
+-- while only other workers went on, the gate was not asked
 asks_none : (terms : Terms) (w : ℕ) (tell : GateTell) (before now : List Entry) → GoesOn w before now → AsksSince terms w tell tell before now
 asks_none terms w tell before now goes = record {
   more = goes.more;
@@ -28,7 +28,7 @@ asks_none terms w tell before now goes = record {
   asked = asked_others terms w tell tell [] goes.more goes.others (asked_none terms w tell);
 }
 
--- entries that are none of the worker's behind
+-- entries that are not the worker's may follow
 asks_more : (terms : Terms) (w : ℕ) (old new : GateTell) (before now : List Entry) (more : List Entry) → list_any (is_by w) more ≡ false → AsksSince terms w old new before now → AsksSince terms w old new before (now ++ more)
 asks_more terms w old new before now more none asks = record {
   more = asks.more ++ more;
@@ -43,7 +43,7 @@ asks_then terms w first second third a b c one other = record {
   asked = asked_then terms w first second third one.more other.more one.asked other.asked;
 }
 
--- an answer without a ticket
+-- at an answer without a ticket only other workers went on
 pub settled_stays : (next : Next) (old new : PassValue) → SeesNext next old new → (((test : ℕ) × (next ≡ Nexts.Settled test)) ⊎ (next ≡ Nexts.NoMemory)) → Stays old new
 settled_stays next old new follows (inl (test, is)) = subst (λ (n : Next). SeesNext n old new) is follows
 settled_stays next old new follows (inr is) = subst (λ (n : Next). SeesNext n old new) is follows
@@ -52,7 +52,7 @@ pub done_stays : (next : Next) (old new : PassValue) → SeesNext next old new �
 done_stays next old new follows (inl is) = (subst (λ (n : Next). SeesNext n old new) is follows).0
 done_stays next old new follows (inr is) = (subst (λ (n : Next). SeesNext n old new) is follows).0
 
--- the worker did nothing on its gate
+-- the worker did nothing on its gate, and only other workers went on
 pub along_stays : (terms : Terms) (old new : PassValue) (tell : GateTell) → new ≡ record old { known = has_seen old.known new.known.seen } → Stays old new → GoesAlong terms old new tell tell
 along_stays terms old new tell pass stays = record {
   pass = pass;
@@ -60,7 +60,7 @@ along_stays terms old new tell pass stays = record {
   asked = asks_none terms old.known.worker tell old.known.seen.entries new.known.seen.entries stays.0;
 }
 
--- and at first
+-- at first the worker's gate was asked nothing
 pub along_none : (terms : Terms) (pass : PassValue) (tell : GateTell) → held_start pass.known ≡ None → GoesAlong terms pass pass tell tell
 along_none terms pass tell idle = record {
   pass = refl;
@@ -114,16 +114,16 @@ module _ (terms : Terms) (a b c : PassValue) (ticket : Ticket) (seen : Seen) (ol
         (asks_more terms w old new a.known.seen.entries (ends.others ++ end_of ticket seen ∷ []) (Is.Stop ∷ []) refl asks_attempt));
   }
 
--- what came before an answer without a ticket came before what is then asked
+-- after an answer without a ticket, the worker's gate was asked for all that the worker started
 pub along_then_stays : (terms : Terms) (old now : PassValue) (first second : GateTell) (next : Next) (way : IsUnderWay terms old now first second next) → Stays way.before now → GoesAlong terms old now first second
 along_then_stays terms old now first second next way stays =
     along_then terms old way.before now first second second way.along (along_stays terms way.before now second way.asked.pass stays)
 
--- the plan stays
+-- the plan of a pass stays
 pub way_plan : (terms : Terms) (old now : PassValue) (first second : GateTell) (next : Next) → IsUnderWay terms old now first second next → now.known.plan ≡ old.known.plan
 way_plan terms old now first second next way = ap (λ (p : PassValue). p.known.plan) way.asked.pass ∙ ap (λ (p : PassValue). p.known.plan) way.along.pass
 
--- what a run lends is told by its plan, which stays
+-- whether a run lends resources is told by its plan, which stays
 pub way_lends : (terms : Terms) (old now : PassValue) (first second : GateTell) (next : Next) (lends : Bool) → IsUnderWay terms old now first second next → lends ≡ is_some now.known.plan.resources → lends ≡ is_some old.known.plan.resources
 way_lends terms old now first second next lends way is = is ∙ ap (λ (p : PlanParts). is_some p.resources) (way_plan terms old now first second next way)
 

@@ -23,25 +23,27 @@ pub record AsksOnce (terms : Terms) (run : Running) (old new : GateTell) : Type 
   pub asked : Becomes old.asked new.asked (Adds (asked_run run ∷ []))
   pub sent : Becomes old.sent new.sent (Adds (request ∷ []))
 
--- memory was wanting for an attempt, and the gate has no record of it
+-- memory was wanting for an attempt, and the gate recorded no call
 pub record AsksNone (how : How) (old new : GateTell) : Type 0 where
   pub lacks : is_no_memory how ≡ true
   pub asked : Becomes old.asked new.asked (Adds [])
   pub sent : Becomes old.sent new.sent (Adds [])
 
--- the count of faults never falls, it rose where the attempt was not started, and else it stays where memory was there
+-- the count of faults never falls. It rose if the attempt
+-- was not started, and else stays, if memory was there.
 pub record HasAttemptCause (before now : ℕ) (how : How) : Type 0 where
   pub later : before ≤ now
   pub failed : is_not_started how ≡ true → Rose before now
   pub unfailed : is_not_started how ≡ false → is_no_memory how ≡ false → now ≡ before
 
--- an attempt of a test was run on a gate, and was so seen
+-- an attempt of a test was run on a gate, and this was seen of it. Unless memory
+-- was wanting, that is what the world tells, and the gate was asked once.
 pub record RunsAttempt (terms : Terms) (run : Running) (seen : Seen) (old new : GateTell) : Type 0 where
   pub told : is_no_memory seen.how ≡ false → IfSome old.world (λ world. SeesTold terms.props world run.test run.attempt seen)
   pub calls : AsksOnce terms run old new ⊎ AsksNone seen.how old new
   pub world : new.world ≡ old.world
   pub cause : HasAttemptCause old.faults new.faults seen.how
 
--- what an ear that is not short kept is what was heard of an attempt that ended so; else memory was wanting
+-- what is seen of an ended attempt: by the text that an ear kept in full, or else that memory was wanting
 abbrev pub SeesEnd : Props → CollectValue → Ended → Seen → Type 0
 SeesEnd props ear ended seen = (is_no_memory seen.how ≡ true) ⊎ ((ear.short ≡ false) × (seen ≡ seen_of props ear.heard ended))

@@ -1,5 +1,6 @@
--- What the gates of a run were asked and told, by the entries of their workers. This project's own; the request of a start
--- is after CMake manual, cmake-properties(7), REQUIRED_FILES, TIMEOUT, WORKING_DIRECTORY; ctest(1), Resource Allocation.
+-- What the gates of a run were asked and what they told, by the entries of their workers.
+-- This project's own; the request of a start is after CMake manual, cmake-properties(7),
+-- REQUIRED_FILES, TIMEOUT, WORKING_DIRECTORY; ctest(1), Resource Allocation.
 use Rattle.std.specs.Prelude.{◌≡◌, ◌⊎◌, ℕ, ◌+◌, ◌-◌, ◌^◌, ◌≤◌, ⊤, min, nat_lt, Bool, true, false, not, ◌&&◌, ◌||◌, List, [], ◌∷◌, ◌++◌, map, filter_map, count_by, Option, Some, None, unwrap_or, IfSome, IsSomeAnd, ◌==◌, if◌then◌else◌}
 use Rattle.std.specs.List.{list_all, list_any}
 use Rattle.ct_base.specs.declared.defs.Pair.{Pair}
@@ -23,8 +24,8 @@ use Rattle.ct_core.specs.declared.gate.Told.{Told}
 use Rattle.ct_core.specs.Gate.{GateTell, asked_for, is_no_memory, is_not_started, told}
 use Rattle.ct_worker.specs.declared.jobs.Jobs.{Jobs}
 
--- what a run says of its attempts: its own environment, the tests with their properties, how long an attempt may run of a test
--- that does not say so, in microseconds, and whether resources are lent
+-- what a run fixes for its attempts: its own environment, the tests with their properties,
+-- the limit of a test without its own, in microseconds, and whether resources are lent
 pub record Terms : Type 0 where
   pub own : List Pair
   pub defs : List TestDef
@@ -32,7 +33,7 @@ pub record Terms : Type 0 where
   pub limit : ℕ
   pub lends : Bool
 
--- what the workers' jobs say, where resources are lent or not
+-- the terms that the workers' jobs give, with whether resources are lent
 abbrev pub terms_of : Jobs → Bool → Terms
 terms_of jobs lends = record { own = jobs.own.now; defs = jobs.defs.now; props = jobs.props.now; limit = jobs.timeout; lends = lends }
 
@@ -43,7 +44,7 @@ lacks_memory (End t a w seen) = is_no_memory seen.how
 lacks_memory (Settle t cause) = false
 lacks_memory Stop = false
 
--- no End among these lacks memory
+-- no End among these entries lacks memory
 abbrev pub had_memory : List Entry → Bool
 had_memory entries = list_all (λ entry. not (lacks_memory entry)) entries
 
@@ -62,21 +63,21 @@ starts_of worker entries = filter_map (started_by worker) entries
 abbrev pub lacks_for : Running → Entry → Bool
 lacks_for run entry = is_end_of run.test run.attempt entry && lacks_memory entry
 
--- one of the entries ends the attempt for want of memory
+-- some entry ends the attempt for want of memory
 abbrev pub ended_lacking : List Entry → Running → Bool
 ended_lacking entries run = list_any (lacks_for run) entries
 
--- the second list is the first, from which runs that pass the test may be missing
+-- the second list is the first, but runs that pass the test may be missing
 abbrev pub MayMiss : (Running → Bool) → List Running → List Running → Type 0
 MayMiss may [] kept = kept ≡ []
 MayMiss may (run ∷ runs) [] = (may run ≡ true) × MayMiss may runs []
 MayMiss may (run ∷ runs) (first ∷ kept) = ((first ≡ run) × MayMiss may runs kept) ⊎ ((may run ≡ true) × MayMiss may runs (first ∷ kept))
 
--- what a gate is asked for an attempt
+-- the record that a gate was asked for an attempt
 abbrev pub asked_run : Running → Asked
 asked_run run = asked_for run.test run.attempt
 
--- a limit; 0 is none
+-- the limit of this many microseconds; 0 is no limit
 abbrev pub limit_of : ℕ → Option ℕ
 limit_of micros = if micros == 0 then None else Some micros
 
@@ -88,14 +89,14 @@ has_groups props = nat_lt 0 props.groups.count
 abbrev pub no_picks : Placement
 no_picks = record { picks = [] }
 
--- the placement that an attempt of a test tells its program of: its own, or else one without picks, where the test has groups and
--- resources are lent
+-- the placement that the program of an attempt is told: its own, or else,
+-- if the test has groups and resources are lent, a placement without picks
 abbrev pub placement_told : Bool → Props → Option Placement → Option Placement
 placement_told lends props (Some placement) = Some placement
 placement_told lends props None = if lends && has_groups props then Some no_picks else None
 
--- what a gate is asked to run for an attempt of this test: its command, in its folder, with this environment, and for so long
--- where the test does not say that itself
+-- what a gate is asked to run for an attempt of this test: its command, in its
+-- folder, with this environment. The limit is the test's own, or else the run's.
 abbrev pub request_in : List Pair → ℕ → TestDef → Props → Running → Request
 request_in env limit def props run = record {
   test = run.test;
@@ -108,33 +109,34 @@ request_in env limit def props run = record {
   required = props.required_files;
 }
 
--- the request is that of an attempt of this test, with the environment that its properties and its placement make of the run's own
+-- the request is the right one for an attempt of this test, with the
+-- environment that its properties and its placement make of the run's own
 pub record IsRequestOf (terms : Terms) (def : TestDef) (props : Props) (run : Running) (request : Request) : Type 0 where
   pub env : IsEnvironment terms.own props (placement_told terms.lends props run.placement) request.env
   pub is : request ≡ request_in request.env terms.limit def props run
 
--- the request is that of an attempt of one of these tests
+-- the request is the right one for an attempt of the test with the attempt's number
 abbrev pub IsRequestFor : Terms → Running → Request → Type 0
 IsRequestFor terms run request = IsSomeAnd (at_number terms.defs run.test) (λ def. IsSomeAnd (at_number terms.props run.test) (λ props. IsRequestOf terms def props run request))
 
--- the requests are those of these attempts, one for each, in order
+-- the requests are the right ones for these attempts, one for each, in order
 abbrev pub AreRequests : Terms → List Running → List Request → Type 0
 AreRequests terms [] [] = ⊤
 AreRequests terms [] (request ∷ requests) = ⊥
 AreRequests terms (run ∷ runs) [] = ⊥
 AreRequests terms (run ∷ runs) (request ∷ requests) = IsRequestFor terms run request × AreRequests terms runs requests
 
--- the requests of these attempts stand behind those that were sent before
+-- the requests of these attempts were appended to the requests that were sent before
 pub record Sends (terms : Terms) (runs : List Running) (before now : List Request) : Type 0 where
   pub requests : List Request
   pub are : AreRequests terms runs requests
   pub added : now ≡ before ++ requests
 
--- one of these patterns hits the text
+-- some pattern hits the text
 abbrev pub some_hits : List Regex → List ℕ → Bool
 some_hits patterns text = list_any (λ pattern. hits (regex_tree pattern) text) patterns
 
--- what is seen of an attempt of which this was heard and that ended so
+-- what is seen of an attempt, by what was heard of it and how it ended
 abbrev pub seen_of : Props → List ℕ → Ended → Seen
 seen_of props heard ended = record {
   how = ended.how;
@@ -160,7 +162,7 @@ abbrev pub SawAllTold : List Props → List Told → ℕ → List Entry → Type
 SawAllTold props world worker [] = ⊤
 SawAllTold props world worker (entry ∷ entries) = SawTold props world worker entry × SawAllTold props world worker entries
 
--- an attempt of the worker could not be started
+-- the entry ends an attempt of the worker that could not be started
 abbrev pub is_unstarted : ℕ → Entry → Bool
 is_unstarted worker (Start t a w placement) = false
 is_unstarted worker (End t a w seen) = w == worker && is_not_started seen.how
@@ -171,25 +173,26 @@ is_unstarted worker Stop = false
 abbrev pub unstarted_count : ℕ → List Entry → ℕ
 unstarted_count worker entries = count_by (is_unstarted worker) entries
 
--- an attempt of the worker could not be started, or memory was wanting to tell
+-- the entry ends an attempt of the worker that could not be started, or for which memory was wanting
 abbrev pub is_unsure : ℕ → Entry → Bool
 is_unsure worker (Start t a w placement) = false
 is_unsure worker (End t a w seen) = w == worker && (is_not_started seen.how || is_no_memory seen.how)
 is_unsure worker (Settle t cause) = false
 is_unsure worker Stop = false
 
--- how many attempts of the worker could not be started, or wanted memory to tell
+-- how many attempts of the worker could not be started, or lacked memory
 abbrev pub unsure_count : ℕ → List Entry → ℕ
 unsure_count worker entries = count_by (is_unsure worker) entries
 
--- a gate's count rose by as many as could not be started at least, up to its last value, and stays where none can have been
+-- a gate's count rose by at least the attempts that could not be started, up to its
+-- last value. It stays if `unsure` is 0, which also counts attempts that lacked memory.
 pub record CountsUnstarted (unstarted unsure before now : ℕ) : Type 0 where
   pub later : before ≤ now
   pub rose : min (before + unstarted) (2 ^ 64 - 1) ≤ now
   pub stays : unsure ≡ 0 → now ≡ before
 
--- a gate was asked for the attempts of its worker, but for some that lacked memory, and the worker saw what the gate's world
--- tells
+-- a gate was asked for the attempts of its worker, but for some that
+-- lacked memory, and the worker saw what the gate's world tells
 pub record IsAsked (terms : Terms) (worker : ℕ) (before now : GateTell) (entries : List Entry) : Type 0 where
   pub told : IfSome before.world (λ world. SawAllTold terms.props world worker entries)
   pub runs : List Running
@@ -199,21 +202,21 @@ pub record IsAsked (terms : Terms) (worker : ℕ) (before now : GateTell) (entri
   pub world : now.world ≡ before.world
   pub unstarted : CountsUnstarted (unstarted_count worker entries) (unsure_count worker entries) before.faults now.faults
 
--- each of these gates was asked for the attempts of its worker; the first gate is that of this worker, the
--- next that of the next one
+-- each of these gates was asked for the attempts of its worker: the
+-- first gate for this worker, each later gate for the next worker
 abbrev pub AreAsked : Terms → ℕ → List GateTell → List GateTell → List Entry → Type 0
 AreAsked terms worker [] [] entries = ⊤
 AreAsked terms worker [] (now ∷ nows) entries = ⊥
 AreAsked terms worker (before ∷ befores) [] entries = ⊥
 AreAsked terms worker (before ∷ befores) (now ∷ nows) entries = IsAsked terms worker before now entries × AreAsked terms (worker + 1) befores nows entries
 
--- a Start or an End is of one of so many first workers
+-- a Start or an End is by one of the first `workers` workers; other entries pass
 abbrev pub is_below : ℕ → Entry → Bool
 is_below workers (Start t a w placement) = nat_lt w workers
 is_below workers (End t a w seen) = nat_lt w workers
 is_below workers (Settle t cause) = true
 is_below workers Stop = true
 
--- each Start and End is of one of so many first workers
+-- each Start and End is by one of the first `workers` workers
 abbrev pub are_below : ℕ → List Entry → Bool
 are_below workers entries = list_all (is_below workers) entries

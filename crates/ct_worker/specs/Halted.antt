@@ -1,4 +1,4 @@
--- Where a run was given up, and what stands behind that. This project's own.
+-- Where a run was given up, and what came behind that. This project's own.
 use Rattle.std.specs.Prelude.{◌≡◌, ℕ, ◌+◌, Bool, true, false, List, [], ◌∷◌, ◌++◌, length, Option, Some, None, Ok, Err}
 use Rattle.std.specs.List.{list_all}
 use Rattle.ct_base.specs.declared.sink.SinkFault.{SinkFault}
@@ -18,23 +18,24 @@ ends_attempt (End t a w seen) = true
 ends_attempt (Settle t cause) = false
 ends_attempt Stop = false
 
--- these entries one behind the other, each with the Stop that it makes due, behind those in front
+-- these entries behind those of `front`, each with the Stop that it makes due
 abbrev pub added_behind : PlanParts → List Entry → List Entry → List Entry
 added_behind plan front [] = front
 added_behind plan front (entry ∷ entries) = added_behind plan (with_due_stop plan (front ++ entry ∷ [])) entries
 
--- one entry more, where there is one, with the Stop that it makes due
+-- the entries of `front` and the last one, if there is one, with the Stop that it makes due
 abbrev pub with_last : PlanParts → List Entry → Option Entry → List Entry
 with_last plan front None = front
 with_last plan front (Some entry) = with_due_stop plan (front ++ entry ∷ [])
 
--- the line that this entry brings, where it makes a test final
+-- the line that the last entry brings, if it makes a test final
 abbrev pub last_lines : PlanParts → List Entry → Option Entry → List (List ℕ)
 last_lines plan front None = []
 last_lines plan front (Some entry) = lines_of_test plan (with_last plan front (Some entry)) (length (test_lines plan front) + 1) (finished_by entry)
 
--- a run was given up: the lines of some first entries were put, and with the last one behind them, or at a step that made none,
--- the line could not be put or memory was wanting; behind that attempts ended, but no test was started and none was settled
+-- a run was given up. The lines of the entries of `front` were put. At the last entry
+-- behind them, or at a step that made none, the line could not be put or memory was
+-- wanting. Behind that attempts ended, but no test was started and none was settled.
 pub record IsHalted (fault : SinkFault) (plan : PlanParts) (entries : List Entry) (opened sink : SinkTell) : Type 0 where
   pub front : List Entry
   pub last : Option Entry

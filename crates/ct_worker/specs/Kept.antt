@@ -11,17 +11,18 @@ use Rattle.ct_worker.specs.Gates.{had_memory}
 use Rattle.ct_worker.specs.Halted.{IsHalted}
 use Rattle.ct_worker.specs.State.{put_of}
 
--- what a further line needs is known, as far as anything is
+-- if anything is known for further lines, it is right for the plan and the history
 abbrev pub KnowsSome : CoreValue → Option TestLines → Type 0
 KnowsSome core lines = IfSome lines (λ known. KnowsLines core.plan core.entries known)
 
--- as long as the run goes on, memory was there for each attempt, and the lines that were put are counted
+-- what holds while the run goes on: memory was there for
+-- each attempt, and `count` is how many lines were put
 pub record IsGoing (core : CoreValue) (count : ℕ) : Type 0 where
   pub memory : had_memory core.entries ≡ true
   pub counted : count ≡ length (test_lines core.plan core.entries)
 
--- the core is aborted exactly where the run was given up, and the lines of the tests were put: all of them as long as it goes on,
--- and else those in front of the halt
+-- what holds of each state. The core is aborted exactly if the run was given up. The sink took
+-- the lines of the tests: all of them while the run goes on, else the lines in front of the halt.
 pub record IsKeptState (core : CoreValue) (halt : Option Halt) (lines : Option TestLines) (count : ℕ) (opened sink : SinkTell) : Type 0 where
   pub aborted : core.aborted ≡ is_some halt
   pub put : PutsLines (test_lines core.plan core.entries) opened sink (put_of halt)

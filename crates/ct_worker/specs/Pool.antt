@@ -10,9 +10,10 @@ use Rattle.ct_worker.specs.Gates.{AreAsked, Terms, are_below}
 use Rattle.ct_worker.specs.Halted.{IsHalted}
 use Rattle.ct_worker.specs.State.{StateValue, base_of, put_of}
 
--- so many workers ran the tests of a plan as far as the history goes: it is legal and leaves nothing open, each Start and End is of
--- one of them, every test is final where the run was not given up, and each gate was asked for the attempts of the worker of its
--- place. Since the state was opened the sink took the lines of the tests, and where the run was given up those in front of the halt
+-- `count` workers ran the tests of a plan; the plan and what the sink told at the opening stay. The
+-- history is legal, leaves nothing open, and has Starts and Ends by these workers only. If the run
+-- was not given up, every test is final. Each gate was asked for the attempts of its worker. The
+-- sink took the lines of the tests, or, if the run was given up, the lines in front of the halt.
 pub record IsPooled (terms : Terms) (count : ℕ) (old new : StateValue) (gates_before gates_now : List GateTell) : Type 0 where
   pub plan : new.plan ≡ old.plan
   pub base : base_of new ≡ base_of old

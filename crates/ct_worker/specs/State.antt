@@ -1,4 +1,5 @@
--- What the state of a run is to its callers, and what its calls do to it. This project's own.
+-- The value of the state of a run, as its callers see it,
+-- and what its calls do to it. This project's own.
 use Rattle.std.specs.Prelude.{◌≡◌, ℕ, ◌+◌, Bool, true, false, List, ◌∷◌, ◌++◌, [], length, Option, Some, None, is_some, Result, Ok, Err}
 use Rattle.ct_base.specs.declared.sink.SinkFault.{SinkFault}
 use Rattle.ct_base.specs.declared.sink.SinkFault.TheVariants as Sinks
@@ -19,8 +20,8 @@ use Rattle.ct_report.specs.Report.{lines_of_test, test_lines}
 use Rattle.ct_worker.specs.declared.state.Halt.{Halt}
 use Rattle.ct_worker.specs.declared.state.Halt.TheVariants.{Output, Memory}
 
--- a plan, the history made so far, why the run was given up if it was, and what the sink told when the state was opened and
--- tells now
+-- a plan, the history made so far, why the run was given up, if it was,
+-- and what the sink told when the state was opened and what it tells now
 pub record StateValue : Type 0 where
   pub plan : PlanParts
   pub entries : List Entry
@@ -32,7 +33,7 @@ pub record StateValue : Type 0 where
 abbrev pub opened_with : CoreValue → SinkTell → StateValue
 opened_with core sink = record { plan = core.plan; entries = core.entries; halt = None; opened = sink; sink = sink }
 
--- the core of a state, which is aborted exactly where the run was given up
+-- the core of a state, which is aborted exactly if the run was given up
 abbrev pub core_of : StateValue → CoreValue
 core_of s = record { plan = s.plan; entries = s.entries; aborted = is_some s.halt }
 
@@ -40,35 +41,35 @@ core_of s = record { plan = s.plan; entries = s.entries; aborted = is_some s.hal
 abbrev pub base_of : StateValue → Base
 base_of s = record { written = s.opened.written; pieces = s.opened.pieces; faults = s.opened.faults }
 
--- the first of two causes, where one stands
+-- the first of two causes, if it is there, else the second
 abbrev pub first_halt : Option Halt → Option Halt → Option Halt
 first_halt (Some halt) other = Some halt
 first_halt None other = other
 
--- the run is given up for this cause, where it was not before
+-- the run is given up for this cause, unless it was given up before
 abbrev pub given_up : Halt → StateValue → StateValue
 given_up halt s = record s { halt = first_halt s.halt (Some halt) }
 
--- why the run is given up behind the put of a line, if it is
+-- why the run is given up after the put of a line, if it is
 abbrev pub halt_of : Result (Unit {0}) SinkFault → Option Halt
 halt_of (Ok put) = None
 halt_of (Err Sinks.Failed) = Some Output
 halt_of (Err Sinks.NoMemory) = Some Memory
 
--- how the put of the lines ended that came before
+-- the result of all puts so far, by why the run was given up
 abbrev pub put_of : Option Halt → Result (Unit {0}) SinkFault
 put_of None = Ok tt
 put_of (Some Output) = Err Sinks.Failed
 put_of (Some Memory) = Err Sinks.NoMemory
 
--- with these entries the test may have become final: its line was put then, behind those of the others, and where it could not
--- be the run was given up
+-- with these entries the test may have become final. If so, its line
+-- was put behind the others, and if that failed the run was given up.
 pub record PutsLine (test : ℕ) (entries : List Entry) (old new : StateValue) : Type 0 where
   pub result : Result (Unit {0}) SinkFault
   pub put : PutsLines (lines_of_test old.plan entries (length (test_lines old.plan old.entries) + 1) (Some test)) old.sink new.sink result
   pub is : new ≡ record old { entries = entries; sink = new.sink; halt = halt_of result }
 
--- what becomes of a state by an answer of its core, which has these entries now
+-- how an answer of the core, which has these entries now, changes the state
 abbrev pub StateFollows : Next → List Entry → StateValue → StateValue → Type 0
 StateFollows (Start ticket) entries old new = new ≡ record old { entries = entries }
 StateFollows (Settled test) entries old new = PutsLine test entries old new
@@ -77,19 +78,20 @@ StateFollows Done entries old new = new ≡ old
 StateFollows Aborted entries old new = new ≡ old
 StateFollows NoMemory entries old new = new ≡ given_up Memory old
 
--- what an answer of `next` says: it is the core's, a test that was settled has its line, and where memory is wanting the run is
--- given up
+-- what an answer of `next` says. It is the core's answer. The line of a
+-- settled test was put, and if memory is wanting the run is given up.
 pub record IsStateNext (old : StateValue) (worker : ℕ) (next : Next) (new : StateValue) : Type 0 where
   pub core : CoreValue
   pub step : IsNext (core_of old) worker next core
   pub follows : StateFollows next core.entries old new
 
--- what becomes of a state when an attempt of the test ended, by why the run was given up and whether memory was wanting for it
+-- how the end of an attempt of the test changes the state: by why the run was
+-- given up before, if it was, and by whether memory was wanting for the attempt
 abbrev pub EndsSo : Option Halt → Bool → ℕ → List Entry → StateValue → StateValue → Type 0
 EndsSo (Some halt) lacks test entries old new = new ≡ record old { entries = entries }
 EndsSo None true test entries old new = new ≡ record old { entries = entries; halt = Some Memory }
 EndsSo None false test entries old new = PutsLine test entries old new
 
--- the attempt of a ticket ended, and was so seen
+-- the attempt of a ticket ended, and this was seen of it
 abbrev pub IsFinished : StateValue → Ticket → Seen → StateValue → Type 0
 IsFinished old ticket seen new = EndsSo old.halt (is_no_memory seen.how) (test_of ticket) (with_due_stop old.plan (old.entries ++ end_of ticket seen ∷ [])) old new

@@ -18,13 +18,13 @@ use Rattle.ct_worker.specs.declared.jobs.Jobs.{Jobs}
 use Rattle.ct_worker.specs.Attempt.{run_of}
 use Rattle.ct_worker.specs.Gates.{IsAsked, Terms, terms_of}
 
--- the tests and the properties belong together by place, and reach each test of the plan
+-- the tests and the properties have the same places, and there is one of each for each test of the plan
 pub record Reach (jobs : Jobs) (plan : PlanParts) : Type 0 where
   pub paired : length jobs.props.now ≡ length jobs.defs.now
   pub low : (number : ℕ) (t : PlanTest) → test_at plan.tests number ≡ Some t → 1 ≤ number
   pub within : (number : ℕ) (t : PlanTest) → test_at plan.tests number ≡ Some t → number ≤ length jobs.defs.now
 
--- what the run of a plan says of its attempts
+-- the terms of the run of a plan: resources are lent if the plan has some
 abbrev pub terms_in : Jobs → PlanParts → Terms
 terms_in jobs plan = terms_of jobs (is_some plan.resources)
 
@@ -34,7 +34,8 @@ pub record AsksSince (terms : Terms) (worker : ℕ) (gate_before gate_now : Gate
   pub is : now ≡ before ++ more
   pub asked : IsAsked terms worker gate_before gate_now more
 
--- the pass is as it was but for what it has seen, and holds no start; the worker's gate was asked for what it started
+-- the pass has only seen more, and holds no start; its
+-- worker's gate was asked for what the worker started
 pub record GoesAlong (terms : Terms) (old new : PassValue) (gate_before gate_now : GateTell) : Type 0 where
   pub pass : new ≡ record old { known = has_seen old.known new.known.seen }
   pub idle : held_start new.known ≡ None
@@ -44,11 +45,11 @@ pub record GoesAlong (terms : Terms) (old new : PassValue) (gate_before gate_now
 abbrev pub IsEnded : PassValue → Type 0
 IsEnded pass = pass.known.seen.halted ≡ false → are_all_final pass.known.plan pass.known.seen.entries ≡ true
 
--- others went on meanwhile, and the worker holds no start
+-- only other workers went on, and the worker holds no start
 abbrev pub Stays : PassValue → PassValue → Type 0
 Stays old new = GoesOn old.known.worker old.known.seen.entries new.known.seen.entries × (held_start new.known ≡ None)
 
--- others went on meanwhile, and then the worker started the attempt of a ticket, whose start it holds
+-- other workers went on, then the worker started the attempt of a ticket, and it holds this start
 pub record Starts (ticket : Ticket) (old new : PassValue) : Type 0 where
   pub others : List Entry
   pub went_on : GoesOn old.known.worker old.known.seen.entries others
@@ -57,7 +58,7 @@ pub record Starts (ticket : Ticket) (old new : PassValue) : Type 0 where
   pub holds : held_start new.known ≡ Some (run_of ticket)
   pub planned : IsSome (test_at old.known.plan.tests (test_of ticket))
 
--- what the worker has seen behind an answer of the core
+-- what the worker has seen after each answer of the core
 abbrev pub SeesNext : Next → PassValue → PassValue → Type 0
 SeesNext (Start ticket) old new = Starts ticket old new
 SeesNext (Settled test) old new = Stays old new
@@ -71,7 +72,7 @@ pub record AsksNext (old : PassValue) (next : Next) (new : PassValue) : Type 0 w
   pub pass : new ≡ record old { known = has_seen old.known new.known.seen }
   pub follows : SeesNext next old new
 
--- others went on meanwhile, then a worker ended the attempt of its ticket, and it holds no start any more
+-- other workers went on, then the worker ended the attempt of its ticket, and it holds no start any more
 pub record EndsOwn (old : PassValue) (ticket : Ticket) (seen : Seen) (new : PassValue) : Type 0 where
   pub pass : new ≡ record old { known = has_seen old.known new.known.seen }
   pub others : List Entry
@@ -79,13 +80,15 @@ pub record EndsOwn (old : PassValue) (ticket : Ticket) (seen : Seen) (new : Pass
   pub ended : new.known.seen.entries ≡ with_due_stop old.known.plan (others ++ end_of ticket seen ∷ [])
   pub idle : held_start new.known ≡ None
 
--- a worker ended the attempt of its ticket, and in the same turn asked what it has to do next; between the two it has seen its end
+-- a worker ended the attempt of its ticket, and in the same turn
+-- asked what it has to do next; in between it saw its own End
 pub record EndsAndAsks (old : PassValue) (ticket : Ticket) (seen : Seen) (next : Next) (new : PassValue) : Type 0 where
   pub middle : PassValue
   pub ended : EndsOwn old ticket seen middle
   pub asked : AsksNext middle next new
 
--- the worker has done all that came before the answer that it got last
+-- the worker's gate was asked for all that the worker
+-- started before its last question, and `next` is the answer
 pub record IsUnderWay (terms : Terms) (old now : PassValue) (gate_before gate_now : GateTell) (next : Next) : Type 0 where
   pub before : PassValue
   pub along : GoesAlong terms old before gate_before gate_now

@@ -16,8 +16,8 @@ use ct_regex::Regex;
 use ct_verdict::{How, Seen};
 use std::alloc::Global;
 
-/// Asks the gate to run the attempt of a ticket; where memory is wanting for the request it is not
-/// asked. Where `lends` is on, resources are lent.
+/// Asks the gate to run the attempt of a ticket, and returns what is seen of it. If memory
+/// is wanting for the request, the gate is not asked. `lends` is whether resources are lent.
 pub(crate) fn ask<G: Gate>(
     alloc: Global,
     ticket: &Ticket,
@@ -68,8 +68,8 @@ fn request(
     })
 }
 
-/// Makes the environment of an attempt with this placement. A test with groups but without a placement
-/// is told of one without picks, where resources are lent.
+/// Makes the environment of an attempt with this placement. If resources are lent,
+/// a test with groups but without a placement is told a placement without picks.
 ///
 /// Source: CMake manual, ctest(1), Resource Allocation, Environment Variables.
 fn env_of(
@@ -91,8 +91,8 @@ fn env_of(
     }
 }
 
-/// How long an attempt may run, in microseconds, by TIMEOUT, or else by the run; `None` is no limit,
-/// as is a limit of 0.
+/// Returns how long an attempt may run, in microseconds: by TIMEOUT,
+/// or else by the run. `None` is no limit, and so is a limit of 0.
 fn limit(timeout: Option<u64>, run_limit: u64) -> Option<u64>
     ensures { result ≡ limit_of (unwrap_or timeout run_limit) }
 {
@@ -100,8 +100,8 @@ fn limit(timeout: Option<u64>, run_limit: u64) -> Option<u64>
     if micros == 0 { None } else { Some(micros) }
 }
 
-/// What is seen of an attempt by an ear; where the ear is short, or memory is wanting to look for
-/// the patterns, memory was wanting for the attempt.
+/// Returns what is seen of an attempt by an ear. If the ear is short, or memory
+/// is wanting to look for the patterns, then memory was wanting for the attempt.
 fn judged(alloc: Global, props: &Props, ear: &Collect, ended: Ended) -> Seen
     ensures { SeesEnd props.now ear.now ended result }
 {
@@ -114,7 +114,7 @@ fn judged(alloc: Global, props: &Props, ear: &Collect, ended: Ended) -> Seen
     }
 }
 
-/// What is seen of an attempt of which this was heard.
+/// Returns what is seen of an attempt of which this was heard.
 fn seen(alloc: Global, props: &Props, heard: &[u8], ended: Ended) -> Result<Seen, NoMemory>
     ensures { IfOk result (λ seen. seen ≡ seen_of props.now heard.now ended) }
 {
@@ -127,7 +127,7 @@ fn seen(alloc: Global, props: &Props, heard: &[u8], ended: Ended) -> Result<Seen
     })
 }
 
-/// Tells whether one of these patterns hits the text.
+/// Tells whether some pattern hits the text.
 fn some_hits(alloc: Global, patterns: &[Regex], text: &[u8]) -> Result<bool, NoMemory>
     ensures { IfOk result (λ found. found ≡ some_hits patterns.now text.now) }
 {
@@ -139,7 +139,7 @@ fn some_hits(alloc: Global, patterns: &[Regex], text: &[u8]) -> Result<bool, NoM
     Ok(false)
 }
 
-/// What is seen of an attempt for which memory was wanting.
+/// Returns what is seen of an attempt for which memory was wanting.
 fn unheard(micros: u64) -> Seen
     ensures { is_no_memory result.how ≡ true }
 {

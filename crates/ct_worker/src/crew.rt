@@ -28,11 +28,11 @@ pub struct Pooled<G, S: Sink> {
     pub gates: Vec<G>,
 }
 
-/// Runs the tests by so many workers, each on the gate of its place: worker 0 in the caller's thread,
-/// the others in threads of their own.
+/// Runs the tests by this many workers, each on the gate of its place:
+/// worker 0 in the caller's thread, the others in threads of their own.
 ///
-/// The gates come back in order; those behind the workers' are not asked. Where memory is wanting for
-/// the workers, the run is given up before anything has started.
+/// It returns the gates in order; further gates are not asked. If memory is
+/// wanting for the workers, the run is given up before anything has started.
 pub fn pool<R: Threads + Wait + Sync, G: Gate + Send, S: Sink + Send>(
     rt: &R,
     alloc: Global,
@@ -89,7 +89,7 @@ fn hand_out_sound<S: Sink>(state: &State<S>)
     let _ = state.core().plan().parts();
 }
 
-/// Splits so many passes off the one of worker 0, and puts them behind it.
+/// Splits this many passes off the pass of worker 0, and puts them behind it.
 fn split_all<S: Sink>(turn: &Turn<State<S>>, first: Pass, count: u32, passes: &mut Vec<Pass>)
     requires turn { first.turn ≡ turn.now.id }
     requires opener { first.known.worker ≡ 0 }
@@ -181,7 +181,7 @@ fn both<R: Threads + Wait + Sync, G: Gate + Send, S: Sink + Send>(
     join_mut(rt, &mut back, &mut front);
 }
 
-/// Lets the one worker take part, where there is one.
+/// Lets the only worker take part, if there is one.
 fn alone<R: Wait, G: Gate, S: Sink>(
     rt: &R,
     alloc: Global,
@@ -201,7 +201,7 @@ fn alone<R: Wait, G: Gate, S: Sink>(
     }
 }
 
-/// Joins all these passes into the one of worker 0.
+/// Joins all these passes into the pass of worker 0.
 fn join_all<S: Sink>(turn: &Turn<State<S>>, first: &mut Pass, others: Vec<Pass>)
     requires opener { first.old.known.worker ≡ 0 }
     requires first { IsIdle turn.now first.old }

@@ -6,7 +6,7 @@ use ct_props::Props;
 
 /// What workers have to know of the tests whose attempts they run.
 ///
-/// Tests and properties belong together by place.
+/// A test and its properties have the same place.
 #[derive(Clone, Copy)]
 pub struct Jobs<'a> {
     /// The environment of the run.

@@ -1,9 +1,12 @@
-//! The workers of a run: they race for one state, and each runs the attempts that it starts on a gate of its own.
+//! The workers of a run: they take turns with one state, and
+//! each runs the attempts that it starts on its own gate.
 //!
-//! Hands up: `State`, the core of a run with the sink that its lines go to; `Jobs`, what workers have to know of the tests;
-//! `work` and `pool`, a worker and all of them.
-//! Stands on: ct_base, ct_regex, ct_props, ct_env, ct_alloc, ct_verdict, ct_history, ct_core, ct_turn, ct_report.
-//! Read first: `specs/Gates.antt`, `specs/State.antt`, `specs/Halted.antt`, then `state.rt`, `worker.rt`, `crew.rt`.
+//! Hands up: `State`, the core of a run with the sink for its lines; `Jobs`, what workers
+//! have to know of the tests; `work` and `pool`, the work of one worker and of all.
+//! Stands on: ct_base, ct_regex, ct_groups, ct_props, ct_env,
+//! ct_alloc, ct_verdict, ct_history, ct_core, ct_turn and ct_report.
+//! Read first: `specs/Gates.antt`, `specs/State.antt`,
+//! `specs/Halted.antt`; then `state.rt`, `worker.rt`, `crew.rt`.
 #![tactic(auto)]
 
 mod attempt;

@@ -19,7 +19,7 @@ pub(crate) struct Lines<S: Sink> {
 }
 
 impl<S: Sink> Lines<S> {
-    /// No line was put yet.
+    /// Makes the lines of a run of which no line was put yet.
     pub(crate) fn new(sink: S) -> Lines<S>
         ensures { result ≡ record { sink = sink; known = None; count = 0 } }
     {
@@ -30,9 +30,9 @@ impl<S: Sink> Lines<S> {
         }
     }
 
-    /// Puts the line that an answer of the core brings: that of a test that was settled.
+    /// Puts the line that an answer of the core brings: the line of a test that was settled.
     ///
-    /// Where memory was wanting for the answer, that is told.
+    /// It returns `NoMemory` also if memory was wanting for the answer.
     pub(crate) fn put_for(&mut self, core: &Core, next: &Next) -> Result<(), SinkFault>
         requires { KnowsSome core.now self.old.known }
         ensures { PutsFor S.tells next.now core.now self.old self.new result }
@@ -44,9 +44,9 @@ impl<S: Sink> Lines<S> {
         }
     }
 
-    /// Puts the line that the end of an attempt brings: that of its test, where that is final.
+    /// Puts the line that the end of an attempt brings: the line of its test, if the test is final.
     ///
-    /// Where memory was wanting for the attempt, that is told.
+    /// It returns `NoMemory` also if memory was wanting for the attempt.
     pub(crate) fn put_end(&mut self, core: &Core, test: u32, how: How) -> Result<(), SinkFault>
         requires { KnowsSome core.now self.old.known }
         ensures { PutsEnd S.tells (is_no_memory how) test core.now self.old self.new result }
@@ -58,9 +58,9 @@ impl<S: Sink> Lines<S> {
         }
     }
 
-    /// Puts the line of a test, where that is final, behind those of the others, and counts it.
+    /// Puts the line of a test, if the test is final, behind the lines of the others, and counts it.
     ///
-    /// Where the count of lines is at its last value, the answer is want of memory.
+    /// It returns `NoMemory` also if the count of lines is at its last value.
     fn put(&mut self, core: &Core, test: u32) -> Result<(), SinkFault>
         requires { KnowsSome core.now self.old.known }
         ensures { PutsNext S.tells test core.now self.old self.new result }

@@ -18,10 +18,10 @@ pub enum Halt {
     Memory,
 }
 
-/// A run that goes on: its core, and the sink that the lines of its tests go to.
+/// The state of a run: its core, and the sink that the lines of its tests go to.
 ///
-/// Contracts see its plan, its entries, why it was given up, and what the sink told when the state
-/// was opened and tells now.
+/// Contracts see the plan, the entries, why the run was given up, what
+/// the sink told when the state was opened, and what it tells now.
 #[derive(Drop)]
 pub struct State<S: Sink> {
     core: Core,
@@ -74,10 +74,10 @@ impl<S: Sink> State<S> {
         }
     }
 
-    /// Says what this worker has to do next, as the core does, and puts the line of a test that was
-    /// settled.
+    /// Returns what this worker has to do next, by the
+    /// core, and puts the line of a test that was settled.
     ///
-    /// Where memory is wanting, or the line cannot be put, the run is given up.
+    /// If memory is wanting, or the line cannot be put, the run is given up.
     pub fn next(&mut self, worker: u32) -> Next
         requires { is_busy_in worker self.old.entries ≡ false }
         ensures { IsStateNext self.old worker result self.new }
@@ -88,10 +88,10 @@ impl<S: Sink> State<S> {
         next
     }
 
-    /// Ends the attempt of a ticket, and puts the line of its test where that is now final.
+    /// Ends the attempt of a ticket, and puts the line of its test if the test is now final.
     ///
-    /// Where memory was wanting for the attempt, or the line cannot be put, the run is given up.
-    /// No line is put any more once it was.
+    /// If memory was wanting for the attempt, or the line cannot
+    /// be put, the run is given up. From then on no line is put.
     pub fn finish(&mut self, ticket: Ticket, seen: Seen)
         requires { holds_ticket ticket self.old.entries ≡ true }
         ensures { IsFinished self.old ticket seen self.new }
@@ -104,7 +104,7 @@ impl<S: Sink> State<S> {
         }
     }
 
-    /// Gives the run up for want of memory, where it was not given up before.
+    /// Gives the run up for want of memory, unless it was given up before.
     pub(crate) fn give_up_for_memory(&mut self)
         ensures { self.new ≡ given_up Memory self.old }
     {
@@ -120,7 +120,7 @@ impl<S: Sink> State<S> {
         let _ = &self.halt;
     }
 
-    /// Why the run was given up, if it was.
+    /// Returns why the run was given up, if it was.
     pub fn halt(&self) -> Option<Halt>
         ensures { result ≡ self.now.halt }
     {
@@ -134,11 +134,11 @@ impl<S: Sink> State<S> {
         &self.core
     }
 
-    /// Takes the state apart.
+    /// Returns the core and the sink.
     ///
-    /// The sink took the lines of the tests that became final. Where the run was given up, it took
-    /// those in front of the halt, and no test was started or settled behind it; where it was not,
-    /// memory was there for each attempt.
+    /// The sink took the lines of the tests that became final. If the run was given
+    /// up, it took the lines in front of the halt, and no test was started or settled
+    /// behind it. If the run was not given up, memory was there for each attempt.
     pub fn into_parts(self) -> (Core, S)
         ensures core { result.0 ≡ core_of self }
         ensures sink { S.tells result.1 ≡ self.sink }
@@ -172,7 +172,7 @@ impl<S: Sink> Board for State<S> {
     }
 }
 
-/// Gives the run up where a line could not be put, and it was not given up before.
+/// Gives the run up if a line could not be put, unless it was given up before.
 fn heed(put: Result<(), SinkFault>, core: &mut Core, halt: &mut Option<Halt>)
     ensures core { core.new ≡ record core.old { aborted = core.old.aborted || is_some (halt_of put) } }
     ensures halt { halt.new ≡ first_halt halt.old (halt_of put) }
@@ -184,7 +184,7 @@ fn heed(put: Result<(), SinkFault>, core: &mut Core, halt: &mut Option<Halt>)
     }
 }
 
-/// Gives the run up for this cause, where it was not given up before.
+/// Gives the run up for this cause, unless it was given up before.
 fn give_up(cause: Halt, core: &mut Core, halt: &mut Option<Halt>)
     ensures core { core.new ≡ record core.old { aborted = true } }
     ensures halt { halt.new ≡ first_halt halt.old (Some cause) }

@@ -24,9 +24,9 @@ pub struct Worked<G> {
 
 /// Takes part in the run as this worker, until every test is final or the run was given up.
 ///
-/// It starts what may start, runs the program of each attempt on its gate while others have the turn,
-/// and waits where nothing can be done before an attempt of another ends. An attempt for which memory
-/// is wanting ends for want of it.
+/// It starts what may start, and runs the program of each attempt on its gate while
+/// others have the turn. If nothing can be done, it waits for an attempt of another
+/// worker to end. An attempt for which memory is wanting ends for want of memory.
 pub fn work<R: Wait, G: Gate, S: Sink>(
     rt: &R,
     alloc: Global,
@@ -47,7 +47,7 @@ pub fn work<R: Wait, G: Gate, S: Sink>(
     Worked { pass, gate }
 }
 
-/// What a worker has to do next, and whether its run lends resources.
+/// The answer to a worker: what it has to do next, and whether its run lends resources.
 struct Answer {
     next: Next,
     lends: bool,
@@ -109,7 +109,8 @@ fn begin<R: Wait, S: Sink>(
     answer
 }
 
-/// Takes the turn, ends the attempt of a ticket, asks what the worker has to do next, and gives the turn back.
+/// Takes the turn, ends the attempt of a ticket, asks what
+/// the worker has to do next, and gives the turn back.
 fn end<R: Wait, S: Sink>(
     rt: &R,
     turn: &Turn<State<S>>,

@@ -3,7 +3,7 @@ use Rattle.std.specs.Prelude.{vec_capacity, vec_len}
 use Rattle.ct_worker.specs.Crew.{HasSplit}
 use Rattle.ct_worker.proofs.crew.split_all.Given as goal
 
--- so many passes were split off so far, and stand behind the one of worker 0
+-- this many passes were split off so far, and are behind the pass of worker 0
 abbrev pub invariant-loop : goal.invariant-loop
 invariant-loop g l = record {
   split : HasSplit l.turn l.fn.first l.counter l.passes.items;
