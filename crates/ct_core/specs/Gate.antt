@@ -34,8 +34,8 @@ untold test attempt = record { test = test; attempt = attempt; heard = []; ended
 abbrev pub told : List Told → ℕ → ℕ → Told
 told world test attempt = unwrap_or (find (λ (t : Told). t.test == test && t.attempt == attempt) world) (untold test attempt)
 
--- what a gate tells: what each attempt comes to, and the attempts and requests that
--- were run so far, each of the three if it is known; and how many faults it has counted
+-- what a gate tells: what each attempt comes to, and the attempts and requests that were
+-- run so far, each of the three if it is known; and how many starts and waits failed
 pub record GateTell : Type 0 where
   pub world : Option (List Told)
   pub asked : Option (List Asked)

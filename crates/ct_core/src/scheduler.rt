@@ -113,8 +113,8 @@ impl Core {
     /// - The run was given up.
     /// - Every test is final.
     /// - A test may be settled: the one with the lowest number is settled.
-    /// - A test may start: the first of the queue that may start has its start.
-    /// - Wait for an attempt to end.
+    /// - A test may start: the first that may, in the order of the queue, is started.
+    /// - Nothing can be done before an attempt ends.
     ///
     /// After `Wait` some attempt is open, and until one ends the answer is `Wait` at
     /// once. Memory can be wanting to append an entry or to look for a placement. It

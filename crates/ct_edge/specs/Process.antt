@@ -1,4 +1,5 @@
--- How a run program's end is answered, and with which variables a program is started. This project's own.
+-- How the end of a program is answered, and with which
+-- variables a program is started. This project's own.
 use Rattle.std.specs.Prelude.{◌≡◌, ◌↔◌, ℕ, Bool, not, ◌==◌, ◌<◌, length, All, IsUtf8, List, [], ◌∷◌, ◌++◌, codes, ℤ, Option, Some, None, Result, Ok, Err, option_map, true, false, if◌then◌else◌}
 use Rattle.std.specs.List.{list_any}
 use Rattle.std.specs.IoError.{error_kind}

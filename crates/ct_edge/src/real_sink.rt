@@ -10,7 +10,8 @@ use std::io::Write;
 
 /// A writer as a sink, for example the standard output of the process.
 ///
-/// Contracts see the text that the writer tells; the standard output tells none.
+/// Contracts see the text that the writer tells, and how
+/// many puts failed. The standard output tells no text.
 #[derive(Drop)]
 pub struct RealSink<W> {
     writer: W,

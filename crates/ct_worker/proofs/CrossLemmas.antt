@@ -62,7 +62,7 @@ props_sync = search (name_sync, names_sync, regexes_sync, groups_sync, std.cross
 pub jobs_sync : (a : NamedLft) → IsSync (Jobs.the_row a)
 jobs_sync a = search (props_sync, maps.crosses, std.crosses, nodes.crosses, sendable) depth 60 fits 20000
 
--- a tuple may go to another thread if each of its parts may, as may a closure that captures it
+-- a tuple, which is what a closure captures, may go to another thread if each of its parts may
 all_send : (ν : Sym) (Ts : List RattleType) → AllSend (shape (type_at ν Ts)).fields → IsSend (TupleAt ν Ts)
 all_send ν Ts each = recorded_send (Struct (shape (type_at ν Ts))) _ _ (type_at ν Ts).to_one (struct_send (shape (type_at ν Ts)) each)
 

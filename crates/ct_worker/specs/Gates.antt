@@ -115,7 +115,8 @@ pub record IsRequestOf (terms : Terms) (def : TestDef) (props : Props) (run : Ru
   pub env : IsEnvironment terms.own props (placement_told terms.lends props run.placement) request.env
   pub is : request ≡ request_in request.env terms.limit def props run
 
--- the request is the right one for an attempt of the test with the attempt's number
+-- the request is the right one for this attempt, by the
+-- test and the properties with the number of its test
 abbrev pub IsRequestFor : Terms → Running → Request → Type 0
 IsRequestFor terms run request = IsSomeAnd (at_number terms.defs run.test) (λ def. IsSomeAnd (at_number terms.props run.test) (λ props. IsRequestOf terms def props run request))
 

@@ -20,8 +20,8 @@ use Rattle.ct_report.specs.Report.{lines_of_test, test_lines}
 use Rattle.ct_worker.specs.declared.state.Halt.{Halt}
 use Rattle.ct_worker.specs.declared.state.Halt.TheVariants.{Output, Memory}
 
--- a plan, the history made so far, why the run was given up, if it was,
--- and what the sink told when the state was opened and what it tells now
+-- a plan, the history made so far, and why the run was given up, if it was.
+-- Then what the sink told when the state was opened, and what it tells now.
 pub record StateValue : Type 0 where
   pub plan : PlanParts
   pub entries : List Entry
