@@ -1,5 +1,5 @@
 -- The guess for a line of a journal is that line, so a text says a line exactly where the guess, written again, is the text.
-use Rattle.std.proofs.Common.{ℕ, ◌^◌, ◌<◌, ◌≡◌, ◌&&◌, Bool, true, false, cond, List, [], ◌∷◌, ◌++◌, flat_map, Option, Some, None, IfSome, refl, sym, ap, ◌∙◌, arith, codes, decimal, append_assoc, append-nil, bytes_eq}
+use Rattle.std.proofs.Common.{ℕ, ◌^◌, ◌<◌, ◌≡◌, ◌&&◌, Bool, true, false, cond, List, [], ◌∷◌, ◌++◌, flat_map, Option, Some, None, refl, sym, ap, ◌∙◌, arith, codes, decimal, append_assoc, append-nil, bytes_eq, subst, nat_lt, length}
 use Rattle.std.specs.List.{list_all}
 use Rattle.std.proofs.lemmas.Slice.Eq.{bytes_eq-Decides}
 use Rattle.ct_verdict.specs.declared.attempt.Seen.{Seen}
@@ -9,9 +9,9 @@ use Rattle.ct_journal.specs.declared.lines.EntryLine.TheVariants.{Start, End, Se
 use Rattle.ct_journal.specs.declared.lines.JournalLine.{JournalLine}
 use Rattle.ct_journal.specs.declared.lines.JournalLine.TheVariants as Line
 use Rattle.ct_journal.specs.Journal.{how_text, cause_text, hits_text, listed, seen_text, entry_text, line_text, IsShort, HowFits, CauseFits, PlacesFit, EntryFits, Fits, Says}
-use Rattle.ct_journal.specs.Guess.{pieces, guess_by, guess_in, said_in}
-use Rattle.ct_journal.proofs.NumberLemmas.{is_free, decimal_free, short_again, number_again}
-use Rattle.ct_journal.proofs.WordLemmas.{both, cut_again, how_again, how_free, cause_again, cause_free, hit_again, hits_free, places_again, listed_free}
+use Rattle.ct_journal.specs.Guess.{pieces, word_at, number_in, short_in, places_in, start_in, end_in, settle_in, guess_by, guess_in, said_in}
+use Rattle.ct_journal.proofs.NumberLemmas.{is_free, decimal_free, short_again, number_again, number_fits, short_fits}
+use Rattle.ct_journal.proofs.WordLemmas.{both, cut_again, how_again, how_free, how_fits, cause_again, cause_free, cause_fits, hit_again, hits_free, places_again, places_fit, listed_free}
 
 -- three words and what stands behind them
 regroup : (one two three rest : List ℕ) → one ++ codes " " ++ two ++ codes " " ++ three ++ rest ≡ one ++ (32 ∷ (two ++ (32 ∷ (three ++ rest))))
@@ -94,24 +94,38 @@ line_again Line.First fit = refl
 line_again (Line.Entry entry) fit = entry_again entry fit
 line_again (Line.Done count) fit = done_again count fit
 
-found_by : (b : Bool) (guess line : JournalLine) (text : List ℕ) → bytes_eq (line_text guess) text ≡ b → cond b (Some guess) None ≡ Some line → text ≡ line_text line
-found_by true guess line text is said = let same : guess ≡ line = cc in sym ((bytes_eq-Decides (line_text guess) text).0 is) ∙ ap line_text same
-found_by false guess line text is said = cc
+placement_by : (b : Bool) (word : List ℕ) → PlacesFit (cond b (Some (places_in word)) None)
+placement_by true word = places_fit word
+placement_by false word = tt
 
--- a line is said exactly where the text is that line
+line_by : (b : Bool) (one other : JournalLine) → Fits one → Fits other → Fits (cond b one other)
+line_by true one other fits also = fits
+line_by false one other fits also = also
+
+by_words : (words : List (List ℕ)) → Fits (guess_by words)
+by_words words =
+    let name = word_at words 0 in
+    let three : (k : ℕ) → IsShort (short_in (word_at words k)) = λ k. short_fits (word_at words k) in
+    let done = cond (bytes_eq name (codes "done")) (Line.Done (number_in (word_at words 1))) Line.First in
+    let stop = cond (bytes_eq name (codes "stop")) (Line.Entry Stop) done in
+    let settle = cond (bytes_eq name (codes "settle")) (Line.Entry (settle_in words)) stop in
+    let end = cond (bytes_eq name (codes "end")) (Line.Entry (end_in words)) settle in
+    line_by (bytes_eq name (codes "start")) (Line.Entry (start_in words)) end (three 1, three 2, three 3, placement_by (nat_lt 4 (length words)) (word_at words 5))
+    (line_by (bytes_eq name (codes "end")) (Line.Entry (end_in words)) settle (three 1, three 2, three 3, how_fits (word_at words 4), number_fits (word_at words 6))
+    (line_by (bytes_eq name (codes "settle")) (Line.Entry (settle_in words)) stop (three 1, cause_fits (word_at words 2))
+    (line_by (bytes_eq name (codes "stop")) (Line.Entry Stop) done tt (line_by (bytes_eq name (codes "done")) (Line.Done (number_in (word_at words 1))) Line.First (number_fits (word_at words 1)) tt))))
+
+found_by : (b : Bool) (guess line : JournalLine) (text : List ℕ) → Fits guess → bytes_eq (line_text guess) text ≡ b → cond b (Some guess) None ≡ Some line → Fits line × (text ≡ line_text line)
+found_by true guess line text fit is said =
+    let same : guess ≡ line = cc in (subst Fits same fit, sym ((bytes_eq-Decides (line_text guess) text).0 is) ∙ ap line_text same)
+found_by false guess line text fit is said = cc
+
+-- a line is said exactly where the text is that line, and its numbers are in their ranges
 pub says : (text : List ℕ) → Says text (said_in text)
-says text line fit = (
-  λ said. found_by (bytes_eq (line_text (guess_in text)) text) (guess_in text) line text refl said,
+says text line = (
+  λ said. found_by (bytes_eq (line_text (guess_in text)) text) (guess_in text) line text (by_words (pieces 32 text)) refl said,
   λ is.
-      ap said_in is
-      ∙ ap (λ guess. cond (bytes_eq (line_text guess) (line_text line)) (Some guess) None) (line_again line fit)
+      ap said_in is.1
+      ∙ ap (λ guess. cond (bytes_eq (line_text guess) (line_text line)) (Some guess) None) (line_again line is.0)
       ∙ ap (λ b. cond b (Some line) None) ((bytes_eq-Decides (line_text line) (line_text line)).1 refl),
 )
-
-said_by : (b : Bool) (guess : JournalLine) (text : List ℕ) → bytes_eq (line_text guess) text ≡ b → IfSome (cond b (Some guess) None) (λ line. text ≡ line_text line)
-said_by true guess text is = sym ((bytes_eq-Decides (line_text guess) text).0 is)
-said_by false guess text is = tt
-
--- what is said is the text
-pub said_is : (text : List ℕ) → IfSome (said_in text) (λ line. text ≡ line_text line)
-said_is text = said_by (bytes_eq (line_text (guess_in text)) text) (guess_in text) text refl

@@ -1,5 +1,5 @@
 -- Numbers that were written in decimal are read as themselves.
-use Rattle.std.proofs.Common.{ℕ, ℤ, pos, negsuc, neg_ℤ, suc, ◌+◌, ◌-◌, ◌*◌, ◌^◌, ◌<◌, ◌≤◌, ◌≡◌, ◌==◌, min, not, ◌&&◌, Bool, true, cond, List, [], ◌∷◌, fold, refl, ap, ◌∙◌, arith, decimal}
+use Rattle.std.proofs.Common.{ℕ, ℤ, pos, negsuc, neg_ℤ, zero, suc, ◌+◌, ◌-◌, ◌*◌, ◌^◌, ◌<◌, ◌≤◌, ◌≡◌, ◌==◌, min, not, ◌&&◌, Bool, true, false, cond, List, [], ◌∷◌, fold, refl, ap, ◌∙◌, arith, decimal}
 use Rattle.std.specs.List.{list_all}
 use Rattle.std.specs.Fmt.{signed_decimal}
 use Rattle.std.specs.Char.{digit_value}
@@ -70,3 +70,28 @@ decimal_free separator n less small = digits_free separator (decimal n) less (de
 pub code_free : (code : ℤ) → IsCode code → is_free 32 (signed_decimal code) ≡ true
 code_free (pos n) small = decimal_free 32 n (omega arith) (omega (arith, small))
 code_free (negsuc n) small = decimal_free 32 (suc n) (omega arith) (omega (arith, small))
+
+kept_small : (n : ℕ) (text : List ℕ) → n < 2 ^ 64 → fold with_digit n text < 2 ^ 64
+kept_small n [] small = small
+kept_small n (byte ∷ text) small = kept_small (with_digit n byte) text (omega arith)
+
+-- what a text is taken for is a number of 64 bits
+pub number_fits : (text : List ℕ) → number_in text < 2 ^ 64
+number_fits text = kept_small 0 text (omega arith)
+
+-- what a text is taken for is a number of 32 bits
+pub short_fits : (text : List ℕ) → IsShort (short_in text)
+short_fits text = omega arith
+
+below_fits : (n : ℕ) → n ≤ 2 ^ 31 → IsCode (neg_ℤ (pos n))
+below_fits zero small = omega arith
+below_fits (suc n) small = omega (arith, small)
+
+code_by : (b : Bool) (n m : ℕ) → IsCode (cond b (neg_ℤ (pos (min n (2 ^ 31)))) (pos (min m (2 ^ 31 - 1))))
+code_by true n m = below_fits (min n (2 ^ 31)) (omega arith)
+code_by false n m = omega arith
+
+-- what a text is taken for is an exit code of 32 bits
+pub code_fits : (text : List ℕ) → IsCode (code_in text)
+code_fits [] = omega arith
+code_fits (first ∷ rest) = code_by (first == 45) (number_in rest) (number_in (first ∷ rest))

@@ -1,5 +1,5 @@
 -- The words of a line: the text with one space between them is cut into them again, and each is read as what it was written for.
-use Rattle.std.proofs.Common.{ℕ, ◌+◌, ◌<◌, ◌≡◌, ◌==◌, not, ◌&&◌, Bool, true, false, cond, List, [], ◌∷◌, ◌++◌, length, map, flat_map, refl, ap, ◌∙◌, arith, codes, decimal, All, length-append, append-nil}
+use Rattle.std.proofs.Common.{ℕ, ◌+◌, ◌<◌, ◌≡◌, ◌==◌, not, ◌&&◌, Bool, true, false, cond, List, [], ◌∷◌, ◌++◌, length, map, flat_map, refl, ap, ◌∙◌, arith, codes, decimal, bytes_eq, take, drop, All, length-append, append-nil}
 use Rattle.std.specs.List.{list_all, AllByRecursion}
 use Rattle.std.proofs.lemmas.List.Elements.{All-nil, All-cons}
 use Rattle.std.proofs.lemmas.Bool.{ne_eqb, eq-eqb, and_parts}
@@ -11,8 +11,8 @@ use Rattle.ct_verdict.specs.declared.attempt.How.TheVariants.{Exited, Signalled,
 use Rattle.ct_verdict.specs.declared.verdict.Cause.{Cause}
 use Rattle.ct_verdict.specs.declared.verdict.Cause.TheVariants as Why
 use Rattle.ct_journal.specs.Journal.{how_text, cause_text, hit_digit, listed, IsShort, HowFits, CauseFits}
-use Rattle.ct_journal.specs.Guess.{pieces, short_in, how_in, cause_in, places_in}
-use Rattle.ct_journal.proofs.NumberLemmas.{is_free, decimal_free, code_free, short_again, code_again}
+use Rattle.ct_journal.specs.Guess.{pieces, short_in, code_in, how_in, numbered_cause_in, cause_in, places_in}
+use Rattle.ct_journal.proofs.NumberLemmas.{is_free, decimal_free, code_free, short_again, code_again, short_fits, code_fits}
 
 not_true : (b : Bool) → not b ≡ true → b ≡ false
 not_true true is = cc
@@ -125,3 +125,57 @@ listed_free [] fit = refl
 listed_free (place ∷ places) fit =
     let rest = flat_map (λ other. codes "," ++ decimal other) places in
     list_all-append (λ byte. not (byte == 32)) (decimal place) rest ∙ both (is_free 32 (decimal place)) (is_free 32 rest) (decimal_free 32 place (omega arith) (omega (arith, fit.0))) (others_free places fit.1)
+
+how_by : (b : Bool) (one other : How) → HowFits one → HowFits other → HowFits (cond b one other)
+how_by true one other fits also = fits
+how_by false one other fits also = also
+
+-- how an attempt ended has its numbers in their ranges, whatever the word is
+pub how_fits : (word : List ℕ) → HowFits (how_in word)
+how_fits word =
+    let ended = Exited (code_in (drop 5 word)) in
+    let lacks = cond (bytes_eq (take 6 word) (codes "lacks:")) (Lacks (short_in (drop 6 word))) ended in
+    let memory = cond (bytes_eq word (codes "memory")) NoMemory lacks in
+    let unstarted = cond (bytes_eq word (codes "unstarted")) NotStarted memory in
+    let timeout = cond (bytes_eq word (codes "timeout")) TimedOut unstarted in
+    how_by (bytes_eq word (codes "signal")) Signalled timeout tt
+    (how_by (bytes_eq word (codes "timeout")) TimedOut unstarted tt
+    (how_by (bytes_eq word (codes "unstarted")) NotStarted memory tt
+    (how_by (bytes_eq word (codes "memory")) NoMemory lacks tt
+    (how_by (bytes_eq (take 6 word) (codes "lacks:")) (Lacks (short_in (drop 6 word))) ended (short_fits (drop 6 word)) (code_fits (drop 5 word))))))
+
+cause_by : (b : Bool) (one other : Cause) → CauseFits one → CauseFits other → CauseFits (cond b one other)
+cause_by true one other fits also = fits
+cause_by false one other fits also = also
+
+numbered_fits : (word : List ℕ) → CauseFits (numbered_cause_in word)
+numbered_fits word =
+    let operation = Why.BadOperation (short_in (drop 13 word)) in
+    let setup = cond (bytes_eq (take 8 word) (codes "fixture:")) (Why.Fixture (short_in (drop 8 word))) operation in
+    cause_by (bytes_eq (take 6 word) (codes "lacks:")) (Why.Lacks (short_in (drop 6 word))) setup (short_fits (drop 6 word))
+    (cause_by (bytes_eq (take 8 word) (codes "fixture:")) (Why.Fixture (short_in (drop 8 word))) operation (short_fits (drop 8 word)) (short_fits (drop 13 word)))
+
+-- a cause has its number in its range, whatever the word is
+pub cause_fits : (word : List ℕ) → CauseFits (cause_in word)
+cause_fits word =
+    let numbered = numbered_cause_in word in
+    let memory = cond (bytes_eq word (codes "memory")) Why.Memory numbered in
+    let stopped = cond (bytes_eq word (codes "stopped")) Why.Stopped memory in
+    let insufficient = cond (bytes_eq word (codes "insufficient")) Why.Insufficient stopped in
+    let notavailable = cond (bytes_eq word (codes "notavailable")) Why.NotAvailable insufficient in
+    cause_by (bytes_eq word (codes "unstarted")) Why.Unstarted notavailable tt
+    (cause_by (bytes_eq word (codes "notavailable")) Why.NotAvailable insufficient tt
+    (cause_by (bytes_eq word (codes "insufficient")) Why.Insufficient stopped tt
+    (cause_by (bytes_eq word (codes "stopped")) Why.Stopped memory tt (cause_by (bytes_eq word (codes "memory")) Why.Memory numbered tt (numbered_fits word)))))
+
+shorts_fit : (words : List (List ℕ)) → AllByRecursion IsShort (map short_in words)
+shorts_fit [] = tt
+shorts_fit (word ∷ words) = (short_fits word, shorts_fit words)
+
+places_by : (b : Bool) (words : List (List ℕ)) → AllByRecursion IsShort (cond b [] (map short_in words))
+places_by true words = tt
+places_by false words = shorts_fit words
+
+-- places have their range, whatever the word is
+pub places_fit : (word : List ℕ) → AllByRecursion IsShort (places_in word)
+places_fit word = places_by (length word == 0) (pieces 44 word)

@@ -97,13 +97,15 @@ places_in word = if length word == 0 then [] else map short_in (pieces comma wor
 abbrev pub placement_in : List (List ℕ) → Option (List ℕ)
 placement_in words = if nat_lt 4 (length words) then Some (places_in (word_at words 5)) else None
 
--- the start, the end, and the settling of a test, by the words of a line
+-- the start of an attempt, by the words of its line
 abbrev pub start_in : List (List ℕ) → EntryLine
 start_in words = Start (short_in (word_at words 1)) (short_in (word_at words 2)) (short_in (word_at words 3)) (placement_in words)
 
+-- the end of an attempt, by the words of its line
 abbrev pub end_in : List (List ℕ) → EntryLine
 end_in words = End (short_in (word_at words 1)) (short_in (word_at words 2)) (short_in (word_at words 3)) (seen_in words)
 
+-- what settles a test, by the words of its line
 abbrev pub settle_in : List (List ℕ) → EntryLine
 settle_in words = Settle (short_in (word_at words 1)) (cause_in (word_at words 2))
 

@@ -139,6 +139,6 @@ Fits Line.First = ⊤
 Fits (Line.Entry entry) = EntryFits entry
 Fits (Line.Done count) = count < 2 ^ 64
 
--- a text says a line exactly where it is that line, and else none
+-- a text says a line exactly where it is that line, with the numbers in their ranges; any other text says none
 abbrev pub Says : List ℕ → Option JournalLine → Type 0
-Says text said = (line : JournalLine) → Fits line → (said ≡ Some line) ↔ (text ≡ line_text line)
+Says text said = (line : JournalLine) → (said ≡ Some line) ↔ (Fits line × (text ≡ line_text line))

