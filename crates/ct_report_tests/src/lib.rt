@@ -1,13 +1,15 @@
 //! The tests of what is reported and kept of a run: its texts, the lists
-//! that replace it, and the cost data.
+//! that replace it, the cost data, and the journal.
 //!
 //! Hands up: nothing. A crate with tests of its own is proved twice, so they stand here.
-//! Stands on: ct_base, ct_verdict, ct_history, ct_report, ct_cost, ct_samples.
+//! Stands on: ct_base, ct_alloc, ct_verdict, ct_history, ct_report, ct_cost, ct_journal, ct_samples.
 //! Read first: `rows.rt` makes what the others test.
 #![tactic(auto)]
 
 #[cfg(test)]
 mod cost;
+#[cfg(test)]
+mod journal;
 #[cfg(test)]
 mod lists;
 #[cfg(test)]
