@@ -1,3 +1,4 @@
 -- The definitions that contracts cite, in reading order.
 pub mod Journal
+pub mod Completed
 pub mod Guess
