@@ -1,9 +1,10 @@
 //! The journal of a run: what is written of each entry, and which lines are read.
 
 use ct_alloc::{Pick, Placement};
-use ct_base::{Blob, List, Name, NoMemory};
+use ct_base::{Blob, List, Name, NoMemory, Resource};
 use ct_history::Entry;
-use ct_journal::{journal_text, line_text, read_line};
+use ct_journal::{journal_text, line_text, placement_at, read_line};
+use ct_samples::{cards, needs};
 use ct_verdict::{Cause, How, Seen};
 use std::alloc::Global;
 use std::process::Abort;
@@ -259,6 +260,49 @@ fn reads_no_other_text(rt: HostRuntime) -> Result<(), Fail> {
     for row in NO_LINES.lines() {
         let line = read_line(rt.alloc(), row.as_bytes())?;
         assert!(rt; line.is_none(), "read: {row}");
+    }
+    Ok(())
+}
+
+/// Makes two cards of one kind, and behind them a resource of another one.
+fn machine(alloc: Global) -> Result<List<Resource>, NoMemory> {
+    let mut resources = cards(alloc, &[4, 2])?;
+    resources.push(Resource {
+        kind: Name::of(alloc, b"licenses")?,
+        id: Name::of(alloc, b"a")?,
+        slots: 9,
+    })?;
+    Ok(resources)
+}
+
+fn is_on_both_cards(placement: &Placement) -> bool {
+    match placement.picks.as_slice() {
+        [first, second] => {
+            first.id.bytes() == b"1".as_slice()
+                && first.resource == 1
+                && first.slots == 2
+                && second.id.bytes() == b"0".as_slice()
+                && second.resource == 0
+                && second.slots == 1
+        }
+        _ => false,
+    }
+}
+
+#[test]
+fn completes_places_by_needs_and_resources(rt: HostRuntime) -> Result<(), Fail> {
+    let alloc = rt.alloc();
+    let resources = machine(alloc)?;
+    let asked = needs(alloc, &[2, 1])?;
+    let found = placement_at(alloc, resources.as_slice(), asked.as_slice(), &[1, 0])?;
+    assert!(rt;
+        found.is_some_and(|placement| is_on_both_cards(&placement)),
+        "1,0"
+    );
+    let wrong: [&[u32]; 6] = [&[], &[0], &[0, 1, 0], &[0, 2], &[2, 0], &[0, 3]];
+    for places in wrong {
+        let found = placement_at(alloc, resources.as_slice(), asked.as_slice(), places)?;
+        assert!(rt; found.is_none(), "{places:?}");
     }
     Ok(())
 }
