@@ -12,6 +12,8 @@ pub enum Task {
     ListTests,
     /// The labels of the tests are listed: --print-labels.
     ListLabels,
+    /// The tests are listed as JSON: --show-only=json-v1.
+    ListJson,
 }
 
 /// What the words of a command line ask for.
@@ -31,4 +33,6 @@ pub struct Invocation {
     pub spec_file: Option<Name>,
     /// Whether it is an error that there is no test.
     pub empty_is_error: bool,
+    /// Whether the tests that failed last are run again: --rerun-failed.
+    pub rerun: bool,
 }

@@ -52,6 +52,7 @@ impl Settings {
                 keep_any: None,
                 keep_setup: None,
                 keep_cleanup: None,
+                only: None,
             },
             level: None,
             repeat: None,
@@ -104,6 +105,7 @@ impl Settings {
             timeout: self.timeout.unwrap_or(USUAL_LIMIT),
             spec_file: self.spec_file,
             empty_is_error: self.empty_is_error.unwrap_or(false),
+            rerun: false,
         })
     }
 

@@ -93,6 +93,7 @@ fn wanted(alloc: Global, level: u32) -> Result<Wanted, NoMemory>
         keep_any: None,
         keep_setup: None,
         keep_cleanup: None,
+        only: None,
     };
     Ok(Wanted {
         dir: Name::of(alloc, b".")?,

@@ -40,6 +40,9 @@ pub struct Choice {
     pub keep_setup: Option<Regex>,
     /// Fixtures for which no cleanups are drawn in: -FC.
     pub keep_cleanup: Option<Regex>,
+    /// Where given, a test is chosen exactly where its name stands among these, and no other
+    /// condition counts: --rerun-failed.
+    pub only: Option<List<Name>>,
 }
 
 /// What is wanted of a run.
