@@ -9,7 +9,7 @@ use Rattle.std.proofs.lemmas.List.Folds.{list_any-append}
 use denote.Enum.Bare.{same_true}
 use Rattle.ct_args.specs.contracts.option.CommandOption.{the_type}
 use Rattle.ct_args.specs.declared.option.CommandOption.{CommandOption}
-use Rattle.ct_args.specs.declared.option.CommandOption.TheVariants.{TestsRegex, ExcludeRegex, LabelRegex, LabelExclude, FixtureExcludeAny, FixtureExcludeSetup, FixtureExcludeCleanup, TestsInformation, Union, Parallel, BuildConfig, TestDir, ResourceSpecFile, Timeout, Repeat, NoTests, StopOnFailure, ShowOnly, PrintLabels, Verbosity}
+use Rattle.ct_args.specs.declared.option.CommandOption.TheVariants.{TestsRegex, ExcludeRegex, LabelRegex, LabelExclude, FixtureExcludeAny, FixtureExcludeSetup, FixtureExcludeCleanup, TestsInformation, Union, Parallel, BuildConfig, TestDir, ResourceSpecFile, Timeout, Repeat, NoTests, StopOnFailure, ShowOnly, ShowOnlyAs, PrintLabels, RerunFailed, Verbosity}
 use Rattle.ct_args.specs.declared.usage.UsageKind.{UsageKind}
 use Rattle.ct_args.specs.declared.usage.UsageKind.TheVariants.{UnknownOption, NoValue, Twice}
 use Rattle.ct_args.specs.declared.usage.UsageFault.{UsageFault}
@@ -123,14 +123,14 @@ flag_list : {X : Type 0} (rule : List ℕ → Result X UsageKind) (own : Command
 flag_list rule own before list word option value kept asks asks_not =
     values-more rule own before (taken word option value) ∙ ap (λ b. values_of rule own before ++ option_to_list (cond b (value_by rule value) None)) (differs own option true asks asks_not) ∙ append-nil (values_of rule own before) ∙ kept
 
--- the mark of a flag behind an option that takes a value
-text_mark : (own : CommandOption) (before : List Given) (mark : Bool) (word : ℕ) (option : CommandOption) (value : Option Value) → is_given own before ≡ mark → takes_value own ≡ false → takes_value option ≡ true → is_given own (before ++ taken word option value ∷ []) ≡ mark
-text_mark own before mark word option value kept asks_not asks =
-    given-more own before (taken word option value) ∙ ap (λ b. is_given own before || b) (differs own option false asks_not asks) ∙ or-false (is_given own before) ∙ kept
+-- the mark of an option behind another one, of which one alone takes a value
+other_mark : (own : CommandOption) (before : List Given) (mark : Bool) (word : ℕ) (option : CommandOption) (value : Option Value) (asks : Bool) → is_given own before ≡ mark → takes_value own ≡ asks → takes_value option ≡ not asks → is_given own (before ++ taken word option value ∷ []) ≡ mark
+other_mark own before mark word option value asks kept own_asks other_asks =
+    given-more own before (taken word option value) ∙ ap (λ b. is_given own before || b) (differs own option asks own_asks other_asks) ∙ or-false (is_given own before) ∙ kept
 
--- the mark of a flag behind an option that takes none
-flag_mark : (own : CommandOption) (before : List Given) (mark : Bool) (word : ℕ) (option : CommandOption) (value : Option Value) → is_given own before ≡ mark → is_given own (before ++ taken word option value ∷ []) ≡ (is_same own option || mark)
-flag_mark own before mark word option value kept =
+-- the mark of an option behind any option
+more_mark : (own : CommandOption) (before : List Given) (mark : Bool) (word : ℕ) (option : CommandOption) (value : Option Value) → is_given own before ≡ mark → is_given own (before ++ taken word option value ∷ []) ≡ (is_same own option || mark)
+more_mark own before mark word option value kept =
     given-more own before (taken word option value) ∙ or-comm (is_given own before) (is_same own option) ∙ ap (λ b. is_same own option || b) kept
 
 -- the slots hold what was given before
@@ -153,7 +153,9 @@ record Keeps (before : List Given) (slots : Slots) : Type 0 where
   empty_is_error : IsSlot is_error_in NoTests before slots.empty_is_error
   stop_on_failure : is_given StopOnFailure before ≡ slots.stop_on_failure
   show_only : is_given ShowOnly before ≡ slots.show_only
+  show_json : is_given ShowOnlyAs before ≡ slots.show_json
   print_labels : is_given PrintLabels before ≡ slots.print_labels
+  rerun : is_given RerunFailed before ≡ slots.rerun
 
 keeps_nothing : Keeps [] no_slots
 keeps_nothing = record {
@@ -175,7 +177,9 @@ keeps_nothing = record {
   empty_is_error = record { values = refl; full = refl };
   stop_on_failure = refl;
   show_only = refl;
+  show_json = refl;
   print_labels = refl;
+  rerun = refl;
 }
 
 keeps_text : (before : List Given) (slots : Slots) (word : ℕ) (option : CommandOption) (value : Value) → Keeps before slots → is_full slots option ≡ false → takes_value option ≡ true → why_refused option value.text ≡ None → Keeps (before ++ taken word option (Some value) ∷ []) (with_text option value.text slots)
@@ -185,7 +189,7 @@ keeps_text before slots word option value kept empty asks good = record {
   labels = text_list pattern_in LabelRegex before slots.labels word option value kept.labels;
   not_labels = text_list pattern_in LabelExclude before slots.not_labels word option value kept.not_labels;
   numbers = text_slot numbers_in TestsInformation before slots slots.numbers word option value kept.numbers refl refl empty good;
-  union = text_mark Union before slots.union word option (Some value) kept.union refl asks;
+  union = other_mark Union before slots.union word option (Some value) false kept.union refl asks;
   keep_any = text_slot pattern_in FixtureExcludeAny before slots slots.keep_any word option value kept.keep_any refl refl empty good;
   keep_setup = text_slot pattern_in FixtureExcludeSetup before slots slots.keep_setup word option value kept.keep_setup refl refl empty good;
   keep_cleanup = text_slot pattern_in FixtureExcludeCleanup before slots slots.keep_cleanup word option value kept.keep_cleanup refl refl empty good;
@@ -196,9 +200,11 @@ keeps_text before slots word option value kept empty asks good = record {
   spec_file = text_slot text_in ResourceSpecFile before slots slots.spec_file word option value kept.spec_file refl refl empty good;
   timeout = text_slot limit_in Timeout before slots slots.timeout word option value kept.timeout refl refl empty good;
   empty_is_error = text_slot is_error_in NoTests before slots slots.empty_is_error word option value kept.empty_is_error refl refl empty good;
-  stop_on_failure = text_mark StopOnFailure before slots.stop_on_failure word option (Some value) kept.stop_on_failure refl asks;
-  show_only = text_mark ShowOnly before slots.show_only word option (Some value) kept.show_only refl asks;
-  print_labels = text_mark PrintLabels before slots.print_labels word option (Some value) kept.print_labels refl asks;
+  stop_on_failure = other_mark StopOnFailure before slots.stop_on_failure word option (Some value) false kept.stop_on_failure refl asks;
+  show_only = other_mark ShowOnly before slots.show_only word option (Some value) false kept.show_only refl asks;
+  show_json = more_mark ShowOnlyAs before slots.show_json word option (Some value) kept.show_json;
+  print_labels = other_mark PrintLabels before slots.print_labels word option (Some value) false kept.print_labels refl asks;
+  rerun = other_mark RerunFailed before slots.rerun word option (Some value) false kept.rerun refl asks;
 }
 
 keeps_flag : (before : List Given) (slots : Slots) (word : ℕ) (option : CommandOption) (value : Option Value) → Keeps before slots → takes_value option ≡ false → Keeps (before ++ taken word option value ∷ []) (with_flag option slots)
@@ -208,7 +214,7 @@ keeps_flag before slots word option value kept asks_not = record {
   labels = flag_list pattern_in LabelRegex before slots.labels word option value kept.labels refl asks_not;
   not_labels = flag_list pattern_in LabelExclude before slots.not_labels word option value kept.not_labels refl asks_not;
   numbers = flag_slot numbers_in TestsInformation before slots.numbers word option value kept.numbers refl asks_not;
-  union = flag_mark Union before slots.union word option value kept.union;
+  union = more_mark Union before slots.union word option value kept.union;
   keep_any = flag_slot pattern_in FixtureExcludeAny before slots.keep_any word option value kept.keep_any refl asks_not;
   keep_setup = flag_slot pattern_in FixtureExcludeSetup before slots.keep_setup word option value kept.keep_setup refl asks_not;
   keep_cleanup = flag_slot pattern_in FixtureExcludeCleanup before slots.keep_cleanup word option value kept.keep_cleanup refl asks_not;
@@ -219,9 +225,11 @@ keeps_flag before slots word option value kept asks_not = record {
   spec_file = flag_slot text_in ResourceSpecFile before slots.spec_file word option value kept.spec_file refl asks_not;
   timeout = flag_slot limit_in Timeout before slots.timeout word option value kept.timeout refl asks_not;
   empty_is_error = flag_slot is_error_in NoTests before slots.empty_is_error word option value kept.empty_is_error refl asks_not;
-  stop_on_failure = flag_mark StopOnFailure before slots.stop_on_failure word option value kept.stop_on_failure;
-  show_only = flag_mark ShowOnly before slots.show_only word option value kept.show_only;
-  print_labels = flag_mark PrintLabels before slots.print_labels word option value kept.print_labels;
+  stop_on_failure = more_mark StopOnFailure before slots.stop_on_failure word option value kept.stop_on_failure;
+  show_only = more_mark ShowOnly before slots.show_only word option value kept.show_only;
+  show_json = other_mark ShowOnlyAs before slots.show_json word option value true kept.show_json refl asks_not;
+  print_labels = more_mark PrintLabels before slots.print_labels word option value kept.print_labels;
+  rerun = more_mark RerunFailed before slots.rerun word option value kept.rerun;
 }
 
 -- an option is given twice where its slot is full
@@ -244,7 +252,9 @@ twice-full before slots Repeat kept = kept.repeat.full
 twice-full before slots NoTests kept = kept.empty_is_error.full
 twice-full before slots StopOnFailure kept = refl
 twice-full before slots ShowOnly kept = refl
+twice-full before slots ShowOnlyAs kept = refl
 twice-full before slots PrintLabels kept = refl
+twice-full before slots RerunFailed kept = refl
 twice-full before slots Verbosity kept = refl
 
 slot-value : {X : Type 0} (rule : List ℕ → Result X UsageKind) (own : CommandOption) (before : List Given) (slot : Option X) → IsSlot rule own before slot → value_of rule own before ≡ slot
@@ -265,7 +275,7 @@ made before slots kept =
     let spec_file = slot-value text_in ResourceSpecFile before slots.spec_file kept.spec_file in
     let timeout = slot-value limit_in Timeout before slots.timeout kept.timeout in
     let empty_is_error = slot-value is_error_in NoTests before slots.empty_is_error kept.empty_is_error in
-    cc (kept.labels, kept.not_labels, kept.union, kept.stop_on_failure, kept.show_only, kept.print_labels)
+    cc (kept.labels, kept.not_labels, kept.union, kept.stop_on_failure, kept.show_only, kept.show_json, kept.print_labels, kept.rerun)
 
 -- what one more option comes to: its fault, or slots that hold it too
 data Steps (before : List Given) (slots : Slots) (given : Given) : Type 0 where

@@ -3,13 +3,13 @@
 use Rattle.std.specs.Prelude.{ℕ, Bool, true, false, ◌&&◌, not, List, [], ◌∷◌, ◌++◌, Option, Some, None, option_map, option_to_list, if◌then◌else◌}
 use Rattle.std.specs.Result.{result_err}
 use Rattle.ct_args.specs.declared.option.CommandOption.{CommandOption}
-use Rattle.ct_args.specs.declared.option.CommandOption.TheVariants.{TestsRegex, ExcludeRegex, LabelRegex, LabelExclude, FixtureExcludeAny, FixtureExcludeSetup, FixtureExcludeCleanup, TestsInformation, Union, Parallel, Timeout, Repeat, NoTests, StopOnFailure, ShowOnly, PrintLabels, Verbosity}
+use Rattle.ct_args.specs.declared.option.CommandOption.TheVariants.{TestsRegex, ExcludeRegex, LabelRegex, LabelExclude, FixtureExcludeAny, FixtureExcludeSetup, FixtureExcludeCleanup, TestsInformation, Union, Parallel, Timeout, Repeat, NoTests, StopOnFailure, ShowOnly, ShowOnlyAs, PrintLabels, RerunFailed, Verbosity}
 use Rattle.ct_args.specs.declared.usage.UsageKind.{UsageKind}
 use Rattle.ct_args.specs.declared.usage.UsageKind.TheVariants.{UnknownOption, NoValue, Twice}
 use Rattle.ct_args.specs.declared.usage.UsageFault.{UsageFault}
 use Rattle.ct_args.specs.declared.usage.UsageFault.TheVariants.{At}
 use Rattle.ct_args.specs.Given.{Value, Given, options_in, is_given}
-use Rattle.ct_args.specs.Values.{pattern_in, numbers_in, level_in, limit_in, repeat_in, is_error_in}
+use Rattle.ct_args.specs.Values.{pattern_in, numbers_in, level_in, limit_in, repeat_in, is_error_in, json_in}
 
 -- the option takes a value
 abbrev pub takes_value : CommandOption → Bool
@@ -17,13 +17,15 @@ takes_value Union = false
 takes_value StopOnFailure = false
 takes_value ShowOnly = false
 takes_value PrintLabels = false
+takes_value RerunFailed = false
 takes_value Verbosity = false
 takes_value option = true
 
--- the option may be given several times: it has a pattern for labels, or takes no value
+-- the option may be given several times: it has a pattern for labels, names the form of the list, or takes no value
 abbrev pub may_repeat : CommandOption → Bool
 may_repeat LabelRegex = true
 may_repeat LabelExclude = true
+may_repeat ShowOnlyAs = true
 may_repeat option = not (takes_value option)
 
 -- why a text is refused as the value of the option, where it is; a configuration, a folder and a file may be any text
@@ -40,29 +42,30 @@ why_refused Parallel text = result_err (level_in text)
 why_refused Timeout text = result_err (limit_in text)
 why_refused Repeat text = result_err (repeat_in text)
 why_refused NoTests text = result_err (is_error_in text)
+why_refused ShowOnlyAs text = result_err (json_in text)
 why_refused option text = None
 
--- what is wrong with the value of an option that the word with this number names: that there is none is told at that word, a bad one at the word that holds it
+-- the fault of the value of an option that this word names; a missing value is a fault of this word, a bad one of the word that holds it
 abbrev pub fault_of_value : ℕ → CommandOption → Option Value → Option UsageFault
 fault_of_value word option None = Some (At word NoValue)
 fault_of_value word option (Some value) = option_map (At value.word) (why_refused option value.text)
 
--- what is wrong with an option behind these: that it stood before is looked at before its value
+-- the fault of an option behind these; the checks are, in order: given twice, no value, bad value
 abbrev pub fault_of_option : List Given → ℕ → Option CommandOption → Option Value → Option UsageFault
 fault_of_option before word None value = Some (At word UnknownOption)
 fault_of_option before word (Some option) value =
     if not (may_repeat option) && is_given option before then Some (At word Twice)
     else (if takes_value option then fault_of_value word option value else None)
 
--- what is wrong with what is given behind these
+-- the fault of what is given behind these
 abbrev pub fault_of : List Given → Given → Option UsageFault
 fault_of before given = fault_of_option before given.word given.option given.value
 
--- all that is wrong with some options behind others, from the left
+-- the faults of options behind others, from the left
 abbrev pub faults_behind : List Given → List Given → List UsageFault
 faults_behind before [] = []
 faults_behind before (given ∷ others) = option_to_list (fault_of before given) ++ faults_behind (before ++ given ∷ []) others
 
--- all that is wrong with the words of a command line, from the left
+-- the faults of the words of a command line, from the left
 abbrev pub faults_in : List (List ℕ) → List UsageFault
 faults_in words = faults_behind [] (options_in words)

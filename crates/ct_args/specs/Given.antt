@@ -16,19 +16,19 @@ pub record Value : Type 0 where
   pub word : ℕ
   pub text : List ℕ
 
--- the number of a word, the option that it names, none where it is no option, and the value of the option, where it stands there
+-- what a word gives: its number; the option that it names, if any; and the value of the option, if there is one
 pub record Given : Type 0 where
   pub word : ℕ
   pub option : Option CommandOption
   pub value : Option Value
 
--- the value that stands at this place, for an option in a word with this number and text, in front of the next word
+-- the value of an option whose word has this number and text, by where the value stands and by the next word
 abbrev pub value_at : ValuePlace → ℕ → List ℕ → Option (List ℕ) → Option Value
 value_at Nowhere word text next = None
 value_at (Behind count) word text next = Some (record { word = word; text = drop count text })
 value_at NextWord word text next = option_map (λ other. record { word = word + 1; text = other }) next
 
--- what is given by a word with this number and text, in front of the next word
+-- what a word with this number and text gives, by what it says and by the next word
 abbrev pub given_by : Option Said → ℕ → List ℕ → Option (List ℕ) → Given
 given_by None word text next = record { word = word; option = None; value = None }
 given_by (Some said) word text next = record { word = word; option = Some said.option; value = value_at said.value word text next }
@@ -89,11 +89,11 @@ values_of rule option given = filter_map (value_for rule option) given
 abbrev pub value_of : {X : Type 0} → (List ℕ → Result X UsageKind) → CommandOption → List Given → Option X
 value_of rule option given = slice_get (values_of rule option given) 0
 
--- how many words there are up to the last one that belongs to what is given
+-- the number of the last word that belongs to an option in the word with this number, by its value
 abbrev pub end_by : ℕ → Option Value → ℕ
 end_by word None = word
 end_by word (Some value) = value.word
 
--- how many words there are up to the last one that belongs to what is given
+-- the number of the last word that belongs to what is given
 abbrev pub end_of : Given → ℕ
 end_of given = end_by given.word given.value

@@ -6,10 +6,10 @@ use Rattle.ct_regex.specs.TreeOf.{regex_tree}
 use Rattle.ct_props.specs.declared.wanted.Numbers.{Numbers}
 use Rattle.ct_verdict.specs.declared.repeat.Mode.TheVariants.{Once}
 use Rattle.ct_verdict.specs.declared.repeat.Repeat.{Repeat}
-use Rattle.ct_args.specs.declared.option.CommandOption.TheVariants.{TestsRegex, ExcludeRegex, LabelRegex, LabelExclude, FixtureExcludeAny, FixtureExcludeSetup, FixtureExcludeCleanup, TestsInformation, Union, Parallel, BuildConfig, TestDir, ResourceSpecFile, Timeout, Repeat as RepeatOption, NoTests, StopOnFailure, ShowOnly, PrintLabels}
+use Rattle.ct_args.specs.declared.option.CommandOption.TheVariants.{TestsRegex, ExcludeRegex, LabelRegex, LabelExclude, FixtureExcludeAny, FixtureExcludeSetup, FixtureExcludeCleanup, TestsInformation, Union, Parallel, BuildConfig, TestDir, ResourceSpecFile, Timeout, Repeat as RepeatOption, NoTests, StopOnFailure, ShowOnly, ShowOnlyAs, PrintLabels, RerunFailed}
 use Rattle.ct_args.specs.declared.usage.UsageFault.{UsageFault}
 use Rattle.ct_args.specs.declared.invocation.Task.{Task}
-use Rattle.ct_args.specs.declared.invocation.Task.TheVariants.{Run, ListTests, ListLabels}
+use Rattle.ct_args.specs.declared.invocation.Task.TheVariants.{Run, ListTests, ListLabels, ListJson}
 use Rattle.ct_args.specs.declared.invocation.Invocation.{Invocation}
 use Rattle.ct_args.specs.Given.{Given, options_in, is_given, value_of, values_of}
 use Rattle.ct_args.specs.Values.{text_in, pattern_in, numbers_in, level_in, limit_in, repeat_in, is_error_in}
@@ -28,6 +28,7 @@ pub record InvocationValue : Type 0 where
   pub keep_any : Option Tree
   pub keep_setup : Option Tree
   pub keep_cleanup : Option Tree
+  pub only : Option (List (List ℕ))
   pub level : ℕ
   pub repeat : Repeat
   pub stop_on_failure : Bool
@@ -35,10 +36,11 @@ pub record InvocationValue : Type 0 where
   pub timeout : ℕ
   pub spec_file : Option (List ℕ)
   pub empty_is_error : Bool
+  pub rerun : Bool
 
--- what the program is asked to do; the list of labels is stronger than that of tests
-abbrev pub task_by : Bool → Bool → Task
-task_by labels tests = if labels then ListLabels else (if tests then ListTests else Run)
+-- what the program is asked to do: --print-labels is stronger than --show-only=json-v1, which is stronger than -N
+abbrev pub task_by : Bool → Bool → Bool → Task
+task_by labels json tests = if labels then ListLabels else (if json then ListJson else (if tests then ListTests else Run))
 
 -- each test is tried once
 abbrev pub once : Repeat
@@ -52,10 +54,10 @@ here = codes "."
 abbrev pub usual_limit : ℕ
 usual_limit = 1500000000
 
--- what options that have no fault ask for
+-- what options that have no fault ask for; none of them names the tests that alone are chosen
 abbrev pub invocation_of : List Given → InvocationValue
 invocation_of given = record {
-  task = task_by (is_given PrintLabels given) (is_given ShowOnly given);
+  task = task_by (is_given PrintLabels given) (is_given ShowOnlyAs given) (is_given ShowOnly given);
   dir = unwrap_or (value_of text_in TestDir given) here;
   name = value_of pattern_in TestsRegex given;
   not_name = value_of pattern_in ExcludeRegex given;
@@ -66,6 +68,7 @@ invocation_of given = record {
   keep_any = value_of pattern_in FixtureExcludeAny given;
   keep_setup = value_of pattern_in FixtureExcludeSetup given;
   keep_cleanup = value_of pattern_in FixtureExcludeCleanup given;
+  only = None;
   level = unwrap_or (value_of level_in Parallel given) 1;
   repeat = unwrap_or (value_of repeat_in RepeatOption given) once;
   stop_on_failure = is_given StopOnFailure given;
@@ -73,6 +76,7 @@ invocation_of given = record {
   timeout = unwrap_or (value_of limit_in Timeout given) usual_limit;
   spec_file = value_of text_in ResourceSpecFile given;
   empty_is_error = unwrap_or (value_of is_error_in NoTests given) false;
+  rerun = is_given RerunFailed given;
 }
 
 -- the invocation, or the first of these faults
@@ -98,6 +102,7 @@ invocation_seen made = record {
   keep_any = option_map regex_tree made.wanted.choice.keep_any;
   keep_setup = option_map regex_tree made.wanted.choice.keep_setup;
   keep_cleanup = option_map regex_tree made.wanted.choice.keep_cleanup;
+  only = made.wanted.choice.only;
   level = made.wanted.level;
   repeat = made.wanted.repeat;
   stop_on_failure = made.wanted.stop_on_failure;
@@ -105,6 +110,7 @@ invocation_seen made = record {
   timeout = made.timeout;
   spec_file = made.spec_file;
   empty_is_error = made.empty_is_error;
+  rerun = made.rerun;
 }
 
 -- what holds of all that words ask for: the level is from 1 to 65,535, and a test is tried at most 1 to 99,999 times

@@ -1,5 +1,5 @@
--- The reader's own: what it keeps of the options in front of a word. That this gives what the options ask for, or the first
--- fault, is shown in proofs/. This project's own.
+-- What the reader keeps of the options in front of a word. proofs/ shows that it gives what the options ask for, or the
+-- first fault. This project's own.
 use Rattle.std.specs.Prelude.{ℕ, Bool, false, ◌||◌, List, [], ◌∷◌, ◌++◌, map, Option, Some, None, is_some, unwrap_or, option_map, option_to_list, Result, Ok, Err, if◌then◌else◌}
 use Rattle.std.specs.Result.{result_ok}
 use Rattle.ct_regex.specs.Tree.{Tree}
@@ -7,7 +7,7 @@ use Rattle.ct_regex.specs.TreeOf.{regex_tree}
 use Rattle.ct_props.specs.declared.wanted.Numbers.{Numbers}
 use Rattle.ct_verdict.specs.declared.repeat.Repeat.{Repeat}
 use Rattle.ct_args.specs.declared.option.CommandOption.{CommandOption}
-use Rattle.ct_args.specs.declared.option.CommandOption.TheVariants.{TestsRegex, ExcludeRegex, LabelRegex, LabelExclude, FixtureExcludeAny, FixtureExcludeSetup, FixtureExcludeCleanup, TestsInformation, Union, Parallel, BuildConfig, TestDir, ResourceSpecFile, Timeout, Repeat as RepeatOption, NoTests, StopOnFailure, ShowOnly, PrintLabels}
+use Rattle.ct_args.specs.declared.option.CommandOption.TheVariants.{TestsRegex, ExcludeRegex, LabelRegex, LabelExclude, FixtureExcludeAny, FixtureExcludeSetup, FixtureExcludeCleanup, TestsInformation, Union, Parallel, BuildConfig, TestDir, ResourceSpecFile, Timeout, Repeat as RepeatOption, NoTests, StopOnFailure, ShowOnly, ShowOnlyAs, PrintLabels, RerunFailed}
 use Rattle.ct_args.specs.declared.usage.UsageKind.{UsageKind}
 use Rattle.ct_args.specs.declared.usage.UsageKind.TheVariants.{UnknownOption, NoValue, Twice}
 use Rattle.ct_args.specs.declared.usage.UsageFault.{UsageFault}
@@ -18,7 +18,7 @@ use Rattle.ct_args.specs.Values.{text_in, pattern_in, numbers_in, level_in, limi
 use Rattle.ct_args.specs.Fault.{why_refused, takes_value}
 use Rattle.ct_args.specs.Invocation.{InvocationValue, task_by, once, here, usual_limit}
 
--- a slot for each option that may be given once, a list for each of those of labels, and a mark for each flag
+-- a slot for each option that may be given once, a list for each of those of labels, and a mark for each other one
 pub record Slots : Type 0 where
   pub name : Option Tree
   pub not_name : Option Tree
@@ -38,7 +38,9 @@ pub record Slots : Type 0 where
   pub empty_is_error : Option Bool
   pub stop_on_failure : Bool
   pub show_only : Bool
+  pub show_json : Bool
   pub print_labels : Bool
+  pub rerun : Bool
 
 -- nothing was given
 abbrev pub no_slots : Slots
@@ -61,7 +63,9 @@ no_slots = record {
   empty_is_error = None;
   stop_on_failure = false;
   show_only = false;
+  show_json = false;
   print_labels = false;
+  rerun = false;
 }
 
 -- the slot of an option is full; an option that may be given several times has none
@@ -110,7 +114,9 @@ with_text option text slots = record {
   empty_is_error = filled is_error_in NoTests option text slots.empty_is_error;
   stop_on_failure = slots.stop_on_failure;
   show_only = slots.show_only;
+  show_json = is_same ShowOnlyAs option || slots.show_json;
   print_labels = slots.print_labels;
+  rerun = slots.rerun;
 }
 
 -- the slots behind an option that takes no value
@@ -120,6 +126,7 @@ with_flag option slots = record slots {
   stop_on_failure = is_same StopOnFailure option || slots.stop_on_failure;
   show_only = is_same ShowOnly option || slots.show_only;
   print_labels = is_same PrintLabels option || slots.print_labels;
+  rerun = is_same RerunFailed option || slots.rerun;
 }
 
 -- the slots behind a text that is given as the value of an option, unless it is refused
@@ -156,7 +163,7 @@ slots_behind slots (given ∷ others) = then_slots (after_given slots given) (λ
 -- the invocation that the slots make
 abbrev pub made_of : Slots → InvocationValue
 made_of slots = record {
-  task = task_by slots.print_labels slots.show_only;
+  task = task_by slots.print_labels slots.show_json slots.show_only;
   dir = unwrap_or slots.dir here;
   name = slots.name;
   not_name = slots.not_name;
@@ -167,6 +174,7 @@ made_of slots = record {
   keep_any = slots.keep_any;
   keep_setup = slots.keep_setup;
   keep_cleanup = slots.keep_cleanup;
+  only = None;
   level = unwrap_or slots.level 1;
   repeat = unwrap_or slots.repeat once;
   stop_on_failure = slots.stop_on_failure;
@@ -174,6 +182,7 @@ made_of slots = record {
   timeout = unwrap_or slots.timeout usual_limit;
   spec_file = slots.spec_file;
   empty_is_error = unwrap_or slots.empty_is_error false;
+  rerun = slots.rerun;
 }
 
 -- the settings as slots, with the trees of patterns in place of the patterns
@@ -197,5 +206,7 @@ slots_of settings = record {
   empty_is_error = settings.empty_is_error;
   stop_on_failure = settings.stop_on_failure;
   show_only = settings.show_only;
+  show_json = settings.show_json;
   print_labels = settings.print_labels;
+  rerun = settings.rerun;
 }

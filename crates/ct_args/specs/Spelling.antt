@@ -5,7 +5,7 @@ use Rattle.std.specs.List.{starts_with}
 use Rattle.std.specs.Option.{option_map, option_or}
 use Rattle.ct_base.specs.Seconds.{is_numeral}
 use Rattle.ct_args.specs.declared.option.CommandOption.{CommandOption}
-use Rattle.ct_args.specs.declared.option.CommandOption.TheVariants.{TestsRegex, ExcludeRegex, LabelRegex, LabelExclude, FixtureExcludeAny, FixtureExcludeSetup, FixtureExcludeCleanup, TestsInformation, Union, Parallel, BuildConfig, TestDir, ResourceSpecFile, Timeout, Repeat, NoTests, StopOnFailure, ShowOnly, PrintLabels, Verbosity}
+use Rattle.ct_args.specs.declared.option.CommandOption.TheVariants.{TestsRegex, ExcludeRegex, LabelRegex, LabelExclude, FixtureExcludeAny, FixtureExcludeSetup, FixtureExcludeCleanup, TestsInformation, Union, Parallel, BuildConfig, TestDir, ResourceSpecFile, Timeout, Repeat, NoTests, StopOnFailure, ShowOnly, ShowOnlyAs, PrintLabels, RerunFailed, Verbosity}
 use Rattle.ct_args.specs.declared.spelling.Form.{Form}
 use Rattle.ct_args.specs.declared.spelling.Form.TheVariants.{Flag, Short, Long, Digits, Inside}
 use Rattle.ct_args.specs.declared.spelling.ValuePlace.{ValuePlace}
@@ -43,7 +43,9 @@ spellings =
     spelled (codes "--no-tests") NoTests Inside ∷
     spelled (codes "--stop-on-failure") StopOnFailure Flag ∷
     spelled (codes "-N") ShowOnly Flag ∷ spelled (codes "--show-only") ShowOnly Flag ∷
+    spelled (codes "--show-only") ShowOnlyAs Inside ∷
     spelled (codes "--print-labels") PrintLabels Flag ∷
+    spelled (codes "--rerun-failed") RerunFailed Flag ∷
     spelled (codes "-V") Verbosity Flag ∷ spelled (codes "--verbose") Verbosity Flag ∷
     spelled (codes "-VV") Verbosity Flag ∷ spelled (codes "--extra-verbose") Verbosity Flag ∷
     spelled (codes "--output-on-failure") Verbosity Flag ∷
@@ -64,7 +66,7 @@ abbrev pub behind_equals : List ℕ → List ℕ → Option ValuePlace
 behind_equals name [] = None
 behind_equals name (byte ∷ bytes) = if byte == equals then Some (Behind (length name + 1)) else None
 
--- where the value stands by the form, the name, and what stands behind the name in the same word; none where that is not of the form
+-- where the value stands, by the form and by what stands behind the name in the same word; none where that is not of the form
 abbrev pub place_behind : Form → List ℕ → List ℕ → Option ValuePlace
 place_behind Flag name rest = at_end Nowhere rest
 place_behind Short name rest = at_end NextWord rest

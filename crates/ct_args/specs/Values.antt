@@ -67,6 +67,10 @@ unfoldable pub is_error_in : List ℕ → Result Bool UsageKind
 is_error_in text =
     if bytes_eq text (codes "error") then Ok true else (if bytes_eq text (codes "ignore") then Ok false else Err BadMode)
 
+-- --show-only=: the one form of the list that can be named
+unfoldable pub json_in : List ℕ → Result (Unit {0}) UsageKind
+json_in text = if bytes_eq text (codes "json-v1") then Ok tt else Err BadMode
+
 -- the greatest number of a test that -I can name
 abbrev pub most_number : ℕ
 most_number = 2 ^ 32 - 1

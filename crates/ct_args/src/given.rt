@@ -23,12 +23,12 @@ pub struct Given<'a> {
     pub word: u32,
     /// The option; `None` is a word that names none.
     pub option: Option<CommandOption>,
-    /// Its value; `None` where it takes none, and where no word follows that could be it.
+    /// Its value; `None` where the option takes none, or where no word follows.
     pub value: Option<Value<'a>>,
 }
 
 impl<'a> Given<'a> {
-    /// Cuts off the option that stands behind so many words.
+    /// Reads the option that begins behind the first `count` words.
     #[tactic(auto, using(crate::proofs::CutLemmas::end_grows, crate::proofs::CutLemmas::end_within))]
     pub fn behind(words: &'a [Name], count: usize) -> Given<'a>
         requires few { length words.now < 2 ^ 32 - 1 }
@@ -41,7 +41,7 @@ impl<'a> Given<'a> {
         Given::by(Said::by(text), count as u32 + 1, text, words.get(count + 1))
     }
 
-    /// What a word with this number gives, by what it says, in front of the next word.
+    /// What the word with this number gives, by what it says and by the next word.
     fn by(said: Option<Said>, word: u32, text: &'a [u8], next: Option<&'a Name>) -> Given<'a>
         requires few { word < 2 ^ 32 - 1 }
         requires fits { ForSome said (λ s. FitsIn (length text.now) s.value) }
@@ -61,7 +61,7 @@ impl<'a> Given<'a> {
         }
     }
 
-    /// Counts the words up to the last one that belongs to the option.
+    /// The number of the last word that belongs to the option.
     pub fn end(&self) -> u32
         ensures { result ≡ end_of (given_seen self.now) }
     {

@@ -42,8 +42,12 @@ pub enum CommandOption {
     StopOnFailure,
     /// The tests are listed: -N.
     ShowOnly,
+    /// The tests are listed in the form that the value names: --show-only=json-v1.
+    ShowOnlyAs,
     /// The labels are listed: --print-labels.
     PrintLabels,
+    /// The tests that failed last are run again: --rerun-failed.
+    RerunFailed,
     /// One that asks for more or less output, which has no effect here: -V and others.
     Verbosity,
 }
@@ -58,6 +62,7 @@ impl CommandOption {
             | CommandOption::StopOnFailure
             | CommandOption::ShowOnly
             | CommandOption::PrintLabels
+            | CommandOption::RerunFailed
             | CommandOption::Verbosity => false,
             _ => true,
         }

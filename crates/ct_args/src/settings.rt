@@ -12,7 +12,7 @@ use crate::invocation::{Invocation, Task};
 use crate::numbers::numbers;
 use crate::option::CommandOption;
 use crate::usage::{UsageFault, UsageKind, ValueFault};
-use crate::values::{is_error, level, limit, pattern, repeat};
+use crate::values::{is_error, json, level, limit, pattern, repeat};
 use ct_base::{List, Name, NoMemory};
 use ct_props::{Choice, Wanted};
 use ct_verdict::{Mode, Repeat};
@@ -21,7 +21,7 @@ use std::alloc::Global;
 /// How long a test may run without --timeout, in microseconds. This project's choice.
 const USUAL_LIMIT: u64 = 1_500_000_000;
 
-/// What the options say that were read so far, with a slot for each one that may be given once.
+/// What the options read so far say. Each option that may be given once has a slot.
 #[derive(Drop)]
 pub struct Settings {
     choice: Choice,
@@ -34,7 +34,9 @@ pub struct Settings {
     empty_is_error: Option<bool>,
     stop_on_failure: bool,
     show_only: bool,
+    show_json: bool,
     print_labels: bool,
+    rerun: bool,
 }
 
 impl Settings {
@@ -63,7 +65,9 @@ impl Settings {
             empty_is_error: None,
             stop_on_failure: false,
             show_only: false,
+            show_json: false,
             print_labels: false,
+            rerun: false,
         }
     }
 
@@ -88,6 +92,7 @@ impl Settings {
         ensures { IfOk result (λ made. invocation_seen made ≡ made_of (slots_of self)) }
     {
         let task = self.task();
+        let choice = self.choice;
         let once = Repeat {
             mode: Mode::Once,
             times: 1,
@@ -96,7 +101,10 @@ impl Settings {
             task,
             wanted: Wanted {
                 dir: or_text(alloc, self.dir, b".")?,
-                choice: self.choice,
+                choice: Choice {
+                    only: None,
+                    ..choice
+                },
                 level: self.level.unwrap_or(1),
                 repeat: self.repeat.unwrap_or(once),
                 stop_on_failure: self.stop_on_failure,
@@ -105,15 +113,17 @@ impl Settings {
             timeout: self.timeout.unwrap_or(USUAL_LIMIT),
             spec_file: self.spec_file,
             empty_is_error: self.empty_is_error.unwrap_or(false),
-            rerun: false,
+            rerun: self.rerun,
         })
     }
 
     fn task(&self) -> Task
-        ensures { result ≡ task_by self.now.print_labels self.now.show_only }
+        ensures { result ≡ task_by self.now.print_labels self.now.show_json self.now.show_only }
     {
         if self.print_labels {
             Task::ListLabels
+        } else if self.show_json {
+            Task::ListJson
         } else if self.show_only {
             Task::ListTests
         } else {
@@ -121,8 +131,7 @@ impl Settings {
         }
     }
 
-    /// Takes one option: it is asked first whether it was given before, then whether it has its
-    /// value, and then for what the value says.
+    /// Takes one option. The checks are, in order: given twice, no value, bad value.
     fn take(&mut self, alloc: Global, given: &Given) -> Result<(), UsageFault>
         ensures { IsRead (λ done. slots_of self.new) (after_given (slots_of self.old) (given_seen given.now)) result }
     {
@@ -169,7 +178,9 @@ impl Settings {
             | CommandOption::Union
             | CommandOption::StopOnFailure
             | CommandOption::ShowOnly
+            | CommandOption::ShowOnlyAs
             | CommandOption::PrintLabels
+            | CommandOption::RerunFailed
             | CommandOption::Verbosity => false,
         }
     }
@@ -183,6 +194,7 @@ impl Settings {
             CommandOption::StopOnFailure => self.stop_on_failure = true,
             CommandOption::ShowOnly => self.show_only = true,
             CommandOption::PrintLabels => self.print_labels = true,
+            CommandOption::RerunFailed => self.rerun = true,
             _ => {}
         }
     }
@@ -213,6 +225,10 @@ impl Settings {
             CommandOption::Timeout => self.timeout = Some(limit(text)?),
             CommandOption::Repeat => self.repeat = Some(repeat(text)?),
             CommandOption::NoTests => self.empty_is_error = Some(is_error(text)?),
+            CommandOption::ShowOnlyAs => {
+                json(text)?;
+                self.show_json = true
+            }
             _ => {}
         }
         Ok(())

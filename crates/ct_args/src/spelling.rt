@@ -41,7 +41,7 @@ pub struct Said {
 /// The words that name options.
 ///
 /// Source: CMake manual, ctest(1), Options.
-const SPELLINGS: [(&[u8], CommandOption, Form); 37] = [
+const SPELLINGS: [(&[u8], CommandOption, Form); 39] = [
     (b"-R", CommandOption::TestsRegex, Form::Short),
     (b"--tests-regex", CommandOption::TestsRegex, Form::Long),
     (b"-E", CommandOption::ExcludeRegex, Form::Short),
@@ -96,7 +96,9 @@ const SPELLINGS: [(&[u8], CommandOption, Form); 37] = [
     ),
     (b"-N", CommandOption::ShowOnly, Form::Flag),
     (b"--show-only", CommandOption::ShowOnly, Form::Flag),
+    (b"--show-only", CommandOption::ShowOnlyAs, Form::Inside),
     (b"--print-labels", CommandOption::PrintLabels, Form::Flag),
+    (b"--rerun-failed", CommandOption::RerunFailed, Form::Flag),
     (b"-V", CommandOption::Verbosity, Form::Flag),
     (b"--verbose", CommandOption::Verbosity, Form::Flag),
     (b"-VV", CommandOption::Verbosity, Form::Flag),
@@ -133,7 +135,7 @@ fn first_said(rows: &[(&[u8], CommandOption, Form)], word: &[u8]) -> Option<Said
     None
 }
 
-/// Finds where the value stands by an option's name and form; `None` is a word of another option.
+/// Finds where the value stands, by the name and the form of an option. `None`: the word does not name it so.
 fn value_place(form: Form, name: &[u8], word: &[u8]) -> Option<ValuePlace>
     ensures value { result ≡ place_in_word form name.now word.now }
     ensures fits { IfSome result (FitsIn (length word.now)) }

@@ -22,8 +22,8 @@ pub enum UsageKind {
 /// Why the words of the command line are not read.
 #[derive(Clone, Copy, Debug, PartialEq, Eq)]
 pub enum UsageFault {
-    /// The first refused word from the left, counted from 1: for a bad value the word that holds it,
-    /// and else the word that names the option.
+    /// The first refused word from the left, counted from 1. A bad value is refused at the word that
+    /// holds it, everything else at the word that names the option.
     At { word: u32, kind: UsageKind },
     /// Memory was wanting.
     NoMemory,
