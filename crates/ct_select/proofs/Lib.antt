@@ -1,2 +1,3 @@
 mod StrideLemmas
 mod ChosenLemmas
+mod NameLemmas

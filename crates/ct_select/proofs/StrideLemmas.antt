@@ -36,7 +36,7 @@ by_rest : (start stride number : ℕ) → start ≤ number → (rest : Bool) →
 by_rest start stride number from true is = whole_way start stride number from (eqb-true ((number - start) % stride) 0 is)
 by_rest start stride number from false is = part_way start stride number (eqb-false ((number - start) % stride) 0 is)
 
--- from the start on the rest of the way says it; where the stride is 0 that is the whole way
+-- from the start on, a number is on the stride where the stride divides the way; a stride of 0 divides no way but 0
 pub on_stride : (start stride number : ℕ) → start ≤ number → is_on_stride start stride number ≡ eqb ((number - start) % stride) 0
 on_stride start stride number from = by_rest start stride number from (eqb ((number - start) % stride) 0) refl
 

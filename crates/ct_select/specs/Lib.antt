@@ -1,3 +1,5 @@
 -- The definitions that contracts cite, in reading order.
 pub mod Chosen
 pub mod Others
+pub mod Names
+pub mod FailedLog

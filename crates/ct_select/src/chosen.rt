@@ -1,20 +1,26 @@
 ghost use Rattle.std.specs.Prelude.{◌≡◌, ◌<◌, ◌-◌, ◌^◌, length, IfOk};
-ghost use Rattle.ct_select.specs.Chosen.{by_number as numbered_by, chosen_tests, is_chosen as is_chosen_by};
+ghost use Rattle.ct_select.specs.Chosen.{by_number as numbered_by, chosen_tests, is_chosen as is_chosen_by, is_chosen_by_options as options_choose};
 ghost use Rattle.ct_select.specs.Others.{HasOthers};
+ghost use Rattle.ct_select.specs.Names.{HasNames};
 
+use crate::names::names_of;
 use crate::numbers::{by_number, others_of};
 use crate::patterns::{admit, hit_labels, is_left_out, name_hit};
 use ct_base::{List, NoMemory, TestDef};
 use ct_props::{Choice, Props};
 use std::alloc::Global;
+use std::collections::BTreeSet;
 
 /// Chooses the tests that a run is asked for, and gives their numbers in order.
 ///
 /// Numbers count from 1, in the order of definition. The tests and their properties belong together
 /// by place.
 ///
-/// Source: CMake manual, ctest(1), -R, -E, -L, -LE, -I, -U. That -U asks for one of the two where
-/// both -R and -I are given is this project's choice.
+/// Where a choice has `only`, a test is chosen by its name alone.
+///
+/// Source: CMake manual, ctest(1), -R, -E, -L, -LE, -I, -U, --rerun-failed. That -U asks for one of
+/// the two where both -R and -I are given, and that --rerun-failed goes by names, is this project's
+/// choice.
 pub fn select(
     alloc: Global,
     defs: &List<TestDef>,
@@ -27,27 +33,48 @@ pub fn select(
 {
     let (defs, props) = (defs.as_slice(), props.as_slice());
     let count = defs.len() as u32;
+    let names = names_of(alloc, choice)?;
     let others = others_of(alloc, choice)?;
     let mut chosen = List::new(alloc);
     for at in 0..defs.len() {
         let number = at as u32 + 1;
         let numbered = by_number(choice, &others, count, number);
-        if is_chosen(alloc, choice, numbered, &defs[at], &props[at])? {
+        if is_chosen(alloc, choice, &names, numbered, &defs[at], &props[at])? {
             chosen.push(number)?;
         }
     }
     Ok(chosen)
 }
 
-/// Tells whether a test is chosen, of which -I says this where it was given.
-fn is_chosen(
+/// Tells whether a test is chosen. `numbered` is what -I says of it, where -I was given.
+///
+/// Where names alone are asked for, no pattern is tried.
+fn is_chosen<'a>(
+    alloc: Global,
+    choice: &Choice,
+    names: &BTreeSet<&'a [u8]>,
+    numbered: Option<bool>,
+    def: &'a TestDef,
+    own: &Props,
+) -> Result<bool, NoMemory>
+    requires { HasNames choice.now names.now }
+    ensures { IfOk result (λ chosen. chosen ≡ is_chosen_by choice.now numbered def.now own.now) }
+{
+    match &choice.only {
+        Some(_) => Ok(names.contains(&def.name.bytes())),
+        None => is_chosen_by_options(alloc, choice, numbered, def, own),
+    }
+}
+
+/// Tells whether the options choose a test.
+fn is_chosen_by_options(
     alloc: Global,
     choice: &Choice,
     numbered: Option<bool>,
     def: &TestDef,
     own: &Props,
 ) -> Result<bool, NoMemory>
-    ensures { IfOk result (λ chosen. chosen ≡ is_chosen_by choice.now numbered def.now own.now) }
+    ensures { IfOk result (λ chosen. chosen ≡ options_choose choice.now numbered def.now own.now) }
 {
     let named = name_hit(alloc, &choice.name, &def.name)?;
     if !admit(choice.union, named, numbered) {

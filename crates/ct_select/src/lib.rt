@@ -1,12 +1,16 @@
 //! Chooses the tests that a run is asked for.
 //!
-//! Hands up: `select` gives the numbers of the tests that names, labels and numbers admit.
-//! Stands on: ct_base, ct_regex and ct_props.
+//! Hands up: `select` gives the numbers of the tests that names, labels and numbers admit, or that
+//! alone are asked for; `failed_names` reads the names in a log of failed tests.
+//! Stands on: ct_base, ct_regex, ct_props and ct_cost.
 //! Read first: `specs/Chosen.antt`, then `chosen.rt`.
 #![tactic(auto)]
 
 mod chosen;
+mod failed;
+mod names;
 mod numbers;
 mod patterns;
 
 pub use chosen::select;
+pub use failed::failed_names;

@@ -19,7 +19,7 @@ pub(crate) fn name_hit(
     }
 }
 
-/// Tells whether a name and a number, of which each may not be asked for, admit a test together.
+/// Tells whether -R and -I admit a test, by what each of them says where it was given.
 pub(crate) fn admit(union: bool, named: Option<bool>, numbered: Option<bool>) -> bool
     ensures { result ≡ admitted union named numbered }
 {
