@@ -1,6 +1,8 @@
 //! Which tests the words choose.
 
 use crate::rows::{chosen, invocation_of, is_told, tests_of, told};
+use ct_base::NoMemory;
+use ct_select::failed_names;
 use std::alloc::Global;
 use std::process::Abort;
 use std::test::Fail;
@@ -110,10 +112,72 @@ a off, b | -R a is 1
 a, a, b | -R ^a$ is 1,2
 ";
 
+/// Four tests, of which two have one name.
+const LOGGED: &str = "a labels=slow, b, c:d, a";
+
+/// Logs of failed tests and words, and which of the four tests they choose. `/` ends a line.
+const BY_LOG: &str = "\
+2:b/odd/9:zz | -R a is 2
+2:b/odd/9:zz/ | is 2
+2:b/odd/9:zz | is 2
+odd | is none
+odd/ | -R a is none
+ | is none
+/ | is none
+1:a | is 1,4
+4:a/ | is 1,4
+1:a/2:b/4:a/ | is 1,2,4
+2:b/1:a/ | is 1,2,4
+9:b | is 2
+0:b | is 2
+002:b | is 2
+b | is none
+:b | is none
+2: | is none
+2 b | is none
+x:b | is none
+2x:b | is none
+-2:b | is none
+ 2:b | is none
+2: b | is none
+2:b  | is none
+2::b | is none
+3:c:d | is 3
+3:c | is none
+2:B | is none
+2:b/2:b | is 2
+2:b//3:c:d | is 2,3
+1:a | -E a is 1,4
+1:a/2:b | -L x is 1,2,4
+1:a/2:b | -LE slow is 1,2,4
+1:a/2:b | -I ,0 is 1,2,4
+2:b | -R a -I 1 -U is 2
+1:a | -R b -E a -L x -LE slow -I 3,3 is 1,4
+";
+
 /// What the words choose among the tests.
 fn chosen_told(rt: &impl Abort, alloc: Global, tests: &str, words: &str) -> Result<String, Fail> {
     let tests = tests_of(alloc, tests)?;
     let invocation = invocation_of(rt, alloc, words)?;
+    let chosen = chosen(rt, alloc, &tests, &invocation)?;
+    Ok(told(alloc, chosen.as_slice())?)
+}
+
+/// The bytes of a row's log.
+fn log_of(alloc: Global, row: &str) -> Result<Vec<u8>, NoMemory> {
+    let mut log = Vec::new(alloc);
+    for byte in row.as_bytes() {
+        log.push(if *byte == b'/' { b'\n' } else { *byte })?;
+    }
+    Ok(log)
+}
+
+/// What the words choose where the tests of a log alone are asked for.
+fn chosen_again(rt: &impl Abort, alloc: Global, log: &str, words: &str) -> Result<String, Fail> {
+    let tests = tests_of(alloc, LOGGED)?;
+    let mut invocation = invocation_of(rt, alloc, words)?;
+    let log = log_of(alloc, log)?;
+    invocation.wanted.choice.only = Some(failed_names(alloc, log.as_slice())?);
     let chosen = chosen(rt, alloc, &tests, &invocation)?;
     Ok(told(alloc, chosen.as_slice())?)
 }
@@ -137,4 +201,15 @@ fn chooses_by_names_and_numbers(rt: HostRuntime) -> Result<(), Fail> {
 #[test]
 fn chooses_by_labels(rt: HostRuntime) -> Result<(), Fail> {
     choose_as_told(&rt, rt.alloc(), BY_LABEL, "")
+}
+
+#[test]
+fn chooses_the_tests_of_a_log_alone(rt: HostRuntime) -> Result<(), Fail> {
+    for row in BY_LOG.lines() {
+        let (given, want) = row.split_once(" is ").unwrap_or((row, ""));
+        let (log, words) = given.split_once(" |").unwrap_or((given, ""));
+        let told = chosen_again(&rt, rt.alloc(), log, words)?;
+        is_told(&rt, row, told.as_str(), want);
+    }
+    Ok(())
 }

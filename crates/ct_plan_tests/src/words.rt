@@ -67,7 +67,9 @@ const SPELLINGS: &str = "\
 --stop-on-failure is stop
 -N is task=ListTests
 --show-only is task=ListTests
+--show-only=json-v1 is task=ListJson
 --print-labels is task=ListLabels
+--rerun-failed is rerun
 -V is
 --verbose is
 -VV is
@@ -120,6 +122,14 @@ const VALUES: &str = "\
 --repeat until-pass:007 is repeat=UntilPass:7
 -N --print-labels is task=ListLabels
 --print-labels --show-only is task=ListLabels
+--show-only=json-v1 --print-labels is task=ListLabels
+--print-labels -N --show-only=json-v1 is task=ListLabels
+-N --show-only=json-v1 is task=ListJson
+--show-only=json-v1 --show-only is task=ListJson
+--show-only=json-v1 --show-only=json-v1 is task=ListJson
+--show-only json-v1 is word 2 UnknownOption
+--rerun-failed --rerun-failed is rerun
+--rerun-failed -R ab -N is task=ListTests name=ab rerun
 -N -N --show-only is task=ListTests
 -U --union -U is union
 --stop-on-failure --stop-on-failure is stop
@@ -216,9 +226,10 @@ build is word 1 UnknownOption
 --no-tests is word 1 UnknownOption
 --no-tests error is word 1 UnknownOption
 -E -R ab is word 3 UnknownOption
---show-only=json-v1 is word 1 UnknownOption
---show-only=human is word 1 UnknownOption
---rerun-failed is word 1 UnknownOption
+-N=json-v1 is word 1 UnknownOption
+--show-onlyjson-v1 is word 1 UnknownOption
+--rerun-failed=1 is word 1 UnknownOption
+--rerun is word 1 UnknownOption
 --resource-spec r.json is word 1 UnknownOption
 --resource-spec-filer.json is word 1 UnknownOption
 --help is word 1 UnknownOption
@@ -310,6 +321,14 @@ const BAD_VALUES: &str = "\
 --no-tests=maybe is word 1 BadMode
 --no-tests=Error is word 1 BadMode
 --no-tests=error=1 is word 1 BadMode
+--show-only=xml is word 1 BadMode
+--show-only= is word 1 BadMode
+--show-only=json is word 1 BadMode
+--show-only=json-v2 is word 1 BadMode
+--show-only=JSON-v1 is word 1 BadMode
+--show-only=human is word 1 BadMode
+-N --show-only=xml is word 2 BadMode
+--show-only=json-v1 --show-only=xml is word 2 BadMode
 ";
 
 /// Options that are given a second time.
@@ -366,6 +385,8 @@ const FIRST_FAULTS: &str = "\
 --repeat y --timeout x is word 2 BadMode
 --no-tests=maybe --no-tests=maybe is word 1 BadMode
 -N --no-tests -j 0 is word 2 UnknownOption
+--show-only=xml --nope is word 1 BadMode
+--nope --show-only=xml is word 1 UnknownOption
 -I a -I is word 2 BadNumber
 -j -j is word 2 BadNumber
 -j -j -j is word 2 BadNumber
@@ -440,7 +461,8 @@ fn put_choice(alloc: Global, told: &mut String, choice: &Choice) -> Result<(), N
     put_flag(told, "union", choice.union)?;
     put_pattern(alloc, told, "keep_any", &choice.keep_any)?;
     put_pattern(alloc, told, "keep_setup", &choice.keep_setup)?;
-    put_pattern(alloc, told, "keep_cleanup", &choice.keep_cleanup)
+    put_pattern(alloc, told, "keep_cleanup", &choice.keep_cleanup)?;
+    Ok(put_flag(told, "only", choice.only.is_some())?)
 }
 
 fn put_flag(told: &mut String, label: &str, is: bool) -> Result<(), AllocError> {
@@ -496,7 +518,8 @@ fn put_facts(alloc: Global, told: &mut String, invocation: &Invocation) -> Resul
     put_text(told, "config", text_of(&invocation.config), "")?;
     put_number(told, "timeout", invocation.timeout, 1_500_000_000)?;
     put_file(told, &invocation.spec_file)?;
-    Ok(put_flag(told, "empty_is_error", invocation.empty_is_error)?)
+    put_flag(told, "empty_is_error", invocation.empty_is_error)?;
+    Ok(put_flag(told, "rerun", invocation.rerun)?)
 }
 
 fn put_fault(told: &mut String, fault: &UsageFault) -> Result<(), AllocError> {
