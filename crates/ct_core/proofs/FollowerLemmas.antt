@@ -165,3 +165,16 @@ followers-enabled tests at t lt is on =
     map-agrees (listed (take at tests) t t.before) (followers_of (take (at + 1) tests)) tests (λ k inner.
     ap (λ (b : Bool). followers_of (take at tests) (number_at tests k) ++ one_if (not b && is_one_of (number_at tests k) t.before) t.number) (sym on)
     ∙ sym (followers-more tests at t (number_at tests k) lt is))
+
+-- the empty lists of the tests up to a place, and one more
+none-grows : (tests : List PlanTest) (at : ℕ) → at < length tests → followers_among [] (take (suc at) tests) ≡ followers_among [] (take at tests) ++ [] ∷ []
+none-grows [] at lt = absurd (omega (arith, lt))
+none-grows (t ∷ ts) zero lt = refl
+none-grows (t ∷ ts) (suc at) lt = ap (λ (xs : List (List ℕ)). [] ∷ xs) (none-grows ts at (omega (arith, lt)))
+
+-- one empty list more, behind those of the tests up to a place
+pub none-more : (tests : List PlanTest) (at : ℕ) (before now : List (List ℕ)) (last : List ℕ) → at < length tests → before ≡ followers_among [] (take at tests) → last ≡ [] → now ≡ before ++ last ∷ [] → now ≡ followers_among [] (take (at + 1) tests)
+none-more tests at before now last lt is empty grows =
+    let one : suc at ≡ at + 1 = omega arith in
+    grows ∙ ap (λ (xs : List (List ℕ)). xs ++ last ∷ []) is ∙ ap (λ (xs : List ℕ). followers_among [] (take at tests) ++ xs ∷ []) empty ∙ sym (none-grows tests at lt)
+    ∙ ap (λ (n : ℕ). followers_among [] (take n tests)) one

@@ -1,6 +1,6 @@
 use Rattle.std.proofs.Common.{ℕ, ◌-◌, ◌<◌, ◌≤◌, length}
 use Rattle.ct_core.proofs.PlaceLemmas.{number_at}
-use Rattle.ct_core.proofs.places.place_of.Given as goal
+use Rattle.ct_core.proofs.places.search.Given as goal
 
 abbrev pub invariant-loop-low : goal.invariant-loop-low
 invariant-loop-low l = record {
