@@ -90,12 +90,7 @@ pub(crate) fn attend<R: Wait, G: Gate, S: Sink>(
 }
 
 /// Takes the turn, asks what the worker has to do next, and gives the turn back.
-fn begin<R: Wait, S: Sink>(
-    rt: &R,
-    turn: &Turn<State<S>>,
-    pass: &mut Pass,
-    worker: u32,
-) -> Answer
+fn begin<R: Wait, S: Sink>(rt: &R, turn: &Turn<State<S>>, pass: &mut Pass, worker: u32) -> Answer
     requires turn { pass.old.turn ≡ turn.now.id }
     requires idle { (pass.old.taken ≡ None) × (held_start pass.old.known ≡ None) }
     requires worker { pass.old.known.worker ≡ worker }

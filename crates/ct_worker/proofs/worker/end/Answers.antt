@@ -33,7 +33,7 @@ give-requires-clause-continues g c =
     let ended = end_step known old c.requires.sound c.take-state.ensures.suits c.args.ticket c.requires.holds c.args.seen finished c.finish.ensures in
     let began = next_step c.args.worker seen finished c.requires.worker suits idle sound c.next_of-answer.result.next new c.next_of-answer.ensures.next in
     may_give c.args.pass.now c.take-state.new.pass old new c.take-state.ensures.pass c.take-state.ensures.suits
-        (step_then known.worker old finished new ended (subst (λ (w : ℕ). IsStep w finished new) (sym c.requires.worker) began))
+    (step_then known.worker old finished new ended (subst (λ (w : ℕ). IsStep w finished new) (sym c.requires.worker) began))
 
 pub returns-clause-ends : goal.returns-clause-ends
 returns-clause-ends g c =
