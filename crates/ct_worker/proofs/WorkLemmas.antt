@@ -16,7 +16,7 @@ use Rattle.ct_turn.specs.Pass.{PassValue}
 use Rattle.ct_turn.specs.Seen.{GoesOn, has_seen, held_start, is_by}
 use Rattle.ct_worker.specs.Attempt.{RunsAttempt, run_of}
 use Rattle.ct_worker.specs.Gates.{IsAsked, Terms}
-use Rattle.ct_worker.specs.Work.{AsksNext, AsksSince, EndsAndAsks, EndsOwn, GoesAlong, IsUnderWay, SeesNext, Starts, Stays}
+use Rattle.ct_worker.specs.Work.{AsksSince, EndsAndAsks, EndsOwn, GoesAlong, IsUnderWay, SeesNext, Starts, Stays}
 use Rattle.ct_worker.proofs.GateLemmas.{asked_attempt, asked_none, asked_others, asked_then}
 use Rattle.ct_worker.proofs.StopLemmas.{due_keeps}
 
