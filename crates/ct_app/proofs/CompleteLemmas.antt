@@ -1,5 +1,5 @@
 -- A run or a list that can be made is carried out, where no fault was counted: what is read of it is not refused.
-use Rattle.std.proofs.Common.{◌≡◌, ◌∙◌, sym, ap, subst, ℕ, zero, suc, List, [], ◌∷◌, refl, arith, inl, inr}
+use Rattle.std.proofs.Common.{◌≡◌, ◌∙◌, sym, ap, subst, Bool, ℕ, zero, suc, List, [], ◌∷◌, refl, arith, inl, inr}
 use Rattle.std.specs.Prelude.{Option, Some, None, Result, Ok, Err, IfSome, ◌⊎◌, slice_get}
 use Rattle.std.proofs.lemmas.Option.{same_Some}
 use Rattle.ct_base.specs.declared.defs.Resource.{Resource}
@@ -31,11 +31,13 @@ use Rattle.ct_app.specs.Calls.{IsReadFault, IsUndeclared, IsUnreadable, IsUsage,
 use Rattle.ct_app.specs.Complete.{Completes, CompletesList, IsListable, IsRunnable, IsUnfailed}
 use Rattle.ct_app.specs.Lists.{AnswersList}
 use Rattle.ct_app.specs.Reading.{AskFor, IsSource, RefusesReading}
+use Rattle.ct_app.specs.Rerun.{AreOnly, choice_of}
 use Rattle.ct_app.specs.RunFiles.{FilesStay}
 use Rattle.ct_app.specs.Runs.{AnswersRun, HasRunWith, IsCutOff, IsRefusal, IsUnplannable, IsUnwritten, RanWith}
 use Rattle.ct_app.specs.SpecFile.{AreLent, RefusesFile, declared_in}
 use Rattle.ct_app.specs.Tests.{RefusesFirst}
 use Rattle.ct_app.proofs.AnswerLemmas.{run_none}
+use Rattle.ct_app.proofs.RerunLemmas.{only_same}
 use Rattle.ct_app.proofs.SourceLemmas.{IsSameChoice, before_same, edges_same, same_ok}
 
 -- what holds of what files tell that they hold
@@ -79,8 +81,8 @@ lent_unrefused held (Some path) (Some resources) why is refused = not_both (decl
 same_asked : (words : List (List ℕ)) (one other : Invocation) → AskFor words one → AskFor words other → invocation_seen one ≡ invocation_seen other
 same_asked words one other is also = same_ok (invocation_in words) (invocation_seen one) (invocation_seen other) is also
 
-same_choice : (one other : Invocation) → invocation_seen one ≡ invocation_seen other → IsSameChoice one.wanted.choice other.wanted.choice
-same_choice one other same = record {
+same_choice : (one other : Invocation) (names others : Option (List (List ℕ))) → invocation_seen one ≡ invocation_seen other → names ≡ others → IsSameChoice (choice_of one names) (choice_of other others)
+same_choice one other names others same limited = record {
   name = ap (λ (v : InvocationValue). v.name) same;
   not_name = ap (λ (v : InvocationValue). v.not_name) same;
   labels = ap (λ (v : InvocationValue). v.labels) same;
@@ -90,6 +92,7 @@ same_choice one other same = record {
   keep_any = ap (λ (v : InvocationValue). v.keep_any) same;
   keep_setup = ap (λ (v : InvocationValue). v.keep_setup) same;
   keep_cleanup = ap (λ (v : InvocationValue). v.keep_cleanup) same;
+  only = limited;
 }
 
 -- a list that can be made
@@ -158,10 +161,21 @@ module _ (s : Sides) (can : IsRunnable s) where
     defs_same : source.defs ≡ can.source.defs
     defs_same = same_ok (Ok source.defs) source.defs can.source.defs refl (tree_same s listable invocation words (Ok source.defs) read.tests.tree)
 
+    same : invocation_seen invocation ≡ invocation_seen can.invocation
+    same = same_asked s.words invocation can.invocation words can.words
+
+    names_same : source.wanted.choice.only ≡ can.source.wanted.choice.only
+    names_same =
+        only_same can.held can.invocation.rerun can.invocation.wanted.dir source.wanted.choice.only can.source.wanted.choice.only
+        (subst (λ (dir : List ℕ). AreOnly (Some can.held) can.invocation.rerun dir source.wanted.choice.only) (ap (λ (v : InvocationValue). v.dir) same)
+        (subst (λ (rerun : Bool). AreOnly (Some can.held) rerun invocation.wanted.dir source.wanted.choice.only) (ap (λ (v : InvocationValue). v.rerun) same)
+        (subst (λ (told : Option Held). AreOnly told invocation.rerun invocation.wanted.dir source.wanted.choice.only) can.told read.only)))
+        can.read.only
+
     choice_same : IsSameChoice source.wanted.choice can.source.wanted.choice
     choice_same =
         subst (λ (w : Wanted). IsSameChoice w.choice can.source.wanted.choice) (sym read.wanted)
-        (subst (λ (w : Wanted). IsSameChoice invocation.wanted.choice w.choice) (sym can.read.wanted) (same_choice invocation can.invocation (same_asked s.words invocation can.invocation words can.words)))
+        (subst (λ (w : Wanted). IsSameChoice (choice_of invocation source.wanted.choice.only) w.choice) (sym can.read.wanted) (same_choice invocation can.invocation source.wanted.choice.only can.source.wanted.choice.only same names_same))
 
     have : HaveProps can.source.defs source.props
     have = subst (λ (ds : List TestDef). HaveProps ds source.props) defs_same read.tests.have

@@ -26,6 +26,7 @@ use Rattle.ct_app.specs.Calls.{IsUnrun, Sides, sides}
 use Rattle.ct_app.specs.Runs.{IsRunOf}
 use Rattle.ct_app.specs.Ends.{Ends, EndsWithFiles, IsReadFolder, IsUnplanned, IsUnreadFolder, PlanEnds, RunLeaves, with_status}
 use Rattle.ct_app.specs.Outcome.{outcome_of_file}
+use Rattle.ct_app.specs.Rerun.{wanted_of}
 use Rattle.ct_app.specs.Reading.{AskFor, IsSource, most_edges}
 use Rattle.ct_app.specs.Run.{HasRun}
 use Rattle.ct_app.specs.RunFiles.{FilesStay, Leaves, LeavesPart, LeavesTorn, WritesFiles, done_of, last_costs}
@@ -78,15 +79,15 @@ pub terms_are : (own : List Pair) (s : Source) (limit : ℕ) (plan : PlanParts) 
 terms_are own s limit plan is = ap (λ (x : Option (List Resource)). let t : Terms = record { own = own; defs = s.defs; props = s.props; limit = limit; lends = is_some x } in t) is.resources
 
 -- a plan was made of the tests of a folder
-module _ (words : List (List ℕ)) (env : List Pair) (invocation : Invocation) (asked : AskFor words invocation) (files between files_now : FilesTell) (tests : Tests) (lent : Option (List Resource)) (costs : CostData) (read : IsReadFolder invocation files between tests lent costs) where
-  is_source : IsSource files.held invocation (source tests.defs tests.props invocation.wanted lent costs)
-  is_source = record { tests = read.read.read; wanted = refl; resources = read.lent; costs = read.last }
+module _ (words : List (List ℕ)) (env : List Pair) (invocation : Invocation) (asked : AskFor words invocation) (files between files_now : FilesTell) (tests : Tests) (lent : Option (List Resource)) (costs : CostData) (only : Option (List (List ℕ))) (read : IsReadFolder invocation files between tests lent costs only) where
+  is_source : IsSource files.held invocation (source tests.defs tests.props (wanted_of invocation only) lent costs)
+  is_source = record { tests = read.read.read; only = read.limits; wanted = refl; resources = read.lent; costs = read.last }
 
   -- the plan was run, and what the run leaves was written where it is complete
-  pub folder_ends : (terms : Terms) (gates gates_now : List GateTell) (sink sink_now : SinkTell) (plan : PlanParts) (entries : List Entry) (names : List (List ℕ)) (ended given : Result (Unit {0}) Outcome) → terms ≡ terms_from env (source tests.defs tests.props invocation.wanted lent costs) invocation.timeout → IsPlanAnswer most_edges (source tests.defs tests.props invocation.wanted lent costs) (Ok plan) → HasRun terms gates gates_now plan entries → FollowsQueue plan entries → PlanEnds plan entries sink sink_now ended → EndsWithFiles plan entries costs between files_now ended given → Ends (sides words env files files_now gates gates_now sink sink_now (Some plan) (Some entries)) names (with_status invocation.empty_is_error plan entries given)
+  pub folder_ends : (terms : Terms) (gates gates_now : List GateTell) (sink sink_now : SinkTell) (plan : PlanParts) (entries : List Entry) (names : List (List ℕ)) (ended given : Result (Unit {0}) Outcome) → terms ≡ terms_from env (source tests.defs tests.props (wanted_of invocation only) lent costs) invocation.timeout → IsPlanAnswer most_edges (source tests.defs tests.props (wanted_of invocation only) lent costs) (Ok plan) → HasRun terms gates gates_now plan entries → FollowsQueue plan entries → PlanEnds plan entries sink sink_now ended → EndsWithFiles plan entries costs between files_now ended given → Ends (sides words env files files_now gates gates_now sink sink_now (Some plan) (Some entries)) names (with_status invocation.empty_is_error plan entries given)
   folder_ends terms gates gates_now sink sink_now plan entries names ended given same planned ran order ends left =
       let s = sides words env files files_now gates gates_now sink sink_now (Some plan) (Some entries) in
-      let made = source tests.defs tests.props invocation.wanted lent costs in
+      let made = source tests.defs tests.props (wanted_of invocation only) lent costs in
       let last = subst (λ (dir : List ℕ). IfSome files.held (λ held. costs ≡ last_costs dir held)) (sym planned.1.dir) read.last in
       let run : IsRunOf env made invocation.timeout gates gates_now plan entries = record {
         few = planned.0;
@@ -106,7 +107,7 @@ module _ (words : List (List ℕ)) (env : List Pair) (invocation : Invocation) (
       })
 
   -- there is no plan
-  pub unplanned_ends : (gates : List GateTell) (sink : SinkTell) (plan : Option PlanParts) (history : Option (List Entry)) (names : List (List ℕ)) (ended : Result ℕ Outcome) (fault : PlanFault) → plan ≡ None → history ≡ None → IsPlanAnswer most_edges (source tests.defs tests.props invocation.wanted lent costs) (Err fault) → IsUnplanned tests.defs fault names ended → Ends (sides words env files between gates gates sink sink plan history) names ended
+  pub unplanned_ends : (gates : List GateTell) (sink : SinkTell) (plan : Option PlanParts) (history : Option (List Entry)) (names : List (List ℕ)) (ended : Result ℕ Outcome) (fault : PlanFault) → plan ≡ None → history ≡ None → IsPlanAnswer most_edges (source tests.defs tests.props (wanted_of invocation only) lent costs) (Err fault) → IsUnplanned tests.defs fault names ended → Ends (sides words env files between gates gates sink sink plan history) names ended
   unplanned_ends gates sink plan history names ended fault no_plan no_history answer unplanned = by fault answer unplanned
     where
       unrun : IsUnrun (sides words env files between gates gates sink sink plan history)
@@ -115,14 +116,14 @@ module _ (words : List (List ℕ)) (env : List Pair) (invocation : Invocation) (
       said : (other : Result ℕ Outcome) → ended ≡ other → Ends (sides words env files between gates gates sink sink plan history) names other → Ends (sides words env files between gates gates sink sink plan history) names ended
       said other is ends = subst (λ (o : Result ℕ Outcome). Ends (sides words env files between gates gates sink sink plan history) names o) (sym is) ends
 
-      by : (f : PlanFault) → IsPlanAnswer most_edges (source tests.defs tests.props invocation.wanted lent costs) (Err f) → IsUnplanned tests.defs f names ended → Ends (sides words env files between gates gates sink sink plan history) names ended
+      by : (f : PlanFault) → IsPlanAnswer most_edges (source tests.defs tests.props (wanted_of invocation only) lent costs) (Err f) → IsUnplanned tests.defs f names ended → Ends (sides words env files between gates gates sink sink plan history) names ended
       by (Plans.Cycle cycle) refused (inl (is, named)) =
           said (Err (Refused (Cycle cycle))) is
           (inr (
             inr (inr (record {
               invocation = invocation;
               words = asked;
-              source = source tests.defs tests.props invocation.wanted lent costs;
+              source = source tests.defs tests.props (wanted_of invocation only) lent costs;
               read = is_source;
               refused = (refused.0, refused.1, named);
               files = read.read.files;
@@ -137,7 +138,7 @@ module _ (words : List (List ℕ)) (env : List Pair) (invocation : Invocation) (
             inr (inr (record {
               invocation = invocation;
               words = asked;
-              source = source tests.defs tests.props invocation.wanted lent costs;
+              source = source tests.defs tests.props (wanted_of invocation only) lent costs;
               read = is_source;
               refused = refused;
               files = read.read.files;

@@ -3,6 +3,7 @@ pub mod ReportLemmas
 pub mod ChangeLemmas
 pub mod FrontLemmas
 pub mod RunFilesLemmas
+pub mod RerunLemmas
 pub mod SpecLemmas
 pub mod ReadLemmas
 pub mod PlanLemmas

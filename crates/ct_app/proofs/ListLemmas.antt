@@ -14,36 +14,39 @@ use Rattle.ct_app.specs.declared.outcome.Outcome.{Outcome}
 use Rattle.ct_app.specs.declared.outcome.Outcome.TheVariants.{Completed, Listed, Usage, Refused, FilesFault, OutputFault, Memory}
 use Rattle.ct_app.specs.declared.props.Tests.{Tests}
 use Rattle.ct_app.specs.Calls.{IsReadFault, IsUnreadable, IsUnrun, IsUsage, PutsOrFails, ThenLine, Tries, list_sides, sides}
-use Rattle.ct_app.specs.Ends.{EndsList, HasTests, IsUnread, ListEnds, Tells, TellsEnd, Told, listed_as}
+use Rattle.ct_app.specs.Ends.{EndsList, IsReadList, IsUnread, ListEnds, Tells, TellsEnd, Told, listed_as}
 use Rattle.ct_app.specs.Lists.{AnswersList, HasList, IsShortList, asked_lines}
 use Rattle.ct_app.specs.Outcome.{fault_line, fault_status}
 use Rattle.ct_app.specs.Reading.{AskFor}
+use Rattle.ct_app.specs.Rerun.{choice_of}
 use Rattle.ct_app.proofs.AnswerLemmas.{tried}
 
 -- a list of the tests that were read was put, or could not be
 module _ (words : List (List ℕ)) (invocation : Invocation) (asked : AskFor words invocation) (files files_now : FilesTell) (sink sink_now : SinkTell) where
-  pub read_list : (tests : Tests) (result : Result (Unit {0}) SinkFault) → HasTests invocation files files_now tests → PutsLines (asked_lines invocation tests.defs tests.props) sink sink_now result → ListEnds (list_sides words files files_now sink sink_now) (listed_as result)
-  read_list tests result read puts = by result puts
+  pub read_list : (tests : Tests) (only : Option (List (List ℕ))) (result : Result (Unit {0}) SinkFault) → IsReadList invocation files files_now tests only → PutsLines (asked_lines invocation (choice_of invocation only) tests.defs tests.props) sink sink_now result → ListEnds (list_sides words files files_now sink sink_now) (listed_as result)
+  read_list tests only result read puts = by result puts
     where
       unrun : IsUnrun (list_sides words files files_now sink sink_now)
       unrun = record { no_plan = refl; no_history = refl; unasked = refl }
 
-      has : (P : List (List ℕ) → Type 0) → P (asked_lines invocation tests.defs tests.props) → HasList (list_sides words files files_now sink sink_now) P
+      has : (P : List (List ℕ) → Type 0) → P (asked_lines invocation (choice_of invocation only) tests.defs tests.props) → HasList (list_sides words files files_now sink sink_now) P
       has P holds = record {
         invocation = invocation;
         words = asked;
         defs = tests.defs;
         props = tests.props;
-        read = read.read;
-        files = read.files;
+        read = read.read.read;
+        only = only;
+        limits = read.limits;
+        files = read.read.files;
         unrun = unrun;
         holds = holds;
       }
 
-      by : (r : Result (Unit {0}) SinkFault) → PutsLines (asked_lines invocation tests.defs tests.props) sink sink_now r → ListEnds (list_sides words files files_now sink sink_now) (listed_as r)
+      by : (r : Result (Unit {0}) SinkFault) → PutsLines (asked_lines invocation (choice_of invocation only) tests.defs tests.props) sink sink_now r → ListEnds (list_sides words files files_now sink sink_now) (listed_as r)
       by (Ok tt) put = has (λ lines. PutsLines lines sink sink_now (Ok tt)) put
       by (Err Sinks.Failed) put = has (λ lines. PutsLines lines sink sink_now (Err Sinks.Failed)) put
-      by (Err Sinks.NoMemory) put = (unrun, read.files, inr (has (λ lines. PutsLines lines sink sink_now (Err Sinks.NoMemory)) put))
+      by (Err Sinks.NoMemory) put = (unrun, read.read.files, inr (has (λ lines. PutsLines lines sink sink_now (Err Sinks.NoMemory)) put))
 
 -- the tests were not read
 pub unread_list : (words : List (List ℕ)) (invocation : Invocation) (asked : AskFor words invocation) (files files_now : FilesTell) (sink : SinkTell) (outcome : Outcome) → IsUnread invocation files files_now outcome → ListEnds (list_sides words files files_now sink sink) outcome
@@ -66,9 +69,11 @@ module _ (words : List (List ℕ)) (env : List Pair) (files files_now : FilesTel
     defs = has.defs;
     props = has.props;
     read = has.read;
+    only = has.only;
+    limits = has.limits;
     files = has.files;
     unrun = unrun;
-    holds = each (asked_lines has.invocation has.defs has.props) has.holds;
+    holds = each (asked_lines has.invocation (choice_of has.invocation has.only) has.defs has.props) has.holds;
   }
 
   answer_as : (o outcome : Outcome) (status : ℕ) → outcome ≡ o → status ≡ fault_status outcome → AnswersList (sides words env files files_now gates gates_now sink now plan history) o (fault_status o) → AnswersList (sides words env files files_now gates gates_now sink now plan history) outcome status

@@ -1,5 +1,5 @@
 -- What is read for the tests of a folder, and why it was not.
-use Rattle.std.proofs.Common.{◌≡◌, ◌∙◌, sym, ap, subst, ℕ, List, inl, inr}
+use Rattle.std.proofs.Common.{◌≡◌, ◌∙◌, sym, ap, subst, Bool, true, false, ℕ, List, inl, inr}
 use Rattle.std.specs.Prelude.{Option, Some, None, Result, Ok, Err, IfSome}
 use Rattle.ct_base.specs.declared.defs.Resource.{Resource}
 use Rattle.ct_base.specs.declared.defs.TestDef.{TestDef}
@@ -16,9 +16,10 @@ use Rattle.ct_app.specs.declared.outcome.SpecRefusal.{SpecRefusal}
 use Rattle.ct_app.specs.declared.props.Tests.{Tests}
 use Rattle.ct_app.specs.declared.spec_file.SpecFileFault.{SpecFileFault}
 use Rattle.ct_app.specs.declared.spec_file.SpecFileFault.TheVariants as Named
-use Rattle.ct_app.specs.Ends.{HasTests, IsReadFolder, IsUnread, IsUnreadFolder}
+use Rattle.ct_app.specs.Ends.{HasTests, IsReadFolder, IsReadList, IsUnread, IsUnreadFolder}
 use Rattle.ct_app.specs.Outcome.{outcome_of_file, outcome_of_spec}
-use Rattle.ct_app.specs.RunFiles.{FilesStay, ReadsCosts, costs_of, costs_path, last_costs}
+use Rattle.ct_app.specs.Rerun.{AreOnly, ReadsOnly, last_failed, names_of}
+use Rattle.ct_app.specs.RunFiles.{FilesStay, ReadsCosts, costs_of, costs_path, last_costs, log_path}
 use Rattle.ct_app.specs.SpecFile.{AreLent, ReadsSpec, RefusesFile, declared_in}
 use Rattle.ct_app.specs.Tests.{RefusesTests}
 use Rattle.ct_app.proofs.ChangeLemmas.{fails_then, same_then_same, serves_then}
@@ -43,6 +44,16 @@ same_last dir costs None between same read = tt
 same_last dir costs (Some x) None same read = absurd same
 same_last dir costs (Some x) (Some y) same read = read ∙ ap costs_of (same (costs_path dir))
 
+same_log : (dir : List ℕ) (names : List (List ℕ)) (before between : Option Held) → Becomes before between SameHeld → IfSome between (λ held. names ≡ last_failed dir held) → IfSome before (λ held. names ≡ last_failed dir held)
+same_log dir names None between same read = tt
+same_log dir names (Some x) None same read = absurd same
+same_log dir names (Some x) (Some y) same read = read ∙ ap names_of (same (log_path dir))
+
+same_only : (rerun : Bool) (dir : List ℕ) (only : Option (List (List ℕ))) (before between : Option Held) → Becomes before between SameHeld → AreOnly between rerun dir only → AreOnly before rerun dir only
+same_only false dir only before between same is = is
+same_only true dir None before between same is = absurd is
+same_only true dir (Some names) before between same is = same_log dir names before between same is
+
 same_declared : (path : List ℕ) (result : Result (List Resource) SpecRefusal) (before between : Option Held) → Becomes before between SameHeld → IfSome between (λ held. declared_in (held path) ≡ result) → IfSome before (λ held. declared_in (held path) ≡ result)
 same_declared path result None between same read = tt
 same_declared path result (Some x) None same read = absurd same
@@ -63,14 +74,23 @@ then_stay before between now = serves_then SameHeld SameHeld SameHeld same_then_
 
 -- all of a folder was read
 module _ (invocation : Invocation) (before between : FilesTell) (tests : Tests) (read : HasTests invocation before between tests) where
-  pub read_folder : (behind now : FilesTell) (lent : Option (List Resource)) (costs : CostData) → ReadsSpec invocation.spec_file between behind (Ok lent) → ReadsCosts invocation.wanted.dir behind now (Ok costs) → IsReadFolder invocation before now tests lent costs
-  read_folder behind now lent costs named last =
+  pub read_folder : (behind beyond now : FilesTell) (lent : Option (List Resource)) (costs : CostData) (only : Option (List (List ℕ))) → ReadsSpec invocation.spec_file between behind (Ok lent) → ReadsCosts invocation.wanted.dir behind beyond (Ok costs) → ReadsOnly invocation.rerun invocation.wanted.dir beyond now (Ok only) → IsReadFolder invocation before now tests lent costs only
+  read_folder behind beyond now lent costs only named last log =
       let stay = then_stay before between behind read.files named.1 in
+      let stays = then_stay before behind beyond stay last.1 in
       record {
-        read = record { read = read.read; few = read.few; files = then_stay before behind now stay last.1 };
+        read = record { read = read.read; few = read.few; files = then_stay before beyond now stays log.1 };
         lent = same_lent invocation.spec_file lent before.held between.held read.files.held named.0;
         last = same_last invocation.wanted.dir costs before.held behind.held stay.held last.0;
+        limits = same_only invocation.rerun invocation.wanted.dir only before.held beyond.held stays.held log.0;
       }
+
+  -- all that a list is made of was read
+  pub read_listed : (now : FilesTell) (only : Option (List (List ℕ))) → ReadsOnly invocation.rerun invocation.wanted.dir between now (Ok only) → IsReadList invocation before now tests only
+  read_listed now only log = record {
+    read = record { read = read.read; few = read.few; files = then_stay before between now read.files log.1 };
+    limits = same_only invocation.rerun invocation.wanted.dir only before.held between.held read.files.held log.0;
+  }
 
   -- the specification was not
   pub unread_spec : (now : FilesTell) (fault : SpecFileFault) (outcome : Outcome) → outcome ≡ outcome_of_spec fault → ReadsSpec invocation.spec_file between now (Err fault) → IsUnreadFolder invocation before now outcome
@@ -90,6 +110,22 @@ module _ (invocation : Invocation) (before between : FilesTell) (tests : Tests) 
   unread_costs behind now lent Fault.NoMemory outcome is named stays =
       subst (λ (o : Outcome). IsUnreadFolder invocation before now o) (sym is)
       (then_stay before behind now (then_stay before between behind read.files named.1) stays)
+
+  -- the log was not
+  pub unread_log : (behind beyond now : FilesTell) (lent : Option (List Resource)) (costs : CostData) (fault : RunFileFault) (outcome : Outcome) → outcome ≡ outcome_of_file fault → ReadsSpec invocation.spec_file between behind (Ok lent) → ReadsCosts invocation.wanted.dir behind beyond (Ok costs) → ReadsOnly invocation.rerun invocation.wanted.dir beyond now (Err fault) → IsUnreadFolder invocation before now outcome
+  unread_log behind beyond now lent costs (Fault.Failed path) outcome is named last fails =
+      subst (λ (o : Outcome). IsUnreadFolder invocation before now o) (sym is)
+      (fails_then SameHeld SameHeld SameHeld same_then_same path before beyond now (then_stay before behind beyond (then_stay before between behind read.files named.1) last.1) fails)
+  unread_log behind beyond now lent costs Fault.NoMemory outcome is named last stays =
+      subst (λ (o : Outcome). IsUnreadFolder invocation before now o) (sym is)
+      (then_stay before beyond now (then_stay before behind beyond (then_stay before between behind read.files named.1) last.1) stays)
+
+  -- nor was it for a list
+  pub unread_only : (now : FilesTell) (fault : RunFileFault) (outcome : Outcome) → outcome ≡ outcome_of_file fault → ReadsOnly invocation.rerun invocation.wanted.dir between now (Err fault) → IsUnread invocation before now outcome
+  unread_only now (Fault.Failed path) outcome is fails =
+      subst (λ (o : Outcome). IsUnread invocation before now o) (sym is) (fails_then SameHeld SameHeld SameHeld same_then_same path before between now read.files fails)
+  unread_only now Fault.NoMemory outcome is stays =
+      subst (λ (o : Outcome). IsUnread invocation before now o) (sym is) (then_stay before between now read.files stays)
 
 -- why the tests were not read is why the folder was not
 pub unread_tests : (invocation : Invocation) (before now : FilesTell) (outcome : Outcome) → IsUnread invocation before now outcome → IsUnreadFolder invocation before now outcome

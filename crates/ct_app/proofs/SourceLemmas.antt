@@ -19,7 +19,7 @@ use Rattle.ct_props.specs.declared.wanted.Choice.{Choice}
 use Rattle.ct_props.specs.declared.wanted.Numbers.{Numbers}
 use Rattle.ct_props.specs.Numbered.{at_number, is_in}
 use Rattle.ct_props.specs.PropsOf.{HasProps}
-use Rattle.ct_select.specs.Chosen.{by_name, by_number, chosen_tests, hit_labels, is_chosen, is_chosen_at, is_chosen_there, is_left_out}
+use Rattle.ct_select.specs.Chosen.{by_name, by_number, chosen_tests, hit_labels, is_chosen, is_chosen_at, is_chosen_by_options, is_chosen_there, is_left_out, is_named_or}
 use Rattle.ct_fixture.specs.Drawing.{after_rounds, draws, fixtures_required, is_drawn, is_hit, keeps_cleanups, keeps_setups, next_round, required_by}
 use Rattle.ct_graph.specs.Before.{before_of, comes_before}
 use Rattle.ct_graph.specs.Order.{edges_of}
@@ -44,7 +44,7 @@ fixture_hit (Some pattern) text = refl
 labels_hit : (patterns : List Regex) (labels : List (List ℕ)) → hit_labels patterns labels ≡ list_all (λ tree. list_any (λ label. hits tree label) labels) (map regex_tree patterns)
 labels_hit patterns labels = sym (list_all-map (λ tree. list_any (λ label. hits tree label) labels) regex_tree patterns)
 
--- a choice that has the same trees in place of its patterns
+-- a choice that has the same trees in place of its patterns, and is limited to the same names
 pub record IsSameChoice (one other : Choice) : Type 0 where
   pub name : option_map regex_tree one.name ≡ option_map regex_tree other.name
   pub not_name : option_map regex_tree one.not_name ≡ option_map regex_tree other.not_name
@@ -55,6 +55,7 @@ pub record IsSameChoice (one other : Choice) : Type 0 where
   pub keep_any : option_map regex_tree one.keep_any ≡ option_map regex_tree other.keep_any
   pub keep_setup : option_map regex_tree one.keep_setup ≡ option_map regex_tree other.keep_setup
   pub keep_cleanup : option_map regex_tree one.keep_cleanup ≡ option_map regex_tree other.keep_cleanup
+  pub only : one.only ≡ other.only
 
 -- such a choice has the same members
 module _ (one other : Choice) (same : IsSameChoice one other) where
@@ -74,9 +75,14 @@ module _ (one other : Choice) (same : IsSameChoice one other) where
   left_out_same a b labels alike =
       ap (λ n. not (n == 0) && hit_labels a labels) (length_same a b alike) ∙ ap (λ hit. not (length b == 0) && hit) (labels_same a b labels alike)
 
+  options_same : (numbered : Option Bool) (def : TestDef) (own : Props) → is_chosen_by_options one numbered def own ≡ is_chosen_by_options other numbered def own
+  options_same numbered def own =
+      rw (same.union, name_same one.name other.name def.name same.name, name_same one.not_name other.not_name def.name same.not_name, labels_same one.labels other.labels own.labels same.labels, left_out_same one.not_labels other.not_labels own.labels same.not_labels) refl
+
   chosen_same : (numbered : Option Bool) (def : TestDef) (own : Props) → is_chosen one numbered def own ≡ is_chosen other numbered def own
   chosen_same numbered def own =
-      rw (same.union, name_same one.name other.name def.name same.name, name_same one.not_name other.not_name def.name same.not_name, labels_same one.labels other.labels own.labels same.labels, left_out_same one.not_labels other.not_labels own.labels same.not_labels) refl
+      ap (λ (only : Option (List (List ℕ))). is_named_or only def.name (is_chosen_by_options one numbered def own)) same.only
+      ∙ ap (is_named_or other.only def.name) (options_same numbered def own)
 
   there_same : (numbered : Option Bool) (def : Option TestDef) (own : Option Props) → is_chosen_there one numbered def own ≡ is_chosen_there other numbered def own
   there_same numbered None own = refl

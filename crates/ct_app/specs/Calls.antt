@@ -34,11 +34,16 @@ pub record Sides : Type 0 where
 -- these values; the gates are those that are looked at
 abbrev pub sides : List (List ℕ) → List Pair → FilesTell → FilesTell → List GateTell → List GateTell → SinkTell → SinkTell → Option PlanParts → Option (List Entry) → Sides
 sides words env files_before files_now gates_before gates_now sink_before sink_now plan history = record {
-  words = words; env = env;
-  files_before = files_before; files_now = files_now;
-  gates_before = gates_before; gates_now = gates_now;
-  sink_before = sink_before; sink_now = sink_now;
-  plan = plan; history = history;
+  words = words;
+  env = env;
+  files_before = files_before;
+  files_now = files_now;
+  gates_before = gates_before;
+  gates_now = gates_now;
+  sink_before = sink_before;
+  sink_now = sink_now;
+  plan = plan;
+  history = history;
 }
 
 -- the values of a list, which has no environment, no gate, no plan and no history

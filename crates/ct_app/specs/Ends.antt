@@ -23,6 +23,7 @@ use Rattle.ct_app.specs.Runs.{HasRunWith, IsCutOff, IsCutShort, IsGivenUp, Files
 use Rattle.ct_app.specs.Lists.{HasList}
 use Rattle.ct_app.specs.Outcome.{fault_line, fault_status, names_at, outcome_of_sink, status_of}
 use Rattle.ct_app.specs.Reading.{AreRead, AskFor, RefusesReading, RefusesSpec}
+use Rattle.ct_app.specs.Rerun.{AreOnly}
 use Rattle.ct_app.specs.RunFiles.{FilesFail, FilesServe, FilesStay, IsWritten, Leaves, LeavesPart, LeavesTorn, last_costs}
 use Rattle.ct_app.specs.SpecFile.{AreLent}
 
@@ -97,16 +98,24 @@ pub record HasBadSpec (invocation : Invocation) (before now : FilesTell) (refusa
   pub refused : RefusesSpec before.held invocation refusal
   pub files : FilesStay before now
 
--- why the folder of a run was not read: its tests or the cost data were not, or behind the tests the specification was refused
+-- why the folder of a run was not read: its tests, the cost data or the log were not, or behind the tests the specification was
+-- refused
 abbrev pub IsUnreadFolder : Invocation → FilesTell → FilesTell → Outcome → Type 0
 IsUnreadFolder invocation before now (Refused refusal) = IsUnread invocation before now (Refused refusal) ⊎ HasBadSpec invocation before now refusal
 IsUnreadFolder invocation before now outcome = IsUnread invocation before now outcome
 
--- the tests were read, and the resources that are lent and what the last run tells of the tests were too
-pub record IsReadFolder (invocation : Invocation) (before now : FilesTell) (tests : Tests) (resources : Option (List Resource)) (costs : CostData) : Type 0 where
+-- the tests that a list is made of were read, and the names that it is limited to, if any
+pub record IsReadList (invocation : Invocation) (before now : FilesTell) (tests : Tests) (only : Option (List (List ℕ))) : Type 0 where
+  pub read : HasTests invocation before now tests
+  pub limits : AreOnly before.held invocation.rerun invocation.wanted.dir only
+
+-- the tests were read, the resources that are lent, what the last run tells of the tests, and the names that the run is limited
+-- to, if any
+pub record IsReadFolder (invocation : Invocation) (before now : FilesTell) (tests : Tests) (resources : Option (List Resource)) (costs : CostData) (only : Option (List (List ℕ))) : Type 0 where
   pub read : HasTests invocation before now tests
   pub lent : AreLent before.held invocation.spec_file resources
   pub last : IfSome before.held (λ held. costs ≡ last_costs invocation.wanted.dir held)
+  pub limits : AreOnly before.held invocation.rerun invocation.wanted.dir only
 
 -- why the tests of a folder have no plan, with the names of the tests of a cycle; memory may be wanting for these
 abbrev pub IsUnplanned : List TestDef → PlanFault → List (List ℕ) → Result ℕ Outcome → Type 0

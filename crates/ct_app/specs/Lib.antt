@@ -6,6 +6,7 @@ pub mod MeantTexts
 pub mod MeantTold
 pub mod RunFiles
 pub mod SpecFile
+pub mod Rerun
 pub mod Reading
 pub mod Calls
 pub mod Run

@@ -1,13 +1,15 @@
--- The lists of the tests and of the labels that a call is asked for, and what each outcome of a list says.
--- Source: CMake manual, ctest(1), --show-only, --print-labels. That a list refuses no cycle is this project's choice.
+-- The lists of the tests, of the labels and for editors that a call is asked for, and what each outcome of a list says.
+-- Source: CMake manual, ctest(1), --show-only, --print-labels, Show as JSON Object Model. That a list refuses no cycle is this project's choice.
 use Rattle.std.specs.Prelude.{◌≡◌, ◌⊎◌, ℕ, List, [], ◌∷◌, flat_map, filter_map, Option, Some, None, Ok, Err, if◌then◌else◌}
 use Rattle.ct_base.specs.declared.defs.TestDef.{TestDef}
 use Rattle.ct_base.specs.declared.sink.SinkFault.TheVariants as Sinks
 use Rattle.ct_props.specs.declared.props.Props.{Props}
+use Rattle.ct_props.specs.declared.wanted.Choice.{Choice}
 use Rattle.ct_props.specs.Numbered.{at_number}
 use Rattle.ct_args.specs.declared.invocation.Task.{Task}
-use Rattle.ct_args.specs.declared.invocation.Task.TheVariants.{Run, ListTests, ListLabels}
+use Rattle.ct_args.specs.declared.invocation.Task.TheVariants.{Run, ListTests, ListLabels, ListJson}
 use Rattle.ct_args.specs.declared.invocation.Invocation.{Invocation}
+use Rattle.ct_info.specs.Info.{info_text, info_value}
 use Rattle.ct_plan.specs.Source.{members_in}
 use Rattle.ct_report.specs.Lists.{Listed as Line, label_list, test_list}
 use Rattle.ct_report.specs.PutLines.{PutsLines}
@@ -16,6 +18,7 @@ use Rattle.ct_app.specs.declared.outcome.Outcome.TheVariants.{Completed, Listed,
 use Rattle.ct_app.specs.Calls.{IsReadFault, IsUnreadable, IsUnrun, IsUsage, PutsOrFails, Sides, ThenLine, Tries}
 use Rattle.ct_app.specs.Outcome.{fault_line}
 use Rattle.ct_app.specs.Reading.{AreRead, AskFor}
+use Rattle.ct_app.specs.Rerun.{AreOnly, choice_of}
 use Rattle.ct_app.specs.RunFiles.{FilesStay}
 
 -- a test with this number as it is listed, where it is there
@@ -37,26 +40,31 @@ labels_there (Some props) = if props.disabled then [] else props.labels
 abbrev pub labels_among : List Props → List ℕ → List (List ℕ)
 labels_among props numbers = flat_map (λ number. labels_there (at_number props number)) numbers
 
--- the lines of the list that a task asks for, of these members; a run that is only listed lists its tests
-abbrev pub list_lines : Task → List ℕ → List TestDef → List Props → List ℕ → List (List ℕ)
-list_lines Run dir defs props members = test_list dir (listed_tests defs props members)
-list_lines ListTests dir defs props members = test_list dir (listed_tests defs props members)
-list_lines ListLabels dir defs props members = label_list (labels_among props members)
+-- the lines of the list that a task asks for in a folder and a configuration, of these members; a run that is only listed lists
+-- its tests, and the list for editors is one line without a header
+abbrev pub list_lines : Task → List ℕ → List ℕ → List TestDef → List Props → List ℕ → List (List ℕ)
+list_lines Run dir config defs props members = test_list dir (listed_tests defs props members)
+list_lines ListTests dir config defs props members = test_list dir (listed_tests defs props members)
+list_lines ListLabels dir config defs props members = label_list (labels_among props members)
+list_lines ListJson dir config defs props members = info_text (info_value defs members config) ∷ []
 
--- the lines of the list that an invocation asks for, of the members among these tests
-abbrev pub asked_lines : Invocation → List TestDef → List Props → List (List ℕ)
-asked_lines invocation defs props = list_lines invocation.task invocation.wanted.dir defs props (members_in invocation.wanted.choice defs props)
+-- the lines of the list that an invocation asks for, of the members by a choice among these tests
+abbrev pub asked_lines : Invocation → Choice → List TestDef → List Props → List (List ℕ)
+asked_lines invocation choice defs props = list_lines invocation.task invocation.wanted.dir invocation.config defs props (members_in choice defs props)
 
--- the words were read, and the tests that they ask for, and this holds of the lines of the list of them; nothing was run
+-- the words were read, the tests that they ask for, and the names that the list is limited to, if any; this holds of the lines
+-- of the list, and nothing was run
 pub record HasList (s : Sides) (P : List (List ℕ) → Type 0) : Type 0 where
   pub invocation : Invocation
   pub words : AskFor s.words invocation
   pub defs : List TestDef
   pub props : List Props
   pub read : AreRead s.files_before.held invocation defs props
+  pub only : Option (List (List ℕ))
+  pub limits : AreOnly s.files_before.held invocation.rerun invocation.wanted.dir only
   pub files : FilesStay s.files_before s.files_now
   pub unrun : IsUnrun s
-  pub holds : P (asked_lines invocation defs props)
+  pub holds : P (asked_lines invocation (choice_of invocation only) defs props)
 
 -- memory was wanting for a list: for the line of this outcome, or for anything before it, behind a beginning of the list
 abbrev pub IsShortList : Sides → Outcome → Type 0

@@ -6,7 +6,7 @@ use Rattle.ct_base.specs.declared.sink.SinkFault.TheVariants as Sinks
 use Rattle.ct_testfile.specs.declared.fault.ReadFault.{ReadFault}
 use Rattle.ct_testfile.specs.declared.fault.ReadFault.TheVariants as Read
 use Rattle.ct_testfile.specs.declared.fault.ReadKind.{ReadKind}
-use Rattle.ct_testfile.specs.declared.fault.ReadKind.TheVariants.{OpenString, OpenBracket, OpenCall, BadEscape, BadChar, BadReference, UnknownCommand, BadCall, MissingInclude, UnpairedIf, BadCondition, BadPattern, TooDeep, TooManyTests, TooManyCommands, TooLong}
+use Rattle.ct_testfile.specs.declared.fault.ReadKind.TheVariants.{OpenString, OpenBracket, OpenCall, BadEscape, BadChar, BadReference, UnknownCommand, BadCall, MissingInclude, UnpairedIf, BadCondition, BadPattern, TooDeep, TooManyTests, TooManyCommands}
 use Rattle.ct_props.specs.declared.fault.PropKind.{PropKind}
 use Rattle.ct_props.specs.declared.fault.PropKind.TheVariants as Bad
 use Rattle.ct_props.specs.declared.fault.PropFault.{PropFault}

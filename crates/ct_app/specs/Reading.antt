@@ -10,21 +10,23 @@ use Rattle.ct_graph.specs.Cycle.{is_cycle}
 use Rattle.ct_args.specs.declared.usage.UsageFault.{UsageFault}
 use Rattle.ct_args.specs.declared.invocation.Invocation.{Invocation}
 use Rattle.ct_args.specs.declared.invocation.Task.{Task}
-use Rattle.ct_args.specs.declared.invocation.Task.TheVariants.{Run, ListTests, ListLabels}
+use Rattle.ct_args.specs.declared.invocation.Task.TheVariants.{Run, ListTests, ListLabels, ListJson}
 use Rattle.ct_args.specs.Invocation.{InvocationValue, invocation_in, invocation_seen}
 use Rattle.ct_plan.specs.Source.{HaveProps, Source, edge_count, members_before}
 use Rattle.ct_app.specs.declared.outcome.Refusal.{Refusal}
 use Rattle.ct_app.specs.declared.outcome.Refusal.TheVariants.{TestFile, Prop, Spec, Cycle, TooManyEdges}
 use Rattle.ct_app.specs.Outcome.{names_at}
+use Rattle.ct_app.specs.Rerun.{AreOnly, wanted_of}
 use Rattle.ct_app.specs.RunFiles.{last_costs}
 use Rattle.ct_app.specs.SpecFile.{AreLent, RefusesFile}
 use Rattle.ct_app.specs.Tests.{RefusesFirst}
 
--- the task is one of the two lists
+-- the task is one of the lists
 abbrev pub is_list : Task → Bool
 is_list Run = false
 is_list ListTests = true
 is_list ListLabels = true
+is_list ListJson = true
 
 -- the words were read, and ask for a list
 abbrev pub reads_list : Result InvocationValue UsageFault → Bool
@@ -44,10 +46,12 @@ pub record AreRead (told : Option Held) (invocation : Invocation) (defs : List T
   pub tree : IfSome told (λ held. tree_of held invocation.wanted.dir invocation.config ≡ Ok defs)
   pub have : HaveProps defs props
 
--- a plan is made of these tests, of what is wanted, of the resources that are lent, and of what the last run cost
+-- a plan is made of these tests, of what is wanted, of the resources that are lent, and of what the last run cost; with
+-- --rerun-failed the choice is limited to the names in the log
 pub record IsSource (told : Option Held) (invocation : Invocation) (source : Source) : Type 0 where
   pub tests : AreRead told invocation source.defs source.props
-  pub wanted : source.wanted ≡ invocation.wanted
+  pub only : AreOnly told invocation.rerun invocation.wanted.dir source.wanted.choice.only
+  pub wanted : source.wanted ≡ wanted_of invocation source.wanted.choice.only
   pub resources : AreLent told invocation.spec_file source.resources
   pub costs : IfSome told (λ held. source.costs ≡ last_costs invocation.wanted.dir held)
 

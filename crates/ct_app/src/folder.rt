@@ -11,6 +11,7 @@ ghost use Rattle.ct_worker.specs.Work.{Reach, terms_in};
 
 use crate::props::Tests;
 use crate::reading::{names_at, read_tests};
+use crate::rerun::read_only;
 use crate::run::{Reported, run};
 use crate::run_files::{read_costs, write_files};
 use crate::spec_file::read_spec;
@@ -50,6 +51,8 @@ struct Folder {
     spec: Option<Spec>,
     /// What the last run tells of the tests.
     costs: CostData,
+    /// The names that the run is limited to, where the words ask for the tests that failed last.
+    only: Option<List<Name>>,
 }
 
 /// What the run of a plan came to, before its files are written.
@@ -64,25 +67,33 @@ struct PlanRun<G, S> {
 
 /// Reads the tests of a folder, the specification that is named and what the last run tells of the
 /// tests, plans and runs them, and leaves the same for the next run.
+///
+/// Where the words ask for the tests that failed last, those alone are chosen that the log names.
 pub(crate) fn run_folder<R: Threads + Wait + Sync, F: Files, G: Gate + Send, S: Sink + Send>(
     rt: &R,
     alloc: Global,
-    invocation: &Invocation,
+    mut invocation: Invocation,
     env: &[Pair],
     files: &mut F,
     gates: Vec<G>,
     sink: S,
 ) -> Ran<G, S>
-    requires bounded { IsBounded invocation.now }
+    requires bounded { IsBounded invocation }
     requires some { 0 < vec_len gates }
-    ensures ends { EndsFor invocation.now (λ words. sides words env.now (F.tells files.old) (F.tells files.new) (map G.tells gates.items) (map G.tells result.gates.items) (S.tells sink) (S.tells result.sink) result.plan (option_map history_entries result.history)) result.names result.ended }
+    ensures ends { EndsFor invocation (λ words. sides words env.now (F.tells files.old) (F.tells files.new) (map G.tells gates.items) (map G.tells result.gates.items) (S.tells sink) (S.tells result.sink) result.plan (option_map history_entries result.history)) result.names result.ended }
     ensures all { vec_len result.gates ≡ vec_len gates }
     ensures others { OthersStay result.plan gates.items result.gates.items }
 {
-    let Folder { tests, spec, costs } = match read_folder(alloc, files, invocation) {
+    let Folder {
+        tests,
+        spec,
+        costs,
+        only,
+    } = match read_folder(alloc, files, &invocation) {
         Ok(folder) => folder,
         Err(outcome) => return unplanned(alloc, outcome, gates, sink),
     };
+    invocation.wanted.choice.only = only;
     let wanted = &invocation.wanted;
     let spec = spec.as_ref();
     let planned = match plan(alloc, &tests.defs, &tests.props, wanted, spec, &costs) {
@@ -169,20 +180,27 @@ fn refused<G, S>(
     }
 }
 
-/// Reads the tests of a folder, their properties, the specification that is named and the cost data.
-#[tactic(auto, using(crate::proofs::ReadLemmas::read_folder, crate::proofs::ReadLemmas::unread_tests, crate::proofs::ReadLemmas::unread_spec, crate::proofs::ReadLemmas::unread_costs))]
+/// Reads the tests of a folder, their properties, the specification that is named, the cost data and
+/// the log, where the words ask for the tests that failed last.
+#[tactic(auto, using(crate::proofs::ReadLemmas::read_folder, crate::proofs::ReadLemmas::unread_tests, crate::proofs::ReadLemmas::unread_spec, crate::proofs::ReadLemmas::unread_costs, crate::proofs::ReadLemmas::unread_log))]
 fn read_folder<F: Files>(
     alloc: Global,
     files: &mut F,
     invocation: &Invocation,
 ) -> Result<Folder, Outcome>
-    ensures ok { IfOk result (λ folder. IsReadFolder invocation.now (F.tells files.old) (F.tells files.new) folder.tests folder.spec folder.costs) }
+    ensures ok { IfOk result (λ folder. IsReadFolder invocation.now (F.tells files.old) (F.tells files.new) folder.tests folder.spec folder.costs folder.only) }
     ensures err { IfErr result (IsUnreadFolder invocation.now (F.tells files.old) (F.tells files.new)) }
 {
     let tests = read_tests(alloc, files, invocation)?;
     let spec = read_spec(alloc, files, invocation.spec_file.as_ref())?;
     let costs = read_costs(alloc, files, &invocation.wanted.dir)?;
-    Ok(Folder { tests, spec, costs })
+    let only = read_only(alloc, files, invocation.rerun, &invocation.wanted.dir)?;
+    Ok(Folder {
+        tests,
+        spec,
+        costs,
+        only,
+    })
 }
 
 /// Runs a plan.

@@ -3,10 +3,10 @@
 //!
 //! Hands up: `ctest_main`, which does all that the program does, and `list_main`, which lists alone.
 //! Stands on: ct_base, ct_testfile, ct_props, ct_graph, ct_verdict, ct_history, ct_core, ct_cost,
-//! ct_spec, ct_plan, ct_report, ct_worker, ct_args.
+//! ct_select, ct_spec, ct_plan, ct_report, ct_info, ct_worker, ct_args.
 //! Read first: `specs/Reading.antt`, `specs/SpecFile.antt`, `specs/Run.antt`, `specs/Stops.antt`,
-//! `specs/RunFiles.antt`, `specs/Answers.antt`, `specs/Lists.antt`, `specs/Complete.antt`, then `top.rt`, and the steps of a
-//! call: `words.rt`, `reading.rt`, `spec_file.rt`, `folder.rt`, `run.rt`, `run_files.rt`, and `list.rt`.
+//! `specs/RunFiles.antt`, `specs/Rerun.antt`, `specs/Answers.antt`, `specs/Lists.antt`, `specs/Complete.antt`, then `top.rt`, and the steps of a
+//! call: `words.rt`, `reading.rt`, `spec_file.rt`, `folder.rt`, `run.rt`, `run_files.rt`, `rerun.rt`, and `list.rt`.
 #![tactic(auto)]
 
 mod fault;
@@ -15,6 +15,7 @@ mod list;
 mod outcome;
 mod props;
 mod reading;
+mod rerun;
 mod run;
 mod run_files;
 mod spec_file;

@@ -1,5 +1,6 @@
-ghost use Rattle.std.specs.Prelude.{◌≡◌, ◌++◌, ◌<◌, ◌-◌, ◌^◌, IfOk, OnOk, length};
+ghost use Rattle.std.specs.Prelude.{◌≡◌, [], ◌∷◌, ◌++◌, ◌<◌, ◌-◌, ◌^◌, IfOk, OnOk, length};
 ghost use Rattle.ct_props.specs.Numbered.{at_number as stands_at};
+ghost use Rattle.ct_info.specs.Info.{info_text, info_value};
 ghost use Rattle.ct_plan.specs.Source.{HaveProps};
 ghost use Rattle.ct_report.specs.Lists.{test_list as list_of_tests, label_list as list_of_labels};
 ghost use Rattle.ct_report.specs.PutLines.{PutsLines};
@@ -9,9 +10,10 @@ ghost use Rattle.ct_app.specs.Lists.{asked_lines, labels_among, labels_there, li
 
 use crate::Outcome;
 use crate::props::{Tests, at_number};
-use crate::reading::read_tests;
+use crate::reading::read_listed;
 use ct_args::{Invocation, Task};
 use ct_base::{Files, List, Name, NoMemory, Sink, SinkFault};
+use ct_info::info;
 use ct_plan::members;
 use ct_props::Props;
 use ct_report::{ListedTest, label_list, test_list};
@@ -22,14 +24,17 @@ use std::alloc::Global;
 /// No specification and no cost data is read, whatever the words name, and no plan is made.
 pub(crate) fn list_folder<F: Files, S: Sink>(
     alloc: Global,
-    invocation: &Invocation,
+    mut invocation: Invocation,
     files: &mut F,
     sink: &mut S,
 ) -> Outcome
-    ensures { ListEndsFor invocation.now (λ words. list_sides words (F.tells files.old) (F.tells files.new) (S.tells sink.old) (S.tells sink.new)) result }
+    ensures { ListEndsFor invocation (λ words. list_sides words (F.tells files.old) (F.tells files.new) (S.tells sink.old) (S.tells sink.new)) result }
 {
-    match read_tests(alloc, files, invocation) {
-        Ok(tests) => listed(put_list(alloc, sink, invocation, &tests)),
+    match read_listed(alloc, files, &invocation) {
+        Ok((tests, only)) => {
+            invocation.wanted.choice.only = only;
+            listed(put_list(alloc, sink, &invocation, &tests))
+        }
         Err(outcome) => outcome,
     }
 }
@@ -46,7 +51,7 @@ fn listed(ended: Result<(), SinkFault>) -> Outcome
 
 /// Puts the list of the members among these tests.
 ///
-/// Source: CMake manual, ctest(1), --show-only, --print-labels.
+/// Source: CMake manual, ctest(1), --show-only, --print-labels, Show as JSON Object Model.
 fn put_list<S: Sink>(
     alloc: Global,
     sink: &mut S,
@@ -55,35 +60,31 @@ fn put_list<S: Sink>(
 ) -> Result<(), SinkFault>
     requires together { HaveProps tests.now.defs tests.now.props }
     requires few { length tests.now.defs < 2 ^ 32 - 1 }
-    ensures { PutsLines (asked_lines invocation.now tests.now.defs tests.now.props) (S.tells sink.old) (S.tells sink.new) result }
+    ensures { PutsLines (asked_lines invocation.now invocation.now.wanted.choice tests.now.defs tests.now.props) (S.tells sink.old) (S.tells sink.new) result }
 {
-    let wanted = &invocation.wanted;
-    let members = members(alloc, &tests.defs, &tests.props, &wanted.choice)?;
-    put_members(
-        alloc,
-        sink,
-        invocation.task,
-        &wanted.dir,
-        tests,
-        members.as_slice(),
-    )?;
+    let choice = &invocation.wanted.choice;
+    let members = members(alloc, &tests.defs, &tests.props, choice)?;
+    put_members(alloc, sink, invocation, tests, &members)?;
     Ok(())
 }
 
-/// Puts the list that a task asks for, of the tests with these numbers.
+/// Puts the list that an invocation asks for, of the tests with these numbers.
 fn put_members<S: Sink>(
     alloc: Global,
     sink: &mut S,
-    task: Task,
-    dir: &Name,
+    invocation: &Invocation,
     tests: &Tests,
-    members: &[u32],
+    members: &List<u32>,
 ) -> Result<(), SinkFault>
-    ensures { PutsLines (list_lines task dir.now tests.now.defs tests.now.props members.now) (S.tells sink.old) (S.tells sink.new) result }
+    ensures { PutsLines (list_lines invocation.now.task invocation.now.wanted.dir invocation.now.config tests.now.defs tests.now.props members.now) (S.tells sink.old) (S.tells sink.new) result }
 {
-    match task {
-        Task::Run | Task::ListTests => put_tests(alloc, sink, dir, tests, members),
-        Task::ListLabels => put_labels(alloc, sink, tests.props.as_slice(), members),
+    let numbers = members.as_slice();
+    match invocation.task {
+        Task::Run | Task::ListTests => {
+            put_tests(alloc, sink, &invocation.wanted.dir, tests, numbers)
+        }
+        Task::ListLabels => put_labels(alloc, sink, tests.props.as_slice(), numbers),
+        Task::ListJson => put_json(alloc, sink, &invocation.config, tests, members),
     }
 }
 
@@ -128,6 +129,21 @@ fn put_labels<S: Sink>(
 {
     let labels = labels_of(alloc, props, members)?;
     label_list(alloc, sink, &labels)?;
+    Ok(())
+}
+
+/// Puts the tests with these numbers as JSON, by one put.
+fn put_json<S: Sink>(
+    alloc: Global,
+    sink: &mut S,
+    config: &Name,
+    tests: &Tests,
+    members: &List<u32>,
+) -> Result<(), SinkFault>
+    ensures { PutsLines (info_text (info_value tests.now.defs members.now config.now) ∷ []) (S.tells sink.old) (S.tells sink.new) result }
+{
+    let text = info(alloc, &tests.defs, members, config)?;
+    sink.put(text.bytes())?;
     Ok(())
 }
 

@@ -1,10 +1,11 @@
 ghost use Rattle.std.specs.Prelude.{◌≡◌, IfOk, IfErr};
-ghost use Rattle.ct_app.specs.Ends.{HasTests, IsUnread};
+ghost use Rattle.ct_app.specs.Ends.{HasTests, IsReadList, IsUnread};
 ghost use Rattle.ct_app.specs.Outcome.{name_there, names_at as names_of};
 ghost use Rattle.ct_props.specs.Numbered.{at_number as stands_at};
 
 use crate::Outcome;
 use crate::props::{Tests, at_number, read_props};
+use crate::rerun::read_only;
 use ct_args::Invocation;
 use ct_base::{Files, List, Name, NoMemory, TestDef};
 use ct_testfile::read_tree;
@@ -23,6 +24,21 @@ pub(crate) fn read_tests<F: Files>(
     let defs = read_tree(alloc, files, &invocation.wanted.dir, &invocation.config)?;
     let props = read_props(alloc, defs.as_slice())?;
     Ok(Tests { defs, props })
+}
+
+/// Reads the tests that a list is made of, and the names that it is limited to, if any.
+#[tactic(auto, using(crate::proofs::ReadLemmas::read_listed, crate::proofs::ReadLemmas::unread_only))]
+pub(crate) fn read_listed<F: Files>(
+    alloc: Global,
+    files: &mut F,
+    invocation: &Invocation,
+) -> Result<(Tests, Option<List<Name>>), Outcome>
+    ensures ok { IfOk result (λ listed. IsReadList invocation.now (F.tells files.old) (F.tells files.new) listed.0 listed.1) }
+    ensures err { IfErr result (IsUnread invocation.now (F.tells files.old) (F.tells files.new)) }
+{
+    let tests = read_tests(alloc, files, invocation)?;
+    let only = read_only(alloc, files, invocation.rerun, &invocation.wanted.dir)?;
+    Ok((tests, only))
 }
 
 /// The names of the tests with these numbers.

@@ -16,7 +16,7 @@ const COSTS: &[u8] = b"Testing/Temporary/CTestCostData.txt";
 /// Where the log of the failed tests stands in the folder of a run.
 ///
 /// Source: CMake manual, ctest(1), --rerun-failed. The place is that of ctest's.
-const LOG: &[u8] = b"Testing/Temporary/LastTestsFailed.log";
+pub(crate) const LOG: &[u8] = b"Testing/Temporary/LastTestsFailed.log";
 
 /// How many bytes of cost data are read at most: 64 MiB. This project's choice.
 const MOST_COST_BYTES: u64 = 67_108_864;
@@ -116,7 +116,7 @@ fn write<F: Files>(
 }
 
 /// Why a call on the files, about this path, gave no answer.
-fn fault_at(path: Name, fault: FilesFault) -> RunFileFault
+pub(crate) fn fault_at(path: Name, fault: FilesFault) -> RunFileFault
     ensures { result ≡ fault_of_files path fault }
 {
     match fault {

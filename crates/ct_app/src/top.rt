@@ -28,6 +28,9 @@ use std::thread::Threads;
 /// written, and then, where some test failed, the log of the failed tests; nothing else is written
 /// but the path of a write that failed. The call may wait for the programs that its gate runs.
 ///
+/// Where the words ask for the tests that failed last, those are chosen that the log names as it
+/// stood before the call.
+///
 /// Source: CMake manual, ctest(1), Run Tests. Statuses other than 0 and 8 are this project's choice.
 pub fn ctest_main<R: Threads + Wait + Sync, F: Files, G: Gate + Send, S: Sink + Send>(
     rt: &R,
@@ -73,14 +76,14 @@ pub fn ctest_main<R: Threads + Wait + Sync, F: Files, G: Gate + Send, S: Sink + 
     }
 }
 
-/// Puts the list that the words ask for: of the tests that a run would have, or of their labels.
-/// Where the words ask for a run, its tests are listed.
+/// Puts the list that the words ask for: of the tests that a run would have, as text or as JSON, or of
+/// their labels. Where the words ask for a run, its tests are listed.
 ///
-/// It reads no specification and no cost data, whatever the words name, makes no plan and refuses no
-/// cycle.
+/// It reads no specification and no cost data, whatever the words name, and the log of the failed
+/// tests only where the words ask for these. It makes no plan and refuses no cycle.
 ///
-/// Source: CMake manual, ctest(1), --show-only, --print-labels. Statuses other than 0 are this
-/// project's choice.
+/// Source: CMake manual, ctest(1), --show-only, --print-labels, --rerun-failed. Statuses other than 0
+/// are this project's choice.
 pub fn list_main<F: Files, S: Sink>(
     alloc: Global,
     words: &[Name],

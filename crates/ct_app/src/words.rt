@@ -36,9 +36,9 @@ pub(crate) fn run_words<R: Threads + Wait + Sync, F: Files, G: Gate + Send, S: S
 {
     match read_words(alloc, words) {
         Ok(invocation) => match invocation.task {
-            Task::Run => run_folder(rt, alloc, &invocation, env, files, gates, sink),
-            Task::ListTests | Task::ListLabels => {
-                let outcome = list_folder(alloc, &invocation, files, &mut sink);
+            Task::Run => run_folder(rt, alloc, invocation, env, files, gates, sink),
+            Task::ListTests | Task::ListLabels | Task::ListJson => {
+                let outcome = list_folder(alloc, invocation, files, &mut sink);
                 unplanned(alloc, outcome, gates, sink)
             }
         },
@@ -57,7 +57,7 @@ pub(crate) fn list_words<F: Files, S: Sink>(
     ensures { ListEnds (list_sides words.now (F.tells files.old) (F.tells files.new) (S.tells sink.old) (S.tells sink.new)) result }
 {
     match read_words(alloc, words) {
-        Ok(invocation) => list_folder(alloc, &invocation, files, sink),
+        Ok(invocation) => list_folder(alloc, invocation, files, sink),
         Err(fault) => Outcome::from(fault),
     }
 }

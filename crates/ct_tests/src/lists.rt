@@ -1,4 +1,4 @@
-//! Lists of tests and of labels, by the call that lists alone and by the one that may run tests.
+//! Lists of tests, of labels and for editors, by the call that lists alone and by the one that may run tests.
 
 use crate::calls::{Machine, Ran, calls_of, list, name_of, run_as_told, written};
 use ct_app::{Listed, Outcome};
@@ -205,6 +205,37 @@ Test project .
   Test #1: ok
 
 Total Tests: 1
+=== the tests that failed last, and what they require
+log 3:u;odd;9:zz;
+---
+add_test(s p)
+add_test(b p)
+add_test(u p)
+set_tests_properties(s PROPERTIES FIXTURES_SETUP f)
+set_tests_properties(u PROPERTIES FIXTURES_REQUIRED f)
+>>> -N --rerun-failed -R b
+Listed, status 0
+Test project .
+  Test #1: s
+  Test #3: u
+
+Total Tests: 2
+files of a run
+>>> -N --rerun-failed -FS f
+Listed, status 0
+Test project .
+  Test #3: u
+
+Total Tests: 1
+files of a run
+=== the tests that failed last are asked for, and there is no log
+---
+add_test(ok \"true\")
+>>> -N --rerun-failed
+Listed, status 0
+Test project .
+
+Total Tests: 0
 ";
 
 /// Lists of labels.
@@ -260,6 +291,57 @@ No Labels Exist
 >>> --print-labels
 Listed, status 0
 No Labels Exist
+";
+
+/// Lists as JSON, for editors.
+const EDITORS: &str = "
+=== one test
+---
+add_test(ok \"true\")
+>>> --show-only=json-v1
+Listed, status 0
+{\"kind\":\"ctestInfo\",\"tests\":[{\"command\":[\"true\"],\"config\":\"\",\"name\":\"ok\",\"number\":1,\"properties\":[]}],\"version\":{\"major\":1,\"minor\":0}}
+>>> -N --show-only=json-v1
+=== a property, in a configuration
+---
+add_test(ok \"true\")
+set_tests_properties(ok PROPERTIES LABELS \"a;b\")
+>>> --show-only=json-v1 -C Debug
+Listed, status 0
+{\"kind\":\"ctestInfo\",\"tests\":[{\"command\":[\"true\"],\"config\":\"Debug\",\"name\":\"ok\",\"number\":1,\"properties\":[{\"name\":\"LABELS\",\"value\":\"a;b\"}]}],\"version\":{\"major\":1,\"minor\":0}}
+>>> --show-only=json-v1 --print-labels
+Listed, status 0
+All Labels:
+  a
+  b
+=== the members alone, each with its number
+---
+add_test(a p)
+add_test(b p q)
+add_test(c p)
+>>> --show-only=json-v1 -E a
+Listed, status 0
+{\"kind\":\"ctestInfo\",\"tests\":[{\"command\":[\"p\",\"q\"],\"config\":\"\",\"name\":\"b\",\"number\":2,\"properties\":[]},{\"command\":[\"p\"],\"config\":\"\",\"name\":\"c\",\"number\":3,\"properties\":[]}],\"version\":{\"major\":1,\"minor\":0}}
+>>> --show-only=json-v1 -R none --no-tests=error
+Listed, status 0
+{\"kind\":\"ctestInfo\",\"tests\":[],\"version\":{\"major\":1,\"minor\":0}}
+=== the form is another one
+>>> --show-only=xml
+Usage, status 1
+ctest: word 1: bad mode
+=== the sink fails at the one put
+put 1 fails
+---
+add_test(ok \"true\")
+>>> --show-only=json-v1
+OutputFault, status 4
+=== there is no second put
+put 2 fails
+---
+add_test(ok \"true\")
+>>> --show-only=json-v1
+Listed, status 0
+{\"kind\":\"ctestInfo\",\"tests\":[{\"command\":[\"true\"],\"config\":\"\",\"name\":\"ok\",\"number\":1,\"properties\":[]}],\"version\":{\"major\":1,\"minor\":0}}
 ";
 
 /// Words that ask for a run, whose tests are listed by the call that lists alone.
@@ -339,6 +421,13 @@ subdirs(lib)
 >>> -N
 FilesFault, status 3
 ctest: cannot use file ./lib/CTestTestfile.cmake
+=== the log cannot be read
+call 2 fails
+---
+add_test(ok \"true\")
+>>> --print-labels --rerun-failed
+FilesFault, status 3
+ctest: cannot use file ./Testing/Temporary/LastTestsFailed.log
 === the sink fails at the second line
 put 2 fails
 ---
@@ -441,6 +530,11 @@ fn lists_the_tests_that_a_run_would_have(rt: HostRuntime) -> Result<(), Fail> {
 #[test]
 fn lists_the_labels_of_tests_that_are_not_disabled(rt: HostRuntime) -> Result<(), Fail> {
     both_as_told(&rt, LABELS)
+}
+
+#[test]
+fn lists_the_members_as_json_by_one_put(rt: HostRuntime) -> Result<(), Fail> {
+    both_as_told(&rt, EDITORS)
 }
 
 #[test]

@@ -178,6 +178,81 @@ costs ok 1 1.000000;
 log 7:last;
 ";
 
+/// Runs of the tests that failed last.
+const RERUNS: &str = "
+=== of two tests the log names one, beside a line that is none and a test that is gone
+log 2:b;odd;9:zz;
+---
+add_test(a true)
+add_test(b true)
+>>> --rerun-failed -R a
+status 0, 2 entries
+Test project .
+1/1 Test #2: b ... Passed 0.00 sec
+
+100% tests passed, 0 tests failed out of 1
+costs b 1 0.000000;---;
+log 2:b;odd;9:zz;
+=== it fails again: the log is new
+log 2:b;odd;9:zz;1:a;
+told 2 1 0
+---
+add_test(a true)
+add_test(b true)
+>>> --rerun-failed
+status 8, 4 entries
+Test project .
+1/2 Test #1: a ... Passed 0.00 sec
+2/2 Test #2: b ... ***Failed 0.00 sec
+
+50% tests passed, 1 tests failed out of 2
+
+The following tests FAILED:
+\t2 - b (Failed)
+Errors while running CTest
+costs a 1 0.000000;---;b;
+log 2:b;
+=== the log names no test
+log odd;
+---
+add_test(a true)
+>>> --rerun-failed
+status 0, 0 entries
+Test project .
+No tests were found!!!
+no costs
+log odd;
+=== there is no log, and that there is no test is an error
+---
+add_test(a true)
+>>> --rerun-failed --no-tests=error
+status 8, 0 entries
+Test project .
+No tests were found!!!
+no costs
+no log
+=== the log cannot be read, which is read behind the cost file
+call 3 fails
+log 1:a;
+---
+add_test(a true)
+>>> --rerun-failed
+status 3, no plan, for ./Testing/Temporary/LastTestsFailed.log
+ctest: cannot use file ./Testing/Temporary/LastTestsFailed.log
+no costs
+log 1:a;
+=== the specification is refused before the log is read
+call 3 fails
+log 1:a;
+---
+add_test(a true)
+>>> --rerun-failed --resource-spec-file r.json
+status 2, no plan
+ctest: resource specification: absent
+no costs
+log 1:a;
+";
+
 /// Runs that end at a fault or a refusal, or that come to no fault.
 const FAULTS: &str = "
 === the test file cannot be read
@@ -403,6 +478,11 @@ fn left(alloc: Global, files: &MemFiles, path: &str, name: &str) -> Result<Strin
 #[test]
 fn leaves_costs_and_a_log_of_failures(rt: HostRuntime) -> Result<(), Fail> {
     run_as_told(&rt, COMPLETE, leavings)
+}
+
+#[test]
+fn runs_the_tests_that_failed_last(rt: HostRuntime) -> Result<(), Fail> {
+    run_as_told(&rt, RERUNS, leavings)
 }
 
 #[test]

@@ -1,4 +1,4 @@
-use Rattle.std.proofs.Common.{rules, ◌≡◌, ◌∙◌, sym, ap, true, false, length, [], ◌∷◌, ◌==◌, Err, Ok}
+use Rattle.std.proofs.Common.{rules, ◌≡◌, ◌∙◌, sym, ap, true, length, [], ◌∷◌, ◌==◌, Err, Ok}
 use Rattle.std.specs.Prelude.{codes}
 use Rattle.ct_history.specs.declared.plan.PlanParts.{PlanParts}
 use Rattle.ct_report.specs.Report.{header_line}

@@ -1,0 +1,32 @@
+-- The names in the log of the last run, by the first bytes of its file, and the choice that is limited to them.
+use Rattle.std.proofs.Common.{◌≡◌, ◌∙◌, sym, ap, Bool, true, false, ℕ, ◌+◌, List, [], take, refl}
+use Rattle.std.specs.Prelude.{Option, Some, None, IfSome, Err, option_map}
+use Rattle.ct_base.specs.Outside.{FilesTell, Held}
+use Rattle.ct_select.specs.FailedLog.{failed_in}
+use Rattle.ct_app.specs.declared.run_files.RunFileFault.{RunFileFault}
+use Rattle.ct_app.specs.declared.run_files.RunFileFault.TheVariants as Fault
+use Rattle.ct_app.specs.Rerun.{AreOnly, ReadsLog, ReadsOnly, last_failed, most_log_bytes, names_of}
+use Rattle.ct_app.specs.RunFiles.{log_path}
+use Rattle.ct_app.proofs.FrontLemmas.{made_of_front}
+
+-- the first bytes of a long log are too many too
+names_of_front : (held : Option (List ℕ)) → names_of (option_map (take (most_log_bytes + 1)) held) ≡ names_of held
+names_of_front None = refl
+names_of_front (Some text) = made_of_front failed_in [] most_log_bytes text
+
+-- the names of the tests that failed last, by the first bytes of the log
+pub reads_names : (dir path : List ℕ) (told : Option Held) (got : Option (List ℕ)) (names : List (List ℕ)) → path ≡ log_path dir → IfSome told (λ held. got ≡ option_map (take (most_log_bytes + 1)) (held path)) → names ≡ names_of got → IfSome told (λ held. names ≡ last_failed dir held)
+reads_names dir path None got names named read is = tt
+reads_names dir path (Some held) got names named read is = is ∙ ap names_of read ∙ names_of_front (held path) ∙ ap (λ (p : List ℕ). names_of (held p)) named
+
+-- the log could not be read, where its names are asked for
+pub only_unread : (dir : List ℕ) (before now : FilesTell) (fault : RunFileFault) → ReadsLog dir before now (Err fault) → ReadsOnly true dir before now (Err fault)
+only_unread dir before now (Fault.Failed path) fails = fails
+only_unread dir before now Fault.NoMemory stays = stays
+
+-- what holds of what is told decides the names
+pub only_same : (held : Held) (rerun : Bool) (dir : List ℕ) (one other : Option (List (List ℕ))) → AreOnly (Some held) rerun dir one → AreOnly (Some held) rerun dir other → one ≡ other
+only_same held false dir one other is also = is ∙ sym also
+only_same held true dir None other is also = absurd is
+only_same held true dir (Some names) None is also = absurd also
+only_same held true dir (Some names) (Some others) is also = ap (λ (ns : List (List ℕ)). Some ns) (is ∙ sym also)

@@ -1,0 +1,53 @@
+ghost use Rattle.std.specs.Prelude.{◌≡◌, IfOk};
+ghost use Rattle.ct_app.specs.Rerun.{ReadsLog, ReadsOnly, names_of};
+
+use crate::run_files::{LOG, RunFileFault, fault_at};
+use ct_base::{Blob, Files, List, Name, NoMemory, join_path};
+use ct_select::failed_names;
+use std::alloc::Global;
+
+/// How many bytes of the log are read at most: 64 MiB. This project's choice.
+const MOST_LOG_BYTES: u64 = 67_108_864;
+
+/// Reads the names that a choice is limited to: those in the log of a folder, where the words ask for
+/// the tests that failed last.
+///
+/// Source: CMake manual, ctest(1), --rerun-failed.
+#[tactic(auto, using(crate::proofs::RerunLemmas::only_unread))]
+pub(crate) fn read_only<F: Files>(
+    alloc: Global,
+    files: &mut F,
+    rerun: bool,
+    dir: &Name,
+) -> Result<Option<List<Name>>, RunFileFault>
+    ensures { ReadsOnly rerun dir.now (F.tells files.old) (F.tells files.new) result }
+{
+    if rerun {
+        Ok(Some(read_log(alloc, files, dir)?))
+    } else {
+        Ok(None)
+    }
+}
+
+/// Reads the names in the log of a folder; an absent file, or one above 64 MiB, counts as empty.
+fn read_log<F: Files>(alloc: Global, files: &mut F, dir: &Name) -> Result<List<Name>, RunFileFault>
+    ensures { ReadsLog dir.now (F.tells files.old) (F.tells files.new) result }
+{
+    let path = join_path(alloc, dir, &Name::of(alloc, LOG)?)?;
+    match files.read(alloc, &path, MOST_LOG_BYTES) {
+        Ok(held) => Ok(names_of(alloc, held)?),
+        Err(fault) => Err(fault_at(path, fault)),
+    }
+}
+
+/// The names in what a path holds, of which at most one byte more than counts was read.
+fn names_of(alloc: Global, held: Option<Blob>) -> Result<List<Name>, NoMemory>
+    ensures { IfOk result (λ names. names ≡ names_of held) }
+{
+    match held {
+        Some(text) if text.bytes().len() as u64 <= MOST_LOG_BYTES => {
+            failed_names(alloc, text.bytes())
+        }
+        _ => Ok(List::new(alloc)),
+    }
+}
