@@ -1,4 +1,4 @@
--- What every call has, and what keeps one from what its words ask for. This project's own.
+-- The values of a call, and why a call does not carry out what its words ask for. This project's own.
 use Rattle.std.specs.Prelude.{◌≡◌, ◌⊎◌, ℕ, List, [], ◌∷◌, Option, None, Result, Ok, Err}
 use Rattle.ct_base.specs.declared.defs.Pair.{Pair}
 use Rattle.ct_base.specs.declared.defs.TestDef.{TestDef}
@@ -18,7 +18,7 @@ use Rattle.ct_app.specs.declared.outcome.Refusal.{Refusal}
 use Rattle.ct_app.specs.Reading.{AreRead, AskFor, RefusesReading, RefusesSpec}
 use Rattle.ct_app.specs.RunFiles.{FilesFail, FilesStay}
 
--- the values of a call, before it and behind it; plan and history are those that it gives back
+-- the values before and after a call; plan and history are those that the call returns
 pub record Sides : Type 0 where
   pub words : List (List ℕ)
   pub env : List Pair
@@ -31,7 +31,7 @@ pub record Sides : Type 0 where
   pub plan : Option PlanParts
   pub history : Option (List Entry)
 
--- these values; the gates are those that are looked at
+-- the values of a call, as one record
 abbrev pub sides : List (List ℕ) → List Pair → FilesTell → FilesTell → List GateTell → List GateTell → SinkTell → SinkTell → Option PlanParts → Option (List Entry) → Sides
 sides words env files_before files_now gates_before gates_now sink_before sink_now plan history = record {
   words = words;
@@ -46,37 +46,38 @@ sides words env files_before files_now gates_before gates_now sink_before sink_n
   history = history;
 }
 
--- the values of a list, which has no environment, no gate, no plan and no history
+-- the values of a call that lists: no environment, no gate, no plan, no history
 abbrev pub list_sides : List (List ℕ) → FilesTell → FilesTell → SinkTell → SinkTell → Sides
 list_sides words files_before files_now sink_before sink_now = sides words [] files_before files_now [] [] sink_before sink_now None None
 
--- a line was put whole by one put, or the put failed and a beginning of it was written
+-- a line was put whole by one put, or the put failed and a beginning of the line was written
 abbrev pub PutsOrFails : List ℕ → SinkTell → SinkTell → Type 0
 PutsOrFails line before now = PutsLines (line ∷ []) before now (Ok tt) ⊎ PutsLines (line ∷ []) before now (Err Sinks.Failed)
 
--- a line was put: the whole of it by one put, or a beginning where the put failed or memory was wanting
+-- a line was put whole by one put, or the put failed or ran out of memory and a beginning of the line was
+-- written
 abbrev pub Tries : List ℕ → SinkTell → SinkTell → Type 0
 Tries line before now = (result : Result (Unit {0}) SinkFault) × PutsLines (line ∷ []) before now result
 
--- nothing was run: there is no plan and no history, and no gate was asked
+-- nothing was run: there is no plan and no history, and the gates are as before
 pub record IsUnrun (s : Sides) : Type 0 where
   pub no_plan : s.plan ≡ None
   pub no_history : s.history ≡ None
   pub unasked : s.gates_now ≡ s.gates_before
 
--- behind a report the line of an outcome was put
+-- a report was put, and behind it the line of an outcome
 pub record ThenLine (report : SinkTell → Type 0) (Line : SinkTell → Type 0) : Type 0 where
   pub middle : SinkTell
   pub first : report middle
   pub line : Line middle
 
--- this word is the first that is refused, and nothing was done
+-- this word is the first that is refused, for this reason; the files stay, and nothing was run
 pub record IsUsage (s : Sides) (word : ℕ) (kind : UsageKind) : Type 0 where
   pub words : invocation_in s.words ≡ Err (At word kind)
   pub files : FilesStay s.files_before s.files_now
   pub unrun : IsUnrun s
 
--- a test file or a property is refused, and nothing was run
+-- a test file or a property is refused; the files stay, and nothing was run
 pub record IsUnreadable (s : Sides) (refusal : Refusal) : Type 0 where
   pub invocation : Invocation
   pub words : AskFor s.words invocation
@@ -84,7 +85,8 @@ pub record IsUnreadable (s : Sides) (refusal : Refusal) : Type 0 where
   pub files : FilesStay s.files_before s.files_now
   pub unrun : IsUnrun s
 
--- the tests that the words ask for were read, the file is refused that declares the resources, and nothing was run
+-- the tests that the words ask for were read, and the file that declares the resources is refused; the files
+-- stay, and nothing was run
 pub record IsUndeclared (s : Sides) (refusal : Refusal) : Type 0 where
   pub invocation : Invocation
   pub words : AskFor s.words invocation
@@ -95,7 +97,8 @@ pub record IsUndeclared (s : Sides) (refusal : Refusal) : Type 0 where
   pub files : FilesStay s.files_before s.files_now
   pub unrun : IsUnrun s
 
--- the files failed at a path that is read in front of a run or a list, and nothing was run
+-- reading a file before a run or a list failed at this path; each path holds what it held, and nothing was
+-- run
 pub record IsReadFault (s : Sides) (path : List ℕ) : Type 0 where
   pub invocation : Invocation
   pub words : AskFor s.words invocation

@@ -1,5 +1,5 @@
--- What a call comes to that asks for something that is accepted: it is carried out, unless the files or the sink fail or memory
--- is wanting. Nothing is asked of the gates: whatever faults they count, the outcome is one of these. This project's own.
+-- Accepted words are carried out, unless the files or the sink fail or memory runs out. This holds for all
+-- faults that the gates count: the outcome is Completed or Listed, else Memory. This project's own.
 use Rattle.std.specs.Prelude.{◌≡◌, ◌⊎◌, ℕ, ◌≤◌, true, false, List, Some}
 use Rattle.ct_base.specs.declared.defs.TestDef.{TestDef}
 use Rattle.ct_base.specs.Outside.{Held, Rose}
@@ -12,7 +12,8 @@ use Rattle.ct_app.specs.declared.outcome.Outcome.TheVariants.{Completed, Listed,
 use Rattle.ct_app.specs.Calls.{Sides}
 use Rattle.ct_app.specs.Reading.{AreRead, AskFor, IsSource, ask_for_list, most_edges}
 
--- a list can be made: no word is refused, the files tell what they hold, and no test file and no property of a test is refused
+-- a list can be made: the words are accepted, the files tell what they hold, and the tests and their
+-- properties are read without refusal
 pub record IsListable (s : Sides) : Type 0 where
   pub invocation : Invocation
   pub words : AskFor s.words invocation
@@ -22,7 +23,10 @@ pub record IsListable (s : Sides) : Type 0 where
   pub props : List Props
   pub read : AreRead (Some held) invocation defs props
 
--- a run can be made: besides, no specification is refused, there are not too many edges, and no tests are a cycle
+-- a run can be made:
+-- - the words are accepted, and the files tell what they hold;
+-- - the tests, their properties and the specification are read without refusal;
+-- - there are not too many edges, and no cycle
 pub record IsRunnable (s : Sides) : Type 0 where
   pub invocation : Invocation
   pub words : AskFor s.words invocation
@@ -33,20 +37,20 @@ pub record IsRunnable (s : Sides) : Type 0 where
   pub few : edge_count source ≤ most_edges
   pub no_cycle : (tests : List ℕ) → is_cycle (members_before source) tests ≡ false
 
--- neither the count of faults of the files nor that of the sink rose; one that stands at its last value counts as risen
+-- the fault counts of the files and of the sink did not rise; a count at its greatest value counts as risen
 pub record IsUnfailed (s : Sides) : Type 0 where
   pub files : Rose s.files_before.faults s.files_now.faults → ⊥
   pub sink : Rose s.sink_before.faults s.sink_now.faults → ⊥
 
--- a run that can be made is completed where no fault was counted, unless memory was wanting
+-- a run that can be made is completed where no fault was counted, unless memory ran out
 abbrev pub CompletesRun : Sides → Outcome → Type 0
 CompletesRun s outcome = IsRunnable s → IsUnfailed s → (outcome ≡ Completed) ⊎ (outcome ≡ Memory)
 
--- a list that can be made is put where no fault was counted, unless memory was wanting
+-- a list that can be made is put where no fault was counted, unless memory ran out
 abbrev pub CompletesList : Sides → Outcome → Type 0
 CompletesList s outcome = IsListable s → IsUnfailed s → (outcome ≡ Listed) ⊎ (outcome ≡ Memory)
 
--- what the words ask for is carried out: a run is completed, or a list is put
+-- what the words ask for is carried out where it can be made and no fault was counted, unless memory ran out
 pub record Completes (s : Sides) (outcome : Outcome) : Type 0 where
   pub run : ask_for_list s.words ≡ false → CompletesRun s outcome
   pub list : ask_for_list s.words ≡ true → CompletesList s outcome

@@ -31,7 +31,7 @@ use Rattle.ct_app.specs.SpecFile.{AreLent}
 abbrev pub history_entries : History → List Entry
 history_entries history = history.entries.items
 
--- how the run of a plan ended: complete, or with a fault of the sink or want of memory
+-- how the run of a plan ended: complete, with a fault of the sink, or out of memory
 abbrev pub PlanEnds : PlanParts → List Entry → SinkTell → SinkTell → Result (Unit {0}) Outcome → Type 0
 PlanEnds plan entries before now (Ok done) = IsReported plan entries before now
 PlanEnds plan entries before now (Err Completed) = ⊥
@@ -42,12 +42,13 @@ PlanEnds plan entries before now (Err (FilesFault path)) = ⊥
 PlanEnds plan entries before now (Err OutputFault) = IsCutOff plan entries before now
 PlanEnds plan entries before now (Err Memory) = IsGivenUp plan entries before now
 
--- a run that is complete, or the outcome of one that ended early
+-- success, or the outcome that a fault of the sink means
 abbrev pub ended_as : Result (Unit {0}) SinkFault → Result (Unit {0}) Outcome
 ended_as (Ok done) = Ok done
 ended_as (Err fault) = Err (outcome_of_sink fault)
 
--- how a run ended, its files too: it is complete and they were written or could not be, or it ended early and they stay
+-- how a run and its files ended: the run is complete and its files were written; or complete and a write
+-- failed or ran out of memory; or the run ended early and the files stay
 abbrev pub RunLeaves : Sides → Invocation → PlanParts → List Entry → Result ℕ Outcome → Type 0
 RunLeaves s invocation plan entries (Ok status) = IsReported plan entries s.sink_before s.sink_now × FilesAreLeft s plan entries × (status ≡ status_of invocation.empty_is_error plan entries)
 RunLeaves s invocation plan entries (Err Completed) = ⊥
@@ -58,7 +59,8 @@ RunLeaves s invocation plan entries (Err (FilesFault path)) = IsWriteFault s pat
 RunLeaves s invocation plan entries (Err OutputFault) = IsCutOff plan entries s.sink_before s.sink_now × FilesStay s.files_before s.files_now
 RunLeaves s invocation plan entries (Err Memory) = IsCutShort s plan entries s.sink_now
 
--- what a run that ended so came to with its files: where it is complete they were written or could not be, and else they stay
+-- what became of the files of a run with this end: a complete run wrote them, or failed or ran out of memory
+-- at it; a run that ended early left the files as they were and keeps its outcome
 abbrev pub EndsWithFiles : PlanParts → List Entry → CostData → FilesTell → FilesTell → Result (Unit {0}) Outcome → Result (Unit {0}) Outcome → Type 0
 EndsWithFiles plan entries costs before now (Err outcome) ended = (ended ≡ Err outcome) × (now ≡ before)
 EndsWithFiles plan entries costs before now (Ok done) (Ok left) = FilesServe (Leaves plan entries costs) before now
@@ -70,18 +72,19 @@ EndsWithFiles plan entries costs before now (Ok done) (Err (FilesFault path)) = 
 EndsWithFiles plan entries costs before now (Ok done) (Err OutputFault) = ⊥
 EndsWithFiles plan entries costs before now (Ok done) (Err Memory) = FilesServe (LeavesPart plan entries costs) before now
 
--- the status of a run that is complete, or why it is not
+-- the status of a complete run, or the outcome of one that ended early
 abbrev pub with_status : Bool → PlanParts → List Entry → Result (Unit {0}) Outcome → Result ℕ Outcome
 with_status empty_is_error plan entries (Ok done) = Ok (status_of empty_is_error plan entries)
 with_status empty_is_error plan entries (Err outcome) = Err outcome
 
--- the tests that an invocation asks for were read, and the files stay
+-- the tests that an invocation asks for were read, they are fewer than 2 ^ 32 - 1, and the files stay
 pub record HasTests (invocation : Invocation) (before now : FilesTell) (tests : Tests) : Type 0 where
   pub read : AreRead before.held invocation tests.defs tests.props
   pub few : length tests.defs < 2 ^ 32 - 1
   pub files : FilesStay before now
 
--- why they were not: a test file or a property is refused, or the files failed at a path that was read, or memory was wanting
+-- why the tests were not read: a test file or a property is refused, the files failed at a path, or memory
+-- ran out
 abbrev pub IsUnread : Invocation → FilesTell → FilesTell → Outcome → Type 0
 IsUnread invocation before now Completed = ⊥
 IsUnread invocation before now Listed = ⊥
@@ -91,39 +94,41 @@ IsUnread invocation before now (FilesFault path) = FilesFail path SameHeld befor
 IsUnread invocation before now OutputFault = ⊥
 IsUnread invocation before now Memory = FilesStay before now
 
--- the tests that an invocation asks for were read, and the file is refused that declares the resources
+-- the tests that an invocation asks for were read, the file that declares the resources is refused, and the
+-- files stay
 pub record HasBadSpec (invocation : Invocation) (before now : FilesTell) (refusal : Refusal) : Type 0 where
   pub tests : Tests
   pub read : AreRead before.held invocation tests.defs tests.props
   pub refused : RefusesSpec before.held invocation refusal
   pub files : FilesStay before now
 
--- why the folder of a run was not read: its tests, the cost data or the log were not, or behind the tests the specification was
--- refused
+-- why the folder of a run was not read: a test file, a property or the specification is refused, the files
+-- failed at a path, or memory ran out
 abbrev pub IsUnreadFolder : Invocation → FilesTell → FilesTell → Outcome → Type 0
 IsUnreadFolder invocation before now (Refused refusal) = IsUnread invocation before now (Refused refusal) ⊎ HasBadSpec invocation before now refusal
 IsUnreadFolder invocation before now outcome = IsUnread invocation before now outcome
 
--- the tests that a list is made of were read, and the names that it is limited to, if any
+-- the tests of a list were read, and the names that the list is limited to, if any
 pub record IsReadList (invocation : Invocation) (before now : FilesTell) (tests : Tests) (only : Option (List (List ℕ))) : Type 0 where
   pub read : HasTests invocation before now tests
   pub limits : AreOnly before.held invocation.rerun invocation.wanted.dir only
 
--- the tests were read, the resources that are lent, what the last run tells of the tests, and the names that the run is limited
--- to, if any
+-- the folder of a run was read: the tests, the resources that are lent, the cost data of the last run, and
+-- the names that the run is limited to, if any
 pub record IsReadFolder (invocation : Invocation) (before now : FilesTell) (tests : Tests) (resources : Option (List Resource)) (costs : CostData) (only : Option (List (List ℕ))) : Type 0 where
   pub read : HasTests invocation before now tests
   pub lent : AreLent before.held invocation.spec_file resources
   pub last : IfSome before.held (λ held. costs ≡ last_costs invocation.wanted.dir held)
   pub limits : AreOnly before.held invocation.rerun invocation.wanted.dir only
 
--- why the tests of a folder have no plan, with the names of the tests of a cycle; memory may be wanting for these
+-- why the tests of a folder have no plan, with the names of the tests of a cycle; memory may run out for the
+-- names
 abbrev pub IsUnplanned : List TestDef → PlanFault → List (List ℕ) → Result ℕ Outcome → Type 0
 IsUnplanned defs (Plans.Cycle tests) names ended = ((ended ≡ Err (Refused (Cycle tests))) × (names ≡ names_at defs tests)) ⊎ (ended ≡ Err Memory)
 IsUnplanned defs Plans.TooManyEdges names ended = ended ≡ Err (Refused TooManyEdges)
 IsUnplanned defs Plans.NoMemory names ended = ended ≡ Err Memory
 
--- nothing was run, for this cause; the tests of a cycle have these names
+-- nothing was run, and this outcome says why; the tests of a cycle have these names
 abbrev pub EndsUnrun : Sides → List (List ℕ) → Result ℕ Outcome → Type 0
 EndsUnrun s names (Ok status) = ⊥
 EndsUnrun s names (Err Completed) = ⊥
@@ -134,20 +139,20 @@ EndsUnrun s names (Err (FilesFault path)) = IsReadFault s path
 EndsUnrun s names (Err OutputFault) = ⊥
 EndsUnrun s names (Err Memory) = IsUnrun s × FilesStay s.files_before s.files_now
 
--- how a run ended before its outcome is told: a plan was run, or none was made and nothing was put
+-- how a run ended before the line of its outcome is put: a plan was run, or none was made and nothing was put
 abbrev pub Ends : Sides → List (List ℕ) → Result ℕ Outcome → Type 0
 Ends s names ended = HasRunWith s (λ invocation plan entries. RunLeaves s invocation plan entries ended) ⊎ (EndsUnrun s names ended × (s.sink_now ≡ s.sink_before))
 
--- how a run for an invocation ended, whatever words asked for that
+-- how a run for an invocation ended, for all words that ask for this invocation
 abbrev pub EndsFor : Invocation → (List (List ℕ) → Sides) → List (List ℕ) → Result ℕ Outcome → Type 0
 EndsFor invocation sides_of names ended = (words : List (List ℕ)) → AskFor words invocation → Ends (sides_of words) names ended
 
--- what the end of a list is to a call
+-- the outcome of a call whose list ended with this result
 abbrev pub listed_as : Result (Unit {0}) SinkFault → Outcome
 listed_as (Ok done) = Listed
 listed_as (Err fault) = outcome_of_sink fault
 
--- how a list ended before its outcome is told
+-- how a list ended before the line of its outcome is put
 abbrev pub ListEnds : Sides → Outcome → Type 0
 ListEnds s Completed = ⊥
 ListEnds s Listed = HasList s (λ lines. PutsLines lines s.sink_before s.sink_now (Ok tt))
@@ -157,26 +162,29 @@ ListEnds s (FilesFault path) = IsReadFault s path × (s.sink_now ≡ s.sink_befo
 ListEnds s OutputFault = HasList s (λ lines. PutsLines lines s.sink_before s.sink_now (Err Sinks.Failed))
 ListEnds s Memory = IsUnrun s × FilesStay s.files_before s.files_now × ((s.sink_now ≡ s.sink_before) ⊎ HasList s (λ lines. PutsLines lines s.sink_before s.sink_now (Err Sinks.NoMemory)))
 
--- how a list for an invocation ended, whatever words asked for that
+-- how a list for an invocation ended, for all words that ask for this invocation
 abbrev pub ListEndsFor : Invocation → (List (List ℕ) → Sides) → Outcome → Type 0
 ListEndsFor invocation sides_of outcome = (words : List (List ℕ)) → AskFor words invocation → ListEnds (sides_of words) outcome
 
--- a list ended so, and no cycle was told
+-- the result is the outcome of a list, and there are no names of a cycle
 abbrev pub EndsList : Sides → List (List ℕ) → Result ℕ Outcome → Type 0
 EndsList s names (Ok status) = ⊥
 EndsList s names (Err outcome) = ListEnds s outcome × (names ≡ [])
 
--- the line of an outcome was put, or memory was wanting for it and that is told in its place
+-- the line of an outcome was put or its put failed, or memory ran out for the line and the outcome told is
+-- Memory
 abbrev pub Told : List (List ℕ) → Outcome → Outcome → SinkTell → SinkTell → Type 0
 Told names outcome told before now = ((told ≡ outcome) × PutsOrFails (fault_line names outcome) before now) ⊎ ((told ≡ Memory) × PutsLines (fault_line names outcome ∷ []) before now (Err Sinks.NoMemory))
 
--- what becomes of an outcome: where the sink has failed, or a list was put, nothing more is
+-- the outcome that a call tells for an outcome: the same, without a line, where the sink has failed or a list
+-- was put; else with its line, as `Told`
 abbrev pub Tells : List (List ℕ) → Outcome → Outcome → SinkTell → SinkTell → Type 0
 Tells names OutputFault told before now = (told ≡ OutputFault) × (now ≡ before)
 Tells names Listed told before now = (told ≡ Listed) × (now ≡ before)
 Tells names outcome told before now = Told names outcome told before now
 
--- the outcome and the status of a call, once its end is told
+-- the outcome and the status of a call, after the line of its outcome: Completed with the status of the run
+-- and no line, or the outcome that is told with its own status
 abbrev pub TellsEnd : List (List ℕ) → Result ℕ Outcome → Outcome → ℕ → SinkTell → SinkTell → Type 0
 TellsEnd names (Ok status) outcome told before now = (outcome ≡ Completed) × (told ≡ status) × (now ≡ before)
 TellsEnd names (Err fault) outcome told before now = Tells names fault outcome before now × (told ≡ fault_status outcome)

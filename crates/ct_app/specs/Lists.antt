@@ -1,5 +1,6 @@
--- The lists of the tests, of the labels and for editors that a call is asked for, and what each outcome of a list says.
--- Source: CMake manual, ctest(1), --show-only, --print-labels, Show as JSON Object Model. That a list refuses no cycle is this project's choice.
+-- The lists of a call: of tests, of labels and for editors; and what each outcome of a list means.
+-- Source: CMake manual, ctest(1), --show-only, --print-labels, Show as JSON Object Model. That a list refuses
+-- no cycle is this project's choice.
 use Rattle.std.specs.Prelude.{◌≡◌, ◌⊎◌, ℕ, List, [], ◌∷◌, flat_map, filter_map, Option, Some, None, Ok, Err, if◌then◌else◌}
 use Rattle.ct_base.specs.declared.defs.TestDef.{TestDef}
 use Rattle.ct_base.specs.declared.sink.SinkFault.TheVariants as Sinks
@@ -21,39 +22,39 @@ use Rattle.ct_app.specs.Reading.{AreRead, AskFor}
 use Rattle.ct_app.specs.Rerun.{AreOnly, choice_of}
 use Rattle.ct_app.specs.RunFiles.{FilesStay}
 
--- a test with this number as it is listed, where it is there
+-- the test that was looked up by this number as a list shows it, if its definition and properties are there
 abbrev pub listed_there : ℕ → Option TestDef → Option Props → Option Line
 listed_there number None props = None
 listed_there number (Some def) None = None
 listed_there number (Some def) (Some props) = Some (record { number = number; name = def.name; disabled = props.disabled })
 
--- the tests with these numbers as they are listed, in order
+-- the tests with these numbers as a list shows them, in order
 abbrev pub listed_tests : List TestDef → List Props → List ℕ → List Line
 listed_tests defs props numbers = filter_map (λ number. listed_there number (at_number defs number) (at_number props number)) numbers
 
--- the labels of a test that was looked up; those of one that is disabled do not count
+-- the labels of a test that was looked up; a disabled test has none here
 abbrev pub labels_there : Option Props → List (List ℕ)
 labels_there None = []
 labels_there (Some props) = if props.disabled then [] else props.labels
 
--- the labels of the tests with these numbers
+-- the labels of the tests with these numbers, without the disabled tests
 abbrev pub labels_among : List Props → List ℕ → List (List ℕ)
 labels_among props numbers = flat_map (λ number. labels_there (at_number props number)) numbers
 
--- the lines of the list that a task asks for in a folder and a configuration, of these members; a run that is only listed lists
--- its tests, and the list for editors is one line without a header
+-- the lines of the list that a task asks for, for a folder, a configuration and these members. A run lists
+-- its tests. The list for editors is one line without a header.
 abbrev pub list_lines : Task → List ℕ → List ℕ → List TestDef → List Props → List ℕ → List (List ℕ)
 list_lines Run dir config defs props members = test_list dir (listed_tests defs props members)
 list_lines ListTests dir config defs props members = test_list dir (listed_tests defs props members)
 list_lines ListLabels dir config defs props members = label_list (labels_among props members)
 list_lines ListJson dir config defs props members = info_text (info_value defs members config) ∷ []
 
--- the lines of the list that an invocation asks for, of the members by a choice among these tests
+-- the lines of the list that an invocation asks for, of those of these tests that a choice selects
 abbrev pub asked_lines : Invocation → Choice → List TestDef → List Props → List (List ℕ)
 asked_lines invocation choice defs props = list_lines invocation.task invocation.wanted.dir invocation.config defs props (members_in choice defs props)
 
--- the words were read, the tests that they ask for, and the names that the list is limited to, if any; this holds of the lines
--- of the list, and nothing was run
+-- the words were read, and the tests that they ask for, and the names that the list is limited to, if any.
+-- `P` holds of the lines of the list, the files stay, and nothing was run.
 pub record HasList (s : Sides) (P : List (List ℕ) → Type 0) : Type 0 where
   pub invocation : Invocation
   pub words : AskFor s.words invocation
@@ -66,7 +67,8 @@ pub record HasList (s : Sides) (P : List (List ℕ) → Type 0) : Type 0 where
   pub unrun : IsUnrun s
   pub holds : P (asked_lines invocation (choice_of invocation only) defs props)
 
--- memory was wanting for a list: for the line of this outcome, or for anything before it, behind a beginning of the list
+-- memory ran out for a list: for the line of this outcome; or, with Memory, before any line or behind a
+-- beginning of the list
 abbrev pub IsShortList : Sides → Outcome → Type 0
 IsShortList s Completed = ⊥
 IsShortList s Listed = ⊥
@@ -76,7 +78,8 @@ IsShortList s (FilesFault path) = IsReadFault s path × PutsLines (fault_line []
 IsShortList s OutputFault = ⊥
 IsShortList s Memory = IsUnrun s × FilesStay s.files_before s.files_now × (Tries (fault_line [] Memory) s.sink_before s.sink_now ⊎ HasList s (λ lines. ThenLine (λ middle. PutsLines lines s.sink_before middle (Err Sinks.NoMemory)) (λ middle. Tries (fault_line [] Memory) middle s.sink_now)))
 
--- what each outcome of a list says; want of memory alone is free. What the files hold stays, and no plan is made or refused
+-- what each outcome and status of a list means. In each case what the files hold stays, and no plan is made
+-- or refused. Memory alone may come at any time.
 abbrev pub AnswersList : Sides → Outcome → ℕ → Type 0
 AnswersList s Completed status = ⊥
 AnswersList s Listed status = HasList s (λ lines. PutsLines lines s.sink_before s.sink_now (Ok tt)) × (status ≡ 0)

@@ -1,6 +1,6 @@
--- The verdict that each test of a plan is meant to have, whatever order its tests run in and whichever workers run them.
--- Source: CMake manual, ctest(1), --repeat; cmake-properties(7), DISABLED, FIXTURES_REQUIRED. That a test which cannot run
--- at all is settled behind its setups is this project's choice.
+-- The verdict that each test of a plan is meant to have, for each order of the tests and all workers.
+-- Source: CMake manual, ctest(1), --repeat; cmake-properties(7), DISABLED, FIXTURES_REQUIRED. That a test
+-- with a fixed cause is settled behind its setups is this project's choice.
 use Rattle.std.specs.Prelude.{◌≡◌, ◌⊎◌, ℕ, zero, suc, Bool, true, false, not, List, [], ◌∷◌, length, map, find, Option, Some, None, option_map, ⊤, if◌then◌else◌}
 use Rattle.std.specs.List.{list_any, range_with_len}
 use Rattle.ct_verdict.specs.declared.attempt.Seen.{Seen}
@@ -21,40 +21,44 @@ use Rattle.ct_history.specs.Verdicts.{is_failing_in, is_over, is_passed_verdict,
 use Rattle.ct_history.specs.Rules.{cause_behind}
 use Rattle.ct_history.specs.Legal.{has_failing}
 
--- the verdicts of so many first attempts of a test, of each of which this is seen
+-- the verdicts of the first `count` attempts of a test, where `seen` tells what is seen of each attempt
 abbrev pub first_verdicts : Rules → (ℕ → Seen) → ℕ → List Verdict
 first_verdicts rules seen count = map (λ attempt. verdict_of rules (seen attempt)) (range_with_len 1 count)
 
--- a test's last attempt: the first one behind which none follows. Behind as many as the times of the repeat none ever does
+-- the last attempt of a test: the first attempt behind which the test is over, at the latest the attempt
+-- whose number is the times of the repeat
 abbrev pub last_attempt : Repeat → Rules → (ℕ → Seen) → Option ℕ
 last_attempt repeat rules seen = find (λ attempt. is_over repeat (first_verdicts rules seen attempt)) (range_with_len 1 repeat.times)
 
--- the verdict that a test's attempts are meant to come to: that of the last one
+-- the verdict of a test's last attempt
 abbrev pub meant_of_attempts : Repeat → Rules → (ℕ → Seen) → Option Verdict
 meant_of_attempts repeat rules seen = option_map (λ attempt. verdict_of rules (seen attempt)) (last_attempt repeat rules seen)
 
--- the least setup of a test that is not meant to pass, where these verdicts are meant; `setups` ascends
+-- the least setup of a test that is not meant to pass, where `meant` tells the verdict of each setup;
+-- `setups` ascends
 abbrev pub first_unpassed_setup : (ℕ → Option Verdict) → PlanTest → Option ℕ
 first_unpassed_setup meant t = find (λ s. not (is_passed_verdict (meant s))) t.setups
 
--- the cause that a test is meant not to run for: a setup that did not pass, or else the fixed one
+-- the cause for which a test is meant not to run: its least setup that is not meant to pass, else its fixed
+-- cause
 abbrev pub meant_cause : (ℕ → Option Verdict) → PlanTest → Option Cause
 meant_cause meant t = cause_behind (first_unpassed_setup meant t) t.fixed
 
--- the verdict that a test is meant to have, by those of its setups: Disabled, or not run for a cause, or what its attempts
--- come to
+-- the verdict that a test is meant to have, where `meant` tells the verdict of each setup: Disabled, else
+-- NotRun for its meant cause, else the verdict of its last attempt
 abbrev pub meant_by_setups : Repeat → (ℕ → ℕ → Seen) → (ℕ → Option Verdict) → Option PlanTest → Option Verdict
 meant_by_setups repeat seen meant None = None
 meant_by_setups repeat seen meant (Some t) =
     if t.disabled then Some Disabled else settled_or (meant_cause meant t) (meant_of_attempts repeat t.rules (seen t.number))
 
--- the same, where setups of setups are followed so many steps down
+-- the verdict that the test with this number is meant to have, with setups of setups followed for this many
+-- steps
 abbrev pub meant_within : PlanParts → (ℕ → ℕ → Seen) → ℕ → ℕ → Option Verdict
 meant_within plan seen zero number = None
 meant_within plan seen (suc steps) number = meant_by_setups plan.repeat seen (meant_within plan seen steps) (test_at plan.tests number)
 
--- the verdict that the test with this number is meant to have, where this is seen of each attempt of each test. Setups never go
--- round in a cycle, so that a chain of them has no more steps than there are tests
+-- the verdict that the test with this number is meant to have, where `seen` tells what is seen of each
+-- attempt. Setups make no cycle, so a chain of setups has at most as many steps as there are tests.
 abbrev pub meant_verdict : PlanParts → (ℕ → ℕ → Seen) → ℕ → Option Verdict
 meant_verdict plan seen number = meant_within plan seen (length plan.tests) number
 
@@ -62,25 +66,25 @@ meant_verdict plan seen number = meant_within plan seen (length plan.tests) numb
 abbrev pub is_meant_to_fail : PlanParts → (ℕ → ℕ → Seen) → Bool
 is_meant_to_fail plan seen = list_any (λ t. is_failing_in (meant_verdict plan seen t.number)) plan.tests
 
--- where the entry ends an attempt, this is what was seen of it
+-- where the entry ends an attempt, it saw what `seen` tells of this attempt
 abbrev pub IsSeen : (ℕ → ℕ → Seen) → Entry → Type 0
 IsSeen seen (Start t a w placement) = ⊤
 IsSeen seen (End t a w ended) = ended ≡ seen t a
 IsSeen seen (Settle t cause) = ⊤
 IsSeen seen Stop = ⊤
 
--- this is what was seen of each attempt that ended
+-- each End among the entries saw what `seen` tells of its attempt
 abbrev pub AreSeen : (ℕ → ℕ → Seen) → List Entry → Type 0
 AreSeen seen [] = ⊤
 AreSeen seen (entry ∷ entries) = IsSeen seen entry × AreSeen seen entries
 
--- a test has the verdict that is meant, or a Stop stands and kept it from running
+-- a test has its meant verdict, or the history has a Stop and the test was not run for it
 abbrev pub IsMeant : PlanParts → (ℕ → ℕ → Seen) → List Entry → ℕ → Type 0
 IsMeant plan seen entries number =
     (verdict_of_test plan entries number ≡ meant_verdict plan seen number) ⊎ ((has_stop entries ≡ true) × (verdict_of_test plan entries number ≡ Some (NotRun Stopped)))
 
--- each test has its meant verdict or was kept from running by a Stop; without --stop-on-failure each has its
--- meant one; in both cases some verdict is of the failing class exactly where some meant one is
+-- each test has its meant verdict or was not run for a Stop. Without --stop-on-failure each test has its
+-- meant verdict. Some verdict is of the failing class exactly where some meant verdict is.
 pub record AreMeant (plan : PlanParts) (seen : ℕ → ℕ → Seen) (entries : List Entry) : Type 0 where
   pub verdicts : (number : ℕ) → IsMeant plan seen entries number
   pub unstopped : plan.stop_on_failure ≡ false → (number : ℕ) → verdict_of_test plan entries number ≡ meant_verdict plan seen number

@@ -1,4 +1,5 @@
--- A completed run, and that it came as is meant. This project's own, after CMake manual, ctest(1).
+-- A completed run has the verdicts, status and texts that it is meant to have. This project's own, after
+-- CMake manual, ctest(1).
 use Rattle.std.specs.Prelude.{◌≡◌, ℕ, List, IsSomeAnd}
 use Rattle.ct_history.specs.declared.plan.PlanParts.{PlanParts}
 use Rattle.ct_history.specs.declared.history.Entry.{Entry}
@@ -11,7 +12,8 @@ use Rattle.ct_app.specs.Calls.{Sides}
 use Rattle.ct_app.specs.MeantTold.{AllTell, ComesAsMeant, seen_in}
 use Rattle.ct_app.specs.Runs.{IsCompleted, IsRun}
 
--- the tests that the words ask for were read, and ran to the end; where all gates tell one world, that came as is meant there
+-- the tests that the words ask for were read and ran to the end; where all gates tell one world, the run has
+-- the verdicts, status and texts that are meant in this world
 pub record RanAsMeant (s : Sides) (status : ℕ) (plan : PlanParts) (entries : List Entry) : Type 0 where
   pub invocation : Invocation
   pub source : Source
@@ -19,10 +21,10 @@ pub record RanAsMeant (s : Sides) (status : ℕ) (plan : PlanParts) (entries : L
   pub completed : IsCompleted s status invocation plan entries
   pub meant : (world : List Told) → AllTell world s.gates_before → ComesAsMeant invocation.empty_is_error plan (seen_in source.props world) entries status
 
--- plan and history are there, of a run that came as is meant
+-- plan and history are there and belong to a run as meant
 abbrev pub HasRunAsMeant : Sides → ℕ → Type 0
 HasRunAsMeant s status = IsSomeAnd s.plan (λ plan. IsSomeAnd s.history (λ entries. RanAsMeant s status plan entries))
 
--- a call that answers Completed had a run that came as is meant
+-- a call that returns Completed had a run as meant
 abbrev pub AnswersAsMeant : Sides → Outcome → ℕ → Type 0
 AnswersAsMeant s outcome status = outcome ≡ Completed → HasRunAsMeant s status

@@ -1,4 +1,5 @@
--- That two histories of a plan make the same of a run but for its order: summary, cost data and log. This project's own.
+-- All complete histories of a plan in which the same is seen have the same summary, cost data and log. This
+-- project's own.
 use Rattle.std.specs.Prelude.{◌≡◌, ℕ, List, true}
 use Rattle.ct_verdict.specs.declared.attempt.Seen.{Seen}
 use Rattle.ct_history.specs.declared.plan.PlanParts.{PlanParts}
@@ -11,13 +12,14 @@ use Rattle.ct_cost.specs.Costs.{costs_after}
 use Rattle.ct_report.specs.Report.{summary_lines}
 use Rattle.ct_app.specs.Meant.{AreSeen}
 
--- two histories have the same summary, the same cost data after them, whatever it was before, and the same log of failed tests
+-- two histories have the same summary, the same log of failed tests, and, for each cost data before, the same
+-- cost data after
 pub record HaveSameTexts (plan : PlanParts) (one other : List Entry) : Type 0 where
   pub summary : summary_lines plan one ≡ summary_lines plan other
   pub costs : (before : CostData) → costs_after plan one before ≡ costs_after plan other before
   pub log : failed_log_text plan one ≡ failed_log_text plan other
 
--- this history has the same texts as each legal one in which each test is final and the same is seen of each
--- attempt
+-- this history has the same texts as each other legal history in which each test is final and `seen` tells
+-- what was seen of each attempt
 abbrev pub HasMeantTexts : PlanParts → (ℕ → ℕ → Seen) → List Entry → Type 0
 HasMeantTexts plan seen entries = (other : List Entry) → is_legal plan other ≡ true → are_all_final plan other ≡ true → AreSeen seen other → HaveSameTexts plan entries other

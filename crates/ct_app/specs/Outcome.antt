@@ -1,4 +1,5 @@
--- The outcome of a top call, its status and its line. Source: CMake manual, ctest(1), for 0 and 8; else this project's own.
+-- The outcome of a top call, its status and its line. Source: CMake manual, ctest(1), for the statuses 0 and
+-- 8; else this project's own.
 use Rattle.std.specs.Prelude.{ℕ, Bool, List, [], ◌∷◌, ◌++◌, length, map, flat_map, codes, decimal, Option, Some, None, ◌==◌, if◌then◌else◌}
 use Rattle.ct_base.specs.declared.defs.TestDef.{TestDef}
 use Rattle.ct_base.specs.declared.sink.SinkFault.{SinkFault}
@@ -32,39 +33,39 @@ use Rattle.ct_app.specs.declared.outcome.SpecRefusal.TheVariants as Specs
 use Rattle.ct_app.specs.declared.outcome.Outcome.{Outcome}
 use Rattle.ct_app.specs.declared.outcome.Outcome.TheVariants.{Completed, Listed, Usage, Refused, FilesFault, OutputFault, Memory}
 
--- what a fault of the words is to a call
+-- the outcome of a call whose words have this fault
 abbrev pub outcome_of_usage : UsageFault → Outcome
 outcome_of_usage (Usages.At word kind) = Usage word kind
 outcome_of_usage Usages.NoMemory = Memory
 
--- what a fault of reading is to a call
+-- the outcome of a call whose test files have this fault
 abbrev pub outcome_of : ReadFault → Outcome
 outcome_of (Read.At file line kind) = Refused (TestFile file line kind)
 outcome_of (Read.FilesFailed path) = FilesFault path
 outcome_of Read.NoMemory = Memory
 
--- what a fault of the properties of this test is to a call
+-- the outcome of a call where the properties of this test have this fault
 abbrev pub outcome_of_prop : ℕ → PropFault → Outcome
 outcome_of_prop test (Props.Bad key kind) = Refused (Prop test key kind)
 outcome_of_prop test Props.NoMemory = Memory
 
--- what a fault of a specification is to the file that holds it
+-- the fault of the specification file whose text has this fault
 abbrev pub fault_of_spec : SpecFault → SpecFileFault
 fault_of_spec Says.NoMemory = Named.NoMemory
 fault_of_spec fault = Named.Refused (Specs.Fault fault)
 
--- what a fault of the file that declares the resources is to a call
+-- the outcome of a call whose specification file has this fault
 abbrev pub outcome_of_spec : SpecFileFault → Outcome
 outcome_of_spec (Named.Refused why) = Refused (Spec why)
 outcome_of_spec (Named.Failed path) = FilesFault path
 outcome_of_spec Named.NoMemory = Memory
 
--- what a fault of a file that is read or left is to a call
+-- the outcome of a call where the cost data or the log has this fault
 abbrev pub outcome_of_file : RunFileFault → Outcome
 outcome_of_file (Files.Failed path) = FilesFault path
 outcome_of_file Files.NoMemory = Memory
 
--- what a fault of the sink is to a call
+-- the outcome of a call whose sink has this fault
 abbrev pub outcome_of_sink : SinkFault → Outcome
 outcome_of_sink Sinks.Failed = OutputFault
 outcome_of_sink Sinks.NoMemory = Memory
@@ -73,7 +74,7 @@ outcome_of_sink Sinks.NoMemory = Memory
 abbrev pub is_failed : Bool → PlanParts → List Entry → Bool
 is_failed empty_is_error plan entries = if length plan.tests == 0 then empty_is_error else has_failing plan entries
 
--- the status of a completed run
+-- the status of a completed run: 8 where it failed, else 0
 abbrev pub status_of : Bool → PlanParts → List Entry → ℕ
 status_of empty_is_error plan entries = if is_failed empty_is_error plan entries then 8 else 0
 
@@ -119,7 +120,7 @@ prop_text Bad.BadNumber = codes "bad number"
 prop_text (Bad.BadPattern why) = codes "bad pattern"
 prop_text (Bad.BadGroups why) = codes "bad resource groups"
 
--- what is wrong with a specification; of want of memory no refusal tells
+-- what is wrong with a specification; no refusal holds NoMemory
 abbrev pub spec_fault_text : SpecFault → List ℕ
 spec_fault_text Says.NotJson = codes "not JSON"
 spec_fault_text Says.BadVersion = codes "bad version"
@@ -137,7 +138,7 @@ spec_text Specs.Absent = codes "absent"
 spec_text Specs.TooLong = codes "too long"
 spec_text (Specs.Fault fault) = spec_fault_text fault
 
--- the name of a test that was looked up
+-- the name of a test that was looked up; empty where there is none
 abbrev pub name_there : Option TestDef → List ℕ
 name_there None = []
 name_there (Some def) = def.name
@@ -150,12 +151,12 @@ names_at defs numbers = map (λ number. name_there (at_number defs number)) numb
 abbrev pub arrows_to : List (List ℕ) → List ℕ
 arrows_to names = flat_map (λ name. codes " -> " ++ name) names
 
--- a cycle of tests with these names: it comes back to the first
+-- the text of a cycle of tests with these names: the first name comes again at the end
 abbrev pub cycle_text : List (List ℕ) → List ℕ
 cycle_text [] = codes "cycle: "
 cycle_text (first ∷ others) = codes "cycle: " ++ first ++ arrows_to others ++ codes " -> " ++ first
 
--- what is refused, and why; a cycle is told by these names
+-- what is refused, and why; the text of a cycle has these names
 abbrev pub refusal_text : List (List ℕ) → Refusal → List ℕ
 refusal_text names (TestFile file line kind) = file ++ codes ":" ++ decimal line ++ codes ": " ++ kind_text kind
 refusal_text names (Prop test key kind) = codes "test " ++ decimal test ++ codes ": " ++ key ++ codes ": " ++ prop_text kind
@@ -163,7 +164,7 @@ refusal_text names (Spec why) = codes "resource specification: " ++ spec_text wh
 refusal_text names (Cycle tests) = cycle_text names
 refusal_text names TooManyEdges = codes "too many dependencies"
 
--- what an outcome says of itself, where it does; a cycle is told by these names
+-- the text of an outcome, empty for Completed, Listed and OutputFault; the text of a cycle has these names
 abbrev pub outcome_text : List (List ℕ) → Outcome → List ℕ
 outcome_text names Completed = []
 outcome_text names Listed = []
@@ -173,11 +174,11 @@ outcome_text names (FilesFault path) = codes "cannot use file " ++ path
 outcome_text names OutputFault = []
 outcome_text names Memory = codes "out of memory"
 
--- the line of an outcome; a cycle is told by these names of its tests
+-- the line of an outcome; the text of a cycle has these names of its tests
 abbrev pub fault_line : List (List ℕ) → Outcome → List ℕ
 fault_line names outcome = codes "ctest: " ++ outcome_text names outcome ++ codes "\n"
 
--- the exit status of an outcome but Completed
+-- the exit status of each outcome but Completed
 abbrev pub fault_status : Outcome → ℕ
 fault_status Completed = 0
 fault_status Listed = 0

@@ -1,4 +1,4 @@
--- What the words of a call ask for, what is read for that, and why it can't be.
+-- What the words of a call ask for, what is read for it, and what is refused.
 -- Source: CMake manual, ctest(1), Options, Run Tests. What is refused is this project's choice.
 use Rattle.std.specs.Prelude.{◌≡◌, ℕ, ◌<◌, ◌≤◌, Bool, true, false, List, Option, Result, Ok, Err, IfSome}
 use Rattle.ct_base.specs.declared.defs.TestDef.{TestDef}
@@ -21,14 +21,14 @@ use Rattle.ct_app.specs.RunFiles.{last_costs}
 use Rattle.ct_app.specs.SpecFile.{AreLent, RefusesFile}
 use Rattle.ct_app.specs.Tests.{RefusesFirst}
 
--- the task is one of the lists
+-- the task is a list: of tests, of labels or as JSON
 abbrev pub is_list : Task → Bool
 is_list Run = false
 is_list ListTests = true
 is_list ListLabels = true
 is_list ListJson = true
 
--- the words were read, and ask for a list
+-- the words were read without a fault, and their task is a list
 abbrev pub reads_list : Result InvocationValue UsageFault → Bool
 reads_list (Ok invocation) = is_list invocation.task
 reads_list (Err fault) = false
@@ -37,17 +37,17 @@ reads_list (Err fault) = false
 abbrev pub ask_for_list : List (List ℕ) → Bool
 ask_for_list words = reads_list (invocation_in words)
 
--- the words ask for this
+-- the words ask for this invocation
 abbrev pub AskFor : List (List ℕ) → Invocation → Type 0
 AskFor words invocation = invocation_in words ≡ Ok (invocation_seen invocation)
 
--- these are the tests of the folder, built in the configuration, with the properties that they have
+-- these are the tests of the folder in the configuration, with their properties
 pub record AreRead (told : Option Held) (invocation : Invocation) (defs : List TestDef) (props : List Props) : Type 0 where
   pub tree : IfSome told (λ held. tree_of held invocation.wanted.dir invocation.config ≡ Ok defs)
   pub have : HaveProps defs props
 
--- a plan is made of these tests, of what is wanted, of the resources that are lent, and of what the last run cost; with
--- --rerun-failed the choice is limited to the names in the log
+-- the source of a plan: these tests, what the words want, the resources that are lent, and the cost data of
+-- the last run. With --rerun-failed the choice is limited to the names in the log.
 pub record IsSource (told : Option Held) (invocation : Invocation) (source : Source) : Type 0 where
   pub tests : AreRead told invocation source.defs source.props
   pub only : AreOnly told invocation.rerun invocation.wanted.dir source.wanted.choice.only
@@ -55,7 +55,7 @@ pub record IsSource (told : Option Held) (invocation : Invocation) (source : Sou
   pub resources : AreLent told invocation.spec_file source.resources
   pub costs : IfSome told (λ held. source.costs ≡ last_costs invocation.wanted.dir held)
 
--- a test file is refused, or else the first test that has a bad property
+-- a test file is refused; or all test files are read, and the first test with a bad property is refused
 abbrev pub RefusesReading : Option Held → Invocation → Refusal → Type 0
 RefusesReading told invocation (TestFile file line kind) = IfSome told (λ held. tree_of held invocation.wanted.dir invocation.config ≡ Err (Read.At file line kind))
 RefusesReading told invocation (Prop test key kind) =
@@ -72,11 +72,11 @@ RefusesSpec told invocation (Spec why) = RefusesFile told invocation.spec_file w
 RefusesSpec told invocation (Cycle tests) = ⊥
 RefusesSpec told invocation TooManyEdges = ⊥
 
--- how many tests may come before the tests of a run, counted for each of them
+-- the greatest edge count: how many tests may come before the tests of a run, summed over those tests
 abbrev pub most_edges : ℕ
 most_edges = 4000000
 
--- these tests have no plan: they go round in a cycle, of tests with these names, or too many come before others
+-- the tests have no plan: some of them make a cycle and have these names, or the edge count is too great
 abbrev pub RefusesPlan : Source → Refusal → List (List ℕ) → Type 0
 RefusesPlan source (TestFile file line kind) names = ⊥
 RefusesPlan source (Prop test key kind) names = ⊥

@@ -12,8 +12,10 @@ use Rattle.ct_report.specs.PutLines.{PutsLines}
 use Rattle.ct_report.specs.Report.{header_line, report_lines, summary_lines, test_lines}
 use Rattle.ct_worker.specs.Gates.{AreAsked, Terms, are_below, had_memory}
 
--- the tests of a plan ran as far as the history goes: it is legal and leaves nothing open, at no moment was more given than is
--- declared, no more workers took part than the level and the gates admit, and it says what the gates were asked and told
+-- the tests of a plan ran as far as the history goes:
+-- - it is legal, leaves no start open, and stays within the limits of the plan at each moment;
+-- - its workers are at most as many as the level and the gates;
+-- - it agrees with what the gates were asked and told
 pub record HasRun (terms : Terms) (gates_before gates_now : List GateTell) (plan : PlanParts) (entries : List Entry) : Type 0 where
   pub legal : is_legal plan entries ≡ true
   pub within : StaysWithin plan entries
@@ -21,27 +23,28 @@ pub record HasRun (terms : Terms) (gates_before gates_now : List GateTell) (plan
   pub workers : are_below (min plan.level (length gates_before)) entries ≡ true
   pub asked : AreAsked terms 0 gates_before gates_now entries
 
--- where nothing failed, the run is complete, and memory was there for each attempt
+-- where the result is Ok, the run is complete and no attempt lacked memory
 abbrev pub RunEnds : PlanParts → List Entry → Result (Unit {0}) SinkFault → Type 0
 RunEnds plan entries (Ok done) = IsComplete plan entries × (had_memory entries ≡ true)
 RunEnds plan entries (Err fault) = ⊤
 
--- what is put behind the header of a run that has tests: their lines and, where all are final, the summary
+-- the lines behind the header of a run that has tests: those of the tests and, where all tests are final, the
+-- summary
 abbrev pub lines_of_run : PlanParts → List Entry → List (List ℕ)
 lines_of_run plan entries = test_lines plan entries ++ (if are_all_final plan entries then summary_lines plan entries else [])
 
--- the report was begun: the header was put, and for a plan without tests all that there is to report; or some beginning was. Each
--- line is one put
+-- the report was begun, one put for each line: for a plan with tests the header was put, for a plan without
+-- tests the whole report; or a fault came, and a beginning of the report was put
 abbrev pub Begins : PlanParts → SinkTell → SinkTell → Result Bool SinkFault → Type 0
 Begins plan before now (Ok true) = PutsLines (header_line plan ∷ []) before now (Ok tt) × ((length plan.tests == 0) ≡ false)
 Begins plan before now (Ok false) = ((entries : List Entry) → PutsLines (report_lines plan entries) before now (Ok tt)) × ((length plan.tests == 0) ≡ true)
 Begins plan before now (Err fault) = (entries : List Entry) → PutsLines (report_lines plan entries) before now (Err fault)
 
--- the gates behind those of a plan's workers came back as they were
+-- the gates that no worker of the plan uses came back as they were
 abbrev pub RestStays : {G : Type 0} → PlanParts → List G → List G → Type 0
 RestStays plan before now = drop (min plan.level (length before)) now ≡ drop (min plan.level (length before)) before
 
--- the gates behind the workers' came back as they were, and all gates where there is no plan
+-- the gates that no worker uses came back as they were; without a plan, all gates
 abbrev pub OthersStay : {G : Type 0} → Option PlanParts → List G → List G → Type 0
 OthersStay None before now = now ≡ before
 OthersStay (Some plan) before now = RestStays plan before now

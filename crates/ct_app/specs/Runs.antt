@@ -1,4 +1,4 @@
--- What each outcome of a run says: all that was read, run, asked, written. This project's own.
+-- What each outcome of a run means: what was read, run, asked and written. This project's own.
 use Rattle.std.specs.Prelude.{◌≡◌, ◌⊎◌, ℕ, ◌≤◌, min, true, List, [], ◌∷◌, length, Ok, Err, IsSomeAnd}
 use Rattle.ct_base.specs.declared.defs.Pair.{Pair}
 use Rattle.ct_base.specs.declared.sink.SinkFault.TheVariants as Sinks
@@ -25,9 +25,12 @@ use Rattle.ct_app.specs.Reading.{AskFor, IsSource, RefusesPlan, most_edges}
 use Rattle.ct_app.specs.RunFiles.{FilesFail, FilesServe, FilesStay, IsWritten, Leaves, LeavesPart, LeavesTorn, WithLast}
 use Rattle.ct_app.specs.Calls.{IsReadFault, IsUndeclared, IsUnreadable, IsUnrun, IsUsage, PutsOrFails, Sides, ThenLine, Tries}
 
--- a plan was made of these tests, and they ran as far as the history goes: it is legal and leaves nothing open, at no moment
--- was more given than is declared, each test was started or settled when it came next by the queue, no more workers took part
--- than the level and the gates admit, and it says what the gates were asked and told
+-- a plan was made of this source, and its tests ran as far as the history goes:
+-- - the source has at most `most_edges` edges;
+-- - the history is legal, leaves no start open, and stays within the limits of the plan at each moment;
+-- - each test was started or settled when it was the next by the queue;
+-- - its workers are at most as many as the level and the gates;
+-- - it agrees with what the gates were asked and told
 pub record IsRunOf (env : List Pair) (source : Source) (limit : ℕ) (gates_before gates_now : List GateTell) (plan : PlanParts) (entries : List Entry) : Type 0 where
   pub few : edge_count source ≤ most_edges
   pub planned : IsPlanOf source plan
@@ -38,24 +41,24 @@ pub record IsRunOf (env : List Pair) (source : Source) (limit : ℕ) (gates_befo
   pub workers : are_below (min plan.level (length gates_before)) entries ≡ true
   pub asked : AreAsked (terms_from env source limit) 0 gates_before gates_now entries
 
--- the tests that the words ask for were read, and ran
+-- the source that the words ask for was read, and its tests ran as far as the history goes
 pub record IsRun (s : Sides) (invocation : Invocation) (source : Source) (plan : PlanParts) (entries : List Entry) : Type 0 where
   pub words : AskFor s.words invocation
   pub read : IsSource s.files_before.held invocation source
   pub ran : IsRunOf s.env source invocation.timeout s.gates_before s.gates_now plan entries
 
--- the plan and the history are those of a run of the tests that were read, and this holds of them
+-- the plan and the history are those of a run of the tests that were read, and `P` holds of them
 pub record RanWith (s : Sides) (P : Invocation → PlanParts → List Entry → Type 0) (plan : PlanParts) (entries : List Entry) : Type 0 where
   pub invocation : Invocation
   pub source : Source
   pub run : IsRun s invocation source plan entries
   pub holds : P invocation plan entries
 
--- plan and history are there, of a run of the tests that were read, of which this holds
+-- plan and history are there and belong to a run of the tests that were read, and `P` holds of them
 abbrev pub HasRunWith : Sides → (Invocation → PlanParts → List Entry → Type 0) → Type 0
 HasRunWith s P = IsSomeAnd s.plan (λ plan. IsSomeAnd s.history (λ entries. RanWith s P plan entries))
 
--- each test is final, no attempt wanted memory, and the whole report was put, line by line
+-- each test is final, no start is open, no attempt lacked memory, and the whole report was put, line by line
 pub record IsReported (plan : PlanParts) (entries : List Entry) (before now : SinkTell) : Type 0 where
   pub complete : IsComplete plan entries
   pub memory : had_memory entries ≡ true
@@ -65,11 +68,12 @@ pub record IsReported (plan : PlanParts) (entries : List Entry) (before now : Si
 abbrev pub IsCutOff : PlanParts → List Entry → SinkTell → SinkTell → Type 0
 IsCutOff plan entries before now = StopsSo Sinks.Failed plan entries before now
 
--- memory was wanting for the report, for an attempt or for a step, and the run was given up
+-- memory ran out for the report, for an attempt or for a step, and the run was given up
 abbrev pub IsGivenUp : PlanParts → List Entry → SinkTell → SinkTell → Type 0
 IsGivenUp plan entries before now = StopsSo Sinks.NoMemory plan entries before now
 
--- the tests that were read have no plan, and nothing was run; the tests of a cycle have these names
+-- the tests that were read have no plan; the files stay, and nothing was run. The tests of a cycle have these
+-- names.
 pub record IsUnplannable (s : Sides) (refusal : Refusal) (names : List (List ℕ)) : Type 0 where
   pub invocation : Invocation
   pub words : AskFor s.words invocation
@@ -83,7 +87,7 @@ pub record IsUnplannable (s : Sides) (refusal : Refusal) (names : List (List ℕ
 abbrev pub IsRefusal : Sides → Refusal → List (List ℕ) → Type 0
 IsRefusal s refusal names = IsUnreadable s refusal ⊎ (IsUndeclared s refusal ⊎ IsUnplannable s refusal names)
 
--- a refusal was told by this line, which names the tests of a cycle
+-- a refusal came, and `Line` holds of its line, which names the tests of a cycle
 pub record TellsRefusal (s : Sides) (refusal : Refusal) (Line : List ℕ → Type 0) : Type 0 where
   pub names : List (List ℕ)
   pub refused : IsRefusal s refusal names
@@ -93,16 +97,16 @@ pub record TellsRefusal (s : Sides) (refusal : Refusal) (Line : List ℕ → Typ
 abbrev pub FilesAreLeft : Sides → PlanParts → List Entry → Type 0
 FilesAreLeft s plan entries = FilesServe (WithLast plan.dir (Leaves plan entries)) s.files_before s.files_now
 
--- the files failed at a path that a complete run writes
+-- a write of a complete run failed at this path
 abbrev pub IsWriteFault : Sides → List ℕ → PlanParts → List Entry → Type 0
 IsWriteFault s path plan entries = IsWritten plan entries path × FilesFail path (WithLast plan.dir (LeavesTorn plan entries path)) s.files_before s.files_now
 
--- a run had come so far when memory was wanting: it was given up and the files stay, or it was reported and memory was wanting
--- for its files
+-- memory ran out in a run: the run was given up and the files stay, or the run was reported and memory ran
+-- out for its files
 abbrev pub IsCutShort : Sides → PlanParts → List Entry → SinkTell → Type 0
 IsCutShort s plan entries middle = (IsGivenUp plan entries s.sink_before middle × FilesStay s.files_before s.files_now) ⊎ (IsReported plan entries s.sink_before middle × FilesServe (WithLast plan.dir (LeavesPart plan entries)) s.files_before s.files_now)
 
--- memory was wanting where no plan was made: for anything before the line of this outcome, or for that line
+-- memory ran out without a plan: for the line of this outcome; or, with Memory, for a step before any line
 abbrev pub IsShort : Sides → Outcome → Type 0
 IsShort s Completed = ⊥
 IsShort s Listed = ⊥
@@ -112,7 +116,8 @@ IsShort s (FilesFault path) = IsReadFault s path × PutsLines (fault_line [] (Fi
 IsShort s OutputFault = ⊥
 IsShort s Memory = IsUnrun s × FilesStay s.files_before s.files_now × Tries (fault_line [] Memory) s.sink_before s.sink_now
 
--- memory was wanting where a plan was made: for anything before the line of this outcome, or for that line
+-- memory ran out with a plan: for the line of a write that failed; or, with Memory, in the run or for its
+-- files
 abbrev pub IsShortRun : Sides → Outcome → PlanParts → List Entry → Type 0
 IsShortRun s Completed plan entries = ⊥
 IsShortRun s Listed plan entries = ⊥
@@ -122,17 +127,17 @@ IsShortRun s (FilesFault path) plan entries = IsWriteFault s path plan entries �
 IsShortRun s OutputFault plan entries = ⊥
 IsShortRun s Memory plan entries = ThenLine (IsCutShort s plan entries) (λ middle. Tries (fault_line [] Memory) middle s.sink_now)
 
--- a run was completed: it was reported, its files were written, and this is its status
+-- a run was completed: it was reported, its files were written, and this is the status of the run
 pub record IsCompleted (s : Sides) (status : ℕ) (invocation : Invocation) (plan : PlanParts) (entries : List Entry) : Type 0 where
   pub reported : IsReported plan entries s.sink_before s.sink_now
   pub left : FilesAreLeft s plan entries
   pub is : status ≡ status_of invocation.empty_is_error plan entries
 
--- the report of a complete run stands in front of the line of a write that failed
+-- a write of a complete run failed at this path, and the line of the failure was put behind the whole report
 abbrev pub IsUnwritten : Sides → List ℕ → PlanParts → List Entry → Type 0
 IsUnwritten s path plan entries = IsWriteFault s path plan entries × ThenLine (IsReported plan entries s.sink_before) (λ middle. PutsOrFails (fault_line [] (FilesFault path)) middle s.sink_now)
 
--- what each outcome of a run says; want of memory alone is free
+-- what each outcome and status of a run means; Memory alone may come at any time
 abbrev pub AnswersRun : Sides → Outcome → ℕ → Type 0
 AnswersRun s Completed status = HasRunWith s (IsCompleted s status)
 AnswersRun s Listed status = ⊥

@@ -1,6 +1,6 @@
--- The resources that the file declares which the words of a run name, or why it is refused.
--- Source: CMake manual, ctest(1), --resource-spec-file, Resource Specification File. How much of a file is read, and what is
--- refused, is this project's choice.
+-- The resources that the specification file of a run declares, or why the file is refused.
+-- Source: CMake manual, ctest(1), --resource-spec-file, Resource Specification File. How much of a file is
+-- read, and what is refused, is this project's choice.
 use Rattle.std.specs.Prelude.{◌≡◌, ℕ, ⊤, nat_le, List, length, Option, Some, None, Result, Ok, Err, IfSome, IsSomeAnd, if◌then◌else◌}
 use Rattle.std.specs.Result.{result_map_both}
 use Rattle.ct_base.specs.declared.defs.Resource.{Resource}
@@ -16,39 +16,42 @@ use Rattle.ct_app.specs.RunFiles.{FilesFail, FilesStay}
 abbrev pub most_spec_bytes : ℕ
 most_spec_bytes = 16777216
 
--- the resources of a text, or its first fault as a refusal
+-- the resources that a text declares, or its first fault as a refusal
 abbrev pub declared_by : List ℕ → Result (List Resource) SpecRefusal
 declared_by text = result_map_both (λ resources. resources) Fault (resources_in text)
 
--- the resources that a path declares which holds this, or why it is refused: it holds nothing, or too much, or the text has a fault
+-- the resources that the text at a path declares, or why the file is refused: absent, too long, or a fault of
+-- the text
 abbrev pub declared_in : Option (List ℕ) → Result (List Resource) SpecRefusal
 declared_in None = Err Absent
 declared_in (Some text) = if nat_le (length text) most_spec_bytes then declared_by text else Err TooLong
 
--- the resources that are lent: those that the file declares which is named, and none where no file is
+-- the resources that are lent: what the named file declares; none where no file is named
 abbrev pub AreLent : Option Held → Option (List ℕ) → Option (List Resource) → Type 0
 AreLent told None lent = lent ≡ None
 AreLent told (Some path) lent = IsSomeAnd lent (λ resources. IfSome told (λ held. declared_in (held path) ≡ Ok resources))
 
--- a file is named, and refused for this
+-- a file is named, and refused for this reason
 abbrev pub RefusesFile : Option Held → Option (List ℕ) → SpecRefusal → Type 0
 RefusesFile told file why = IsSomeAnd file (λ path. IfSome told (λ held. declared_in (held path) ≡ Err why))
 
--- what a path holds, as far as it was read, declares these resources, or is refused, unless memory was wanting
+-- the text at a path declares these resources, or is refused, or memory ran out
 abbrev pub Declares : Option (List ℕ) → Result (List Resource) SpecFileFault → Type 0
 Declares held (Ok resources) = declared_in held ≡ Ok resources
 Declares held (Err (Refused why)) = declared_in held ≡ Err why
 Declares held (Err (Failed path)) = ⊥
 Declares held (Err NoMemory) = ⊤
 
--- the file at a path was read, or is refused, or could not be read, and each path holds what it held
+-- the file at a path was read, is refused or could not be read, or memory ran out; each path holds what it
+-- held
 abbrev pub ReadsPath : List ℕ → FilesTell → FilesTell → Result (List Resource) SpecFileFault → Type 0
 ReadsPath path before now (Ok resources) = IfSome before.held (λ held. declared_in (held path) ≡ Ok resources) × FilesStay before now
 ReadsPath path before now (Err (Refused why)) = IfSome before.held (λ held. declared_in (held path) ≡ Err why) × FilesStay before now
 ReadsPath path before now (Err (Failed failed)) = FilesFail failed SameHeld before now
 ReadsPath path before now (Err NoMemory) = FilesStay before now
 
--- the file that is named was read, where one is, or is refused, or could not be read, and each path holds what it held
+-- the named file, if any, was read, is refused or could not be read, or memory ran out; each path holds what
+-- it held
 abbrev pub ReadsSpec : Option (List ℕ) → FilesTell → FilesTell → Result (Option (List Resource)) SpecFileFault → Type 0
 ReadsSpec file before now (Ok lent) = AreLent before.held file lent × FilesStay before now
 ReadsSpec file before now (Err (Refused why)) = RefusesFile before.held file why × FilesStay before now

@@ -1,4 +1,4 @@
--- Where a run stopped that did not come to its end. This project's own.
+-- Where a run stopped before its end. This project's own.
 use Rattle.std.specs.Prelude.{◌≡◌, ◌⊎◌, true, List, [], ◌∷◌, Ok, Err}
 use Rattle.ct_base.specs.declared.sink.SinkFault.{SinkFault}
 use Rattle.ct_base.specs.Outside.{SinkTell}
@@ -9,7 +9,7 @@ use Rattle.ct_report.specs.PutLines.{PutsLines}
 use Rattle.ct_report.specs.Report.{header_line, report_lines, summary_lines, test_lines}
 use Rattle.ct_worker.specs.Halted.{IsHalted}
 
--- each test is final and their lines were put, and then a beginning of the summary
+-- each test is final, the lines of the tests were put, and then a beginning of the summary
 pub record StopsAtSummary (fault : SinkFault) (plan : PlanParts) (entries : List Entry) (before now : SinkTell) : Type 0 where
   pub final : are_all_final plan entries ≡ true
   pub middle : SinkTell
@@ -26,11 +26,11 @@ pub record StopsInRun (fault : SinkFault) (plan : PlanParts) (entries : List Ent
   pub header : PutsLines (header_line plan ∷ []) before middle (Ok tt)
   pub stops : StopsBehind fault plan entries middle now
 
--- nothing had happened yet, or the run stopped behind its header
+-- the history is empty, or the run stopped behind its header
 abbrev pub StopsAt : SinkFault → PlanParts → List Entry → SinkTell → SinkTell → Type 0
 StopsAt fault plan entries before now = (entries ≡ []) ⊎ StopsInRun fault plan entries before now
 
--- no more than a beginning of the report was put, and the run stopped where that ends
+-- a beginning of the report was put, and the run stopped where this beginning ends
 pub record StopsSo (fault : SinkFault) (plan : PlanParts) (entries : List Entry) (before now : SinkTell) : Type 0 where
   pub put : PutsLines (report_lines plan entries) before now (Err fault)
   pub at : StopsAt fault plan entries before now

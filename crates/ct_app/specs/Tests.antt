@@ -12,8 +12,8 @@ use Rattle.ct_app.specs.declared.outcome.Outcome.{Outcome}
 use Rattle.ct_app.specs.declared.outcome.Outcome.TheVariants.{Completed, Listed, Usage, Refused, FilesFault, OutputFault, Memory}
 use Rattle.ct_app.specs.declared.outcome.Refusal.TheVariants.{TestFile, Prop, Spec, Cycle, TooManyEdges}
 
--- what a run says of its attempts: its own environment, the tests of its plan's source, and for how long an attempt may run of a
--- test that does not say so; resources are lent where there are any to lend
+-- the terms of a run's attempts: its own environment, the tests and properties of the source, and the time
+-- limit of a test without a limit of its own. Slots are lent where the source has resources.
 abbrev pub terms_from : List Pair → Source → ℕ → Terms
 terms_from own source limit = record { own = own; defs = source.defs; props = source.props; limit = limit; lends = is_some source.resources }
 
@@ -21,7 +21,7 @@ terms_from own source limit = record { own = own; defs = source.defs; props = so
 abbrev pub IsUnrefused : TestDef → Type 0
 IsUnrefused def = (key : List ℕ) → refused_as def.props key ≡ None
 
--- this is the first test of which a property is refused, and the least key that is refused there
+-- this test is the first with a refused property, and this is the least refused key of the test
 pub record RefusesFirst (defs : List TestDef) (test : ℕ) (key : List ℕ) (kind : PropKind) : Type 0 where
   pub low : 1 ≤ test
   pub def : TestDef
@@ -29,7 +29,7 @@ pub record RefusesFirst (defs : List TestDef) (test : ℕ) (key : List ℕ) (kin
   pub least : IsLeastRefused def.props key kind
   pub first : All IsUnrefused (take (test - 1) defs)
 
--- the outcome refuses a property of this test, its least refused one; want of memory is free
+-- the outcome refuses the least refused property of this test, or is Memory, which may come at any time
 abbrev pub RefusesTest : ℕ → TestDef → Outcome → Type 0
 RefusesTest number def Completed = ⊥
 RefusesTest number def Listed = ⊥
@@ -43,7 +43,7 @@ RefusesTest number def (FilesFault path) = ⊥
 RefusesTest number def OutputFault = ⊥
 RefusesTest number def Memory = ⊤
 
--- the outcome refuses the first property of these tests that is refused; want of memory is free
+-- the outcome refuses the first test with a refused property, or is Memory, which may come at any time
 abbrev pub RefusesTests : List TestDef → Outcome → Type 0
 RefusesTests defs Completed = ⊥
 RefusesTests defs Listed = ⊥
