@@ -11,7 +11,7 @@ use Rattle.ct_app.specs.declared.run_files.RunFileFault.{RunFileFault}
 use Rattle.ct_app.specs.declared.run_files.RunFileFault.TheVariants as Fault
 use Rattle.ct_app.specs.RunFiles.{FilesFail, FilesStay, log_path}
 
--- how many bytes of the log are read at most: 64 MiB
+-- the greatest number of bytes of a log that counts: 64 MiB
 abbrev pub most_log_bytes : ℕ
 most_log_bytes = 67108864
 

@@ -41,7 +41,7 @@ costs_path dir = joined dir (codes "Testing/Temporary/CTestCostData.txt")
 abbrev pub log_path : List ℕ → List ℕ
 log_path dir = joined dir (codes "Testing/Temporary/LastTestsFailed.log")
 
--- how many bytes of cost data are read at most: 64 MiB
+-- the greatest number of bytes of cost data that counts: 64 MiB
 abbrev pub most_cost_bytes : ℕ
 most_cost_bytes = 67108864
 

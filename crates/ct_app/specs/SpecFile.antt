@@ -12,7 +12,7 @@ use Rattle.ct_app.specs.declared.spec_file.SpecFileFault.{SpecFileFault}
 use Rattle.ct_app.specs.declared.spec_file.SpecFileFault.TheVariants.{Refused, Failed, NoMemory}
 use Rattle.ct_app.specs.RunFiles.{FilesFail, FilesStay}
 
--- how many bytes of a specification are read at most: 16 MiB
+-- the greatest number of bytes of a specification: 16 MiB
 abbrev pub most_spec_bytes : ℕ
 most_spec_bytes = 16777216
 

@@ -9,9 +9,10 @@ use ct_props::PropKind;
 use ct_testfile::ReadKind;
 use std::alloc::Global;
 
-/// Tells why there is no status of a completed run, and gives outcome and status of the call.
+/// Puts the line of the outcome where the call did not complete a run, and returns the outcome and
+/// the status of the call.
 ///
-/// A cycle is told by these names of its tests.
+/// `names` are the names of the tests of a cycle.
 pub(crate) fn tell<S: Sink>(
     alloc: Global,
     sink: &mut S,
@@ -26,10 +27,10 @@ pub(crate) fn tell<S: Sink>(
     }
 }
 
-/// Tells an outcome but Completed, and gives outcome and status of the call.
+/// Puts the line of an outcome but Completed, and returns the outcome and the status of the call.
 ///
-/// Where the sink has failed, or a list was put, nothing is put; where memory is wanting for the
-/// line, the outcome is that. A cycle is told by these names of its tests.
+/// Where the sink has failed, or a list was put, nothing is put. Where memory runs out for the
+/// line, the outcome is Memory. `names` are the names of the tests of a cycle.
 pub(crate) fn tell_outcome<S: Sink>(
     alloc: Global,
     sink: &mut S,
@@ -44,7 +45,8 @@ pub(crate) fn tell_outcome<S: Sink>(
     (told, status)
 }
 
-/// Puts the line of an outcome but Completed, and gives the outcome back, or want of memory.
+/// Puts the line of an outcome but Completed, and returns the outcome, or Memory where memory ran
+/// out for the line.
 fn tell_fault<S: Sink>(alloc: Global, sink: &mut S, names: &[Name], outcome: Outcome) -> Outcome
     ensures { Tells names.now outcome result (S.tells sink.old) (S.tells sink.new) }
 {
@@ -60,7 +62,7 @@ fn tell_fault<S: Sink>(alloc: Global, sink: &mut S, names: &[Name], outcome: Out
     }
 }
 
-/// The exit status of an outcome but Completed.
+/// Returns the exit status of an outcome but Completed.
 fn status(outcome: &Outcome) -> u8
     ensures { result ≡ fault_status outcome.now }
 {
@@ -74,7 +76,7 @@ fn status(outcome: &Outcome) -> u8
     }
 }
 
-/// Puts the line of an outcome by one put.
+/// Puts the line of an outcome in one put.
 fn put_fault<S: Sink>(
     alloc: Global,
     sink: &mut S,
@@ -172,7 +174,7 @@ fn append_spec_fault(text: &mut Blob, fault: &SpecFault) -> Result<(), NoMemory>
     }
 }
 
-/// Appends what is found behind the ids of a specification.
+/// Appends the text of a fault that is found behind the ids of a specification, or out of memory.
 fn append_late_fault(text: &mut Blob, fault: &SpecFault) -> Result<(), NoMemory>
     ensures { OnOk result (text.new ≡ text.old ++ spec_fault_text fault.now) }
 {

@@ -28,16 +28,16 @@ use std::alloc::Global;
 use std::sync::Wait;
 use std::thread::Threads;
 
-/// What a call came to, before its outcome is told, and what it was made with.
+/// How a call ended, before the line of its outcome is put, and the gates and the sink of the call.
 #[derive(Drop)]
 pub(crate) struct Ran<G, S> {
-    /// The status of a run that is completed, or what else the call came to.
+    /// The status of a complete run, or the outcome of any other call.
     pub(crate) ended: Result<u8, Outcome>,
-    /// The names of the tests of a cycle, where one is refused.
+    /// The names of the tests of a cycle, if a cycle is refused; else empty.
     pub(crate) names: List<Name>,
-    /// The plan of the run, where one was made.
+    /// The plan of the run, if one was made.
     pub(crate) plan: Option<Plan>,
-    /// What happened in the run, where a plan was made.
+    /// The history of the run, if a plan was made.
     pub(crate) history: Option<History>,
     pub(crate) gates: Vec<G>,
     pub(crate) sink: S,
@@ -47,15 +47,15 @@ pub(crate) struct Ran<G, S> {
 #[derive(Drop)]
 struct Folder {
     tests: Tests,
-    /// The resources that are lent, where the words name a specification.
+    /// The resources that are lent, if the words name a specification.
     spec: Option<Spec>,
-    /// What the last run tells of the tests.
+    /// The cost data of the last run.
     costs: CostData,
-    /// The names that the run is limited to, where the words ask for the tests that failed last.
+    /// The names that the run is limited to, if the words ask for the tests that failed last.
     only: Option<List<Name>>,
 }
 
-/// What the run of a plan came to, before its files are written.
+/// How the run of a plan ended, before its files are written.
 #[derive(Drop)]
 struct PlanRun<G, S> {
     ended: Result<(), Outcome>,
@@ -65,10 +65,10 @@ struct PlanRun<G, S> {
     sink: S,
 }
 
-/// Reads the tests of a folder, the specification that is named and what the last run tells of the
-/// tests, plans and runs them, and leaves the same for the next run.
+/// Reads the folder of a run, plans the tests, runs them, and writes the files for the next run.
 ///
-/// Where the words ask for the tests that failed last, those alone are chosen that the log names.
+/// The tests, the named specification and the cost data of the last run are read. Where the words
+/// ask for the tests that failed last, the choice is limited to the names in the log.
 pub(crate) fn run_folder<R: Threads + Wait + Sync, F: Files, G: Gate + Send, S: Sink + Send>(
     rt: &R,
     alloc: Global,
@@ -126,14 +126,14 @@ pub(crate) fn run_folder<R: Threads + Wait + Sync, F: Files, G: Gate + Send, S: 
     }
 }
 
-/// Hands out that a plan is sound.
+/// States in its contract that each plan is sound; it changes nothing.
 fn hand_out_sound(plan: &Plan)
     ensures { IsSound plan.now }
 {
     let _ = plan.parts();
 }
 
-/// What a call came to that made no plan.
+/// Makes the end of a call that made no plan.
 pub(crate) fn unplanned<G, S>(alloc: Global, outcome: Outcome, gates: Vec<G>, sink: S) -> Ran<G, S>
     ensures { result ≡ record { ended = Err outcome; names = []; plan = None; history = None; gates = gates; sink = sink } }
 {
@@ -147,7 +147,7 @@ pub(crate) fn unplanned<G, S>(alloc: Global, outcome: Outcome, gates: Vec<G>, si
     }
 }
 
-/// What a call came to that could not plan the tests that it read.
+/// Makes the end of a call whose tests have no plan.
 fn refused<G, S>(
     alloc: Global,
     defs: &[TestDef],
@@ -180,8 +180,9 @@ fn refused<G, S>(
     }
 }
 
-/// Reads the tests of a folder, their properties, the specification that is named, the cost data and
-/// the log, where the words ask for the tests that failed last.
+/// Reads the tests of a folder, their properties, the named specification and the cost data.
+///
+/// Where the words ask for the tests that failed last, it reads the log too.
 #[tactic(auto, using(crate::proofs::ReadLemmas::read_folder, crate::proofs::ReadLemmas::unread_tests, crate::proofs::ReadLemmas::unread_spec, crate::proofs::ReadLemmas::unread_costs, crate::proofs::ReadLemmas::unread_log))]
 fn read_folder<F: Files>(
     alloc: Global,
@@ -203,7 +204,7 @@ fn read_folder<F: Files>(
     })
 }
 
-/// Runs a plan.
+/// Runs a plan with its report.
 fn run_plan<R: Threads + Wait + Sync, G: Gate + Send, S: Sink + Send>(
     rt: &R,
     alloc: Global,
@@ -251,7 +252,7 @@ fn run_plan<R: Threads + Wait + Sync, G: Gate + Send, S: Sink + Send>(
     }
 }
 
-/// What the end of a run is to a call.
+/// Turns the end of a run into the outcome of the call.
 fn outcome_of(run: Result<(), SinkFault>) -> Result<(), Outcome>
     ensures { result ≡ ended_as run }
 {
@@ -261,8 +262,9 @@ fn outcome_of(run: Result<(), SinkFault>) -> Result<(), Outcome>
     }
 }
 
-/// Writes the files of a run that is complete, and gives its status; one that ended early leaves
-/// none.
+/// Writes the files of a complete run, and returns the status of the run.
+///
+/// A run that ended early keeps its outcome, and its files stay.
 #[tactic(auto, using(crate::proofs::LeaveLemmas::early_status))]
 fn leave_files<F: Files>(
     alloc: Global,
@@ -282,7 +284,8 @@ fn leave_files<F: Files>(
     Ok(status(empty_is_error, plan.parts(), failed))
 }
 
-/// The status of a run that is completed, by whether some test failed: 8 where the run failed.
+/// Returns the status of a complete run: 8 where the run failed, else 0. `failed` tells whether a
+/// test failed.
 ///
 /// Source: CMake manual, ctest(1), Description.
 fn status(empty_is_error: bool, plan: &PlanParts, failed: bool) -> u8
@@ -295,7 +298,7 @@ fn status(empty_is_error: bool, plan: &PlanParts, failed: bool) -> u8
     }
 }
 
-/// Tells whether some test failed, or there is none and that is an error.
+/// Tells whether a complete run failed: a test failed, or there is no test and that is an error.
 ///
 /// Source: CMake manual, ctest(1), --no-tests.
 fn is_failed(empty_is_error: bool, plan: &PlanParts, failed: bool) -> bool

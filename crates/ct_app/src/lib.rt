@@ -1,12 +1,14 @@
-//! The top calls of ctest: from the words of a command line to a report, a status and two files, or
-//! to a list.
+//! The top calls of ctest. They turn the words of a command line into a run with a report, an exit
+//! status and two files, or into a list.
 //!
 //! Hands up: `ctest_main`, which does all that the program does, and `list_main`, which lists alone.
-//! Stands on: ct_base, ct_testfile, ct_props, ct_graph, ct_verdict, ct_history, ct_core, ct_cost,
-//! ct_select, ct_spec, ct_plan, ct_report, ct_info, ct_worker, ct_args.
+//! Stands on: ct_base, ct_testfile, ct_regex, ct_groups, ct_props, ct_env, ct_select, ct_fixture,
+//! ct_graph, ct_alloc, ct_verdict, ct_history, ct_core, ct_cost, ct_spec, ct_plan, ct_report,
+//! ct_info, ct_turn, ct_worker, ct_args.
 //! Read first: `specs/Reading.antt`, `specs/SpecFile.antt`, `specs/Run.antt`, `specs/Stops.antt`,
-//! `specs/RunFiles.antt`, `specs/Rerun.antt`, `specs/Answers.antt`, `specs/Lists.antt`, `specs/Complete.antt`, then `top.rt`, and the steps of a
-//! call: `words.rt`, `reading.rt`, `spec_file.rt`, `folder.rt`, `run.rt`, `run_files.rt`, `rerun.rt`, and `list.rt`.
+//! `specs/RunFiles.antt`, `specs/Rerun.antt`, `specs/Answers.antt`, `specs/Lists.antt`,
+//! `specs/Complete.antt`, then `top.rt`, and the steps of a call: `words.rt`, `reading.rt`,
+//! `spec_file.rt`, `folder.rt`, `run.rt`, `run_files.rt`, `rerun.rt`, and `list.rt`.
 #![tactic(auto)]
 
 mod fault;

@@ -19,9 +19,9 @@ use ct_props::Props;
 use ct_report::{ListedTest, label_list, test_list};
 use std::alloc::Global;
 
-/// Puts the list that an invocation asks for, and gives what that came to.
+/// Puts the list that an invocation asks for, and returns the outcome.
 ///
-/// No specification and no cost data is read, whatever the words name, and no plan is made.
+/// It reads no specification and no cost data, whatever the words name, and makes no plan.
 pub(crate) fn list_folder<F: Files, S: Sink>(
     alloc: Global,
     mut invocation: Invocation,
@@ -39,7 +39,7 @@ pub(crate) fn list_folder<F: Files, S: Sink>(
     }
 }
 
-/// What the end of a list is to a call.
+/// Turns the end of a list into the outcome of the call.
 fn listed(ended: Result<(), SinkFault>) -> Outcome
     ensures { result ≡ listed_as ended }
 {
@@ -49,7 +49,7 @@ fn listed(ended: Result<(), SinkFault>) -> Outcome
     }
 }
 
-/// Puts the list of the members among these tests.
+/// Puts the list of those of these tests that the choice selects.
 ///
 /// Source: CMake manual, ctest(1), --show-only, --print-labels, Show as JSON Object Model.
 fn put_list<S: Sink>(
@@ -102,7 +102,7 @@ fn put_tests<S: Sink>(
     Ok(())
 }
 
-/// The tests with these numbers, as they are listed.
+/// Makes the entries of a list for the tests with these numbers.
 fn listed_entries<'a>(
     alloc: Global,
     tests: &'a Tests,
@@ -132,7 +132,7 @@ fn put_labels<S: Sink>(
     Ok(())
 }
 
-/// Puts the tests with these numbers as JSON, by one put.
+/// Puts the tests with these numbers as JSON, in one put.
 fn put_json<S: Sink>(
     alloc: Global,
     sink: &mut S,
@@ -147,7 +147,7 @@ fn put_json<S: Sink>(
     Ok(())
 }
 
-/// The test with this number as it is listed, where it is there.
+/// Makes the entry of a list for the test with this number, if the test is there.
 fn listed_entry<'a>(tests: &'a Tests, number: u32) -> Option<ListedTest<'a>>
     ensures { result ≡ listed_there number (stands_at tests.now.defs number) (stands_at tests.now.props number) }
 {
@@ -160,7 +160,7 @@ fn listed_entry<'a>(tests: &'a Tests, number: u32) -> Option<ListedTest<'a>>
     })
 }
 
-/// The labels of the tests with these numbers; those of disabled tests do not count.
+/// Copies the labels of the tests with these numbers, without the disabled tests.
 fn labels_of(alloc: Global, props: &[Props], members: &[u32]) -> Result<List<Name>, NoMemory>
     ensures { IfOk result (λ labels. labels ≡ labels_among props.now members.now) }
 {
@@ -171,7 +171,7 @@ fn labels_of(alloc: Global, props: &[Props], members: &[u32]) -> Result<List<Nam
     Ok(labels)
 }
 
-/// The labels of the test with this number, where it is there and not disabled.
+/// Returns the labels of the test with this number; none where it is absent or disabled.
 fn labels_at(props: &[Props], number: u32) -> &[Name]
     ensures { result.now ≡ labels_there (stands_at props.now number) }
 {

@@ -16,11 +16,11 @@ use ct_testfile::{ReadFault, ReadKind};
 /// choice.
 #[derive(Debug, Drop)]
 pub enum SpecRefusal {
-    /// It is not there.
+    /// The file is absent.
     Absent,
-    /// It has more than 16 MiB.
+    /// The file has more than 16 MiB.
     TooLong,
-    /// The text is no specification. The fault is no want of memory.
+    /// The text is no specification. The fault is never `NoMemory`.
     Fault(SpecFault),
 }
 
@@ -33,7 +33,7 @@ pub enum Refusal {
         line: u32,
         kind: ReadKind,
     },
-    /// The property of that key of the test with this number. Its kind holds no want of memory.
+    /// The property with this key, of the test with this number. The kind never holds a `NoMemory`.
     Prop {
         test: u32,
         key: Name,
@@ -41,51 +41,51 @@ pub enum Refusal {
     },
     /// The file that declares the resources of the machine.
     Spec(SpecRefusal),
-    /// The numbers of the tests of a cycle: each has the next one before it, and the last has the
-    /// first before it. Which cycle is told is left open.
+    /// The numbers of the tests of a cycle: each must run after the next one in the list, and the
+    /// last after the first. Which of several cycles it is, is left open.
     Cycle(List<u32>),
-    /// More than `ct_graph::MOST_EDGES` tests come before the tests of the run, counted for each of
-    /// them.
+    /// More than `ct_graph::MOST_EDGES` tests come before the tests of the run, summed over these
+    /// tests.
     TooManyEdges,
 }
 
-/// What a call of the top came to.
+/// How a top call ended.
 #[derive(Debug, Drop)]
 pub enum Outcome {
-    /// The test files were read to their ends, every test is final, and the files of the run were
+    /// The test files were read to their ends, each test is final, and the files of the run were
     /// written.
     Completed,
-    /// The list that was asked for was put.
+    /// The list that the words ask for was put.
     Listed,
     /// A word of the command line, counted from 1, is refused.
     Usage { word: u32, kind: UsageKind },
     /// A test file, a property, the specification or the order of the tests is refused.
     Refused(Refusal),
-    /// The files could not give or take what the path holds. With a history, it is complete and was
+    /// The path could not be read or written. If there is a history, the run is complete and was
     /// reported.
     FilesFault { path: Name },
-    /// The sink did not take the report or the list.
+    /// The sink failed at the report or the list.
     OutputFault,
-    /// Memory was wanting.
+    /// Memory ran out.
     Memory,
 }
 
-/// What a run or a list gives back, with what it was handed.
+/// What `ctest_main` returns: how the call ended, and the files, gates and sink that it took.
 #[derive(Drop)]
 pub struct Finished<F, G, S> {
     pub outcome: Outcome,
     /// The exit status of the program.
     pub status: u8,
-    /// The plan of the run, where one was made.
+    /// The plan of the run, if one was made.
     pub plan: Option<Plan>,
-    /// What happened in the run, where a plan was made.
+    /// The history of the run, if a plan was made.
     pub history: Option<History>,
     pub files: F,
     pub gates: Vec<G>,
     pub sink: S,
 }
 
-/// What a list gives back, with what it was handed.
+/// What `list_main` returns: how the call ended, and the files and sink that it took.
 #[derive(Drop)]
 pub struct Listed<F, S> {
     pub outcome: Outcome,

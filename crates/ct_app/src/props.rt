@@ -11,14 +11,14 @@ use ct_base::{List, TestDef};
 use ct_props::{PropFault, Props};
 use std::alloc::Global;
 
-/// The tests of a call and their properties, which belong together by place.
+/// The tests of a call and their properties, in the same order.
 #[derive(Drop)]
 pub(crate) struct Tests {
     pub(crate) defs: List<TestDef>,
     pub(crate) props: List<Props>,
 }
 
-/// Looks up what a list has for the test with this number.
+/// Looks up the item of a list for the test with this number.
 pub(crate) fn at_number<T>(items: &[T], number: u32) -> Option<&T>
     ensures { option_copied result ≡ at_number items.now number }
 {
@@ -26,7 +26,7 @@ pub(crate) fn at_number<T>(items: &[T], number: u32) -> Option<&T>
     items.get(place as usize)
 }
 
-/// Reads the properties of each test, or refuses the first test that has a bad one.
+/// Reads the properties of each test, or refuses the first test that has a bad property.
 #[tactic(auto, using(crate::proofs::TestLemmas::read_all, crate::proofs::TestLemmas::read_none, crate::proofs::TestLemmas::refuses))]
 pub(crate) fn read_props(alloc: Global, defs: &[TestDef]) -> Result<List<Props>, Outcome>
     requires { length defs.now < 2 ^ 32 - 1 }

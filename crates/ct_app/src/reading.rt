@@ -26,7 +26,7 @@ pub(crate) fn read_tests<F: Files>(
     Ok(Tests { defs, props })
 }
 
-/// Reads the tests that a list is made of, and the names that it is limited to, if any.
+/// Reads the tests of a list, and the names that the list is limited to, if any.
 #[tactic(auto, using(crate::proofs::ReadLemmas::read_listed, crate::proofs::ReadLemmas::unread_only))]
 pub(crate) fn read_listed<F: Files>(
     alloc: Global,
@@ -41,7 +41,7 @@ pub(crate) fn read_listed<F: Files>(
     Ok((tests, only))
 }
 
-/// The names of the tests with these numbers.
+/// Copies the names of the tests with these numbers.
 pub(crate) fn names_at(
     alloc: Global,
     defs: &[TestDef],

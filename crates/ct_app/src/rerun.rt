@@ -6,11 +6,13 @@ use ct_base::{Blob, Files, List, Name, NoMemory, join_path};
 use ct_select::failed_names;
 use std::alloc::Global;
 
-/// How many bytes of the log are read at most: 64 MiB. This project's choice.
+/// The greatest number of bytes of a log that counts: 64 MiB. This project's choice.
 const MOST_LOG_BYTES: u64 = 67_108_864;
 
-/// Reads the names that a choice is limited to: those in the log of a folder, where the words ask for
-/// the tests that failed last.
+/// Reads the names that a choice is limited to, if any.
+///
+/// Where the words ask for the tests that failed last, they are the names in the log of the folder.
+/// Else there is no limit.
 ///
 /// Source: CMake manual, ctest(1), --rerun-failed.
 #[tactic(auto, using(crate::proofs::RerunLemmas::only_unread))]
@@ -29,7 +31,7 @@ pub(crate) fn read_only<F: Files>(
     }
 }
 
-/// Reads the names in the log of a folder; an absent file, or one above 64 MiB, counts as empty.
+/// Reads the names in the log of a folder. An absent log, or a log above 64 MiB, counts as empty.
 fn read_log<F: Files>(alloc: Global, files: &mut F, dir: &Name) -> Result<List<Name>, RunFileFault>
     ensures { ReadsLog dir.now (F.tells files.old) (F.tells files.new) result }
 {
@@ -40,7 +42,7 @@ fn read_log<F: Files>(alloc: Global, files: &mut F, dir: &Name) -> Result<List<N
     }
 }
 
-/// The names in what a path holds, of which at most one byte more than counts was read.
+/// Reads the names in the text at a path, cut at most one byte behind the limit.
 fn names_of(alloc: Global, held: Option<Blob>) -> Result<List<Name>, NoMemory>
     ensures { IfOk result (λ names. names ≡ names_of held) }
 {

@@ -15,18 +15,19 @@ use std::alloc::Global;
 use std::sync::Wait;
 use std::thread::Threads;
 
-/// A run of a plan, behind its report, and what it was made with.
+/// How the run of a plan ended, after its report, and the core, the gates and the sink of the run.
 #[derive(Drop)]
 pub(crate) struct Reported<G, S> {
     pub(crate) core: Core,
     pub(crate) gates: Vec<G>,
     pub(crate) sink: S,
-    /// A fault is that of the sink, or want of memory, also for an attempt.
+    /// The fault of the sink, or `NoMemory`, which also tells that memory ran out for an attempt.
     pub(crate) ended: Result<(), SinkFault>,
 }
 
-/// Runs the tests of a plan by as many workers as its level and the gates admit, with the report
-/// around them.
+/// Runs the tests of a plan, and puts the report of the run.
+///
+/// The workers are as many as the level of the plan, but at most as many as there are gates.
 pub(crate) fn run<R: Threads + Wait + Sync, G: Gate + Send, S: Sink + Send>(
     rt: &R,
     alloc: Global,
@@ -64,7 +65,7 @@ pub(crate) fn run<R: Threads + Wait + Sync, G: Gate + Send, S: Sink + Send>(
     }
 }
 
-/// Puts the header, and the line of a plan without tests; tells whether there are tests.
+/// Puts the header and, for a plan without tests, its line; tells whether there are tests.
 fn begin<S: Sink>(alloc: Global, core: &Core, sink: &mut S) -> Result<bool, SinkFault>
     ensures { Begins core.now.plan (S.tells sink.old) (S.tells sink.new) result }
 {
@@ -76,7 +77,7 @@ fn begin<S: Sink>(alloc: Global, core: &Core, sink: &mut S) -> Result<bool, Sink
     Ok(true)
 }
 
-/// Runs the tests of a plan that has some, and puts the summary behind their lines.
+/// Runs the tests of a plan that has tests, and puts the summary behind their lines.
 fn run_tests<R: Threads + Wait + Sync, G: Gate + Send, S: Sink + Send>(
     rt: &R,
     alloc: Global,
@@ -113,14 +114,14 @@ fn run_tests<R: Threads + Wait + Sync, G: Gate + Send, S: Sink + Send>(
     }
 }
 
-/// How many workers take part: one for each processor of the level, where there is a gate for it.
+/// Counts the workers: one for each processor of the level, but at most one for each gate.
 fn worker_count(core: &Core, gates: usize) -> u32
     ensures { result ≡ min core.now.plan.level gates }
 {
     (core.plan().parts().level as usize).min(gates) as u32
 }
 
-/// The fault that a run was given up for.
+/// Returns the fault for which a run was given up.
 fn fault_of(halt: Halt) -> SinkFault
     ensures { put_of (Some halt) ≡ Err result }
 {

@@ -10,23 +10,23 @@ use ct_cost::{CostData, failed_log};
 use ct_history::{History, Plan};
 use std::alloc::Global;
 
-/// Where the cost data stands in the folder of a run, as in one of ctest's.
+/// The path of the cost data in the folder of a run, which is ctest's.
 const COSTS: &[u8] = b"Testing/Temporary/CTestCostData.txt";
 
-/// Where the log of the failed tests stands in the folder of a run.
+/// The path of the log of the failed tests in the folder of a run.
 ///
-/// Source: CMake manual, ctest(1), --rerun-failed. The place is that of ctest's.
+/// Source: CMake manual, ctest(1), --rerun-failed. The path is ctest's.
 pub(crate) const LOG: &[u8] = b"Testing/Temporary/LastTestsFailed.log";
 
-/// How many bytes of cost data are read at most: 64 MiB. This project's choice.
+/// The greatest number of bytes of cost data that counts: 64 MiB. This project's choice.
 const MOST_COST_BYTES: u64 = 67_108_864;
 
-/// Why a file that a run reads or leaves could not be used.
+/// Why a file that a run reads or writes could not be used.
 #[derive(Drop)]
 pub(crate) enum RunFileFault {
-    /// The files could not give or take what the path holds.
+    /// The path could not be read or written.
     Failed { path: Name },
-    /// Memory was wanting.
+    /// Memory ran out.
     NoMemory,
 }
 
@@ -38,7 +38,7 @@ impl From<NoMemory> for RunFileFault {
     }
 }
 
-/// Reads the cost data that the last run left in a folder; an absent file, or one above 64 MiB,
+/// Reads the cost data that the last run left in a folder. An absent file, or a file above 64 MiB,
 /// counts as empty.
 ///
 /// Source: this project's choice.
@@ -56,7 +56,7 @@ pub(crate) fn read_costs<F: Files>(
     }
 }
 
-/// The cost data in what a path holds, of which at most one byte more than counts was read.
+/// Reads the cost data in the text at a path, cut at most one byte behind the limit.
 fn costs_of(alloc: Global, held: Option<Blob>) -> Result<CostData, NoMemory>
     ensures { IfOk result (λ costs. costs ≡ costs_of held) }
 {
@@ -68,10 +68,10 @@ fn costs_of(alloc: Global, held: Option<Blob>) -> Result<CostData, NoMemory>
     }
 }
 
-/// Writes what a complete run leaves for the next one: the cost data, and then, where some test
-/// failed, the log of the failed tests. A run without tests leaves nothing.
+/// Writes the files of a complete run for the next one: the cost data, and then, if a test failed,
+/// the log of the failed tests. A run without tests writes nothing.
 ///
-/// It tells whether some test failed, which the log says in one pass.
+/// It returns whether a test failed, which it knows from the log without another pass.
 ///
 /// Source: CMake manual, ctest(1), --rerun-failed; cmake-properties(7), COST.
 pub(crate) fn write_files<F: Files>(
@@ -115,7 +115,7 @@ fn write<F: Files>(
     }
 }
 
-/// Why a call on the files, about this path, gave no answer.
+/// Makes the fault of a call on the files about this path.
 pub(crate) fn fault_at(path: Name, fault: FilesFault) -> RunFileFault
     ensures { result ≡ fault_of_files path fault }
 {

@@ -8,17 +8,17 @@ use ct_base::{Blob, Files, FilesFault, Name, NoMemory};
 use ct_spec::{Spec, SpecFault};
 use std::alloc::Global;
 
-/// How many bytes of a specification are read at most: 16 MiB. This project's choice.
+/// The greatest number of bytes of a specification: 16 MiB. This project's choice.
 const MOST_SPEC_BYTES: u64 = 16_777_216;
 
-/// Why the file that declares the resources of the machine gives none.
+/// Why the resources were not read from the file that declares those of the machine.
 #[derive(Drop)]
 pub(crate) enum SpecFileFault {
-    /// It is refused.
+    /// The file is refused.
     Refused(SpecRefusal),
-    /// The files could not give what the path holds.
+    /// The path could not be read.
     Failed { path: Name },
-    /// Memory was wanting.
+    /// Memory ran out.
     NoMemory,
 }
 
@@ -43,7 +43,7 @@ impl From<SpecFault> for SpecFileFault {
     }
 }
 
-/// Reads the resources that the machine lends from the file that is named, where one is.
+/// Reads the resources that the machine lends from the named file; `None` where no file is named.
 ///
 /// Source: CMake manual, ctest(1), --resource-spec-file.
 #[tactic(auto, using(crate::proofs::SpecLemmas::named_unread))]
@@ -71,7 +71,7 @@ fn read_path<F: Files>(alloc: Global, files: &mut F, path: &Name) -> Result<Spec
     }
 }
 
-/// The specification in what a path holds, of which at most one byte more than is allowed was read.
+/// Reads the specification in the text at a path, cut at most one byte behind the limit.
 #[tactic(auto, using(crate::proofs::SpecLemmas::text_declares, crate::proofs::SpecLemmas::text_refused))]
 fn spec_in(alloc: Global, held: Option<Blob>) -> Result<Spec, SpecFileFault>
     ensures { Declares held result }

@@ -18,18 +18,23 @@ use std::alloc::Global;
 use std::sync::Wait;
 use std::thread::Threads;
 
-/// Runs the tests that the words ask for, reports on them, and leaves what they cost and which of
-/// them failed for the next run; or puts the list that the words ask for: all that the program
-/// `ctest` does.
+/// Does all that the program `ctest` does: runs the tests that the words ask for and reports on
+/// them, or puts the list that the words ask for.
 ///
-/// It takes the words of the command line behind the program's name, the environment of the tests,
-/// and what stands for the machine. As many workers run the tests as the level and the gates admit, each
-/// on the gate of its place; all gates come back, in order. Behind the report of a complete run that has tests, the cost data is
-/// written, and then, where some test failed, the log of the failed tests; nothing else is written
-/// but the path of a write that failed. The call may wait for the programs that its gate runs.
+/// - `words` are the words of the command line behind the program's name.
+/// - `env` is the environment of the tests.
+/// - `files`, `gates` and `sink` stand for the machine.
 ///
-/// Where the words ask for the tests that failed last, those are chosen that the log names as it
-/// stood before the call.
+/// The tests run on as many workers as the level, but at most on as many as there are gates. Each
+/// worker uses the gate at its place. All gates come back, in order. The call may wait for the
+/// programs that its gates run.
+///
+/// After the report of a complete run that has tests, the cost data is written for the next run.
+/// Then, if a test failed, the log of the failed tests is written. No other path is changed; a
+/// write that fails may change its own path.
+///
+/// Where the words ask for the tests that failed last, the choice is limited to the tests that the
+/// log named before the call.
 ///
 /// Source: CMake manual, ctest(1), Run Tests. Statuses other than 0 and 8 are this project's choice.
 pub fn ctest_main<R: Threads + Wait + Sync, F: Files, G: Gate + Send, S: Sink + Send>(
@@ -76,11 +81,11 @@ pub fn ctest_main<R: Threads + Wait + Sync, F: Files, G: Gate + Send, S: Sink + 
     }
 }
 
-/// Puts the list that the words ask for: of the tests that a run would have, as text or as JSON, or of
-/// their labels. Where the words ask for a run, its tests are listed.
+/// Puts the list that the words ask for: the tests of a run, as text or as JSON, or their labels.
 ///
-/// It reads no specification and no cost data, whatever the words name, and the log of the failed
-/// tests only where the words ask for these. It makes no plan and refuses no cycle.
+/// Where the words ask for a run, the tests of this run are listed. The call reads no specification
+/// and no cost data, whatever the words name. It reads the log of the failed tests only where the
+/// words ask for the tests that failed last. It makes no plan and refuses no cycle.
 ///
 /// Source: CMake manual, ctest(1), --show-only, --print-labels, --rerun-failed. Statuses other than 0
 /// are this project's choice.

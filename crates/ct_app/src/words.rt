@@ -46,7 +46,7 @@ pub(crate) fn run_words<R: Threads + Wait + Sync, F: Files, G: Gate + Send, S: S
     }
 }
 
-/// Reads the words, and puts the list that they ask for; where they ask for a run, its tests.
+/// Reads the words, and puts the list that they ask for; for a run, the list of its tests.
 pub(crate) fn list_words<F: Files, S: Sink>(
     alloc: Global,
     words: &[Name],
