@@ -1,4 +1,4 @@
--- The answer of a run, once its end is told.
+-- The answer of a run, from how the run ended and the line that was put for it.
 use Rattle.std.proofs.Common.{◌≡◌, sym, subst, ℕ, List, [], ◌∷◌, refl, inl, inr}
 use Rattle.std.specs.Prelude.{Option, Some, None, IsSomeAnd, Result, Ok, Err}
 use Rattle.ct_base.specs.declared.defs.Pair.{Pair}
@@ -19,7 +19,7 @@ use Rattle.ct_app.specs.Ends.{Ends, RunLeaves, TellsEnd, Told}
 use Rattle.ct_app.specs.Outcome.{fault_line, fault_status}
 use Rattle.ct_app.specs.RunFiles.{FilesStay}
 
--- what holds of a plan and a history that are there
+-- a fact of a plan and a history that are there leads to each fact that follows from it
 run_map : (plan : Option PlanParts) (history : Option (List Entry)) (P Q : PlanParts → List Entry → Type 0) → ((p : PlanParts) (es : List Entry) → P p es → Q p es) → IsSomeAnd plan (λ p. IsSomeAnd history (λ es. P p es)) → IsSomeAnd plan (λ p. IsSomeAnd history (λ es. Q p es))
 run_map None history P Q each some = some
 run_map (Some p) None P Q each some = some
@@ -34,7 +34,7 @@ pub tried : (line : List ℕ) (before now : SinkTell) → PutsOrFails line befor
 tried line before now (inl put) = (Ok tt, put)
 tried line before now (inr put) = (Err Sinks.Failed, put)
 
--- a call before its end is told, and behind that
+-- the values of a call, before and after the line of its outcome
 module _ (words : List (List ℕ)) (env : List Pair) (files files_now : FilesTell) (gates gates_now : List GateTell) (sink mid now : SinkTell) (plan : Option PlanParts) (history : Option (List Entry)) (names : List (List ℕ)) where
   unrun_late : IsUnrun (sides words env files files_now gates gates_now sink mid plan history) → IsUnrun (sides words env files files_now gates gates_now sink now plan history)
   unrun_late unrun = record { no_plan = unrun.no_plan; no_history = unrun.no_history; unasked = unrun.unasked }
@@ -58,7 +58,7 @@ module _ (words : List (List ℕ)) (env : List Pair) (files files_now : FilesTel
   at o outcome status is status_is answer =
       subst (λ (n : ℕ). AnswersRun (sides words env files files_now gates gates_now sink now plan history) outcome n) (sym status_is) (subst (λ (x : Outcome). AnswersRun (sides words env files files_now gates gates_now sink now plan history) x (fault_status x)) (sym is) answer)
 
-  -- an outcome whose line is put behind nothing
+  -- an outcome whose line is put at once, without a report before it
   line_told : (line : List ℕ) (o outcome : Outcome) (status : ℕ) → line ≡ fault_line names o → mid ≡ sink → Told names o outcome mid now → status ≡ fault_status outcome → (PutsOrFails line sink now → AnswersRun (sides words env files files_now gates gates_now sink now plan history) o (fault_status o)) → (PutsLines (line ∷ []) sink now (Err Sinks.NoMemory) → IsShort (sides words env files files_now gates gates_now sink now plan history) o) → AnswersRun (sides words env files files_now gates gates_now sink now plan history) outcome status
   line_told line o outcome status line_is unput (inl (is, puts)) status_is answers short = at o outcome status is status_is (answers (subst (λ (l : List ℕ). PutsOrFails l sink now) (sym line_is) (subst (λ (t : SinkTell). PutsOrFails (fault_line names o) t now) unput puts)))
   line_told line o outcome status line_is unput (inr (is, puts)) status_is answers short = at Memory outcome status is status_is ((o, inl (short (subst (λ (l : List ℕ). PutsLines (l ∷ []) sink now (Err Sinks.NoMemory)) (sym line_is) (subst (λ (t : SinkTell). PutsLines (fault_line names o ∷ []) t now (Err Sinks.NoMemory)) unput puts)))), refl)
@@ -74,7 +74,7 @@ module _ (words : List (List ℕ)) (env : List Pair) (files files_now : FilesTel
   refusal_late refusal (inr (inr was)) =
       inr (inr (record { invocation = was.invocation; words = was.words; source = was.source; read = was.read; refused = was.refused; files = was.files; unrun = unrun_late was.unrun }))
 
-  -- the files failed behind the report
+  -- a write failed after the report
   write_fault_told : (path : List ℕ) (outcome : Outcome) (status : ℕ) → HasRunWith (sides words env files files_now gates gates_now sink mid plan history) (λ i p es. RunLeaves (sides words env files files_now gates gates_now sink mid plan history) i p es (Err (FilesFault path))) → Told names (FilesFault path) outcome mid now → status ≡ fault_status outcome → AnswersRun (sides words env files files_now gates gates_now sink now plan history) outcome status
   write_fault_told path outcome status run (inl (is, puts)) status_is =
       at (FilesFault path) outcome status is status_is (inr (ran_late (λ i p es. RunLeaves (sides words env files files_now gates gates_now sink mid plan history) i p es (Err (FilesFault path))) (λ i. IsUnwritten (sides words env files files_now gates gates_now sink now plan history) path) (λ i p es was. (was.0, record { middle = mid; first = was.1; line = puts })) run), refl)

@@ -1,18 +1,18 @@
--- What files come to hold by one call behind another.
+-- What the files hold after several calls, from what each call changed.
 use Rattle.std.proofs.Common.{◌≡◌, ◌∙◌, subst, ℕ, List, inl, inr, refl}
 use Rattle.std.specs.Prelude.{Option, Some, None, IfSome}
 use Rattle.ct_base.specs.Outside.{Becomes, FailsToWrite, FilesTell, Held, Rose, SameHeld, Writes}
 use Rattle.ct_cost.specs.declared.cost_data.CostData.{CostData}
 use Rattle.ct_app.specs.RunFiles.{FilesFail, FilesServe, FilesStay, WithLast, last_costs}
 
--- what was told before is told still, and one change leads to another
+-- a change of the files is also each change that follows from it
 module _ (P Q : Held → Held → Type 0) where
   pub becomes_as : ((x y : Held) → P x y → Q x y) → (before now : Option Held) → Becomes before now P → Becomes before now Q
   becomes_as leads None now changed = tt
   becomes_as leads (Some x) None changed = absurd changed
   becomes_as leads (Some x) (Some y) changed = leads x y changed
 
--- one change behind another
+-- two changes, one after the other, are one change
 module _ (P Q R : Held → Held → Type 0) (both : (x y z : Held) → P x y → Q y z → R x z) where
   becomes_then : (before between now : Option Held) → Becomes before between P → Becomes between now Q → Becomes before now R
   becomes_then None between now first second = tt
@@ -34,7 +34,7 @@ module _ (P Q R : Held → Held → Type 0) (both : (x y z : Held) → P x y →
     rose = subst (λ (n : ℕ). Rose n now.faults) first.unfailed second.rose;
   }
 
--- the same answer with another change
+-- calls with a change are also calls with each change that follows from it
 module _ (P Q : Held → Held → Type 0) (leads : (x y : Held) → P x y → Q x y) where
   pub serves_as : (before now : FilesTell) → FilesServe P before now → FilesServe Q before now
   serves_as before now serves = record { held = becomes_as P Q leads before.held now.held serves.held; unrefused = serves.unrefused; unfailed = serves.unfailed }
@@ -46,7 +46,7 @@ stays_told : (held : Option Held) → Becomes held held SameHeld
 stays_told None = tt
 stays_told (Some held) = λ path. refl
 
--- files that are not called stay
+-- files without a call stay
 pub stays : (files : FilesTell) → FilesStay files files
 stays files = record { held = stays_told files.held; unrefused = refl; unfailed = refl }
 
@@ -63,7 +63,7 @@ pub same_then_fails : (path text : List ℕ) (x y z : Held) → SameHeld x y →
 same_then_fails path text x y z same (inl kept) = inl (same_then_same x y z same kept)
 same_then_fails path text x y z same (inr tears) = inr (record { here = tears.here; others = λ other differs. tears.others other differs ∙ same other })
 
--- a change by cost data that was read while each path held what it holds
+-- a change from cost data that was read while the files stayed is a change from the cost data of the last run
 module _ (dir : List ℕ) (Change : CostData → Held → Held → Type 0) (behind : (costs : CostData) (x y z : Held) → SameHeld x y → Change costs y z → Change costs x z) (costs : CostData) where
   becomes_with_last : (before between now : Option Held) → IfSome before (λ held. costs ≡ last_costs dir held) → Becomes before between SameHeld → Becomes between now (Change costs) → Becomes before now (WithLast dir Change)
   becomes_with_last None between now read same changed = tt

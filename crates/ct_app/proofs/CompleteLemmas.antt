@@ -1,4 +1,5 @@
--- A run or a list that can be made is carried out, where no fault was counted: what is read of it is not refused.
+-- A run or a list that can be made is carried out where no fault was counted, since nothing that is read for
+-- it is refused.
 use Rattle.std.proofs.Common.{◌≡◌, ◌∙◌, sym, ap, subst, Bool, ℕ, zero, suc, List, [], ◌∷◌, refl, arith, inl, inr}
 use Rattle.std.specs.Prelude.{Option, Some, None, Result, Ok, Err, IfSome, ◌⊎◌, slice_get}
 use Rattle.std.proofs.lemmas.Option.{same_Some}
@@ -40,15 +41,15 @@ use Rattle.ct_app.proofs.AnswerLemmas.{run_none}
 use Rattle.ct_app.proofs.RerunLemmas.{only_same}
 use Rattle.ct_app.proofs.SourceLemmas.{IsSameChoice, before_same, edges_same, same_ok}
 
--- what holds of what files tell that they hold
+-- where the files tell what they hold, a fact of what is told is a fact of what they hold
 of_told : (told : Option Held) (held : Held) (P : Held → Type 0) → told ≡ Some held → IfSome told P → P held
 of_told told held P is holds = subst (λ (t : Option Held). IfSome t P) is holds
 
--- a result is not both
+-- a result is not both Ok and Err
 not_both : {T E : Type 0} (result : Result T E) (value : T) (fault : E) → result ≡ Ok value → result ≡ Err fault → ⊥
 not_both result value fault is but = absurd (cc)
 
--- a test among those that have properties has its own
+-- each of the tests that have properties has properties of its own
 props_there : (defs : List TestDef) (props : List Props) (place : ℕ) (def : TestDef) → HaveProps defs props → slice_get defs place ≡ Some def → (own : Props) × HasProps def own
 props_there [] props place def have there = absurd (cc)
 props_there (d ∷ ds) [] place def have there = absurd have
@@ -62,7 +63,7 @@ own_unrefused def own has =
     (record { processors = own.processors; fail = own.fail; pass = own.pass; skip = own.skip; skip_code = own.skip_code; timeout = own.timeout; cost = own.cost; groups = own.groups })
     (record { processors = has.processors; fail = has.fail; pass = has.pass; skip = has.skip; skip_code = has.skip_code; timeout = has.timeout; cost = has.cost; groups = has.groups })
 
--- so no test of those that have properties is refused
+-- no test is refused where all tests have properties
 none_refused_first : (defs : List TestDef) (props : List Props) (test : ℕ) (key : List ℕ) (kind : PropKind) → HaveProps defs props → RefusesFirst defs test key kind → ⊥
 none_refused_first defs props zero key kind have refused = let there = refused.there in absurd (cc)
 none_refused_first defs props (suc place) key kind have refused =
@@ -77,7 +78,7 @@ lent_unrefused held None lent why is refused = refused
 lent_unrefused held (Some path) None why is refused = is
 lent_unrefused held (Some path) (Some resources) why is refused = not_both (declared_in (held path)) resources why is refused
 
--- the same words asked for the same
+-- the same words ask for the same invocation
 same_asked : (words : List (List ℕ)) (one other : Invocation) → AskFor words one → AskFor words other → invocation_seen one ≡ invocation_seen other
 same_asked words one other is also = same_ok (invocation_in words) (invocation_seen one) (invocation_seen other) is also
 
@@ -100,7 +101,7 @@ module _ (s : Sides) (can : IsListable s) where
   usage_never : (word : ℕ) (kind : UsageKind) → IsUsage s word kind → ⊥
   usage_never word kind usage = let is = can.words in let but = usage.words in absurd (cc)
 
-  -- whatever is read of the test files is what was read
+  -- each reading of the test files for the words is Ok, with the same definitions
   tree_same : (invocation : Invocation) → AskFor s.words invocation → (result : Result (List TestDef) ReadFault) → IfSome s.files_before.held (λ held. tree_of held invocation.wanted.dir invocation.config ≡ result) → result ≡ Ok can.defs
   tree_same invocation words result read =
       let same = same_asked s.words can.invocation invocation can.words words in
@@ -156,7 +157,7 @@ module _ (s : Sides) (can : IsRunnable s) where
   undeclared_never (Cycle tests) was = was.refused
   undeclared_never TooManyEdges was = was.refused
 
-  -- whatever a plan is made of has the same links
+  -- each source that is read for the words has the same links as the source with which the run can be made
   module _ (invocation : Invocation) (words : AskFor s.words invocation) (source : Source) (read : IsSource s.files_before.held invocation source) where
     defs_same : source.defs ≡ can.source.defs
     defs_same = same_ok (Ok source.defs) source.defs can.source.defs refl (tree_same s listable invocation words (Ok source.defs) read.tests.tree)
@@ -231,7 +232,7 @@ module _ (s : Sides) (can : IsRunnable s) where
 pub list_completes : (s : Sides) (outcome : Outcome) (status : ℕ) → AnswersList s outcome status → CompletesList s outcome
 list_completes s outcome status answer can calm = list_by s can outcome status answer calm
 
--- so is what the words ask for
+-- what the words ask for is carried out where it can be made
 pub call_completes : {s : Sides} {outcome : Outcome} {status : ℕ} → Answers s outcome status → Completes s outcome
 call_completes {s} {outcome} {status} answer = record {
   run = λ runs can calm. run_by s can outcome status (answer.run runs) calm;

@@ -1,4 +1,4 @@
--- How the run of a plan ended, from what its steps say.
+-- How the run of a plan ended, from the contracts of its steps.
 use Rattle.std.proofs.Common.{◌≡◌, sym, subst, ℕ, ◌+◌, List, [], ◌∷◌, refl, inl}
 use Rattle.std.specs.Prelude.{Result, Ok, Err, IfErr}
 use Rattle.ct_base.specs.declared.sink.SinkFault.{SinkFault}
@@ -22,7 +22,7 @@ use Rattle.ct_app.specs.Ends.{PlanEnds, ended_as}
 use Rattle.ct_app.specs.Run.{HasRun, RunEnds}
 use Rattle.ct_app.specs.Stops.{StopsAt, StopsSo}
 
--- complete, or with a fault of the sink
+-- the run of a plan is complete, or stopped with the fault that its steps returned
 ends_as : (plan : PlanParts) (es : List Entry) (sink now : SinkTell) (ran : Result (Unit {0}) SinkFault) → PutsLines (report_lines plan es) sink now ran → RunEnds plan es ran → IfErr ran (λ fault. StopsAt fault plan es sink now) → PlanEnds plan es sink now (ended_as ran)
 ends_as plan es sink now (Ok tt) put ends at = record { complete = ends.0; memory = ends.1; put = put }
 ends_as plan es sink now (Err Sinks.Failed) put ends at = record { put = put; at = at }
@@ -31,11 +31,11 @@ ends_as plan es sink now (Err Sinks.NoMemory) put ends at = record { put = put; 
 pub core_ran : (terms : Terms) (gates gates_now : List GateTell) (core : CoreValue) (p : PlanParts) (es : List Entry) → p ≡ core.plan → es ≡ core.entries → HasRun terms gates gates_now core.plan core.entries → HasRun terms gates gates_now p es
 core_ran terms gates gates_now core p es plan_is entries_are ran = subst (λ (q : PlanParts). HasRun terms gates gates_now q es) (sym plan_is) (subst (λ (xs : List Entry). HasRun terms gates gates_now core.plan xs) (sym entries_are) ran)
 
--- what a core says of the order of its history is said of the history that it gives
+-- the history that a core returns follows the queue, where the core's own does
 pub core_order : (core : CoreValue) (p : PlanParts) (es : List Entry) → p ≡ core.plan → es ≡ core.entries → FollowsQueue core.plan core.entries → FollowsQueue p es
 core_order core p es plan_is entries_are order = subst (λ (q : PlanParts). FollowsQueue q es) (sym plan_is) (subst (λ (xs : List Entry). FollowsQueue core.plan xs) (sym entries_are) order)
 
--- where nothing has happened the history follows the queue
+-- an empty history follows the queue
 pub unordered : (p : PlanParts) (es : List Entry) → es ≡ [] → FollowsQueue p es
 unordered p es none = subst (λ (xs : List Entry). FollowsQueue p xs) (sym none) (follows-nil p)
 
@@ -45,12 +45,12 @@ core_ends sink now core ran p es ended plan_is entries_are put ends at is =
     (subst (λ (xs : List Entry). PlanEnds core.plan xs sink now ended) (sym entries_are)
     (subst (λ (o : Result (Unit {0}) Outcome). PlanEnds core.plan core.entries sink now o) (sym is) (ends_as core.plan core.entries sink now ran put ends at)))
 
--- where nothing has happened no gate was asked
+-- with an empty history, gates that are as before were asked for no attempt
 pub none_asked : (terms : Terms) (worker : ℕ) (gates : List GateTell) → AreAsked terms worker gates gates []
 none_asked terms worker [] = tt
 none_asked terms worker (gate ∷ gates) = (asked_none terms worker gate, none_asked terms (worker + 1) gates)
 
--- a run in which nothing has happened
+-- a plan with an empty history has run without any attempt
 pub unrun : (terms : Terms) (gates : List GateTell) (p : PlanParts) (es : List Entry) → es ≡ [] → HasRun terms gates gates p es
 unrun terms gates p es none =
     subst (λ (xs : List Entry). HasRun terms gates gates p xs) (sym none) (record {

@@ -1,4 +1,4 @@
--- What one entry more leaves of a test in a history, and what its verdict says of it.
+-- What one more entry changes for a test in a history, and what the verdict of a test tells of its attempts.
 use Rattle.std.proofs.Common.{◌≡◌, ◌∙◌, sym, ap, Bool, true, false, ℕ, List, [], ◌∷◌, ◌++◌, length, refl, arith, inl, inr}
 use Rattle.std.specs.Prelude.{Option, Some, None, filter, filter_map, find, is_some, not, ◌&&◌, ◌||◌, ◌==◌, ◌⊎◌, cond, if◌then◌else◌}
 use Rattle.std.specs.List.{list_any, list_all, cons_option}
@@ -40,7 +40,7 @@ pub first-append : {A : Type 0} (xs ys : List A) → first_of_list xs ≡ None �
 first-append [] ys none = refl
 first-append (x ∷ xs) ys none = cc
 
--- the first entry that settles a test is its cause
+-- the first entry that settles a test gives the test its cause
 pub settled-first : (n : ℕ) (es : List Entry) (e : Entry) (c : Cause) → settled_cause n es ≡ None → settled_by n e ≡ Some c → settled_cause n (es ++ e ∷ []) ≡ Some c
 settled-first n es e c none is =
     ap first_of_list (filter_map-append (settled_by n) es (e ∷ []) ∙ ap (λ (o : Option Cause). filter_map (settled_by n) es ++ cons_option o []) is) ∙ first-append (filter_map (settled_by n) es) (c ∷ []) none
@@ -59,7 +59,7 @@ pub last-snoc : (n : ℕ) (es : List Entry) (e : Entry) → seen_at_end n e ≡ 
 last-snoc n es e none =
     ap last_of_list (filter_map-append (seen_at_end n) es (e ∷ []) ∙ ap (λ (o : Option Seen). filter_map (seen_at_end n) es ++ cons_option o []) none ∙ append-nil (filter_map (seen_at_end n) es))
 
--- an End is that of the last attempt
+-- an End of the test tells what was last seen of the test
 pub last-end : (n : ℕ) (es : List Entry) (a w : ℕ) (s : Seen) → last_seen n (es ++ End n a w s ∷ []) ≡ Some s
 last-end n es a w s =
     ap last_of_list (filter_map-append (seen_at_end n) es (End n a w s ∷ []) ∙ ap (λ (b : Bool). filter_map (seen_at_end n) es ++ cons_option (if b then Some s else None) []) (eq_same n))
@@ -68,7 +68,7 @@ last-end n es a w s =
 pub stops : (es : List Entry) (e : Entry) → has_stop es ≡ true → has_stop (es ++ e ∷ []) ≡ true
 stops es e is = stop-snoc es e ∙ ap (λ (b : Bool). b || (is_stop e || false)) is
 
--- what passes one test and is kept by another passes a third
+-- all kept elements pass `r`, where all elements pass `p`, and each that passes `p` and is kept passes `r`
 pub all_filter : {A : Type 0} (p q r : A → Bool) (xs : List A) → ((x : A) → p x ≡ true → q x ≡ true → r x ≡ true) → list_all p xs ≡ true → list_all r (filter q xs) ≡ true
 all_filter p q r [] each all = refl
 all_filter p q r (x ∷ xs) each all =
@@ -78,7 +78,7 @@ all_filter p q r (x ∷ xs) each all =
       | inr gone ↦ ap (λ (b : Bool). list_all r (cond b (x ∷ filter q xs) (filter q xs))) gone ∙ all_filter p q r xs each both.1
     ]
 
--- where what is dropped does not pass, dropping it changes nothing
+-- dropping elements does not change whether some element passes, where no dropped element passes
 pub any_filter : {A : Type 0} (p q : A → Bool) (xs : List A) → ((x : A) → q x ≡ false → p x ≡ false) → list_any p (filter q xs) ≡ list_any p xs
 any_filter p q [] each = refl
 any_filter p q (x ∷ xs) each = elim (cases_Bool (q x)) [
@@ -101,14 +101,14 @@ pub or_true : (a b : Bool) → b ≡ true → (a || b) ≡ true
 or_true true b is = refl
 or_true false b is = is
 
--- an open start of this test has this attempt
+-- the open start is of another test, or has this attempt
 abbrev pub is_numbered : ℕ → ℕ → Running → Bool
 is_numbered number attempt r = not (r.test == number) || r.attempt == attempt
 
 pub numbered_other : (number attempt : ℕ) (r : Running) → (r.test == number) ≡ false → is_numbered number attempt r ≡ true
 numbered_other number attempt r other = ap (λ (b : Bool). not b || r.attempt == attempt) other
 
--- the verdict of a test, by what a history says of it
+-- the verdict of a test, from the facts of a history: disabled, cause, open start and verdicts of attempts
 abbrev pub verdict_from : Repeat → Bool → Option Cause → Bool → List Verdict → Option Verdict
 verdict_from repeat disabled settled opens attempts = if disabled then Some Disabled else settled_or settled (if not opens && is_over repeat attempts then last_of_list attempts else None)
 
@@ -132,7 +132,7 @@ unfinished repeat false None false vs closed is = record { enabled = refl; unset
     by_last None has = refl
     by_last (Some v) has = by_again (is_repeated repeat (length vs) (Some v)) v has
 
--- a verdict that attempts came to: they are over, and it is that of the last one
+-- where attempts have a verdict, they are over, and it is the verdict of the last attempt
 pub over_last : (over : Bool) (last : Option Verdict) (v : Verdict) → (if not false && over then last else None) ≡ Some v → (over ≡ true) × (last ≡ Some v)
 over_last true last v is = (refl, is)
 over_last false last v is = cc
@@ -148,7 +148,7 @@ passed_over repeat false None false vs is = by_over (is_over repeat vs) (last_of
     by_over true last has = (refl, has)
     by_over false last has = cc
 
--- what an entry leaves of a test: its attempts, what was seen of the last one, and what is open of it
+-- the facts of a test that stay: its attempts, what was last seen, and its open start; a Stop stays as well
 pub record Keeps (t : PlanTest) (es more : List Entry) : Type 0 where
   pub attempts : attempts_of t.number t.rules more ≡ attempts_of t.number t.rules es
   pub last : last_seen t.number more ≡ last_seen t.number es
@@ -181,7 +181,7 @@ keeps-start t es n a w p unlike =
       stops = stops es (Start n a w p);
     }
 
--- another test's open start is not this one's
+-- the open start of another test is no open start of this test
 pub other_test : (m n k : ℕ) (b : Bool) → (n == m) ≡ false → not (k == n && b) ≡ false → (k == m) ≡ false
 other_test m n k b unlike dropped = elim (cases_Bool (k == n)) [
   | inl same ↦
@@ -205,7 +205,7 @@ keeps-end t es n a w s unlike =
       stops = stops es (End n a w s);
     }
 
--- an entry that opens nothing and ends nothing
+-- an entry that changes no open start, and ends no attempt of the test, keeps the facts of the test
 pub keeps-quiet : (t : PlanTest) (es : List Entry) (e : Entry) → attempt_by t.number t.rules e ≡ None → seen_at_end t.number e ≡ None → open_starts (es ++ e ∷ []) ≡ open_starts es → Keeps t es (es ++ e ∷ [])
 keeps-quiet t es e none unended same = record {
   attempts = attempts-snoc t.number t.rules es e none;
@@ -221,7 +221,7 @@ quiet-settle es n c = open_starts-snoc es (Settle n c) refl ∙ append-nil (open
 pub quiet-stop : (es : List Entry) → open_starts (es ++ Stop ∷ []) ≡ open_starts es
 quiet-stop es = open_starts-snoc es Stop refl ∙ append-nil (open_starts es)
 
--- a held start is one of its test
+-- a test with a held start has an open start
 pub open_by_hold : (n a w : ℕ) (rs : List Running) → list_any (λ (r : Running). r.test == n && r.attempt == a && r.worker == w) rs ≡ true → list_any (λ (r : Running). r.test == n) rs ≡ true
 open_by_hold n a w [] is = is
 open_by_hold n a w (r ∷ rs) is =
@@ -231,7 +231,7 @@ open_by_hold n a w (r ∷ rs) is =
     by_test true y z rest more later has = refl
     by_test false y z rest more later has = later has
 
--- and has the attempt that its open starts have
+-- a held start has the attempt that all open starts of its test have
 pub held_attempt : (n a w k : ℕ) (rs : List Running) → list_any (λ (r : Running). r.test == n && r.attempt == a && r.worker == w) rs ≡ true → list_all (is_numbered n k) rs ≡ true → a ≡ k
 held_attempt n a w k [] is all = cc
 held_attempt n a w k (r ∷ rs) is all =
@@ -246,14 +246,15 @@ held_attempt n a w k (r ∷ rs) is all =
       | inr not_here ↦ held_attempt n a w k rs (sym (ap (λ (b : Bool). b || list_any (λ (q : Running). q.test == n && q.attempt == a && q.worker == w) rs) not_here) ∙ is) both.1
     ]
 
--- an open start of the test that is not the ended one is none
+-- an open start that is kept behind the End of the test's only open attempt is of another test
 pub apart : (same number ended : Bool) → ended ≡ number → (not same || number) ≡ true → not (same && ended) ≡ true → not same ≡ true
 apart false number ended is numbered kept = refl
 apart true true true is numbered kept = cc
 apart true true false is numbered kept = cc
 apart true false ended is numbered kept = cc
 
--- a cause that a test is settled with
+-- a test with a settle cause is pending; the cause is Stopped after a Stop, else the cause behind its
+-- predecessors
 pub settled_so : (pending stop follows : Bool) (behind : Option Cause) (c : Cause) → (if not pending then None else (if stop then Some Stopped else (if follows then behind else None))) ≡ Some c → (pending ≡ true) × (((stop ≡ true) × (c ≡ Stopped)) ⊎ ((stop ≡ false) × (follows ≡ true) × (behind ≡ Some c)))
 settled_so false stop follows behind c is = cc
 settled_so true true follows behind c is = (refl, inl (refl, cc))
@@ -270,7 +271,7 @@ pub cause-is : (c : Cause) (o : Option Cause) → same_cause c o ≡ true → o 
 cause-is c None is = absurd (no_cause c is)
 cause-is c (Some d) is = ap (λ (x : Cause). Some x) (same_cause-is c d is)
 
--- what is found by one test passes another
+-- some element passes `q`, where some element passes `p` and the first that does passes `q`
 pub any_from : {A : Type 0} (p q : A → Bool) (xs : List A) → ((x : A) → find p xs ≡ Some x → q x ≡ true) → list_any p xs ≡ true → list_any q xs ≡ true
 any_from p q [] found any = cc
 any_from p q (x ∷ xs) found any = elim (cases_Bool (p x)) [

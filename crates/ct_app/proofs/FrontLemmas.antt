@@ -1,10 +1,12 @@
--- The first bytes of a file, one more than are allowed, tell whether it is too long, and all of it where it is not.
+-- A file is read up to one byte more than its limit. These bytes tell whether the file is too long, and are
+-- the whole file where it is not.
 use Rattle.std.proofs.Common.{◌≡◌, ap, Bool, true, false, ℕ, ◌+◌, ◌<◌, List, length, take, refl, arith}
 use Rattle.std.specs.Prelude.{cond, nat_le}
 use Rattle.std.proofs.lemmas.Bool.{leb-true, leb-false, lt-leb}
 use Rattle.std.proofs.lemmas.List.{length-take, take_all}
 
--- what is made of a text that is not too long, and what stands in its place
+-- the first bytes of a text and the whole text lead to the same value: `make` of the text, or `long` where it
+-- is too long
 pub made_of_front : {A : Type 0} (make : List ℕ → A) (long : A) (most : ℕ) (text : List ℕ) → cond (nat_le (length (take (most + 1) text)) most) (make (take (most + 1) text)) long ≡ cond (nat_le (length text) most) (make text) long
 made_of_front make long most text = by_test (nat_le (length text) most) refl
   where

@@ -1,4 +1,4 @@
--- What a run came to with its files, from what its steps say.
+-- What became of the files of a run, from the contracts of its steps.
 use Rattle.std.proofs.Common.{◌≡◌, sym, ap, subst, Bool, true, ℕ, List, refl, inl, inr}
 use Rattle.std.specs.Prelude.{Option, Some, None, is_some, Result, Ok, Err, IfOk, IfSome}
 use Rattle.ct_base.specs.declared.defs.Pair.{Pair}
@@ -39,11 +39,11 @@ pub final_where_ended : (plan : PlanParts) (entries : List Entry) (before now : 
 final_where_ended plan entries before now (Ok done) ends = ends.complete.final
 final_where_ended plan entries before now (Err outcome) ends = tt
 
--- what ended early has no status
+-- a run that ended early has an outcome and no status
 pub early_status : (empty_is_error : Bool) (plan : PlanParts) (entries : List Entry) (result : Result ℕ Outcome) (outcome : Outcome) → result ≡ Err outcome → result ≡ with_status empty_is_error plan entries (done_of result)
 early_status empty_is_error plan entries result outcome is = subst (λ (r : Result ℕ Outcome). r ≡ with_status empty_is_error plan entries (done_of r)) (sym is) refl
 
--- the files of a complete run could not be written
+-- a fault of writing the files of a complete run is the end of the run
 pub ends_unwritten : (plan : PlanParts) (entries : List Entry) (costs : CostData) (before now : FilesTell) (done : Unit {0}) (fault : RunFileFault) (outcome : Outcome) → outcome ≡ outcome_of_file fault → WritesFiles plan entries costs before now (Err fault) → EndsWithFiles plan entries costs before now (Ok done) (Err outcome)
 ends_unwritten plan entries costs before now done (Fault.Failed path) outcome is fails = subst (λ (o : Outcome). EndsWithFiles plan entries costs before now (Ok done) (Err o)) (sym is) fails
 ends_unwritten plan entries costs before now done Fault.NoMemory outcome is part = subst (λ (o : Outcome). EndsWithFiles plan entries costs before now (Ok done) (Err o)) (sym is) part
@@ -74,16 +74,16 @@ module _ (s : Sides) (invocation : Invocation) (between : FilesTell) (costs : Co
       subst (λ (o : Result (Unit {0}) Outcome). RunLeaves s invocation plan entries (with_status invocation.empty_is_error plan entries o)) (sym left.0)
       (early outcome ends (subst (λ (f : FilesTell). FilesStay s.files_before f) (sym left.1) stay))
 
--- what a run of a plan says of its attempts is what the plan's source says
+-- the terms of a run's attempts, from the plan, are the terms from the source of the plan
 pub terms_are : (own : List Pair) (s : Source) (limit : ℕ) (plan : PlanParts) → IsPlanOf s plan → (let t : Terms = record { own = own; defs = s.defs; props = s.props; limit = limit; lends = is_some plan.resources } in t) ≡ terms_from own s limit
 terms_are own s limit plan is = ap (λ (x : Option (List Resource)). let t : Terms = record { own = own; defs = s.defs; props = s.props; limit = limit; lends = is_some x } in t) is.resources
 
--- a plan was made of the tests of a folder
+-- a folder was read for its run
 module _ (words : List (List ℕ)) (env : List Pair) (invocation : Invocation) (asked : AskFor words invocation) (files between files_now : FilesTell) (tests : Tests) (lent : Option (List Resource)) (costs : CostData) (only : Option (List (List ℕ))) (read : IsReadFolder invocation files between tests lent costs only) where
   is_source : IsSource files.held invocation (source tests.defs tests.props (wanted_of invocation only) lent costs)
   is_source = record { tests = read.read.read; only = read.limits; wanted = refl; resources = read.lent; costs = read.last }
 
-  -- the plan was run, and what the run leaves was written where it is complete
+  -- the plan was run, and the files of the run were written where the run is complete
   pub folder_ends : (terms : Terms) (gates gates_now : List GateTell) (sink sink_now : SinkTell) (plan : PlanParts) (entries : List Entry) (names : List (List ℕ)) (ended given : Result (Unit {0}) Outcome) → terms ≡ terms_from env (source tests.defs tests.props (wanted_of invocation only) lent costs) invocation.timeout → IsPlanAnswer most_edges (source tests.defs tests.props (wanted_of invocation only) lent costs) (Ok plan) → HasRun terms gates gates_now plan entries → FollowsQueue plan entries → PlanEnds plan entries sink sink_now ended → EndsWithFiles plan entries costs between files_now ended given → Ends (sides words env files files_now gates gates_now sink sink_now (Some plan) (Some entries)) names (with_status invocation.empty_is_error plan entries given)
   folder_ends terms gates gates_now sink sink_now plan entries names ended given same planned ran order ends left =
       let s = sides words env files files_now gates gates_now sink sink_now (Some plan) (Some entries) in
@@ -106,7 +106,7 @@ module _ (words : List (List ℕ)) (env : List Pair) (invocation : Invocation) (
         holds = run_leaves s invocation between costs plan entries last read.read.files ended given ends left;
       })
 
-  -- there is no plan
+  -- the tests of the folder have no plan
   pub unplanned_ends : (gates : List GateTell) (sink : SinkTell) (plan : Option PlanParts) (history : Option (List Entry)) (names : List (List ℕ)) (ended : Result ℕ Outcome) (fault : PlanFault) → plan ≡ None → history ≡ None → IsPlanAnswer most_edges (source tests.defs tests.props (wanted_of invocation only) lent costs) (Err fault) → IsUnplanned tests.defs fault names ended → Ends (sides words env files between gates gates sink sink plan history) names ended
   unplanned_ends gates sink plan history names ended fault no_plan no_history answer unplanned = by fault answer unplanned
     where
@@ -148,7 +148,7 @@ module _ (words : List (List ℕ)) (env : List Pair) (invocation : Invocation) (
           ))
       by Plans.NoMemory refused is = said (Err Memory) is (inr ((unrun, read.read.files), refl))
 
--- the tests of a folder were not read, or what else is read for its run
+-- a folder was not read for its run
 module _ (words : List (List ℕ)) (env : List Pair) (invocation : Invocation) (asked : AskFor words invocation) (files files_now : FilesTell) (gates : List GateTell) (sink : SinkTell) (names : List (List ℕ)) where
   unrun_so : IsUnrun (sides words env files files_now gates gates sink sink None None)
   unrun_so = record { no_plan = refl; no_history = refl; unasked = refl }

@@ -1,4 +1,4 @@
--- How a list ended, and the answer of a call that was asked for one.
+-- How a list ended, and the answer of a call whose words ask for a list.
 use Rattle.std.proofs.Common.{◌≡◌, sym, subst, ℕ, List, [], ◌∷◌, refl, inl, inr}
 use Rattle.std.specs.Prelude.{Option, Result, Ok, Err}
 use Rattle.ct_base.specs.declared.defs.Pair.{Pair}
@@ -21,7 +21,7 @@ use Rattle.ct_app.specs.Reading.{AskFor}
 use Rattle.ct_app.specs.Rerun.{choice_of}
 use Rattle.ct_app.proofs.AnswerLemmas.{tried}
 
--- a list of the tests that were read was put, or could not be
+-- the tests of a list were read, and the list was put or its put failed
 module _ (words : List (List ℕ)) (invocation : Invocation) (asked : AskFor words invocation) (files files_now : FilesTell) (sink sink_now : SinkTell) where
   pub read_list : (tests : Tests) (only : Option (List (List ℕ))) (result : Result (Unit {0}) SinkFault) → IsReadList invocation files files_now tests only → PutsLines (asked_lines invocation (choice_of invocation only) tests.defs tests.props) sink sink_now result → ListEnds (list_sides words files files_now sink sink_now) (listed_as result)
   read_list tests only result read puts = by result puts
@@ -48,7 +48,7 @@ module _ (words : List (List ℕ)) (invocation : Invocation) (asked : AskFor wor
       by (Err Sinks.Failed) put = has (λ lines. PutsLines lines sink sink_now (Err Sinks.Failed)) put
       by (Err Sinks.NoMemory) put = (unrun, read.read.files, inr (has (λ lines. PutsLines lines sink sink_now (Err Sinks.NoMemory)) put))
 
--- the tests were not read
+-- a list whose tests were not read ends with the outcome of the reading
 pub unread_list : (words : List (List ℕ)) (invocation : Invocation) (asked : AskFor words invocation) (files files_now : FilesTell) (sink : SinkTell) (outcome : Outcome) → IsUnread invocation files files_now outcome → ListEnds (list_sides words files files_now sink sink) outcome
 unread_list words invocation asked files files_now sink Completed unread = absurd unread
 unread_list words invocation asked files files_now sink Listed unread = absurd unread
@@ -60,7 +60,7 @@ unread_list words invocation asked files files_now sink (FilesFault path) unread
 unread_list words invocation asked files files_now sink OutputFault unread = absurd unread
 unread_list words invocation asked files files_now sink Memory unread = (record { no_plan = refl; no_history = refl; unasked = refl }, unread, inl refl)
 
--- a list before its end is told, and the call behind that, which may have gates that were not asked
+-- the values of a call that lists, before and after the line of its outcome; its gates, if any, are as before
 module _ (words : List (List ℕ)) (env : List Pair) (files files_now : FilesTell) (gates gates_now : List GateTell) (sink mid now : SinkTell) (plan : Option PlanParts) (history : Option (List Entry)) (unrun : IsUnrun (sides words env files files_now gates gates_now sink now plan history)) where
   list_late : (P Q : List (List ℕ) → Type 0) → ((lines : List (List ℕ)) → P lines → Q lines) → HasList (list_sides words files files_now sink mid) P → HasList (sides words env files files_now gates gates_now sink now plan history) Q
   list_late P Q each has = record {

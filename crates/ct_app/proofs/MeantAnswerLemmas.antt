@@ -1,4 +1,5 @@
--- A completed run has the verdicts, the status and the texts that its tests are meant to have, where all its gates tell one world.
+-- A completed run has the verdicts, the status and the texts that it is meant to have, where all its gates
+-- tell one world.
 use Rattle.std.proofs.Common.{◌≡◌, ◌∙◌, sym, ap, subst, Bool, true, false, ℕ, zero, suc, ◌+◌, ◌≤◌, ◌<◌, min, List, [], ◌∷◌, length, map, refl, arith, inl, inr}
 use Rattle.std.specs.Prelude.{Option, Some, None, IfSome, IsSomeAnd, filter, not, ◌||◌, ◌==◌, cond, if◌then◌else◌}
 use Rattle.std.specs.List.{range_with_len}
@@ -50,7 +51,7 @@ ascends_with : (least first : ℕ) (numbers : List ℕ) → least ≤ first → 
 ascends_with least first numbers low rest true = (low, rest)
 ascends_with least first numbers low rest false = ascends_sooner least (first + 1) numbers (omega (arith, low)) rest
 
--- some of the numbers that ascend do so
+-- a filter of numbers that ascend ascends
 ascends-filter : (p : ℕ → Bool) (least : ℕ) (numbers : List ℕ) → IsAscendingFrom least numbers → IsAscendingFrom least (filter p numbers)
 ascends-filter p least [] ascends = tt
 ascends-filter p least (n ∷ ns) ascends = ascends_with least n (filter p ns) ascends.0 (ascends-filter p (n + 1) ns ascends.1) (p n)
@@ -65,7 +66,7 @@ members_ascend choice defs props = by_rounds (length props)
         let tests = after_rounds choice props (chosen_tests defs props choice) rounds in
         ascends-filter (λ number. is_in tests number || is_drawn choice (fixtures_required props tests) (at_number props number)) 1 (range_with_len 1 (length props)) (row_ascends 1 (length props))
 
--- tests have the numbers that they are planned for
+-- the planned tests have the numbers that they are planned for
 planned_numbers : (s : Source) (numbers : List ℕ) (tests : List PlanTest) → ArePlannedTests s numbers tests → map (λ (t : PlanTest). t.number) tests ≡ numbers
 planned_numbers s [] [] planned = refl
 planned_numbers s [] (t ∷ ts) planned = absurd planned
@@ -119,7 +120,7 @@ seen_entries props world workers (e ∷ es) below had saw =
       seen_entries props world workers es few.1 memory.1 (λ worker less. (saw worker less).1),
     )
 
--- a completed run came as is meant in the world that its gates tell
+-- a completed run has the verdicts, status and texts that are meant in the world that its gates tell
 comes_as_meant : (s : Sides) (status : ℕ) (invocation : Invocation) (source : Source) (plan : PlanParts) (entries : List Entry) → IsRun s invocation source plan entries → IsCompleted s status invocation plan entries → (world : List Told) → AllTell world s.gates_before → ComesAsMeant invocation.empty_is_error plan (seen_in source.props world) entries status
 comes_as_meant s status invocation source plan entries run completed world all =
     let verdicts = are_meant plan (ranked s invocation source plan entries run) (seen_in source.props world) entries run.ran.legal completed.reported.complete.final are_seen in
@@ -138,7 +139,7 @@ some_and : {A : Type 0} (P Q : A → Type 0) (o : Option A) → ((x : A) → P x
 some_and P Q None each is = absurd is
 some_and P Q (Some x) each is = each x is
 
--- so is each completed run one that came as is meant
+-- a call with a completed run has a run as meant
 pub ran_as_meant : (s : Sides) (status : ℕ) → HasRunWith s (IsCompleted s status) → HasRunAsMeant s status
 ran_as_meant s status has =
     some_and (λ plan. IsSomeAnd s.history (λ entries. RanWith s (IsCompleted s status) plan entries)) (λ plan. IsSomeAnd s.history (λ entries. RanAsMeant s status plan entries)) s.plan
@@ -159,6 +160,6 @@ completed_as_meant s status answer = elim (cases_Bool (ask_for_list s.words)) [
   | inr run ↦ ran_as_meant s status (answer.run run)
 ]
 
--- and so did each call that answers Completed
+-- a call that returns Completed had a run as meant
 pub answers_as_meant : {s : Sides} {outcome : Outcome} {status : ℕ} → Answers s outcome status → AnswersAsMeant s outcome status
 answers_as_meant {s} {outcome} {status} answer is = completed_as_meant s status (subst (λ (o : Outcome). Answers s o status) is answer)

@@ -1,4 +1,4 @@
--- The meant verdict of a test follows from those of its setups, and from its first attempts.
+-- The meant verdict of a test follows from the meant verdicts of its setups, and from its first attempts.
 use Rattle.std.proofs.Common.{◌≡◌, ◌∙◌, sym, ap, subst, Bool, true, false, ℕ, zero, suc, ◌+◌, ◌-◌, ◌≤◌, ◌<◌, List, [], ◌∷◌, ◌++◌, length, refl, arith, inl, inr}
 use Rattle.std.specs.Prelude.{Option, Some, None, IsNone, find, map, option_map, not, ◌&&◌, ◌||◌, ◌==◌, ◌⊎◌, cond, nat_lt, if◌then◌else◌}
 use Rattle.std.specs.List.{list_any, list_all, range_with_len}
@@ -19,7 +19,7 @@ use Rattle.ct_history.specs.Rules.{cause_behind}
 use Rattle.ct_history.proofs.AttemptLemmas.{empty_of_no_last}
 use Rattle.ct_app.specs.Meant.{first_verdicts, last_attempt, meant_by_setups, meant_of_attempts, meant_verdict, meant_within}
 
--- what is found passes where all do
+-- an element that is found passes a test that all elements pass
 pub all_found : {A : Type 0} (p q : A → Bool) (xs : List A) (x : A) → list_all p xs ≡ true → find q xs ≡ Some x → p x ≡ true
 all_found p q [] x all is = cc
 all_found p q (y ∷ ys) x all is = elim (cases_Bool (q y)) [
@@ -46,14 +46,14 @@ one_among p s (j ∷ js) is passes = elim (cases_Bool (j == s)) [
   | inr not_here ↦ one_among p s js (sym (ap (λ (b : Bool). b || list_any (λ i. i == s) js) not_here) ∙ is) (and_parts (p j) (list_all p js) passes).1
 ]
 
--- what passes for some numbers passes for those among them
+-- where all numbers of a list pass, so do numbers that are all members of the list
 pub all_among : (p : ℕ → Bool) (some all : List ℕ) → list_all (λ s. list_any (λ j. j == s) all) some ≡ true → list_all p all ≡ true → list_all p some ≡ true
 all_among p [] all among passes = refl
 all_among p (s ∷ some) all among passes =
     let both = and_parts (list_any (λ j. j == s) all) (list_all (λ i. list_any (λ j. j == i) all) some) among in
     and_from (p s) (list_all p some) (one_among p s all both.0 passes) (all_among p some all both.1 passes)
 
--- the first number of a row that passes
+-- the first number of a row that passes is found
 find_in_row : (p : ℕ → Bool) (first many n : ℕ) → first ≤ n → n < first + many → p n ≡ true → ((j : ℕ) → first ≤ j → j < n → p j ≡ false) → find p (range_with_len first many) ≡ Some n
 find_in_row p first zero n low high here before = absurd (omega (arith, low, high))
 find_in_row p first (suc many) n low high here before = elim (cases_Bool (first == n)) [
@@ -66,7 +66,7 @@ find_in_row p first (suc many) n low high here before = elim (cases_Bool (first 
       ∙ find_in_row p (first + 1) many n (omega (arith, less)) (omega (arith, high)) here (λ j least most. before j (omega (arith, least)) most)
 ]
 
--- one, where a test is passed
+-- one for true, else zero
 unfoldable one_if : Bool → ℕ
 one_if b = cond b 1 0
 
@@ -97,12 +97,12 @@ count_within : {A : Type 0} (p : A → Bool) (xs : List A) → count_of p xs ≤
 count_within p [] = omega arith
 count_within p (x ∷ xs) = omega (arith, one_most (p x), count_within p xs)
 
--- where each element that passes one test passes another, no more pass the one
+-- as many or fewer elements pass `p` than `q`, where each that passes `p` passes `q`
 count_most : {A : Type 0} (p q : A → Bool) (xs : List A) → ((x : A) → p x ≡ true → q x ≡ true) → count_of p xs ≤ count_of q xs
 count_most p q [] each = omega arith
 count_most p q (x ∷ xs) each = omega (arith, one_least (p x) (q x) (each x), count_most p q xs each)
 
--- and fewer do where some element passes the other alone
+-- fewer elements pass `p` than `q`, where each that passes `p` passes `q` and one passes `q` alone
 count_less : {A : Type 0} (p q r : A → Bool) (xs : List A) (x : A) → ((y : A) → p y ≡ true → q y ≡ true) → find r xs ≡ Some x → p x ≡ false → q x ≡ true → count_of p xs < count_of q xs
 count_less p q r [] x each is fails passes = cc
 count_less p q r (y ∷ ys) x each is fails passes = elim (cases_Bool (r y)) [
@@ -121,20 +121,20 @@ abbrev depth_of : List PlanTest → Option PlanTest → ℕ
 depth_of tests None = 0
 depth_of tests (Some t) = count_of (λ (u : PlanTest). nat_lt u.rank t.rank) tests
 
--- fewer have where the rank is lesser
+-- a test with a lesser rank has a lesser depth
 depth_less : (tests : List PlanTest) (number : ℕ) (t : PlanTest) (o : Option PlanTest) → test_at tests number ≡ o → is_before_rank t.rank o ≡ true → depth_of tests o < depth_of tests (Some t)
 depth_less tests number t None found is = cc
 depth_less tests number t (Some u) found is =
     let lesser = (and_parts (not u.disabled) (nat_lt u.rank t.rank) is).1 in
     count_less (λ (x : PlanTest). nat_lt x.rank u.rank) (λ (x : PlanTest). nat_lt x.rank t.rank) (λ (x : PlanTest). x.number == number) tests u (λ x less. grind (arith, nat_tests)) found (grind (arith, nat_tests)) lesser
 
--- and fewer than there are tests
+-- the depth of a test is less than the number of tests
 depth_few : (tests : List PlanTest) (number : ℕ) (t : PlanTest) → test_at tests number ≡ Some t → depth_of tests (Some t) < length tests
 depth_few tests number t found =
     let less = count_less (λ (x : PlanTest). nat_lt x.rank t.rank) (λ (x : PlanTest). true) (λ (x : PlanTest). x.number == number) tests t (λ x is. refl) found (grind (arith, nat_tests)) refl in
     omega (arith, less, count_within (λ (x : PlanTest). true) tests)
 
--- a test's meant verdict is the same where those of its setups are
+-- the meant verdict of a test is the same where the meant verdicts of its setups are the same
 by_setups_same : (repeat : Repeat) (seen : ℕ → ℕ → Seen) (one other : ℕ → Option Verdict) (t : PlanTest) (ok : ℕ → Bool) → list_all ok t.setups ≡ true → ((s : ℕ) → ok s ≡ true → one s ≡ other s) → meant_by_setups repeat seen one (Some t) ≡ meant_by_setups repeat seen other (Some t)
 by_setups_same repeat seen one other t ok all same =
     ap (λ (o : Option ℕ). if t.disabled then Some Disabled else settled_or (cause_behind o t.fixed) (meant_of_attempts repeat t.rules (seen t.number)))
@@ -154,7 +154,7 @@ module _ (plan : PlanParts) (ranked : IsRanked plan) where
       let both = and_parts (list_all (λ j. is_before_rank t.rank (test_at plan.tests j)) t.before) (list_all (λ s. list_any (λ j. j == s) t.before) t.setups) linked in
       all_among p t.setups t.before both.1 all
 
-  -- and have lesser ranks
+  -- a test's setups have lesser ranks than the test
   setups_rank : (number : ℕ) (t : PlanTest) → test_at plan.tests number ≡ Some t → list_all (λ s. is_before_rank t.rank (test_at plan.tests s)) t.setups ≡ true
   setups_rank number t found =
       let linked = all_found (has_sound_links plan.tests) (λ (x : PlanTest). x.number == number) plan.tests t ranked.links found in
@@ -168,7 +168,7 @@ module _ (plan : PlanParts) (ranked : IsRanked plan) where
         by_setups_same plan.repeat seen (meant_within plan seen one) (meant_within plan seen other) t (λ s. is_before_rank t.rank (test_at plan.tests s)) (setups_rank number t found)
         (λ s lesser. let less = depth_less plan.tests s t (test_at plan.tests s) refl lesser in below s (omega (arith, less, low)) (omega (arith, less, high)))
 
-    -- more steps down than tests have a lesser rank give the same
+    -- the meant verdict is the same for all numbers of steps above the depth of the test
     within_same : (one other number : ℕ) → depth_of plan.tests (test_at plan.tests number) < one → depth_of plan.tests (test_at plan.tests number) < other → meant_within plan seen one number ≡ meant_within plan seen other number
     within_same zero other number low high = absurd (omega (arith, low))
     within_same (suc one) zero number low high = absurd (omega (arith, high))
@@ -191,7 +191,7 @@ module _ (plan : PlanParts) (ranked : IsRanked plan) where
             let few : depth_of plan.tests (test_at plan.tests number) < length plan.tests = subst (λ (o : Option PlanTest). depth_of plan.tests o < length plan.tests) (sym found) (depth_few plan.tests number t found) in
             within_same (length plan.tests) (suc (length plan.tests)) number few (omega (arith, few))
 
--- one attempt more
+-- one more attempt adds its verdict at the end
 pub first_verdicts-more : (rules : Rules) (seen : ℕ → Seen) (count : ℕ) → first_verdicts rules seen (count + 1) ≡ first_verdicts rules seen count ++ verdict_of rules (seen (count + 1)) ∷ []
 first_verdicts-more rules seen count = map-range_with_len_more (λ k. verdict_of rules (seen k)) 1 count (count + 1) (omega arith)
 
@@ -199,11 +199,11 @@ pub last_behind-snoc : {A : Type 0} (found : Option A) (xs : List A) (x : A) →
 last_behind-snoc found [] x = refl
 last_behind-snoc found (y ∷ ys) x = last_behind-snoc (Some y) ys x
 
--- the last of so many first attempts
+-- the last of the first attempts has the verdict of what was seen of it
 pub last_of_first : (rules : Rules) (seen : ℕ → Seen) (count : ℕ) → last_of_list (first_verdicts rules seen (count + 1)) ≡ Some (verdict_of rules (seen (count + 1)))
 last_of_first rules seen count = ap last_of_list (first_verdicts-more rules seen count) ∙ last_behind-snoc None (first_verdicts rules seen count) (verdict_of rules (seen (count + 1)))
 
--- attempts that are not over are none, or fewer than the times
+-- attempts that are not over are none, or fewer than the times of the repeat
 not_over_few : (repeat : Repeat) (vs : List Verdict) → is_over repeat vs ≡ false → (length vs ≡ 0) ⊎ (length vs < repeat.times)
 not_over_few repeat vs goes = by_last (last_of_list vs) refl
   where
@@ -217,7 +217,7 @@ not_over_few repeat vs goes = by_last (last_of_list vs) refl
         let here : (nat_lt (length vs) repeat.times && asks_again repeat.mode v) ≡ true = sym (ap (λ (o : Option Verdict). is_repeated repeat (length vs) o) is) ∙ again (is_repeated repeat (length vs) (last_of_list vs)) goes in
         inr (ltb-true (length vs) repeat.times (and_parts (nat_lt (length vs) repeat.times) (asks_again repeat.mode v) here).0)
 
--- the first attempt that makes them over is the last one
+-- the first attempt with which the attempts are over is the last attempt
 pub last_attempt-is : (repeat : Repeat) (rules : Rules) (seen : ℕ → Seen) (n : ℕ) → 1 ≤ repeat.times → 1 ≤ n → is_over repeat (first_verdicts rules seen n) ≡ true → ((j : ℕ) → j < n → is_over repeat (first_verdicts rules seen j) ≡ false) → last_attempt repeat rules seen ≡ Some n
 last_attempt-is repeat rules seen n some low over before =
     find_in_row (λ k. is_over repeat (first_verdicts rules seen k)) 1 repeat.times n low within over (λ j least most. before j most)
@@ -231,12 +231,12 @@ last_attempt-is repeat rules seen n some low over before =
       | inr few ↦ omega (arith, long, few)
     ]
 
--- passed attempts are some
+-- attempts whose last verdict passed are at least one
 pub some_attempt : (rules : Rules) (seen : ℕ → Seen) (n : ℕ) → is_passed_verdict (last_of_list (first_verdicts rules seen n)) ≡ true → 1 ≤ n
 some_attempt rules seen zero passed = cc
 some_attempt rules seen (suc n) passed = omega arith
 
--- where one attempt more makes them over, and none did before, it has the meant verdict
+-- the first attempt with which the attempts are over has the verdict that the attempts are meant to have
 pub attempts_meant : (repeat : Repeat) (rules : Rules) (seen : ℕ → Seen) (count : ℕ) → 1 ≤ repeat.times → is_over repeat (first_verdicts rules seen (count + 1)) ≡ true → ((j : ℕ) → j < count + 1 → is_over repeat (first_verdicts rules seen j) ≡ false) → meant_of_attempts repeat rules seen ≡ Some (verdict_of rules (seen (count + 1)))
 attempts_meant repeat rules seen count some over before =
     ap (λ (o : Option ℕ). option_map (λ k. verdict_of rules (seen k)) o) (last_attempt-is repeat rules seen (count + 1) some (omega arith) over before)

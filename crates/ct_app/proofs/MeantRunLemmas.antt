@@ -37,17 +37,20 @@ use Rattle.ct_app.proofs.EntryLemmas.{Keeps, all_filter, any_from, apart, attemp
 true_is_false : true ≡ false → ⊥
 true_is_false is = cc
 
--- nothing keeps the test from being meant to run
+-- the test is meant to run: it is not disabled, and has no meant cause
 record IsFree (plan : PlanParts) (seen : ℕ → ℕ → Seen) (t : PlanTest) : Type 0 where
   pub enabled : t.disabled ≡ false
   pub uncaused : meant_cause (meant_verdict plan seen) t ≡ None
 
--- the verdict is the meant one, or that of a test that was not run because a Stop stands
+-- the verdict is the meant verdict, or NotRun for a Stop of the history
 abbrev IsRight : PlanParts → (ℕ → ℕ → Seen) → ℕ → List Entry → Verdict → Type 0
 IsRight plan seen number es v = (meant_verdict plan seen number ≡ Some v) ⊎ ((has_stop es ≡ true) × (v ≡ NotRun Stopped))
 
--- how far a test has come: its attempts are so many first ones, and what was seen last is of the last of these; none was the last
--- but maybe this one, the open one is the next, and the verdict is right
+-- the state of a test in a history, as it should be:
+-- - its attempts have the first `count` verdicts, and what was last seen is of attempt `count`;
+-- - the attempts were not over before attempt `count`, and are not over while a start is open;
+-- - an open start has attempt `count` + 1, and a test with an open start is meant to run;
+-- - its verdict, if any, is right
 record Goes (plan : PlanParts) (seen : ℕ → ℕ → Seen) (es : List Entry) (t : PlanTest) : Type 0 where
   pub count : ℕ
   pub attempts : attempts_of t.number t.rules es ≡ first_verdicts t.rules (seen t.number) count
@@ -58,7 +61,7 @@ record Goes (plan : PlanParts) (seen : ℕ → ℕ → Seen) (es : List Entry) (
   pub free : is_open_in t.number es ≡ true → IsFree plan seen t
   pub verdict : (v : Verdict) → verdict_in plan.repeat t es ≡ Some v → IsRight plan seen t.number es v
 
--- so far has each test of the plan
+-- each test of the plan is in the state that it should have
 abbrev AllGo : PlanParts → (ℕ → ℕ → Seen) → List Entry → Type 0
 AllGo plan seen es = (t : PlanTest) → test_at plan.tests t.number ≡ Some t → Goes plan seen es t
 
@@ -84,7 +87,7 @@ goes_same plan seen t es more kept settled g =
     goes_kept plan seen t es more kept (λ v is. right_stays plan seen t.number es more v kept.stops (g.verdict v (sym (verdict_kept plan.repeat t es more kept settled) ∙ is))) g
 
 module _ (plan : PlanParts) (ranked : IsRanked plan) (seen : ℕ → ℕ → Seen) where
-  -- the meant verdict of a test that nothing keeps from running is that of its attempts
+  -- a test that is meant to run has the meant verdict of its attempts
   meant_free : (t : PlanTest) → test_at plan.tests t.number ≡ Some t → IsFree plan seen t → meant_verdict plan seen t.number ≡ meant_of_attempts plan.repeat t.rules (seen t.number)
   meant_free t own free =
       meant_verdict-is plan ranked seen t.number
@@ -92,7 +95,7 @@ module _ (plan : PlanParts) (ranked : IsRanked plan) (seen : ℕ → ℕ → See
       ∙ ap (λ (b : Bool). if b then Some Disabled else settled_or (meant_cause (meant_verdict plan seen) t) (meant_of_attempts plan.repeat t.rules (seen t.number))) free.enabled
       ∙ ap (λ (o : Option Cause). settled_or o (meant_of_attempts plan.repeat t.rules (seen t.number))) free.uncaused
 
-  -- that of a test which something keeps from running names the cause
+  -- a test with a meant cause has the meant verdict NotRun for this cause
   meant_caused : (t : PlanTest) (c : Cause) → test_at plan.tests t.number ≡ Some t → t.disabled ≡ false → meant_cause (meant_verdict plan seen) t ≡ Some c → meant_verdict plan seen t.number ≡ Some (NotRun c)
   meant_caused t c own enabled caused =
       meant_verdict-is plan ranked seen t.number
@@ -116,7 +119,7 @@ module _ (plan : PlanParts) (ranked : IsRanked plan) (seen : ℕ → ℕ → See
         let own : test_at plan.tests u.number ≡ Some u = ap (λ (n : ℕ). test_at plan.tests n) here ∙ found in
         subst (λ (n : ℕ). IsRight plan seen n es v) here ((all u own).verdict v is)
 
-    -- without a Stop it is the meant one
+    -- without a Stop, the verdict that a test has so far is the meant verdict
     agrees : has_stop es ≡ false → (number : ℕ) → is_some (verdict_of_test plan es number) ≡ true → meant_verdict plan seen number ≡ verdict_of_test plan es number
     agrees on number final = by_verdict (verdict_of_test plan es number) refl final
       where
@@ -127,7 +130,8 @@ module _ (plan : PlanParts) (ranked : IsRanked plan) (seen : ℕ → ℕ → See
           | inr stopped ↦ absurd (true_is_false (sym stopped.0 ∙ on))
         ]
 
-    -- once its predecessors are final, the setup that did not pass is the one that is not meant to
+    -- after all predecessors are final, the first setup that did not pass is the first that is not meant to
+    -- pass
     setups_agree : (t : PlanTest) → test_at plan.tests t.number ≡ Some t → has_stop es ≡ false → follows_finals plan t es ≡ true → first_unpassed_setup (meant_verdict plan seen) t ≡ first_unpassed plan t es
     setups_agree t own on follows =
         find_same (λ s. not (is_passed_verdict (meant_verdict plan seen s))) (λ s. not (is_passed_verdict (verdict_of_test plan es s))) (λ s. is_some (verdict_of_test plan es s)) t.setups
@@ -140,7 +144,7 @@ module _ (plan : PlanParts) (ranked : IsRanked plan) (seen : ℕ → ℕ → See
     no_some None is = refl
     no_some (Some x) is = cc
 
-    -- a test that may start is free
+    -- a ready test is meant to run
     ready_free : (t : PlanTest) → test_at plan.tests t.number ≡ Some t → t.disabled ≡ false → has_stop es ≡ false → is_ready plan t es ≡ true → IsFree plan seen t
     ready_free t own enabled on ready =
         let two = and_parts (follows_finals plan t es && is_none (first_unpassed plan t es)) (is_none t.fixed) ready in
@@ -182,7 +186,7 @@ module _ (plan : PlanParts) (ranked : IsRanked plan) (seen : ℕ → ℕ → See
             verdict = λ v is. right_stays plan seen t.number es (es ++ Start t.number a w p ∷ []) v (stops es (Start t.number a w p)) (g.verdict v (start_ends_none plan.repeat t es t.number a w p v is));
           }
 
-      -- no attempt so far was the last, while one is open
+      -- while a start is open, the attempts so far are not over
       below_more : is_open_in t.number es ≡ true → (j : ℕ) → j < (all t own).count + 1 → is_over plan.repeat (first_verdicts t.rules (seen t.number) j) ≡ false
       below_more opens j less = elim (cases_Bool (j == (all t own).count)) [
         | inl same ↦
@@ -207,7 +211,7 @@ module _ (plan : PlanParts) (ranked : IsRanked plan) (seen : ℕ → ℕ → See
               ∙ ap (λ (o : Option Cause). verdict_from plan.repeat false o (is_open_in t.number es) (attempts_of t.number t.rules es)) settled
               ∙ has
 
-          -- else this was the last attempt
+          -- a test that was not settled has the verdict of this attempt, which was the last one
           came : is_over plan.repeat (first_verdicts t.rules (seen t.number) (g.count + 1)) ≡ true → last_of_list (first_verdicts t.rules (seen t.number) (g.count + 1)) ≡ Some v → meant_verdict plan seen t.number ≡ Some v
           came over last =
               meant_free t own (g.free opens)
@@ -229,7 +233,7 @@ module _ (plan : PlanParts) (ranked : IsRanked plan) (seen : ℕ → ℕ → See
           ∙ ap (λ (x : Seen). first_verdicts t.rules (seen t.number) (all t own).count ++ verdict_of t.rules x ∷ []) (told ∙ ap (λ (n : ℕ). seen t.number n) attempt)
           ∙ sym (first_verdicts-more t.rules (seen t.number) (all t own).count)
 
-      -- and leaves none open
+      -- the End of the test's open attempt leaves no open start of the test
       others_open : (a w : ℕ) (s : Seen) → a ≡ (all t own).count + 1 → list_all (λ (r : Running). not (r.test == t.number)) (open_starts (es ++ End t.number a w s ∷ [])) ≡ true
       others_open a w s attempt =
           ap (λ (rs : List Running). list_all (λ (r : Running). not (r.test == t.number)) rs) (open_starts-end es t.number a w s)
@@ -300,7 +304,7 @@ module _ (plan : PlanParts) (ranked : IsRanked plan) (seen : ℕ → ℕ → See
               some_same same = cc
           settled_right v enabled (inr (on, follows, cause)) is = inl (meant_caused t c own enabled (cause_agrees t own on follows ∙ cause) ∙ is)
 
-    -- an entry that is allowed takes each test on as it should
+    -- after an allowed entry each test is in the state that it should have
     goes_on : (e : Entry) → is_allowed plan es e ≡ true → IsSeen seen e → AllGo plan seen (es ++ e ∷ [])
     goes_on (Start n a w p) allowed is t own = elim (cases_Bool (n == t.number)) [
       | inl same ↦
@@ -337,7 +341,7 @@ module _ (plan : PlanParts) (ranked : IsRanked plan) (seen : ℕ → ℕ → See
       let both = and_parts (is_allowed plan front e) (are_allowed_behind plan (front ++ e ∷ []) es) allowed in
       subst (λ (xs : List Entry). AllGo plan seen xs) (append_assoc front (e ∷ []) es) (goes_behind (front ++ e ∷ []) es both.1 are.1 (goes_on front all e both.0 are.0))
 
-  -- before the first entry
+  -- in the empty history each test is in the state that it should have
   goes_first : AllGo plan seen []
   goes_first t own = record {
     count = 0;
@@ -354,7 +358,7 @@ module _ (plan : PlanParts) (ranked : IsRanked plan) (seen : ℕ → ℕ → See
       by_disabled true disabled v is = inl (meant_disabled t own disabled ∙ is)
       by_disabled false disabled v is = cc
 
-  -- no Stop stands where the option is off
+  -- without --stop-on-failure a legal history has no Stop
   no_stop-behind : (front es : List Entry) → plan.stop_on_failure ≡ false → are_allowed_behind plan front es ≡ true → has_stop es ≡ false
   no_stop-behind front [] off allowed = refl
   no_stop-behind front (e ∷ es) off allowed =

@@ -1,4 +1,5 @@
--- Two complete legal histories of a plan, of whose attempts the same is seen, make the same summary, cost data and log.
+-- Two complete legal histories of a plan with the same seen attempts have the same summary, cost data and
+-- log.
 use Rattle.std.proofs.Common.{◌≡◌, ◌∙◌, sym, ap, Bool, true, false, ℕ, zero, suc, ◌+◌, List, [], ◌∷◌, ◌++◌, length, refl, arith}
 use Rattle.std.specs.Prelude.{Option, Some, Contains, cond, codes, filter, flat_map, fold, map, option_map, ◌&&◌}
 use Rattle.std.specs.List.{AllByRecursion}
@@ -61,7 +62,8 @@ module _ {A B : Type 0} (f g : A → B) where
   counted_same p n (x ∷ xs) same =
       ap (λ (y : B). fold (λ (a : ℕ) z. a + cond (p z (f z)) 1 0) (n + cond (p x y) 1 0) xs) same.0 ∙ counted_same p (n + cond (p x (g x)) 1 0) xs same.1
 
--- two histories that give each test of a plan the same verdict, and of each that passed show the same last attempt
+-- two histories with the same verdict for each test of a plan, and the same last attempt of each test that
+-- passed
 module _ (plan : PlanParts) (one other : List Entry) (same : AllByRecursion (λ (t : PlanTest). verdict_in plan.repeat t one ≡ verdict_in plan.repeat t other) plan.tests) where
   abbrev by_one : PlanTest → Option Verdict
   by_one t = verdict_in plan.repeat t one

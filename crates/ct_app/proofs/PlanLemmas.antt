@@ -1,4 +1,4 @@
--- A plan is one of tests among those that it was made of.
+-- The tests of a plan are among the tests of its source.
 use Rattle.std.proofs.Common.{◌≡◌, ◌∙◌, sym, ap, subst, Bool, ℕ, ◌≤◌, List, [], ◌∷◌, length, arith, inl, inr}
 use Rattle.std.specs.Prelude.{Some, ◌==◌, cond}
 use Rattle.std.proofs.lemmas.Bool.{cases_Bool}

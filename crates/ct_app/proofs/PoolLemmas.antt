@@ -1,4 +1,4 @@
--- What the run of a plan by a pool of workers says, and what it put.
+-- What the run of a plan by a pool of workers shows, and which lines it put.
 use Rattle.std.proofs.Common.{◌≡◌, ◌∙◌, sym, ap, subst, true, ℕ, min, List, [], ◌∷◌, drop, length, inl, inr}
 use Rattle.std.specs.Prelude.{Option, None, Result, Ok, Err, IfErr}
 use Rattle.ct_base.specs.declared.sink.SinkFault.{SinkFault}
@@ -22,16 +22,16 @@ use Rattle.ct_app.specs.Run.{HasRun, RestStays, lines_of_run}
 use Rattle.ct_app.specs.Stops.{StopsAt, StopsBehind}
 use Rattle.ct_app.proofs.ReportLemmas.{lines_fail, summary_puts}
 
--- what a sink told when a state was opened is its base
+-- what the sink of a state told when the state was opened
 abbrev told_at : Base → SinkTell
 told_at base = record { written = base.written; pieces = base.pieces; faults = base.faults }
 
--- the header, and what stopped behind it
+-- a run whose header was put, and that stopped behind it, stopped at one of the places of `StopsAt`
 pub header_stops : (plan : PlanParts) (entries : List Entry) (old middle new : SinkTell) (ended : Result (Unit {0}) SinkFault) → PutsLines (header_line plan ∷ []) old middle (Ok tt) → IfErr ended (λ fault. StopsBehind fault plan entries middle new) → IfErr ended (λ fault. StopsAt fault plan entries old new)
 header_stops plan entries old middle new (Ok done) header stops = tt
 header_stops plan entries old middle new (Err fault) header stops = inr (record { middle = middle; header = header; stops = stops })
 
--- the gates behind those of the workers are those behind the least of the level and their number
+-- the gates that no worker uses came back as they were, for as many workers as the level and the gates admit
 pub rest_stays : {G : Type 0} (plan now_plan : PlanParts) (workers : ℕ) (before now : List G) → now_plan ≡ plan → workers ≡ min plan.level (length before) → drop workers now ≡ drop workers before → RestStays now_plan before now
 rest_stays {G = G} plan now_plan workers before now same counted rest =
     subst (λ (p : PlanParts). RestStays p before now) (sym same) (subst (λ (n : ℕ). drop n now ≡ drop n before) counted rest)
@@ -58,7 +58,7 @@ module _ (terms : Terms) (count : ℕ) (start core : CoreValue) (sink : SinkTell
       (subst (λ (t : SinkTell). PutsLines (test_lines new.plan new.entries) t new.sink result) opened_is put))
 
   module _ (halt : Option Halt) (is_halt : halt ≡ new.halt) where
-    -- no halt is set: each test is final, and all their lines were put
+    -- no halt is set: each test is final, and the lines of all tests were put
     module _ (none : halt ≡ None) (mid after : SinkTell) (result : Result (Unit {0}) SinkFault) (same : mid ≡ new.sink) (summary : PutsLines (summary_lines core.plan core.entries) mid after result) where
       going : new.halt ≡ None
       going = sym is_halt ∙ none
@@ -69,11 +69,11 @@ module _ (terms : Terms) (count : ℕ) (start core : CoreValue) (sink : SinkTell
       whole : PutsLines (test_lines core.plan core.entries) sink mid (Ok tt)
       whole = lines_put mid (Ok tt) same (subst (λ (h : Option Halt). PutsLines (test_lines new.plan new.entries) new.opened new.sink (put_of h)) going pooled.put)
 
-      -- the summary stands behind the lines, or a beginning of it
+      -- the summary, or a beginning of it, stands behind the lines of the tests
       pub summary_behind : PutsLines (lines_of_run core.plan core.entries) sink after result
       summary_behind = summary_puts core.plan core.entries sink mid after result final whole summary
 
-      -- where the summary could not be put the run stopped there
+      -- where the put of the summary failed, the run stopped at the summary
       pub summary_stops : IfErr result (λ fault. StopsBehind fault core.plan core.entries sink after)
       summary_stops = by result summary
         where
@@ -86,13 +86,13 @@ module _ (terms : Terms) (count : ℕ) (start core : CoreValue) (sink : SinkTell
       ended_so : put_of new.halt ≡ Err fault
       ended_so = ap (λ (h : Option Halt). put_of h) (sym is_halt) ∙ gave
 
-      -- no more than a beginning of the lines was put
+      -- a beginning of the lines was put
       pub given_up_behind : PutsLines (lines_of_run core.plan core.entries) sink now (Err fault)
       given_up_behind =
           let cut = subst (λ (r : Result (Unit {0}) SinkFault). PutsLines (test_lines new.plan new.entries) new.opened new.sink r) ended_so pooled.put in
           lines_fail core.plan core.entries sink now fault (lines_put now (Err fault) same cut)
 
-      -- the run stopped where it came
+      -- the run stopped among its tests
       pub given_up_stops : StopsBehind fault core.plan core.entries sink now
       given_up_stops =
           let was : IsHalted fault new.plan new.entries new.opened new.sink = subst (λ (r : Result (Unit {0}) SinkFault). IfErr r (λ f. IsHalted f new.plan new.entries new.opened new.sink)) ended_so pooled.halted in

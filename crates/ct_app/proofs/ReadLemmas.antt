@@ -1,4 +1,4 @@
--- What is read for the tests of a folder, and why it was not.
+-- What is read for a run or a list, and why it was not read.
 use Rattle.std.proofs.Common.{◌≡◌, ◌∙◌, sym, ap, subst, Bool, true, false, ℕ, List, inl, inr}
 use Rattle.std.specs.Prelude.{Option, Some, None, Result, Ok, Err, IfSome}
 use Rattle.ct_base.specs.declared.defs.Resource.{Resource}
@@ -38,7 +38,7 @@ unread_props invocation before now defs (FilesFault path) refused read stay = ab
 unread_props invocation before now defs OutputFault refused read stay = absurd refused
 unread_props invocation before now defs Memory refused read stay = stay
 
--- what was read while each path held what it held
+-- cost data that was read after the files stayed is the cost data of the last run before
 same_last : (dir : List ℕ) (costs : CostData) (before between : Option Held) → Becomes before between SameHeld → IfSome between (λ held. costs ≡ last_costs dir held) → IfSome before (λ held. costs ≡ last_costs dir held)
 same_last dir costs None between same read = tt
 same_last dir costs (Some x) None same read = absurd same
@@ -68,11 +68,11 @@ same_refused : (file : Option (List ℕ)) (why : SpecRefusal) (before between : 
 same_refused None why before between same is = absurd is
 same_refused (Some path) why before between same is = same_declared path (Err why) before between same is
 
--- files that stayed stay behind more that did not change them
+-- files that stayed twice, one after the other, stayed
 then_stay : (before between now : FilesTell) → FilesStay before between → FilesStay between now → FilesStay before now
 then_stay before between now = serves_then SameHeld SameHeld SameHeld same_then_same before between now
 
--- all of a folder was read
+-- the tests of a folder were read
 module _ (invocation : Invocation) (before between : FilesTell) (tests : Tests) (read : HasTests invocation before between tests) where
   pub read_folder : (behind beyond now : FilesTell) (lent : Option (List Resource)) (costs : CostData) (only : Option (List (List ℕ))) → ReadsSpec invocation.spec_file between behind (Ok lent) → ReadsCosts invocation.wanted.dir behind beyond (Ok costs) → ReadsOnly invocation.rerun invocation.wanted.dir beyond now (Ok only) → IsReadFolder invocation before now tests lent costs only
   read_folder behind beyond now lent costs only named last log =
@@ -85,14 +85,14 @@ module _ (invocation : Invocation) (before between : FilesTell) (tests : Tests) 
         limits = same_only invocation.rerun invocation.wanted.dir only before.held beyond.held stays.held log.0;
       }
 
-  -- all that a list is made of was read
+  -- all that a list needs was read
   pub read_listed : (now : FilesTell) (only : Option (List (List ℕ))) → ReadsOnly invocation.rerun invocation.wanted.dir between now (Ok only) → IsReadList invocation before now tests only
   read_listed now only log = record {
     read = record { read = read.read; few = read.few; files = then_stay before between now read.files log.1 };
     limits = same_only invocation.rerun invocation.wanted.dir only before.held between.held read.files.held log.0;
   }
 
-  -- the specification was not
+  -- the specification was not read, so the folder was not
   pub unread_spec : (now : FilesTell) (fault : SpecFileFault) (outcome : Outcome) → outcome ≡ outcome_of_spec fault → ReadsSpec invocation.spec_file between now (Err fault) → IsUnreadFolder invocation before now outcome
   unread_spec now (Named.Refused why) outcome is refused =
       subst (λ (o : Outcome). IsUnreadFolder invocation before now o) (sym is)
@@ -102,7 +102,7 @@ module _ (invocation : Invocation) (before between : FilesTell) (tests : Tests) 
   unread_spec now Named.NoMemory outcome is stays =
       subst (λ (o : Outcome). IsUnreadFolder invocation before now o) (sym is) (then_stay before between now read.files stays)
 
-  -- the cost data was not
+  -- the cost data was not read, so the folder was not
   pub unread_costs : (behind now : FilesTell) (lent : Option (List Resource)) (fault : RunFileFault) (outcome : Outcome) → outcome ≡ outcome_of_file fault → ReadsSpec invocation.spec_file between behind (Ok lent) → ReadsCosts invocation.wanted.dir behind now (Err fault) → IsUnreadFolder invocation before now outcome
   unread_costs behind now lent (Fault.Failed path) outcome is named fails =
       subst (λ (o : Outcome). IsUnreadFolder invocation before now o) (sym is)
@@ -111,7 +111,7 @@ module _ (invocation : Invocation) (before between : FilesTell) (tests : Tests) 
       subst (λ (o : Outcome). IsUnreadFolder invocation before now o) (sym is)
       (then_stay before behind now (then_stay before between behind read.files named.1) stays)
 
-  -- the log was not
+  -- the log was not read, so the folder was not
   pub unread_log : (behind beyond now : FilesTell) (lent : Option (List Resource)) (costs : CostData) (fault : RunFileFault) (outcome : Outcome) → outcome ≡ outcome_of_file fault → ReadsSpec invocation.spec_file between behind (Ok lent) → ReadsCosts invocation.wanted.dir behind beyond (Ok costs) → ReadsOnly invocation.rerun invocation.wanted.dir beyond now (Err fault) → IsUnreadFolder invocation before now outcome
   unread_log behind beyond now lent costs (Fault.Failed path) outcome is named last fails =
       subst (λ (o : Outcome). IsUnreadFolder invocation before now o) (sym is)
@@ -120,14 +120,14 @@ module _ (invocation : Invocation) (before between : FilesTell) (tests : Tests) 
       subst (λ (o : Outcome). IsUnreadFolder invocation before now o) (sym is)
       (then_stay before beyond now (then_stay before behind beyond (then_stay before between behind read.files named.1) last.1) stays)
 
-  -- nor was it for a list
+  -- the log was not read, so the tests of the list were not
   pub unread_only : (now : FilesTell) (fault : RunFileFault) (outcome : Outcome) → outcome ≡ outcome_of_file fault → ReadsOnly invocation.rerun invocation.wanted.dir between now (Err fault) → IsUnread invocation before now outcome
   unread_only now (Fault.Failed path) outcome is fails =
       subst (λ (o : Outcome). IsUnread invocation before now o) (sym is) (fails_then SameHeld SameHeld SameHeld same_then_same path before between now read.files fails)
   unread_only now Fault.NoMemory outcome is stays =
       subst (λ (o : Outcome). IsUnread invocation before now o) (sym is) (then_stay before between now read.files stays)
 
--- why the tests were not read is why the folder was not
+-- where the tests of a folder were not read, the folder was not read, for the same reason
 pub unread_tests : (invocation : Invocation) (before now : FilesTell) (outcome : Outcome) → IsUnread invocation before now outcome → IsUnreadFolder invocation before now outcome
 unread_tests invocation before now Completed unread = unread
 unread_tests invocation before now Listed unread = unread

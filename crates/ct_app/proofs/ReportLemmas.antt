@@ -1,4 +1,4 @@
--- The report of a run: its header, its lines and its summary, one behind the other.
+-- The report of a run is its header, its lines and its summary, in this order.
 use Rattle.std.proofs.Common.{◌≡◌, sym, ap, true, false, Bool, ℕ, List, [], ◌∷◌, ◌++◌, length, refl, arith}
 use Rattle.std.specs.Prelude.{Result, Ok, Err, codes, ◌==◌, if◌then◌else◌}
 use Rattle.std.specs.List.{list_all}
@@ -16,12 +16,12 @@ use Rattle.ct_report.specs.Report.{body_lines, header_line, report_lines, summar
 use Rattle.ct_app.specs.Run.{lines_of_run}
 use Rattle.ct_report.proofs.PutLemmas.{lines_as, lines_more, lines_then}
 
--- the header alone, or a beginning of it
+-- where the put of the header failed, a beginning of the report was put
 pub header_fails : (plan : PlanParts) (es : List Entry) (old new : SinkTell) (fault : SinkFault) → PutsLines (header_line plan ∷ []) old new (Err fault) → PutsLines (report_lines plan es) old new (Err fault)
 header_fails plan es old new fault head = lines_more old new (header_line plan ∷ []) (body_lines plan es plan.tests) fault head
 
 module _ (plan : PlanParts) (es : List Entry) where
-  -- no test at all
+  -- a plan without tests
   module _ (none : (length plan.tests == 0) ≡ true) where
     none_tests : plan.tests ≡ []
     none_tests = by_tests plan.tests none
@@ -42,7 +42,7 @@ module _ (plan : PlanParts) (es : List Entry) where
       closed = closed;
     }
 
-  -- some tests
+  -- a plan with tests
   module _ (some : (length plan.tests == 0) ≡ false) where
     body_is : report_lines plan es ≡ header_line plan ∷ lines_of_run plan es
     body_is = ap (λ (ls : List (List ℕ)). header_line plan ∷ ls) (by_tests plan.tests some)
@@ -51,15 +51,15 @@ module _ (plan : PlanParts) (es : List Entry) where
         by_tests [] is = absurd (let no : true ≡ false = is in cc)
         by_tests (t ∷ ts) is = refl
 
-    -- the header and what stands behind it
+    -- the header and the lines behind it are the report
     pub body_puts : (old mid new : SinkTell) (result : Result (Unit {0}) SinkFault) → PutsLines (header_line plan ∷ []) old mid (Ok tt) → PutsLines (lines_of_run plan es) mid new result → PutsLines (report_lines plan es) old new result
     body_puts old mid new result head body = lines_as (sym body_is) (lines_then old mid new (header_line plan ∷ []) (lines_of_run plan es) result head body)
 
--- the lines, not all of them
+-- where the put of the tests' lines failed, a beginning of the lines of the run was put
 pub lines_fail : (plan : PlanParts) (es : List Entry) (old new : SinkTell) (fault : SinkFault) → PutsLines (test_lines plan es) old new (Err fault) → PutsLines (lines_of_run plan es) old new (Err fault)
 lines_fail plan es old new fault lines = lines_more old new (test_lines plan es) (if are_all_final plan es then summary_lines plan es else []) fault lines
 
--- all lines, and the summary or a part of it
+-- the lines of all tests, and the summary or a beginning of it, were put
 pub summary_puts : (plan : PlanParts) (es : List Entry) (old mid new : SinkTell) (result : Result (Unit {0}) SinkFault) → are_all_final plan es ≡ true → PutsLines (test_lines plan es) old mid (Ok tt) → PutsLines (summary_lines plan es) mid new result → PutsLines (lines_of_run plan es) old new result
 summary_puts plan es old mid new result final lines end =
     let rest : summary_lines plan es ≡ (if are_all_final plan es then summary_lines plan es else []) = ap (λ (b : Bool). if b then summary_lines plan es else []) (sym final) in

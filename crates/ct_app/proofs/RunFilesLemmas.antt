@@ -1,4 +1,4 @@
--- What the files of a run come to hold, write by write.
+-- What the files of a run hold after each write.
 use Rattle.std.proofs.Common.{◌≡◌, ◌≢◌, ◌∙◌, sym, ap, subst, Bool, true, false, ℕ, ◌+◌, ◌<◌, List, [], ◌∷◌, ◌++◌, length, get_or, take, inl, inr, refl, arith}
 use Rattle.std.specs.Prelude.{Option, Some, None, Result, Ok, Err, IfSome, IsErrOf, option_map, cond, not, codes, decimal, filter, flat_map, ◌==◌}
 use Rattle.std.specs.List.{list_any}
@@ -23,17 +23,17 @@ use Rattle.ct_app.specs.RunFiles.{FilesFail, FilesServe, FilesStay, Leaves, Leav
 use Rattle.ct_app.proofs.FrontLemmas.{made_of_front}
 use Rattle.ct_app.proofs.ChangeLemmas.{fails_as, fails_then, same_then_fails, same_then_same, same_then_writes, serves_as, serves_then, stays, writes_then_same}
 
--- the first bytes of a long text are too many too
+-- a text and its first bytes, one more than the limit, have the same cost data
 pub costs_of_front : (held : Option (List ℕ)) → costs_of (option_map (take (most_cost_bytes + 1)) held) ≡ costs_of held
 costs_of_front None = refl
 costs_of_front (Some text) = made_of_front costs_in (costs_in []) most_cost_bytes text
 
--- the cost data of the last run, by the first bytes of its file
+-- the cost data that is read from the first bytes of its file is the cost data of the last run
 pub reads_last : (dir path : List ℕ) (told : Option Held) (got : Option (List ℕ)) (costs : CostData) → path ≡ costs_path dir → IfSome told (λ held. got ≡ option_map (take (most_cost_bytes + 1)) (held path)) → costs ≡ costs_of got → IfSome told (λ held. costs ≡ last_costs dir held)
 reads_last dir path None got costs named read is = tt
 reads_last dir path (Some held) got costs named read is = is ∙ ap costs_of read ∙ costs_of_front (held path) ∙ ap (λ (p : List ℕ). costs_of (held p)) named
 
--- a file was looked at
+-- a file was read
 module _ (path : List ℕ) (before now : FilesTell) (got : Option (List ℕ)) where
   no_fault : IsErrOf {T = Option (List ℕ)} {E = FilesFault} (Ok got) Files.Failed → ⊥
   no_fault is = cc
@@ -41,19 +41,19 @@ module _ (path : List ℕ) (before now : FilesTell) (got : Option (List ℕ)) wh
   pub looked : LooksAt path before now (Ok got) → FilesStay before now
   looked looks = record { held = looks.kept; unrefused = looks.asks.unrefused no_fault; unfailed = looks.asks.cause.unfailed no_fault }
 
--- the same write, said in other words
+-- a write with an equal path and an equal text is the same write
 pub writes_as : (path other text given : List ℕ) (before now : FilesTell) (result : Result (Unit {0}) RunFileFault) → path ≡ other → text ≡ given → WritesText path text before now result → WritesText other given before now result
 writes_as path other text given before now result same said writes =
     subst (λ (p : List ℕ). WritesText p given before now result) same (subst (λ (t : List ℕ). WritesText path t before now result) said writes)
 
--- the two files are two
+-- the cost file and the log have different paths
 pub paths_differ : (dir : List ℕ) → costs_path dir ≢ log_path dir
 paths_differ dir same =
     let names = append_cancel_left (dir ++ slash ∷ []) (codes "Testing/Temporary/CTestCostData.txt") (codes "Testing/Temporary/LastTestsFailed.log") same in
     let letters : 67 ≡ 76 = ap (λ name. get_or name 18 0) names in
     omega (arith, letters)
 
--- the log of a failed test has a byte
+-- a log with a failed test is not empty
 logs_some : (t : PlanTest) (rest : List ℕ) → (length (logged t ++ rest) == 0) ≡ false
 logs_some t rest =
     let all = length-append (logged t) rest in
@@ -61,7 +61,7 @@ logs_some t rest =
     let some : length (logged t ++ rest) ≢ 0 = λ none. omega (arith, all, last, none) in
     ne_eqb (length (logged t ++ rest)) 0 some
 
--- a log without a byte is one of no failed test
+-- a log is empty exactly where no test failed
 no_log : (fails : PlanTest → Bool) (ts : List PlanTest) → (length (flat_map logged (filter fails ts)) == 0) ≡ not (list_any fails ts)
 no_log fails [] = refl
 no_log fails (t ∷ ts) = by_test (fails t) refl (no_log fails ts)
@@ -70,7 +70,7 @@ no_log fails (t ∷ ts) = by_test (fails t) refl (no_log fails ts)
     by_test true failed rest = rw failed (logs_some t (flat_map logged (filter fails ts)))
     by_test false failed rest = rw failed rest
 
--- the log has a byte exactly where some test failed
+-- the log of a history is empty exactly where no test failed
 module _ (plan : PlanParts) (entries : List Entry) (log : List ℕ) (is : log ≡ failed_log_text plan entries) where
   is_due : (empty : Bool) → (length log == 0) ≡ empty → not (has_failing plan entries) ≡ empty
   is_due empty said =
@@ -98,7 +98,7 @@ leaves_none plan entries costs files none = by_tests plan.tests none
     by_tests [] none = stays files
     by_tests (t ∷ ts) none = let no = (Decides-eqb (length (t ∷ ts)) 0).0 none in absurd (omega (arith, no))
 
--- a plan without tests has none that failed
+-- a plan without tests has no failed test
 pub none_failing : (plan : PlanParts) (entries : List Entry) → (length plan.tests == 0) ≡ true → has_failing plan entries ≡ false
 none_failing plan entries none = by_tests plan.tests none
   where
@@ -106,7 +106,7 @@ none_failing plan entries none = by_tests plan.tests none
     by_tests [] none = refl
     by_tests (t ∷ ts) none = let no = (Decides-eqb (length (t ∷ ts)) 0).0 none in absurd (omega (arith, no))
 
--- files that stay are left in part
+-- files that stay meet `LeavesPart`
 pub leaves_nothing : (plan : PlanParts) (entries : List Entry) (costs : CostData) (before now : FilesTell) → FilesStay before now → FilesServe (LeavesPart plan entries costs) before now
 leaves_nothing plan entries costs before now stay = serves_as SameHeld (LeavesPart plan entries costs) (λ x y same. inl same) before now stay
 
@@ -132,7 +132,7 @@ module _ (plan : PlanParts) (entries : List Entry) (costs : CostData) (some : (l
       (λ x y torn. (some_tests, inl (record { named = named; torn = subst (λ (p : List ℕ). FailsToWrite p (new_costs plan entries costs) x y) (sym named) torn })))
       path before now fails
 
-  -- the cost file could not be written
+  -- where the cost file was not written, the files of the run were not written
   pub unwritten_costs : (fault : RunFileFault) (before now : FilesTell) → WritesText (costs_path plan.dir) (new_costs plan entries costs) before now (Err fault) → WritesFiles plan entries costs before now (Err fault)
   unwritten_costs (Fault.Failed path) before now torn = (inl (torn.0, some_tests), leaves_torn_costs path before now torn.0 torn.1)
   unwritten_costs Fault.NoMemory before now stay = leaves_nothing plan entries costs before now stay
@@ -176,20 +176,20 @@ module _ (plan : PlanParts) (entries : List Entry) (costs : CostData) (some : (l
         ))
         path before between now first second
 
-    -- memory was wanting for the log behind the cost file
+    -- memory ran out for the log behind the cost file
     leaves_costs_alone : (before between now : FilesTell) → FilesServe (Writes (costs_path plan.dir) (new_costs plan entries costs)) before between → FilesStay between now → FilesServe (LeavesPart plan entries costs) before now
     leaves_costs_alone before between now first second =
         serves_then (Writes (costs_path plan.dir) (new_costs plan entries costs)) SameHeld (LeavesPart plan entries costs)
         (λ x y z writes same. inr (failed, writes_then_same (costs_path plan.dir) (new_costs plan entries costs) x y z writes same))
         before between now first second
 
-    -- the log was written behind the cost file, or could not be
+    -- the log was written behind the cost file, or was not for a fault
     pub writes_log : (before between now : FilesTell) (result : Result (Unit {0}) RunFileFault) → FilesServe (Writes (costs_path plan.dir) (new_costs plan entries costs)) before between → WritesText (log_path plan.dir) (failed_log_text plan entries) between now result → WritesFiles plan entries costs before now result
     writes_log before between now (Ok done) first second = leaves_log before between now first second
     writes_log before between now (Err (Fault.Failed path)) first second = (inr (second.0, failed), leaves_torn_log path before between now second.0 first second.1)
     writes_log before between now (Err Fault.NoMemory) first second = leaves_costs_alone before between now first second
 
--- each change leads from what was held before, too
+-- files that stay and are then written by a run are written by a run
 pub leaves_behind : (plan : PlanParts) (entries : List Entry) (costs : CostData) (x y z : Held) → SameHeld x y → Leaves plan entries costs y z → Leaves plan entries costs x z
 leaves_behind plan entries costs x y z same leaves = by_tests plan.tests leaves
   where

@@ -1,4 +1,4 @@
--- What the file that declares the resources is read as.
+-- What is read from the file that declares the resources.
 use Rattle.std.proofs.Common.{◌≡◌, ◌∙◌, sym, ap, subst, Bool, true, ℕ, ◌+◌, List, length, take, refl}
 use Rattle.std.specs.Prelude.{Option, Some, None, Result, Ok, Err, IfSome, cond, nat_le, option_map}
 use Rattle.std.specs.Result.{result_map_both}
@@ -17,7 +17,7 @@ use Rattle.ct_app.specs.RunFiles.{FilesStay}
 use Rattle.ct_app.specs.SpecFile.{Declares, ReadsPath, ReadsSpec, declared_by, declared_in, most_spec_bytes}
 use Rattle.ct_app.proofs.FrontLemmas.{made_of_front}
 
--- the first bytes of a long text are too many too
+-- a text and its first bytes, one more than the limit, declare the same
 declared_front : (held : Option (List ℕ)) → declared_in (option_map (take (most_spec_bytes + 1)) held) ≡ declared_in held
 declared_front None = refl
 declared_front (Some text) = made_of_front declared_by (Err TooLong) most_spec_bytes text
@@ -26,7 +26,7 @@ declared_read : (path : List ℕ) (told : Option Held) (got : Option (List ℕ))
 declared_read path None got result read is = tt
 declared_read path (Some held) got result read is = sym (ap declared_in read ∙ declared_front (held path)) ∙ is
 
--- what a path holds was read, as far as is allowed and one byte more
+-- the text at a path was read up to one byte more than the limit
 pub path_read : (path other : List ℕ) (before now : FilesTell) (got : Option (List ℕ)) (result : Result (List Resource) SpecFileFault) → path ≡ other → IfSome before.held (λ held. got ≡ option_map (take (most_spec_bytes + 1)) (held path)) → FilesStay before now → Declares got result → ReadsPath other before now result
 path_read path other before now got result same read stay declares = subst (λ (p : List ℕ). ReadsPath p before now result) same (by result declares)
   where
@@ -36,13 +36,13 @@ path_read path other before now got result same read stay declares = subst (λ (
     by (Err (Failed failed)) is = absurd is
     by (Err NoMemory) is = stay
 
--- why the path was not read is why the file that is named was not
+-- where the named path was not read, the specification was not read, for the same reason
 pub named_unread : (path : List ℕ) (before now : FilesTell) (fault : SpecFileFault) → ReadsPath path before now (Err fault) → ReadsSpec (Some path) before now (Err fault)
 named_unread path before now (Refused why) unread = unread
 named_unread path before now (Failed failed) unread = unread
 named_unread path before now NoMemory unread = unread
 
--- a text that is not too long declares what it says, or is refused for its first fault
+-- a text within the limit declares its resources, or is refused for its first fault
 module _ (text : List ℕ) (fits : nat_le (length text) most_spec_bytes ≡ true) where
   by_text : declared_in (Some text) ≡ declared_by text
   by_text = ap (λ (b : Bool). cond b (declared_by text) (Err TooLong)) fits

@@ -1,4 +1,4 @@
--- Tests and their properties, one more of each; and the first property that is refused, where none was before.
+-- The properties of tests that are read one by one, up to the first refused property.
 use Rattle.std.proofs.Common.{◌≡◌, ◌∙◌, sym, ap, subst, ℕ, ◌+◌, ◌-◌, ◌<◌, ◌≤◌, List, [], ◌∷◌, ◌++◌, length, take, get_or, refl, arith}
 use Rattle.std.specs.Prelude.{All}
 use Rattle.std.proofs.lemmas.List.{take_all, take_more}
@@ -19,7 +19,7 @@ use Rattle.ct_app.specs.declared.outcome.Refusal.TheVariants.{TestFile, Prop, Sp
 use Rattle.ct_app.specs.Outcome.{outcome_of_prop}
 use Rattle.ct_app.specs.Tests.{IsUnrefused, RefusesTest, RefusesTests}
 
--- a fault of the properties of a test refuses it
+-- a fault of the properties of a test refuses the test
 pub refuses_as : (number : ℕ) (def : TestDef) (fault : PropFault) (outcome : Outcome) → IsPropFault def.props fault → outcome ≡ outcome_of_prop number fault → RefusesTest number def outcome
 refuses_as number def fault outcome is told = subst (λ (o : Outcome). RefusesTest number def o) (sym told) (by fault is)
   where
@@ -42,14 +42,14 @@ module _ (defs : List TestDef) (at : ℕ) (def : TestDef) (within : at < length 
   more : take (at + 1) defs ≡ take at defs ++ def ∷ []
   more = take_more defs at def within ∙ ap (λ (d : TestDef). take at defs ++ d ∷ []) (sym is)
 
-  -- one test more
+  -- one more test was read
   pub read_more : (owns now : List Props) (own : Props) → AreRead defs at owns → HasProps def own → IsUnrefused def → now ≡ owns ++ own ∷ [] → AreRead defs (at + 1) now
   read_more owns now own read has unrefused pushed = record {
     have = subst (λ (ds : List TestDef). HaveProps ds now) (sym more) (subst (λ (os : List Props). HaveProps (take at defs ++ def ∷ []) os) (sym pushed) (have_props-snoc (take at defs) owns def own read.have has));
     unrefused = subst (λ (ds : List TestDef). All IsUnrefused ds) (sym more) (All-append IsUnrefused (take at defs) (def ∷ []) read.unrefused (All-cons IsUnrefused def [] unrefused (All-nil IsUnrefused)));
   }
 
-  -- a test that is refused behind none that is
+  -- a refused test is the first, where no test before it is refused
   pub refuses : (number : ℕ) (owns : List Props) (outcome : Outcome) → number ≡ at + 1 → AreRead defs at owns → RefusesTest number def outcome → RefusesTests defs outcome
   refuses number owns Completed numbered read refused = refused
   refuses number owns Listed numbered read refused = refused
