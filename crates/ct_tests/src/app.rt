@@ -1,4 +1,4 @@
-//! Whole runs over files, a gate and a sink in memory: what they ask for, write and come to.
+//! Whole runs over files, a gate and a sink in memory: what they ask for, what they write and how they end.
 
 ghost use Rattle.std.specs.Prelude.{None};
 
@@ -10,7 +10,7 @@ use std::alloc::{AllocError, Global};
 use std::str;
 use std::test::Fail;
 
-/// Runs that come to their end.
+/// Runs that are completed.
 const RUNS: &str = "
 === one test passes
 told 1 0 10000
@@ -197,7 +197,7 @@ The following tests FAILED:
 Errors while running CTest
 ";
 
-/// Runs that are refused, or that the files or the sink do not let come to an end.
+/// Runs that are refused, or that stop for a fault of the files or the sink.
 const HALTS: &str = "
 === a word is no option
 ---
@@ -300,7 +300,7 @@ add_tests(a b)
 status 2, asked 0, unstarted 0
 ";
 
-/// Runs and the requests in them.
+/// Runs, and the requests that their gates were sent.
 const REQUESTS: &str = "
 === the tests of two folders
 ---
@@ -345,7 +345,7 @@ a|./w|p |PATH=/bin |1500000|./w/f /g
 b|.|p |PATH=/bin |none|
 ";
 
-/// Runs and the attempts that they ask for.
+/// Runs, and the attempts that their gates were asked for.
 const ASKED: &str = "
 === the second of three tests is not started
 told 2 unstarted 0
@@ -357,7 +357,7 @@ add_test(c true)
 1/1 2/1 3/1 unstarted 1
 ";
 
-/// A run whose only test is to write a word.
+/// A run with one test, which writes a word.
 const WRITES: &str = "
 === a word in two pieces
 ---
@@ -381,7 +381,7 @@ fn tells_why_there_is_no_whole_report(rt: HostRuntime) -> Result<(), Fail> {
     run_as_told(&rt, HALTS, ending)
 }
 
-/// Reports as `ending` does, by the pieces that were put; behind one that is no line stands a `|`.
+/// Reports as `ending` does, with a `|` behind each piece that was put and is not one line.
 fn ending_by_pieces(alloc: Global, ran: &Ran) -> Result<String, NoMemory> {
     let mut text = String::new(alloc);
     for piece in ran.sink.pieces() {
@@ -392,7 +392,7 @@ fn ending_by_pieces(alloc: Global, ran: &Ran) -> Result<String, NoMemory> {
     ending_with(alloc, ran, text.as_str())
 }
 
-/// Tells whether a text is one line, with its end.
+/// Tells whether a text is one line with its line feed.
 fn is_line(text: &str) -> bool {
     text.ends_with('\n') && text.lines().count() == 1
 }
@@ -412,7 +412,7 @@ fn counts_a_start_that_fails_and_goes_on(rt: HostRuntime) -> Result<(), Fail> {
     run_as_told(&rt, ASKED, asked)
 }
 
-/// A gate whose programs write `done` in two pieces. It tells nothing.
+/// A gate whose programs write `done` in two pieces. Its `tells` is empty.
 #[derive(Drop)]
 struct Halves;
 

@@ -1,17 +1,21 @@
-//! Calls of the top over files, gates and a sink in memory, as tables tell of them.
+//! Reads tables of top calls, and makes the calls over files, gates and a sink in memory.
 //!
-//! In a table each row begins with `===` and what it shows. Then come the facts in which it
-//! differs, and its files, each behind `---` and its path, or behind `---` alone the test file of
-//! the folder. Behind each `>>>` stand the words of a call, and from the next line on what comes
-//! of it; where nothing stands there, what came of the call in front of it. A line `or` stands
-//! between two texts of which each is allowed.
+//! A row of a table has, in this order:
+//! - `===` and what the row shows;
+//! - its facts, one on each line;
+//! - its files, each behind `---` and its path; behind `---` alone is the test file of the folder;
+//! - its calls, each behind `>>>`: the words, and from the next line on the wanted text. Without a
+//!   text, the wanted text is that of the call before. A line `or` parts two allowed texts.
 //!
-//! A fact is of one of these forms: `told 2/3 1 10000 done`, by which the third attempt of test 2
-//! writes `done` and exits with 1 behind 10,000 microseconds, and the first one where no attempt is
-//! named; `call 1 fails`, a call on the files; `put 1 fails`, a put; `gates 1`, where there is not
-//! a gate for each processor that the words ask for by `-j`; `costs a 1 2.000000;---;` and
-//! `log 7:a;`, what the files of the last run hold, with a `;` for the end of each line; `fill 99`,
-//! where the cost file goes on with `x` up to so many bytes.
+//! The facts are:
+//! - `told 2/3 1 10000 done`: the third attempt of test 2 writes `done` and exits with 1 after
+//!   10,000 microseconds. Without `/3` it is the first attempt.
+//! - `call 1 fails`: the first call on the files fails.
+//! - `put 1 fails`: the first put fails.
+//! - `gates 1`: there is one gate. Without this fact there is one for each processor of `-j`.
+//! - `costs a 1 2.000000;---;`: the cost file of the last run, with `;` for the end of each line.
+//! - `log 7:a;`: the log of the last run, with `;` for the end of each line.
+//! - `fill 99`: the cost file goes on with `x` up to 99 bytes.
 
 ghost use Rattle.std.specs.Prelude.{◌<◌, vec_len};
 
@@ -36,7 +40,7 @@ pub(crate) const COSTS: &str = "./Testing/Temporary/CTestCostData.txt";
 /// The log of failed tests.
 pub(crate) const LOG: &str = "./Testing/Temporary/LastTestsFailed.log";
 
-/// What a run wants of the runtime, and the assertions on it.
+/// What a run and its assertions need of the runtime.
 pub(crate) trait Machine: Abort + AllocGlobal + Threads + Wait + Sync {}
 
 impl<R: Abort + AllocGlobal + Threads + Wait + Sync> Machine for R {}
@@ -44,18 +48,19 @@ impl<R: Abort + AllocGlobal + Threads + Wait + Sync> Machine for R {}
 /// A call of a table.
 #[derive(Clone, Copy)]
 pub(crate) struct Call<'a> {
-    /// What it shows, and the facts in which it differs.
+    /// What the row shows, and its facts.
     facts: &'a str,
-    /// Its files, each from its path on, where there are some.
+    /// The files, each from its path on, if the row has files.
     files: Option<&'a str>,
-    /// Its words, with spaces between.
+    /// The words, with spaces between.
     words: &'a str,
-    /// What comes of it.
+    /// The wanted text.
     pub(crate) want: &'a str,
 }
 
 impl<'a> Call<'a> {
-    /// Reads a call of the row that has these facts and files, behind one that came to `before`.
+    /// Reads a call of a row from the facts and files of the row, the text of the call, and `before`,
+    /// the wanted text of the call before.
     fn of(given: &'a str, call: &'a str, before: &'a str) -> Call<'a> {
         let (facts, files) = match given.split_once("\n---") {
             Some((facts, files)) => (facts, Some(files)),
@@ -71,7 +76,7 @@ impl<'a> Call<'a> {
         }
     }
 
-    /// What the first fact of this kind says.
+    /// Returns the first fact of this kind, without the kind.
     fn fact(&self, kind: &str) -> Option<&'a str> {
         for fact in self.facts.lines() {
             if let Some(said) = fact.strip_prefix(kind) {
@@ -81,7 +86,7 @@ impl<'a> Call<'a> {
         None
     }
 
-    /// How many gates it has.
+    /// Counts the gates of the call.
     pub(crate) fn gates(&self) -> usize {
         let (_, level) = self.words.split_once("-j ").unwrap_or(("", ""));
         let level = level.split(' ').next().unwrap_or("");
@@ -96,7 +101,7 @@ impl fmt::Display for Call<'_> {
     }
 }
 
-/// The calls of a table.
+/// Reads the calls of a table.
 pub(crate) fn calls_of<'a>(alloc: Global, table: &'a str) -> Result<Vec<Call<'a>>, NoMemory> {
     let mut calls = Vec::new(alloc);
     for row in table.split("\n===").skip(1) {
@@ -108,7 +113,7 @@ pub(crate) fn calls_of<'a>(alloc: Global, table: &'a str) -> Result<Vec<Call<'a>
     Ok(calls)
 }
 
-/// What is wanted of the last of these calls.
+/// Returns the wanted text of the last of these calls.
 fn last_want<'a>(calls: &[Call<'a>]) -> &'a str {
     match calls {
         [.., last] => last.want,
@@ -116,7 +121,7 @@ fn last_want<'a>(calls: &[Call<'a>]) -> &'a str {
     }
 }
 
-/// The files of a call, and those that the last run left.
+/// Makes the files of a call, with the files that the last run left.
 fn held(alloc: Global, call: &Call<'_>) -> Result<List<Pair>, NoMemory> {
     let mut held = test_files(alloc, call)?;
     if let Some(costs) = call.fact("costs ") {
@@ -132,7 +137,7 @@ fn held(alloc: Global, call: &Call<'_>) -> Result<List<Pair>, NoMemory> {
     Ok(held)
 }
 
-/// The files of a call.
+/// Makes the files of a call that its row names.
 fn test_files(alloc: Global, call: &Call<'_>) -> Result<List<Pair>, NoMemory> {
     let mut files = List::new(alloc);
     let Some(texts) = call.files else {
@@ -157,7 +162,7 @@ fn pair(alloc: Global, name: &str, value: &str) -> Result<Pair, NoMemory> {
     file(alloc, name, Vec::from_slice(alloc, value.as_bytes())?)
 }
 
-/// The text of a file from a fact.
+/// Makes the text of a file from a fact.
 fn lines_in(alloc: Global, fact: &str) -> Result<Vec<u8>, NoMemory> {
     let mut text = Vec::new(alloc);
     for byte in fact.as_bytes() {
@@ -166,7 +171,7 @@ fn lines_in(alloc: Global, fact: &str) -> Result<Vec<u8>, NoMemory> {
     Ok(text)
 }
 
-/// The calls of a kind that fail, by their numbers from 1.
+/// Reads the numbers, from 1, of the calls of a kind that fail.
 fn failing(alloc: Global, facts: &str, kind: &str) -> Result<List<u64>, NoMemory> {
     let mut failing = List::new(alloc);
     for fact in facts.lines() {
@@ -178,7 +183,7 @@ fn failing(alloc: Global, facts: &str, kind: &str) -> Result<List<u64>, NoMemory
     Ok(failing)
 }
 
-/// The words of a line.
+/// Reads the words of a line.
 pub(crate) fn words_of(alloc: Global, line: &str) -> Result<List<Name>, NoMemory> {
     let mut words = List::new(alloc);
     for word in line.split(' ') {
@@ -189,7 +194,7 @@ pub(crate) fn words_of(alloc: Global, line: &str) -> Result<List<Name>, NoMemory
     Ok(words)
 }
 
-/// A gate that tells what the facts say.
+/// Makes a gate that plays the attempts of the facts.
 fn gate(alloc: Global, facts: &str) -> Result<ScriptGate, NoMemory> {
     let mut world = List::new(alloc);
     for fact in facts.lines() {
@@ -200,7 +205,7 @@ fn gate(alloc: Global, facts: &str) -> Result<ScriptGate, NoMemory> {
     Ok(ScriptGate::new(alloc, world))
 }
 
-/// What is told of an attempt: its test, how it ended, its microseconds, and what was heard.
+/// Reads an attempt: its test, how it ended, its microseconds, and its output.
 fn told(alloc: Global, cells: &str) -> Result<Told, NoMemory> {
     let mut cells = cells.splitn(4, ' ');
     let test = cells.next().unwrap_or("");
@@ -226,19 +231,19 @@ fn how(word: &str) -> How {
     }
 }
 
-/// The files and the sink of a call.
+/// Makes the files and the sink of a call.
 fn files_and_sink(alloc: Global, call: &Call<'_>) -> Result<(MemFiles, MemSink), NoMemory> {
     let fails = failing(alloc, call.facts, "call ")?;
     let files = MemFiles::new(held(alloc, call)?, fails);
     Ok((files, sink(alloc, call)?))
 }
 
-/// The sink of a call.
+/// Makes the sink of a call.
 pub(crate) fn sink(alloc: Global, call: &Call<'_>) -> Result<MemSink, NoMemory> {
     Ok(MemSink::new(alloc, failing(alloc, call.facts, "put ")?))
 }
 
-/// A sink whose put with this number fails, where it is one.
+/// Makes a sink whose put with this number fails; without a number no put fails.
 pub(crate) fn sink_failing_at(alloc: Global, number: &str) -> Result<MemSink, NoMemory> {
     let mut failing = List::new(alloc);
     if let Ok(number) = number.parse() {
@@ -277,7 +282,7 @@ pub(crate) fn report_on<G: Gate + Send + Drop>(
 
 pub(crate) type Ran = Finished<MemFiles, ScriptGate, MemSink>;
 
-/// Runs on gates that tell what the facts say.
+/// Runs on gates that play the attempts of the facts.
 pub(crate) fn run(rt: &impl Machine, call: &Call<'_>) -> Result<Ran, Fail> {
     let alloc = rt.alloc();
     let mut gates = Vec::new(alloc);
@@ -302,8 +307,8 @@ pub(crate) fn list(
     Ok(list_main(alloc, words.as_slice(), files, sink))
 }
 
-/// Compares what comes of each call of a table, as a report says it, with what is wanted. The
-/// test files stay as they were.
+/// Compares the report of each call of a table with the wanted text, and checks that the files of
+/// the row stay as they were.
 pub(crate) fn run_as_told<F: Fn(Global, &Ran) -> Result<String, NoMemory>>(
     rt: &impl Machine,
     table: &str,
@@ -323,7 +328,7 @@ pub(crate) fn run_as_told<F: Fn(Global, &Ran) -> Result<String, NoMemory>>(
     Ok(())
 }
 
-/// Tells whether the files of a call hold what they held.
+/// Tells whether the files of the row hold what they held.
 fn keeps_test_files(alloc: Global, call: &Call<'_>, files: &MemFiles) -> Result<bool, NoMemory> {
     for pair in test_files(alloc, call)?.as_slice() {
         match files.held(&pair.name) {
@@ -334,7 +339,7 @@ fn keeps_test_files(alloc: Global, call: &Call<'_>, files: &MemFiles) -> Result<
     Ok(true)
 }
 
-/// Tells whether this is one of the texts that are allowed.
+/// Tells whether a text is one of the allowed texts.
 fn is_allowed(text: &str, want: &str) -> bool {
     for allowed in want.split("\nor\n") {
         if allowed == text {
@@ -393,9 +398,10 @@ pub(crate) fn asked(alloc: Global, ran: &Ran) -> Result<String, NoMemory> {
     Ok(text)
 }
 
-/// Reports the requests that the gates were sent, each on its line: name, folder, command,
-/// environment, microseconds at most and the files that have to be there, with a space behind each
-/// item of a list.
+/// Reports the requests that the gates were sent, each on a line of its own.
+///
+/// A line has the name, the folder, the command, the environment, the time limit in microseconds and
+/// the required files, with a space behind each item of a list.
 pub(crate) fn requests(alloc: Global, ran: &Ran) -> Result<String, NoMemory> {
     let mut text = String::new(alloc);
     for gate in &ran.gates {
@@ -438,7 +444,7 @@ fn pairs(alloc: Global, pairs: &List<Pair>) -> Result<String, NoMemory> {
     Ok(text)
 }
 
-/// Reports what happened in a run, an entry a line, with test and attempt.
+/// Reports the history of a run, one entry on each line, with its test and attempt.
 pub(crate) fn happened(alloc: Global, ran: &Ran) -> Result<String, NoMemory> {
     match &ran.history {
         Some(history) => entries(alloc, history.entries.as_slice()),
@@ -446,7 +452,7 @@ pub(crate) fn happened(alloc: Global, ran: &Ran) -> Result<String, NoMemory> {
     }
 }
 
-/// What happened, an entry a line, with test and attempt.
+/// Reports these entries, one on each line, with test and attempt.
 pub(crate) fn entries(alloc: Global, entries: &[Entry]) -> Result<String, NoMemory> {
     let mut text = String::new(alloc);
     for entry in entries {
@@ -455,7 +461,7 @@ pub(crate) fn entries(alloc: Global, entries: &[Entry]) -> Result<String, NoMemo
     Ok(text)
 }
 
-/// Puts what an entry says on a line behind the text.
+/// Puts an entry on a line behind the text.
 fn with_entry(alloc: Global, text: String, entry: &Entry) -> Result<String, NoMemory> {
     Ok(match entry {
         Entry::Start { test, attempt, .. } => {

@@ -1,5 +1,5 @@
-//! Runs in which tests wait for others: what is drawn in, in which order it runs, and what is not
-//! run for it.
+//! Runs in which tests wait for others: which tests are drawn in, in which order they run, and which
+//! are not run because another test failed.
 
 use crate::calls::{Ran, ending, run_as_told};
 use ct_app::{Outcome, Refusal};

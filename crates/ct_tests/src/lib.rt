@@ -1,7 +1,7 @@
 //! The tests of whole runs.
 //!
 //! Hands up: nothing. A crate with tests of its own is proved twice, so they stand here.
-//! Stands on: ct_load, ct_app, ct_worker and what is below them.
+//! Stands on: ct_base, ct_verdict, ct_history, ct_core, ct_turn, ct_worker, ct_app and ct_load.
 //! Read first: `calls.rt`, then `app.rt`.
 #![tactic(auto)]
 

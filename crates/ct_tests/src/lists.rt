@@ -1,4 +1,4 @@
-//! Lists of tests, of labels and for editors, by the call that lists alone and by the one that may run tests.
+//! Lists of tests, of labels and for editors, by `list_main` and by `ctest_main`.
 
 use crate::calls::{Machine, Ran, calls_of, list, name_of, run_as_told, written};
 use ct_app::{Listed, Outcome};
@@ -344,7 +344,7 @@ Listed, status 0
 {\"kind\":\"ctestInfo\",\"tests\":[{\"command\":[\"true\"],\"config\":\"\",\"name\":\"ok\",\"number\":1,\"properties\":[]}],\"version\":{\"major\":1,\"minor\":0}}
 ";
 
-/// Words that ask for a run, whose tests are listed by the call that lists alone.
+/// Words that ask for a run. `list_main` lists the tests of this run.
 const RUNS: &str = "
 === a test, one that is not started, and a disabled one
 told 2 unstarted 0
@@ -376,7 +376,7 @@ Test project .
 Total Tests: 0
 ";
 
-/// Lists that are refused, or that the files or the sink do not let come to an end.
+/// Lists that are refused, or that stop for a fault of the files or the sink.
 const FAULTS: &str = "
 === a word is no option
 ---
@@ -447,8 +447,8 @@ add_test(ok \"true\")
 OutputFault, status 4
 ";
 
-/// What a call came to, its status, and what was written; then, where files of a run are left, that
-/// they are.
+/// Reports the outcome of a call, its status and what was written; then `files of a run`, if there
+/// are files of a run.
 fn ending(
     alloc: Global,
     outcome: &Outcome,
@@ -466,7 +466,7 @@ fn ending(
     Ok(format!(in alloc; "{name}, status {status}\n{written}{left}")?)
 }
 
-/// Tells whether a run left files in one of the folders that these tables name.
+/// Tells whether there are files of a run in one of the folders that these tables name.
 fn has_run_files(alloc: Global, files: &MemFiles) -> Result<bool, NoMemory> {
     for path in [
         "./Testing/Temporary/CTestCostData.txt",
@@ -481,7 +481,8 @@ fn has_run_files(alloc: Global, files: &MemFiles) -> Result<bool, NoMemory> {
     Ok(false)
 }
 
-/// Reports on a list by `ctest_main`, and what it has of a run, if anything.
+/// Reports a list by `ctest_main`; then `a run`, if there is a plan, a history or a gate that was
+/// asked.
 fn listing(alloc: Global, ran: &Ran) -> Result<String, NoMemory> {
     let text = ending(alloc, &ran.outcome, ran.status, &ran.sink, &ran.files)?;
     if ran.plan.is_some() || ran.history.is_some() || are_asked(&ran.gates) {
@@ -500,7 +501,7 @@ fn are_asked(gates: &[ScriptGate]) -> bool {
     false
 }
 
-/// Compares the lists of `list_main` with what comes of each call of a table.
+/// Compares the list of `list_main` with the wanted text of each call of a table.
 fn list_as_told(rt: &(impl Abort + AllocGlobal), table: &str) -> Result<(), Fail> {
     let alloc = rt.alloc();
     for call in &calls_of(alloc, table)? {
@@ -516,7 +517,7 @@ fn list_as_told(rt: &(impl Abort + AllocGlobal), table: &str) -> Result<(), Fail
     Ok(())
 }
 
-/// Compares the lists of both calls of the top with what comes of each call of a table.
+/// Compares the lists of both top calls with the wanted text of each call of a table.
 fn both_as_told(rt: &impl Machine, table: &str) -> Result<(), Fail> {
     list_as_told(rt, table)?;
     run_as_told(rt, table, listing)

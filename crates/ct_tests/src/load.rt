@@ -6,8 +6,11 @@ use ct_load::load_main;
 use std::alloc::Global;
 use std::test::Fail;
 
-/// Loads, each with the number of the put that fails, if one does, its words, the status that comes of it,
-/// and the counts of its summary or the line that it puts.
+/// Loads. The cells of a row are:
+/// - the number of the put that fails, if one does;
+/// - the words;
+/// - the status;
+/// - the counts of the summary, or the line that is put.
 const LOADS: &str = "\
 |1|0|100% tests passed, 0 tests failed out of 1
 |96|0|100% tests passed, 0 tests failed out of 96
@@ -23,7 +26,7 @@ const LOADS: &str = "\
 1|x|1|
 ";
 
-/// What a row of the table says.
+/// A row of the table.
 #[derive(Clone, Copy)]
 struct Load<'a> {
     fails: &'a str,
@@ -43,7 +46,7 @@ impl<'a> Load<'a> {
         }
     }
 
-    /// What is to be written.
+    /// Makes the text that is to be written.
     fn text(self, alloc: Global) -> Result<String, NoMemory> {
         let line = self.line;
         match self.status {
@@ -60,7 +63,7 @@ impl<'a> Load<'a> {
     }
 }
 
-/// The lines of the tests that fail among so many.
+/// Makes the lines of the failed tests in a run of `count` tests.
 fn failed_lines(alloc: Global, count: u32) -> Result<String, NoMemory> {
     let mut lines = String::new(alloc);
     for number in 1..=count {

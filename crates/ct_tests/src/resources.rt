@@ -104,7 +104,7 @@ status 2, asked 0, unstarted 0
 ctest: resource specification: not JSON
 ";
 
-/// The requests of placed tests.
+/// Runs with a specification, and the requests of their tests.
 const REQUESTS: &str = "
 === three groups on two kinds: either card of two slots may be the first group's
 ---
@@ -183,7 +183,7 @@ groups|.|p |CTEST_RESOURCE_GROUP_COUNT=7 PATH=/bin |1500000000|
 none|.|p |CTEST_RESOURCE_GROUP_COUNT=7 PATH=/bin |1500000000|
 ";
 
-/// Specifications that are refused, and what stands in front of them or behind them.
+/// Specifications that are refused, and faults that are found before or after them.
 const REFUSALS: &str = "
 === there is no specification
 ---

@@ -1,4 +1,5 @@
-//! What a whole run reads of the last one and leaves for the next, and each call on the files that fails.
+//! The files that a whole run reads from the last run and writes for the next one, and faults of each call on
+//! the files.
 
 use crate::calls::{COSTS, LOG, Ran, run_as_told, text_of, written};
 use ct_app::Outcome;
@@ -6,7 +7,7 @@ use ct_base::{MemFiles, Name, NoMemory};
 use std::alloc::Global;
 use std::test::Fail;
 
-/// Runs whose files do not fail.
+/// Runs without a fault of the files.
 const COMPLETE: &str = "
 === one test passes: the cost file is made, and no log
 log 7:last;
@@ -253,7 +254,7 @@ no costs
 log 1:a;
 ";
 
-/// Runs that end at a fault or a refusal, or that come to no fault.
+/// Runs that end with a fault or a refusal, or that do not make the call that would fail.
 const FAULTS: &str = "
 === the test file cannot be read
 call 1 fails
@@ -401,7 +402,7 @@ costs ok 1 1.000000;
 log 7:last;
 ";
 
-/// Runs whose cost file is as long as it may be, and longer by a byte.
+/// Runs whose cost file has the greatest length that counts, and one byte more.
 const LONG: &str = "
 === 64 MiB: the file is read
 costs ok 1 0.030000;---;
@@ -433,8 +434,8 @@ costs ok 1 0.010000;---;
 no log
 ";
 
-/// Reports how a run ended, what was written, and what the files of the run hold behind it, with a
-/// `;` for the end of each line.
+/// Reports how a run ended, what was written, and what the files of the run hold after it, with `;`
+/// for the end of each line.
 fn leavings(alloc: Global, ran: &Ran) -> Result<String, NoMemory> {
     with_files(alloc, ran, written(&ran.sink))
 }
@@ -448,8 +449,8 @@ pub(crate) fn with_files(alloc: Global, ran: &Ran, report: &str) -> Result<Strin
     Ok(format!(in alloc; "status {status}, {made}\n{report}{costs}{log}")?)
 }
 
-/// How many entries the history of a run has, where there is a plan, and the path that a fault of
-/// the files names.
+/// Reports how many entries the history of a run has, if there is a plan, and the path that a fault
+/// of the files names.
 fn made(alloc: Global, ran: &Ran) -> Result<String, NoMemory> {
     let made = match (&ran.plan, &ran.history) {
         (Some(_), Some(history)) => format!(in alloc; "{} entries", history.entries.len())?,
@@ -462,7 +463,7 @@ fn made(alloc: Global, ran: &Ran) -> Result<String, NoMemory> {
     }
 }
 
-/// What a path holds, on a line.
+/// Makes a line of what a path holds.
 fn left(alloc: Global, files: &MemFiles, path: &str, name: &str) -> Result<String, NoMemory> {
     let Some(held) = files.held(&Name::of(alloc, path.as_bytes())?) else {
         return Ok(format!(in alloc; "no {name}\n")?);

@@ -1,4 +1,4 @@
-//! The state that workers share, one step after another: in one hand, and at a turn.
+//! The state that workers share, step by step: held by one owner, and lent by a turn.
 
 ghost use Rattle.std.specs.Prelude.{◌≡◌, IfOk, [], None, Some, false};
 ghost use Rattle.ct_history.specs.Plan.{IsSound};
@@ -19,7 +19,7 @@ use std::process::Abort;
 use std::sync::Wait;
 use std::test::Fail;
 
-/// A run of five tests on three processors, of which the second line cannot be put.
+/// A run of five tests on three processors, whose second put fails.
 const FIVE: &str = "
 === five tests
 put 2 fails
@@ -52,7 +52,7 @@ Start 1/1
 End 1/1
 ";
 
-/// The plan of a call.
+/// Makes the plan of a call.
 fn plan_of(rt: &impl Machine, call: &Call<'_>) -> Result<Plan, Fail> {
     let Finished { plan, .. } = run(rt, call)?;
     Ok(plan.ok_or("no plan")?)
@@ -77,7 +77,7 @@ fn open(rt: &impl Machine, call: &Call<'_>) -> Result<State<MemSink>, Fail>
     Ok(State::open(core, sink))
 }
 
-/// Compares what was written, and then what happened, with what is wanted of a call.
+/// Compares what was written, and the history behind it, with the wanted text of a call.
 fn close(rt: &impl Machine, call: &Call<'_>, state: State<MemSink>) -> Result<(), Fail> {
     let alloc = rt.alloc();
     let (core, sink) = state.into_parts();
@@ -87,7 +87,7 @@ fn close(rt: &impl Machine, call: &Call<'_>, state: State<MemSink>) -> Result<()
     Ok(())
 }
 
-/// What a worker that has no attempt is to do next.
+/// Asks what a worker without an attempt has to do next.
 fn next(rt: &impl Abort, state: &mut State<MemSink>, worker: u32) -> Next {
     assert!(rt; !is_busy(state.core().history().entries.as_slice(), worker));
     state.next(worker)
@@ -103,7 +103,7 @@ fn start(rt: &impl Abort, state: &mut State<MemSink>, worker: u32) -> Ticket {
     }
 }
 
-/// Ends an attempt, which passes.
+/// Ends an attempt that passed.
 fn finish(rt: &impl Abort, state: &mut State<MemSink>, ticket: Ticket) {
     let entries = state.core().history().entries.as_slice();
     assert!(rt; holds_start(entries, ticket.test(), ticket.attempt(), ticket.worker()));
@@ -179,7 +179,7 @@ fn end<R: Wait>(rt: &R, turn: &Turn<State<MemSink>>, pass: &mut Pass, ticket: Ti
     turn.give(pass, state);
 }
 
-/// Lets two workers have a state in turn: the first starts a test, the second has to wait, and the
+/// Lends a state to two workers in turn: the first starts a test, the second has to wait, and the
 /// first ends the test.
 fn play<R: Wait + Abort>(
     rt: &R,

@@ -1,9 +1,9 @@
-//! Runs with words: what they run, how often and how long, and what they come to.
+//! Runs with words: what they run, how often and how long, and how they end.
 
 use crate::calls::{ending, happened, requests, run_as_told};
 use std::test::Fail;
 
-/// Runs of a folder and a configuration that the words name.
+/// Runs whose words name a folder and a configuration.
 const PLACES: &str = "
 === a folder is named, and one of the two below it is not there
 --- build/CTestTestfile.cmake
@@ -90,7 +90,7 @@ Test project .
 100% tests passed, 0 tests failed out of 3
 ";
 
-/// Runs that try tests again.
+/// Runs that repeat tests.
 const REPEATS: &str = "
 === the third attempt passes
 told 1/1 1 10000
@@ -173,7 +173,7 @@ Test project .
 100% tests passed, 0 tests failed out of 2
 ";
 
-/// Runs that end, or go on, behind the first failure.
+/// Runs that stop at the first failure, or go on behind it.
 const STOPS: &str = "
 === the first of three tests fails
 told 1 1 0
@@ -268,7 +268,7 @@ The following tests FAILED:
 Errors while running CTest
 ";
 
-/// Runs in which no test is found, or none that is not disabled.
+/// Runs that find no test, or only disabled tests.
 const NO_TESTS: &str = "
 === there is no test file
 >>>
@@ -314,7 +314,7 @@ The following tests did not run:
 \t1 - off (Disabled)
 ";
 
-/// Words that are refused, in front of each other fault.
+/// Words that are refused before any other fault is found.
 const REFUSED: &str = "
 === the files would fail
 call 1 fails
@@ -347,7 +347,7 @@ status 1, asked 0, unstarted 0
 ctest: word 2: unknown option
 ";
 
-/// Runs and the requests in them.
+/// Runs, and the requests that their gates were sent.
 const REQUESTS: &str = "
 === a folder is named
 --- build/CTestTestfile.cmake
@@ -393,7 +393,7 @@ a|.|p |PATH=/bin |3000000|
 a|.|p |PATH=/bin |3000000|
 ";
 
-/// Runs and what happened in them, with test and attempt.
+/// Runs, and their histories with test and attempt.
 const HISTORIES: &str = "
 === the first of three tests fails
 told 1 1 0

@@ -13,7 +13,7 @@ use std::hint::spin_loop;
 use std::sync::atomic::{AtomicBool, Ordering};
 use std::test::Fail;
 
-/// Runs of tests each of which passes only beside the others.
+/// Runs of tests that pass only if all of them run at the same time.
 const MEETINGS: &str = "
 === two tests on two gates
 ---
@@ -45,7 +45,7 @@ add_test(e p)
 OutputFault, status 4, 2 lines, nothing is open
 ";
 
-/// Runs that come to the same with one worker and with four.
+/// Runs that end in the same way with one worker and with four.
 const RACES: &str = "
 === fixtures, of which one cannot be set up, and tests that are tried again
 costs query 1 0.500000;gone 4 1.250000;---;flaky;
@@ -104,21 +104,21 @@ log 2:start_net;4:fetch;6:slow;
 >>> -j 4 --repeat until-pass:2
 ";
 
-/// How often a gate looks for the others.
+/// How often a gate checks whether the others were asked.
 const TURNS: u32 = 10_000_000;
 
-/// A gate whose program ends with 0 only where each of the gates runs one at the same time. It
-/// tells nothing.
+/// A gate whose program exits with 0 only if all gates are asked while it waits. Its `tells` is
+/// empty.
 #[derive(Drop)]
 struct Meeting<'a> {
-    /// Whether each of the gates was asked.
+    /// For each gate, whether it was asked.
     asked: &'a [AtomicBool],
-    /// Which of them it is.
+    /// The place of this gate.
     place: usize,
 }
 
 impl Meeting<'_> {
-    /// Tells whether the others come while it waits for them.
+    /// Tells whether all gates are asked while this gate waits.
     fn is_met(&self) -> bool {
         if let Some(own) = self.asked.get(self.place) {
             own.store(true, Ordering::SeqCst);
@@ -150,7 +150,7 @@ impl Gate for Meeting<'_> {
     }
 }
 
-/// As many flags as are asked for, of which none is set.
+/// Makes `count` flags that are not set.
 fn flags(alloc: Global, count: usize) -> Result<Vec<AtomicBool>, NoMemory> {
     let mut flags = Vec::new(alloc);
     for _ in 0..count {
@@ -159,7 +159,7 @@ fn flags(alloc: Global, count: usize) -> Result<Vec<AtomicBool>, NoMemory> {
     Ok(flags)
 }
 
-/// A gate for each flag.
+/// Makes a gate for each flag.
 fn meetings<'a>(alloc: Global, asked: &'a [AtomicBool]) -> Result<Vec<Meeting<'a>>, NoMemory> {
     let mut gates = Vec::new(alloc);
     for place in 0..asked.len() {
@@ -195,7 +195,7 @@ fn halted(alloc: Global, ran: &Ran) -> Result<String, NoMemory> {
     Ok(format!(in alloc; "{name}, status {status}, {lines} lines, {open}")?)
 }
 
-/// Tells whether an attempt has not ended.
+/// Tells whether some attempt has not ended.
 fn is_some_open(entries: &[Entry]) -> bool {
     for entry in entries {
         if let Entry::Start { worker, .. } = entry {
