@@ -7,10 +7,10 @@ use std::alloc::Global;
 use std::process::Abort;
 use std::test::Fail;
 
-/// Eight tests with nothing but a name.
+/// Eight tests that have a name and no property.
 const EIGHT: &str = "t1, t2, t3, t4, t5, t6, t7, t8";
 
-/// Words, and which of the eight tests they choose by name and number.
+/// Words, and the tests of the eight that they choose by name and number.
 const BY_NAME_AND_NUMBER: &str = "\
 -R t[1-4] is 1,2,3,4
  is 1,2,3,4,5,6,7,8
@@ -67,7 +67,7 @@ const BY_NAME_AND_NUMBER: &str = "\
 -E t[67] -R t[1-4] -I 2,,2,7 -U is 1,2,3,4,8
 ";
 
-/// Tests and words, and which of the tests they choose.
+/// Tests, words, and the tests that the words choose.
 const BY_LABEL: &str = "\
 a labels=slow;net, b labels=slow, c | -L slow is 1,2
 a labels=slow;net, b labels=slow, c | -L net is 1

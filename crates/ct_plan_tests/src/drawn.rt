@@ -1,4 +1,4 @@
-//! Which tests the fixtures draw in.
+//! Which tests are drawn in by fixtures.
 
 use crate::rows::{Tests, are_within, chosen, invocation_of, is_told, tests_of, told};
 use ct_args::Invocation;
@@ -11,7 +11,7 @@ use std::test::Fail;
 /// A setup, two users and a cleanup of one fixture.
 const ONE_FIXTURE: &str = "s setup=db, u1 required=db, u2 required=db, c cleanup=db";
 
-/// Words, and which of the tests of one fixture they choose and draw in.
+/// Words, and the tests of one fixture that they choose and draw in.
 const BY_ONE_FIXTURE: &str = "\
 -R u1 is 1,2,4
  is 1,2,3,4
@@ -47,7 +47,7 @@ const BY_ONE_FIXTURE: &str = "\
 -I 2,2 -FS db is 2,4
 ";
 
-/// Tests and words, and which of the tests they choose and draw in.
+/// Tests, words, and the tests that the words choose and draw in.
 const BY_FIXTURES: &str = "\
 s setup=f, t setup=g required=f, u required=g, c cleanup=f, d cleanup=g | -R u is 1,2,3,4,5
 s setup=f, t setup=g required=f, u required=g, c cleanup=f, d cleanup=g | -R u -FS g is 3,5
@@ -104,7 +104,7 @@ f, u required=f | -R u is 2
 a, b depends=a | -R b is 2
 ";
 
-/// The tests that the invocation chooses, and those that they draw in.
+/// Returns the tests that the invocation chooses, and the tests that their fixtures draw in.
 fn members(
     rt: &impl Abort,
     alloc: Global,
@@ -117,7 +117,7 @@ fn members(
     draw_in(alloc, &tests.props, &chosen, &invocation.wanted.choice)
 }
 
-/// What the words choose and draw in among the tests.
+/// Reports the tests that the words choose and draw in.
 fn members_told(rt: &impl Abort, alloc: Global, tests: &str, words: &str) -> Result<String, Fail> {
     let tests = tests_of(alloc, tests)?;
     let invocation = invocation_of(rt, alloc, words)?;
@@ -125,7 +125,8 @@ fn members_told(rt: &impl Abort, alloc: Global, tests: &str, words: &str) -> Res
     Ok(told(alloc, members.as_slice())?)
 }
 
-/// Compares what each row's words choose and draw in among its tests, or else among these.
+/// Compares the tests that the words of each row choose and draw in with the wanted ones. A row
+/// without tests has the usual tests.
 fn draw_as_told(rt: &impl Abort, alloc: Global, table: &str, usual: &str) -> Result<(), Fail> {
     for row in table.lines() {
         let (given, want) = row.split_once(" is ").unwrap_or((row, ""));

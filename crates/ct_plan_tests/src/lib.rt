@@ -1,9 +1,10 @@
-//! The tests of what is planned of a run: the words that ask for it, which tests they choose and draw in, and in which
-//! order these run.
+//! The tests of planning a run: what its words ask for, which tests they choose and draw in, and in which
+//! order the tests run.
 //!
 //! Hands up: nothing. A crate with tests of its own is proved twice, so they stand here.
-//! Stands on: ct_args, ct_plan and what is below them.
-//! Read first: `rows.rt` makes what the others test.
+//! Stands on: ct_base, ct_regex, ct_groups, ct_props, ct_verdict, ct_args, ct_select, ct_fixture, ct_graph,
+//! ct_alloc, ct_env, ct_history, ct_cost, ct_spec and ct_plan.
+//! Read first: `rows.rt`, which makes the tests and words of the other modules.
 #![tactic(auto)]
 
 #[cfg(test)]

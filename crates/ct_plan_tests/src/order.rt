@@ -1,4 +1,4 @@
-//! In which order tests run, and the cycle that forbids it.
+//! In which order tests run, and the cycle for which there is no order.
 
 ghost use Rattle.std.specs.Bool.{OnTrue};
 ghost use Rattle.std.specs.List.Sorted.{IsStrictlyIncreasing};
@@ -11,8 +11,8 @@ use std::alloc::{AllocError, Global};
 use std::process::Abort;
 use std::test::Fail;
 
-/// Tests and members, and each member with what comes before it behind a `<`, and its setups
-/// behind a `/`.
+/// Tests, members, and the links of each member: behind `<` the tests before it, behind `/` its
+/// setups.
 const ORDERS: &str = "\
 a, b depends=a | all is 1 2<1
 a depends=b, b | all is 1<2 2
@@ -71,7 +71,7 @@ s setup=f required=g, t setup=g required=f | 1 is 1
 c cleanup=f, u required=f depends=c | 2 is 2
 ";
 
-/// Tests and members that have no order, and what comes before each member.
+/// Tests and members that have no order, and the tests before each member.
 const CYCLES: &str = "\
 a depends=a | all is 1<1
 a, b depends=b | all is 1 2<2
@@ -109,7 +109,7 @@ fn ascend(numbers: &[u32]) -> bool
     true
 }
 
-/// The numbers of a row: `all` of so many, `none`, or those with a `,` between.
+/// Reads the numbers of a row: `all` from 1 to `count`, `none`, or numbers with a `,` between.
 fn members_of(alloc: Global, text: &str, count: usize) -> Result<List<u32>, NoMemory> {
     let mut members = List::new(alloc);
     if text == "all" {
@@ -124,7 +124,7 @@ fn members_of(alloc: Global, text: &str, count: usize) -> Result<List<u32>, NoMe
     Ok(members)
 }
 
-/// The tests of a row and the members among them.
+/// Reads the tests of a row, and the members among them.
 fn read(alloc: Global, given: &str) -> Result<(Tests, List<u32>), PropFault> {
     let (tests, members) = given.split_once(" | ").unwrap_or((given, "all"));
     let tests = tests_of(alloc, tests)?;
@@ -132,7 +132,7 @@ fn read(alloc: Global, given: &str) -> Result<(Tests, List<u32>), PropFault> {
     Ok((tests, members))
 }
 
-/// The order of the members, or why there is none.
+/// Returns the order of the members, or why there is none.
 fn order_of(
     rt: &impl Abort,
     alloc: Global,
@@ -146,14 +146,14 @@ fn order_of(
     order(alloc, &tests.defs, &tests.props, members)
 }
 
-/// Puts the number of a member, what comes before it, and its setups behind what is told.
+/// Appends the number of a member, the tests before it, and its setups.
 fn put_link(told: &mut String, link: &Links) -> Result<(), AllocError> {
     write!(told, " {}", link.number)?;
     put_numbers(told, "<", link.before.as_slice())?;
     put_numbers(told, "/", link.setups.as_slice())
 }
 
-/// The members with what comes before each, a space in front of each.
+/// Reports the links of the members, with a space in front of each member.
 fn links_told(alloc: Global, links: &[Links]) -> Result<String, AllocError> {
     let mut told = String::new(alloc);
     for link in links {
@@ -165,21 +165,21 @@ fn links_told(alloc: Global, links: &[Links]) -> Result<String, AllocError> {
     Ok(told)
 }
 
-/// Tells whether a rank is greater than that of each of these tests.
+/// Tells whether a rank is greater than the rank of each of these tests.
 fn is_above(links: &[Links], tests: &[u32], rank: u32) -> bool {
     links
         .iter()
         .all(|link| link.rank < rank || !tests.contains(&link.number))
 }
 
-/// Tells whether the rank of each member is greater than that of each test before it.
+/// Tells whether the rank of each member is greater than the rank of each test before it.
 fn are_ranked(links: &[Links]) -> bool {
     links
         .iter()
         .all(|link| is_above(links, link.before.as_slice(), link.rank))
 }
 
-/// Tells whether one test comes before another by the row of what comes before each.
+/// Tells whether one test comes before another, by the links of a row.
 fn is_before(rows: &str, earlier: u32, later: u32) -> bool {
     for row in rows.split(' ') {
         let (number, before) = row.split_once('<').unwrap_or((row, ""));
@@ -190,7 +190,7 @@ fn is_before(rows: &str, earlier: u32, later: u32) -> bool {
     false
 }
 
-/// Tells whether each test has the next one before it, and the last has the first before it.
+/// Tells whether each test comes after the next one in the list, and the last after the first.
 fn is_cycle(rows: &str, tests: &[u32]) -> bool {
     let Some(last) = tests.last() else {
         return false;
@@ -205,7 +205,7 @@ fn is_cycle(rows: &str, tests: &[u32]) -> bool {
     true
 }
 
-/// The order of a row, whose ranks have to fit.
+/// Reports the order of a row, and checks that its ranks fit.
 fn ordered_told(rt: &impl Abort, alloc: Global, given: &str) -> Result<String, Fail> {
     let (tests, members) = read(alloc, given)?;
     let ordered = order_of(rt, alloc, &tests, &members)?;
@@ -214,7 +214,7 @@ fn ordered_told(rt: &impl Abort, alloc: Global, given: &str) -> Result<String, F
     Ok(links_told(alloc, links)?)
 }
 
-/// The cycle of a row, and nothing where there is an order.
+/// Returns the cycle of a row; empty if there is an order.
 fn cycle_of(rt: &impl Abort, alloc: Global, given: &str) -> Result<List<u32>, PropFault> {
     let (tests, members) = read(alloc, given)?;
     match order_of(rt, alloc, &tests, &members) {

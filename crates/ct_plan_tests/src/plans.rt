@@ -1,7 +1,7 @@
-//! What is planned of a run: the queue, or why there is no plan.
+//! The plan of a run: its queue, or why there is no plan.
 //!
-//! In a row stand the words of a command line, the tests, and what earlier runs left, where `/`
-//! stands for the end of a line.
+//! A row has the words of a command line, the tests, and the cost data of earlier runs with `/` for
+//! the end of a line.
 
 ghost use Rattle.ct_plan.specs.Source.{HaveProps};
 
@@ -27,7 +27,7 @@ const QUEUES: &str = "\
 -j2 -R b | s setup=f, b required=f COST=3, d COST=9 | is 2,1
 ";
 
-/// What earlier runs left, with `/` for the end of a line.
+/// Reads the cost data of earlier runs, with `/` for the end of a line.
 fn costs_of(alloc: Global, text: &str) -> Result<CostData, NoMemory> {
     let mut bytes = Vec::new(alloc);
     for byte in text.as_bytes() {
@@ -37,7 +37,7 @@ fn costs_of(alloc: Global, text: &str) -> Result<CostData, NoMemory> {
     CostData::read(alloc, bytes.as_slice())
 }
 
-/// The queue of the plan of these tests.
+/// Reports the queue of the plan of these tests.
 fn queue_told(
     rt: &impl Abort,
     alloc: Global,
@@ -53,7 +53,7 @@ fn queue_told(
     Ok(told(alloc, plan.parts().queue.as_slice())?)
 }
 
-/// The queue of a row.
+/// Reports the queue of a row.
 fn queue_of(rt: &impl Abort, alloc: Global, given: &str) -> Result<String, Fail> {
     let (words, rest) = given.split_once(" | ").unwrap_or((given, ""));
     let (tests, left) = rest.split_once(" |").unwrap_or((rest, ""));

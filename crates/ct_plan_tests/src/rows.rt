@@ -1,7 +1,7 @@
-//! Rows that stand for tests, for words and for numbers.
+//! Reads tests, words and numbers from rows of text.
 //!
-//! In a row `, ` stands between the tests. A test is its name, and behind spaces its properties: a
-//! key and its value, or `off` for a disabled test.
+//! In a row the tests are parted by `, `. A test is its name, and behind spaces its properties. A
+//! property is a key and its value, or `off` for a disabled test.
 
 ghost use Rattle.std.specs.Prelude.{◌<◌, ◌≤◌, All, IfOk};
 ghost use Rattle.std.specs.Bool.{OnTrue};
@@ -14,7 +14,7 @@ use ct_select::select;
 use std::alloc::{AllocError, Global};
 use std::process::Abort;
 
-/// Tests and their properties, which belong together by place.
+/// Tests and their properties, in the same order.
 #[derive(Drop)]
 pub(crate) struct Tests {
     pub(crate) defs: List<TestDef>,
@@ -65,7 +65,7 @@ fn prop_of(alloc: Global, word: &str) -> Result<Pair, NoMemory> {
     })
 }
 
-/// The key that a word of a row stands for.
+/// Returns the key that a word of a row stands for.
 fn key_of(word: &str) -> &str {
     match word {
         "off" => "DISABLED",
@@ -78,7 +78,7 @@ fn key_of(word: &str) -> &str {
     }
 }
 
-/// The words of a command line, which have a space between. `''` is an empty word.
+/// Reads the words of a command line, with a space between. `''` is an empty word.
 fn words_of(alloc: Global, text: &str) -> Result<List<Name>, NoMemory> {
     let mut words = List::new(alloc);
     for word in text.split(' ') {
@@ -100,7 +100,7 @@ pub(crate) fn invocation_of(
     read_words(alloc, words.as_slice())
 }
 
-/// Tells whether each is the number of one of so many tests.
+/// Tells whether each number is from 1 to `count`.
 pub(crate) fn are_within(numbers: &[u32], count: usize) -> bool
     ensures { OnTrue result (All (λ number. (0 < number) × (number ≤ count)) numbers.now) }
 {
@@ -112,7 +112,7 @@ pub(crate) fn are_within(numbers: &[u32], count: usize) -> bool
     true
 }
 
-/// The tests that the invocation chooses.
+/// Returns the tests that the invocation chooses.
 pub(crate) fn chosen(
     rt: &impl Abort,
     alloc: Global,
@@ -124,7 +124,7 @@ pub(crate) fn chosen(
     select(alloc, &tests.defs, &tests.props, &invocation.wanted.choice)
 }
 
-/// Puts numbers behind what is told, with a text in front of the first and a `,` between.
+/// Appends numbers with a `,` between, and `front` before the first.
 pub(crate) fn put_numbers(
     told: &mut String,
     front: &str,
@@ -138,7 +138,7 @@ pub(crate) fn put_numbers(
     Ok(())
 }
 
-/// The numbers with a `,` between, and `none` where there is none.
+/// Makes a text of numbers with a `,` between; `none` if there are none.
 pub(crate) fn told(alloc: Global, numbers: &[u32]) -> Result<String, AllocError> {
     let mut told = String::new(alloc);
     put_numbers(&mut told, "", numbers)?;
@@ -148,7 +148,7 @@ pub(crate) fn told(alloc: Global, numbers: &[u32]) -> Result<String, AllocError>
     Ok(told)
 }
 
-/// Compares what a row comes to with what it says.
+/// Compares the text that a row leads to with the text that is wanted.
 pub(crate) fn is_told(rt: &impl Abort, row: &str, told: &str, want: &str) {
     assert!(rt; told == want, "{row}: {told}");
 }

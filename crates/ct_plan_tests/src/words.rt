@@ -1,8 +1,8 @@
-//! What the words of a command line ask for, and which of them is refused.
+//! What the words of a command line ask for, and which word is refused.
 //!
-//! In a table the words stand in front of ` is`, and `''` is an empty word. Then come the facts in
-//! which the invocation is not that of no words, or the refused word and why. A pattern is told by
-//! those of some texts that it hits.
+//! A row of a table has the words in front of ` is`, with `''` for an empty word. Behind it are the
+//! fields in which the invocation differs from that of an empty command line, or the refused word
+//! and why. A pattern is shown by the texts of `TEXTS` that it hits.
 
 use crate::rows::{invocation_of, is_told};
 use ct_args::{Invocation, Task, UsageFault};
@@ -15,7 +15,7 @@ use std::process::Abort;
 use std::str;
 use std::test::Fail;
 
-/// The texts by which a pattern is told.
+/// The texts that show what a pattern hits.
 const TEXTS: [&str; 4] = ["a", "ab", "b", "-R"];
 
 /// Each option in each spelling.
@@ -78,7 +78,7 @@ const SPELLINGS: &str = "\
 --progress is
 ";
 
-/// What the values say.
+/// What the values of options mean.
 const VALUES: &str = "\
 -R '' is name=a,ab,b,-R
 --tests-regex= is name=a,ab,b,-R
@@ -147,8 +147,8 @@ const VALUES: &str = "\
 --build-config=-j4 -j2 is level=2 config=-j4
 ";
 
-/// What the value of -I says. Behind the start stand the end, where it is given, the stride and
-/// the single numbers.
+/// What the value of -I means: the start, the end if it is given, the stride and the single
+/// numbers.
 const NUMBERS: &str = "\
 -I '' is numbers=1-/1
 -I , is numbers=1-/1
@@ -241,7 +241,7 @@ build is word 1 UnknownOption
 -S script is word 1 UnknownOption
 ";
 
-/// Values that are missing, or refused.
+/// Values that are missing or refused.
 const BAD_VALUES: &str = "\
 -R is word 1 NoValue
 --tests-regex is word 1 NoValue
@@ -396,7 +396,7 @@ fn text_of(name: &Name) -> &str {
     str::from_utf8(name.bytes()).unwrap_or("?")
 }
 
-/// The texts that the pattern hits, with a `,` between.
+/// Reports the texts that the pattern hits, with a `,` between.
 fn hits(alloc: Global, pattern: &Regex) -> Result<String, NoMemory> {
     let mut told = String::new(alloc);
     for text in &TEXTS {
@@ -469,7 +469,7 @@ fn put_flag(told: &mut String, label: &str, is: bool) -> Result<(), AllocError> 
     if is { write!(told, " {label}") } else { Ok(()) }
 }
 
-/// Puts a text behind what is told, if it is another than the usual one.
+/// Appends a text, if it is not the usual one.
 fn put_text(told: &mut String, label: &str, text: &str, usual: &str) -> Result<(), AllocError> {
     if text == usual {
         return Ok(());
@@ -484,7 +484,7 @@ fn put_file(told: &mut String, file: &Option<Name>) -> Result<(), AllocError> {
     }
 }
 
-/// Puts a number behind what is told, if it is another than the usual one.
+/// Appends a number, if it is not the usual one.
 fn put_number(told: &mut String, label: &str, number: u64, usual: u64) -> Result<(), AllocError> {
     if number == usual {
         return Ok(());
@@ -506,7 +506,7 @@ fn put_task(told: &mut String, task: Task) -> Result<(), AllocError> {
     write!(told, " task={task:?}")
 }
 
-/// Puts the facts in which the invocation is not that of no words behind what is told.
+/// Appends the fields in which the invocation differs from that of an empty command line.
 fn put_facts(alloc: Global, told: &mut String, invocation: &Invocation) -> Result<(), NoMemory> {
     let wanted = &invocation.wanted;
     put_task(told, invocation.task)?;
@@ -529,7 +529,7 @@ fn put_fault(told: &mut String, fault: &UsageFault) -> Result<(), AllocError> {
     }
 }
 
-/// What the words of a row come to.
+/// Reports what the words of a row ask for, or which word is refused.
 fn told(rt: &impl Abort, alloc: Global, words: &str) -> Result<String, NoMemory> {
     let mut told = String::new(alloc);
     match invocation_of(rt, alloc, words) {
@@ -539,7 +539,7 @@ fn told(rt: &impl Abort, alloc: Global, words: &str) -> Result<String, NoMemory>
     Ok(told)
 }
 
-/// Compares each row with what its words come to.
+/// Compares each row with what its words ask for.
 fn read_as_told(rt: &impl Abort, alloc: Global, table: &str) -> Result<(), Fail> {
     for row in table.lines() {
         let (words, want) = row.split_once(" is").unwrap_or((row, "?"));
