@@ -1,4 +1,4 @@
-//! The environment of a test's program, and what an entry has to be.
+//! The environment of a test's program, and the first entry of a modification that is no operation.
 
 use crate::rows::{is_told, pair, props_of, text_of};
 use ct_alloc::{Pick, Placement};
@@ -9,8 +9,8 @@ use std::alloc::{AllocError, Global};
 use std::process::Abort;
 use std::test::Fail;
 
-/// The run's own variables, ENVIRONMENT and ENVIRONMENT_MODIFICATION, and the environment. `-` is
-/// an empty text.
+/// The run's own variables, ENVIRONMENT, ENVIRONMENT_MODIFICATION, and the environment that they
+/// make. `-` is an empty text.
 const CHANGES: &str = "\
 X=a | - | X=reset: is X=a
 X= | - | X=reset: is X=
@@ -67,8 +67,8 @@ CTEST_RESOURCE_GROUP_COUNT=7 | CTEST_RESOURCE_GROUP_COUNT=5 | - is CTEST_RESOURC
 PATH=/bin | A=1;B=x | A=string_append:2;B=unset:;PATH=path_list_prepend:/opt;C=cmake_list_append:q;A=reset:;A=string_prepend:0 is A=01 C=q PATH=/opt:/bin
 ";
 
-/// RESOURCE_GROUPS and the picks, as `group:type:id:slots`, and the variables without the
-/// `CTEST_RESOURCE_GROUP_` in front of each.
+/// RESOURCE_GROUPS, the picks as `group:type:id:slots`, and the variables without their front
+/// `CTEST_RESOURCE_GROUP_`.
 const GIVEN: &str = "\
 2,gpus:2;gpus:4,crypto_chips:2 | 0:gpus:0:2 1:gpus:2:2 2:gpus:1:4 2:crypto_chips:card0:2 is 0=gpus 0_GPUS=id:0,slots:2 1=gpus 1_GPUS=id:2,slots:2 2=crypto_chips,gpus 2_CRYPTO_CHIPS=id:card0,slots:2 2_GPUS=id:1,slots:4 COUNT=3
 a:1,b_9:2,a:3 | 0:a:x:1 0:b_9:y:2 0:a:z:3 is 0=a,b_9 0_A=id:x,slots:1;id:z,slots:3 0_B_9=id:y,slots:2 COUNT=1
@@ -92,7 +92,7 @@ X=sett:1 is Some(0)
 X:set=1 is Some(0)
 ";
 
-/// The text, and an empty one for `-`.
+/// Returns the text of a cell; `-` is an empty text.
 fn cell(text: Option<&str>) -> &str {
     match text {
         None => "",
@@ -114,7 +114,7 @@ fn number(text: Option<&str>) -> u32 {
     text.unwrap_or("").parse().unwrap_or(0)
 }
 
-/// A pick, from `group:type:id:slots`.
+/// Reads a pick from `group:type:id:slots`.
 fn pick(alloc: Global, text: &str) -> Result<Pick, NoMemory> {
     let mut parts = text.split(':');
     Ok(Pick {
@@ -136,7 +136,7 @@ fn placement(alloc: Global, text: &str) -> Result<Placement, NoMemory> {
     Ok(Placement { picks })
 }
 
-/// The pairs in a row, a space in front of each, without a text that stands in front of a name.
+/// Reports pairs with a space in front of each, and names without `front`.
 fn told(alloc: Global, front: &str, pairs: &[Pair]) -> Result<String, AllocError> {
     let mut told = String::new(alloc);
     for pair in pairs {
@@ -147,7 +147,7 @@ fn told(alloc: Global, front: &str, pairs: &[Pair]) -> Result<String, AllocError
     Ok(told)
 }
 
-/// The environment that a row of changes makes.
+/// Reports the environment that a row of changes makes.
 fn changed(alloc: Global, given: &str) -> Result<String, Fail> {
     let mut cells = given.split(" | ");
     let own = own_pairs(alloc, cell(cells.next()))?;
@@ -159,7 +159,8 @@ fn changed(alloc: Global, given: &str) -> Result<String, Fail> {
     Ok(told(alloc, "", pairs.as_slice())?)
 }
 
-/// The environment that the placement of a test with these properties makes of these variables.
+/// Reports the environment of a test with these properties and this placement, for a run with these
+/// variables.
 fn given_told(
     alloc: Global,
     own: &[Pair],
@@ -170,7 +171,7 @@ fn given_told(
     Ok(told(alloc, "CTEST_RESOURCE_GROUP_", pairs.as_slice())?)
 }
 
-/// The environment that a row of groups and picks makes of these variables.
+/// Reports the environment that a row of groups and picks makes, for a run with these variables.
 fn with_given(alloc: Global, own: &[Pair], given: &str) -> Result<String, Fail> {
     let mut cells = given.split(" | ");
     let groups = cell(cells.next());
@@ -181,14 +182,14 @@ fn with_given(alloc: Global, own: &[Pair], given: &str) -> Result<String, Fail> 
     Ok(given_told(alloc, own, &props, &placement)?)
 }
 
-/// The place of the first entry that names no operation.
+/// Reports the place of the first entry that names no operation.
 fn bad_told(rt: &impl Abort, alloc: Global, props: &Props) -> Result<String, AllocError> {
     assert!(rt; props.modification.len() < 4_294_967_296);
     let found = bad_operation(props);
     format!(in alloc; "{found:?}")
 }
 
-/// The place of the first entry of a modification that names no operation.
+/// Reports the place of the first entry of a modification that names no operation.
 fn first_bad(rt: &impl Abort, alloc: Global, modification: &str) -> Result<String, Fail> {
     let text = format!(in alloc; "ENVIRONMENT_MODIFICATION={modification}")?;
     let props = props_of(alloc, text.as_str())?;

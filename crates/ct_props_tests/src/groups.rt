@@ -5,7 +5,7 @@ use ct_groups::Groups;
 use std::alloc::{AllocError, Global};
 use std::test::Fail;
 
-/// A text, and the number of its groups with their needs, as `group:type:slots`; or its first fault.
+/// A text, and the number of its groups with their needs as `group:type:slots`, or its first fault.
 const GROUPS: &str = "\
 ; is 0
  is 0
@@ -62,7 +62,7 @@ B:1;a:x;c is BadType
 a:1;b:0;65 is ZeroSlots
 ";
 
-/// How many groups there are and what they need.
+/// Reports the number of groups and their needs.
 fn groups_told(alloc: Global, groups: &Groups) -> Result<String, AllocError> {
     let mut told = format!(in alloc; "{}", groups.count())?;
     for need in groups.needs().as_slice() {
@@ -72,7 +72,7 @@ fn groups_told(alloc: Global, groups: &Groups) -> Result<String, AllocError> {
     Ok(told)
 }
 
-/// The groups of a text, or its fault.
+/// Reports the groups of a text, or its fault.
 fn told(alloc: Global, text: &str) -> Result<String, AllocError> {
     match Groups::parse(alloc, text.as_bytes()) {
         Ok(groups) => groups_told(alloc, &groups),

@@ -8,9 +8,9 @@ use std::process::Abort;
 use std::str;
 use std::test::Fail;
 
-/// A name, the value of LABELS and the configuration; the name as it is told, and the properties.
+/// A name, the value of LABELS and the configuration; then the name and the properties as JSON.
 ///
-/// How a quote, a backslash and a control character are told: RFC 8259, section 7.
+/// Source: RFC 8259, section 7, for a quote, a backslash and a control character.
 const TOLD: [(&[u8], &str, &str, &str, &str); 4] = [
     (b"ok", "", "", "ok", ""),
     (
@@ -24,7 +24,7 @@ const TOLD: [(&[u8], &str, &str, &str, &str); 4] = [
     (b"\"\\\x01\xc3\xbc", "", "", r#"\"\\\u0001ü"#, ""),
 ];
 
-/// What stands in front of the tests, and behind them.
+/// The text in front of the tests; `BACK` is the text behind them.
 const FRONT: &str = r#"{"kind":"ctestInfo","tests":["#;
 
 const BACK: &str = "],\"version\":{\"major\":1,\"minor\":0}}\n";
@@ -45,7 +45,7 @@ fn test(alloc: Global, name: &[u8], labels: &str) -> Result<TestDef, NoMemory> {
     })
 }
 
-/// What is told of a test.
+/// Makes the JSON object of a test.
 fn test_told(
     alloc: Global,
     config: &str,
@@ -57,7 +57,7 @@ fn test_told(
     format!(in alloc; r#"{front},"number":{number},"properties":[{props}]}}"#)
 }
 
-/// Compares the text of the tests with these numbers with what is told of each.
+/// Compares the JSON text of the tests with these numbers with the wanted objects.
 fn is_listed(
     rt: &impl Abort,
     alloc: Global,

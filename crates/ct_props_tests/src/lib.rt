@@ -1,9 +1,10 @@
-//! The tests of what reads the properties of a test, its environment and the resources of a machine, and
-//! of the list for editors.
+//! The tests of reading properties, resource groups and specifications, of the environment of a test, and of
+//! the list for editors.
 //!
 //! Hands up: nothing. A crate with tests of its own is proved twice, so they stand here.
-//! Stands on: ct_groups, ct_props, ct_env, ct_spec, ct_info and what is below them.
-//! Read first: `rows.rt` makes properties of rows; each other module is named after the crate that it tests.
+//! Stands on: ct_base, ct_groups, ct_props, ct_alloc, ct_env, ct_spec and ct_info.
+//! Read first: `rows.rt`, which makes properties from rows. Each other module is named after the crate that
+//! it tests.
 #![tactic(auto)]
 
 #[cfg(test)]

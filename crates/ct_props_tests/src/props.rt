@@ -6,8 +6,8 @@ use ct_props::{PropFault, Props};
 use std::alloc::{AllocError, Global};
 use std::test::Fail;
 
-/// The properties of a test in the folder `b`, with `&` between them, and the fields that are not as without any, or
-/// the key that is refused. The key `DIR` stands for the labels of the folder.
+/// The properties of a test in the folder `b`, with `&` between them, and the fields that differ from those
+/// of a test without properties, or the key that is refused. The key `DIR` has the labels of the folder.
 const PROPS: &str = "\
 NOPE=( is
  is
@@ -97,7 +97,7 @@ DEPENDS=a&FIXTURES_SETUP=f&FIXTURES_REQUIRED=f&FIXTURES_CLEANUP=f&TIMEOUT=x is b
 TIMEOUT=5&COST=1&WILL_FAIL=1&PROCESSORS=2 is processors=2 will_fail timeout=5000000 cost=1000000
 ";
 
-/// Puts a list of names behind what is told, if it has any.
+/// Appends a list of names, if it is not empty.
 fn put_names(told: &mut String, label: &str, names: &List<Name>) -> Result<(), AllocError> {
     if names.is_empty() {
         return Ok(());
@@ -111,7 +111,7 @@ fn put_names(told: &mut String, label: &str, names: &List<Name>) -> Result<(), A
     Ok(())
 }
 
-/// Puts a count behind what is told, if it is another than a usual one.
+/// Appends a count, if it is not the usual one.
 fn put_count(told: &mut String, label: &str, count: u64, usual: u64) -> Result<(), AllocError> {
     if count == usual {
         return Ok(());
@@ -145,7 +145,7 @@ fn put_folder(told: &mut String, folder: &str) -> Result<(), AllocError> {
     }
 }
 
-/// Puts the fields that are not as those of a test without properties.
+/// Appends the fields that differ from those of a test without properties.
 fn put_fields(told: &mut String, props: &Props) -> Result<(), AllocError> {
     put_names(told, "depends", &props.depends)?;
     put_names(told, "setup", &props.setup)?;
@@ -177,7 +177,7 @@ fn put_fault(told: &mut String, fault: &PropFault) -> Result<(), AllocError> {
     }
 }
 
-/// What the properties of a row come to.
+/// Reports the fields of the properties of a row, or the key that is refused.
 fn told(alloc: Global, text: &str) -> Result<String, AllocError> {
     let mut told = String::new(alloc);
     match props_of(alloc, text) {

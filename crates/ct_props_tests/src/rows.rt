@@ -1,6 +1,7 @@
-//! Rows that stand for the properties of a test.
+//! Reads the properties of a test from a row of text.
 //!
-//! A property is `KEY=value`, and `&` stands between the properties. The key `DIR` stands for the labels of the test's
+//! A property is `KEY=value`, and the properties are parted by `&`. The key `DIR` has the labels of the
+//! test's
 //! folder, which is `b`.
 
 use ct_base::{List, Name, NoMemory, Pair, TestDef, split_list};
@@ -9,7 +10,7 @@ use std::alloc::Global;
 use std::process::Abort;
 use std::str;
 
-/// The properties of a row, or why they are refused.
+/// Reads the properties of a row, or returns why they are refused.
 pub(crate) fn props_of(alloc: Global, text: &str) -> Result<Props, PropFault> {
     Props::of(alloc, &def_of(alloc, text)?)
 }
@@ -56,7 +57,7 @@ pub(crate) fn text_of(name: &Name) -> &str {
     str::from_utf8(name.bytes()).unwrap_or("?")
 }
 
-/// Compares what a row comes to with what it says.
+/// Compares the text that a row leads to with the text that is wanted.
 pub(crate) fn is_told(rt: &impl Abort, row: &str, told: &str, want: &str) {
     assert!(rt; told == want, "{row}: {told}");
 }

@@ -1,4 +1,4 @@
-//! Resource specifications: what they declare, and the least wrong ones.
+//! Resource specifications: what they declare, and the first fault of the refused ones.
 
 use crate::rows::{is_told, text_of};
 use ct_base::{List, Resource};
@@ -6,7 +6,7 @@ use ct_spec::{Spec, SpecFault};
 use std::alloc::{AllocError, Global};
 use std::test::Fail;
 
-/// The value of `local` beside a version that is read, and the resources or the fault.
+/// The value of `local` beside a good version, and the resources or the fault.
 const LOCALS: &str = r#"
 [{}] is
 [{"gpus":[{"id":"0"}]}] is gpus:0:1
@@ -55,7 +55,7 @@ null is BadLocal
 [{"b":[{"id":"A"}],"a":[{"id":"0","slots":-1}]}] is BadSlots a 0
 "#;
 
-/// A whole text, and its fault or resources.
+/// A whole text, and its resources or fault.
 const WHOLE: &str = r#"
 {"version":{"major":1,"minor":0},"local":[{}]} is
  {"local":[{}] , "other":[1.5e3,null,{"a":"\u00e9"}],"version":{"minor":0,"more":true,"major":1}}  is
@@ -87,7 +87,7 @@ const WHOLE: &str = r#"
 // no comment
 "#;
 
-/// The resources as `kind:id:slots`.
+/// Reports the resources as `kind:id:slots`.
 fn resources_told(alloc: Global, resources: &List<Resource>) -> Result<String, AllocError> {
     let mut told = String::new(alloc);
     for resource in resources.as_slice() {
@@ -118,7 +118,7 @@ fn fault_told(alloc: Global, fault: &SpecFault) -> Result<String, AllocError> {
     }
 }
 
-/// The resources of a text, or its fault.
+/// Reports the resources of a text, or its fault.
 fn told(alloc: Global, text: &str) -> Result<String, AllocError> {
     match Spec::parse(alloc, text.as_bytes()) {
         Ok(spec) => resources_told(alloc, spec.resources()),
@@ -126,7 +126,7 @@ fn told(alloc: Global, text: &str) -> Result<String, AllocError> {
     }
 }
 
-/// What the value of `local` comes to, beside a version that is read.
+/// Reports the resources or the fault of a value of `local` beside a good version.
 fn local_told(alloc: Global, local: &str) -> Result<String, AllocError> {
     let text = format!(in alloc; r#"{{"version":{{"major":1,"minor":0}},"local":{local}}}"#)?;
     told(alloc, text.as_str())
@@ -152,7 +152,7 @@ fn refuses_what_is_no_specification(rt: HostRuntime) -> Result<(), Fail> {
     Ok(())
 }
 
-/// So many resources of one kind.
+/// Makes a specification with `count` resources of one kind.
 fn many(alloc: Global, count: u32) -> Result<String, AllocError> {
     let mut text = format!(in alloc; r#"{{"version":{{"major":1,"minor":0}},"local":[{{"a":["#)?;
     for id in 1..count {
@@ -162,7 +162,8 @@ fn many(alloc: Global, count: u32) -> Result<String, AllocError> {
     Ok(text)
 }
 
-/// How many resources are read of so many.
+/// Counts the resources that are read from a specification with `count` resources; 0 if it is
+/// refused.
 fn many_read(alloc: Global, count: u32) -> Result<usize, AllocError> {
     let text = many(alloc, count)?;
     Ok(match Spec::parse(alloc, text.as_bytes()) {
@@ -178,7 +179,7 @@ fn reads_up_to_4096_resources(rt: HostRuntime) -> Result<(), Fail> {
     Ok(())
 }
 
-/// Arrays inside one another, so many beside the object that holds them.
+/// Makes a specification whose object holds `depth` arrays inside one another.
 fn nested(alloc: Global, depth: u32) -> Result<String, AllocError> {
     let mut text = format!(in alloc; r#"{{"version":{{"major":1,"minor":0}},"local":[{{}}],"x":"#)?;
     for _ in 0..depth {
