@@ -1,5 +1,5 @@
 //! Runs in which tests wait for others: which tests are drawn in, in which order they run, and which
-//! are not run because another test failed.
+//! are not run because of another test.
 
 use crate::calls::{Ran, ending, run_as_told};
 use ct_app::{Outcome, Refusal};
