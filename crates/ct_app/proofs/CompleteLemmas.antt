@@ -1,5 +1,5 @@
--- A run or a list that can be made is carried out where no fault was counted, since nothing that is read for
--- it is refused.
+-- A run or a list that can be made is carried out where no fault was counted,
+-- since nothing that is read for it is refused.
 use Rattle.std.proofs.Common.{◌≡◌, ◌∙◌, sym, ap, subst, Bool, ℕ, zero, suc, List, [], ◌∷◌, refl, arith, inl, inr}
 use Rattle.std.specs.Prelude.{Option, Some, None, Result, Ok, Err, IfSome, ◌⊎◌, slice_get}
 use Rattle.std.proofs.lemmas.Option.{same_Some}

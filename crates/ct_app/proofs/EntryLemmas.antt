@@ -253,8 +253,8 @@ apart true true true is numbered kept = cc
 apart true true false is numbered kept = cc
 apart true false ended is numbered kept = cc
 
--- a test with a settle cause is pending; the cause is Stopped after a Stop, else the cause behind its
--- predecessors
+-- a test with a settle cause is pending; the cause is Stopped after a Stop,
+-- else the cause behind its predecessors
 pub settled_so : (pending stop follows : Bool) (behind : Option Cause) (c : Cause) → (if not pending then None else (if stop then Some Stopped else (if follows then behind else None))) ≡ Some c → (pending ≡ true) × (((stop ≡ true) × (c ≡ Stopped)) ⊎ ((stop ≡ false) × (follows ≡ true) × (behind ≡ Some c)))
 settled_so false stop follows behind c is = cc
 settled_so true true follows behind c is = (refl, inl (refl, cc))

@@ -5,8 +5,8 @@ use Rattle.std.specs.Prelude.{cond, nat_le}
 use Rattle.std.proofs.lemmas.Bool.{leb-true, leb-false, lt-leb}
 use Rattle.std.proofs.lemmas.List.{length-take, take_all}
 
--- the first bytes of a text and the whole text lead to the same value: `make` of the text, or `long` where it
--- is too long
+-- the first bytes of a text and the whole text lead to the same value: `make` of the text,
+-- or `long` where it is too long
 pub made_of_front : {A : Type 0} (make : List ℕ → A) (long : A) (most : ℕ) (text : List ℕ) → cond (nat_le (length (take (most + 1) text)) most) (make (take (most + 1) text)) long ≡ cond (nat_le (length text) most) (make text) long
 made_of_front make long most text = by_test (nat_le (length text) most) refl
   where

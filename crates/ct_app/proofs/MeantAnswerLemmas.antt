@@ -1,5 +1,5 @@
--- A completed run has the verdicts, the status and the texts that it is meant to have, where all its gates
--- tell one world.
+-- A completed run has the verdicts, the status and the texts that it is meant to have,
+-- where all its gates tell one world.
 use Rattle.std.proofs.Common.{◌≡◌, ◌∙◌, sym, ap, subst, Bool, true, false, ℕ, zero, suc, ◌+◌, ◌≤◌, ◌<◌, min, List, [], ◌∷◌, length, map, refl, arith, inl, inr}
 use Rattle.std.specs.Prelude.{Option, Some, None, IfSome, IsSomeAnd, filter, not, ◌||◌, ◌==◌, cond, if◌then◌else◌}
 use Rattle.std.specs.List.{range_with_len}
@@ -110,7 +110,7 @@ seen_entry props world workers (End t a w seen) below had saw = by_props (at_num
 seen_entry props world workers (Settle t c) below had saw = tt
 seen_entry props world workers Stop below had saw = tt
 
--- what the workers saw is what is seen in the world
+-- the workers saw what is seen in the world
 seen_entries : (props : List Props) (world : List Told) (workers : ℕ) (entries : List Entry) → are_below workers entries ≡ true → had_memory entries ≡ true → ((worker : ℕ) → worker < workers → SawAllTold props world worker entries) → AreSeen (seen_in props world) entries
 seen_entries props world workers [] below had saw = tt
 seen_entries props world workers (e ∷ es) below had saw =
@@ -139,7 +139,7 @@ some_and : {A : Type 0} (P Q : A → Type 0) (o : Option A) → ((x : A) → P x
 some_and P Q None each is = absurd is
 some_and P Q (Some x) each is = each x is
 
--- a call with a completed run has a run as meant
+-- a call with a completed run has a run with the verdicts, status and texts that are meant
 pub ran_as_meant : (s : Sides) (status : ℕ) → HasRunWith s (IsCompleted s status) → HasRunAsMeant s status
 ran_as_meant s status has =
     some_and (λ plan. IsSomeAnd s.history (λ entries. RanWith s (IsCompleted s status) plan entries)) (λ plan. IsSomeAnd s.history (λ entries. RanAsMeant s status plan entries)) s.plan
@@ -160,6 +160,6 @@ completed_as_meant s status answer = elim (cases_Bool (ask_for_list s.words)) [
   | inr run ↦ ran_as_meant s status (answer.run run)
 ]
 
--- a call that returns Completed had a run as meant
+-- a call that returns Completed had a run with the verdicts, status and texts that are meant
 pub answers_as_meant : {s : Sides} {outcome : Outcome} {status : ℕ} → Answers s outcome status → AnswersAsMeant s outcome status
 answers_as_meant {s} {outcome} {status} answer is = completed_as_meant s status (subst (λ (o : Outcome). Answers s o status) is answer)

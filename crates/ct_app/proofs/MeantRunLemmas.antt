@@ -130,8 +130,8 @@ module _ (plan : PlanParts) (ranked : IsRanked plan) (seen : ℕ → ℕ → See
           | inr stopped ↦ absurd (true_is_false (sym stopped.0 ∙ on))
         ]
 
-    -- after all predecessors are final, the first setup that did not pass is the first that is not meant to
-    -- pass
+    -- after all predecessors are final, the first setup that did not pass is the first that is not meant
+    -- to pass
     setups_agree : (t : PlanTest) → test_at plan.tests t.number ≡ Some t → has_stop es ≡ false → follows_finals plan t es ≡ true → first_unpassed_setup (meant_verdict plan seen) t ≡ first_unpassed plan t es
     setups_agree t own on follows =
         find_same (λ s. not (is_passed_verdict (meant_verdict plan seen s))) (λ s. not (is_passed_verdict (verdict_of_test plan es s))) (λ s. is_some (verdict_of_test plan es s)) t.setups

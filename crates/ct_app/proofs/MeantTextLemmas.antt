@@ -1,5 +1,5 @@
--- Two complete legal histories of a plan with the same seen attempts have the same summary, cost data and
--- log.
+-- Two complete legal histories of a plan with the same seen attempts have the same summary,
+-- cost data and log.
 use Rattle.std.proofs.Common.{◌≡◌, ◌∙◌, sym, ap, Bool, true, false, ℕ, zero, suc, ◌+◌, List, [], ◌∷◌, ◌++◌, length, refl, arith}
 use Rattle.std.specs.Prelude.{Option, Some, Contains, cond, codes, filter, flat_map, fold, map, option_map, ◌&&◌}
 use Rattle.std.specs.List.{AllByRecursion}
@@ -33,14 +33,14 @@ module _ {A S : Type 0} (p : A → Bool) (one other : S → A → S) where
   folds_with s x xs here rest true is = ap (λ (t : S). fold one t (filter p xs)) (here is s) ∙ rest (other s x)
   folds_with s x xs here rest false is = rest s
 
-  -- steps that do the same on what is kept come to the same
+  -- two folds over the kept elements are equal, where their steps are equal on each kept element
   folds_same : (s : S) (xs : List A) → AllByRecursion (λ x. p x ≡ true → (s : S) → one s x ≡ other s x) xs → fold one s (filter p xs) ≡ fold other s (filter p xs)
   folds_same s [] same = refl
   folds_same s (x ∷ xs) same = folds_with s x xs same.0 (λ t. folds_same t xs same.1) (p x) refl
 
 -- two functions that agree on each element of a list
 module _ {A B : Type 0} (f g : A → B) where
-  -- keep the same elements
+  -- functions that agree on each element keep the same elements
   kept_same : (p : B → Bool) (xs : List A) → AllByRecursion (λ x. f x ≡ g x) xs → filter (λ x. p (f x)) xs ≡ filter (λ x. p (g x)) xs
   kept_same p [] same = refl
   kept_same p (x ∷ xs) same = λ i. cond (p (same.0 i)) (x ∷ kept_same p xs same.1 i) (kept_same p xs same.1 i)
@@ -49,21 +49,21 @@ module _ {A B : Type 0} (f g : A → B) where
   mapped_with h x xs ys here rest true = λ i. h x (here i) ∷ rest i
   mapped_with h x xs ys here rest false = rest
 
-  -- make the same of them
+  -- functions that agree on each element map the kept elements to the same list
   mapped_same : {C : Type 0} (h : A → B → C) (p : B → Bool) (xs : List A) → AllByRecursion (λ x. f x ≡ g x) xs → map (λ x. h x (f x)) (filter (λ x. p (f x)) xs) ≡ map (λ x. h x (g x)) (filter (λ x. p (g x)) xs)
   mapped_same h p [] same = refl
   mapped_same h p (x ∷ xs) same =
       ap (λ (y : B). map (λ z. h z (f z)) (cond (p y) (x ∷ filter (λ z. p (f z)) xs) (filter (λ z. p (f z)) xs))) same.0
       ∙ mapped_with h x (filter (λ z. p (f z)) xs) (filter (λ z. p (g z)) xs) same.0 (mapped_same h p xs same.1) (p (g x))
 
-  -- and count the same
+  -- functions that agree on each element count the same
   counted_same : (p : A → B → Bool) (n : ℕ) (xs : List A) → AllByRecursion (λ x. f x ≡ g x) xs → fold (λ (a : ℕ) x. a + cond (p x (f x)) 1 0) n xs ≡ fold (λ (a : ℕ) x. a + cond (p x (g x)) 1 0) n xs
   counted_same p n [] same = refl
   counted_same p n (x ∷ xs) same =
       ap (λ (y : B). fold (λ (a : ℕ) z. a + cond (p z (f z)) 1 0) (n + cond (p x y) 1 0) xs) same.0 ∙ counted_same p (n + cond (p x (g x)) 1 0) xs same.1
 
--- two histories with the same verdict for each test of a plan, and the same last attempt of each test that
--- passed
+-- two histories with the same verdict for each test of a plan,
+-- and the same last attempt of each test that passed
 module _ (plan : PlanParts) (one other : List Entry) (same : AllByRecursion (λ (t : PlanTest). verdict_in plan.repeat t one ≡ verdict_in plan.repeat t other) plan.tests) where
   abbrev by_one : PlanTest → Option Verdict
   by_one t = verdict_in plan.repeat t one
@@ -125,7 +125,8 @@ module _ (plan : PlanParts) (ranked : IsRanked plan) (seen : ℕ → ℕ → See
     last_meant : (t : PlanTest) → test_at plan.tests t.number ≡ Some t → is_passed_verdict (meant_verdict plan seen t.number) ≡ true → last_seen t.number es ≡ option_map (seen t.number) (last_attempt plan.repeat t.rules (seen t.number))
     last_meant t own passed = passed_last plan ranked seen es legal final are t own (ap is_passed_verdict (verdict_meant t own) ∙ passed)
 
-  -- without --stop-on-failure a complete legal history has the same texts as each other one of which the same is seen
+  -- without --stop-on-failure a complete legal history has the same texts as each other one with the
+  -- same seen attempts
   pub has_meant_texts : (es : List Entry) → is_legal plan es ≡ true → are_all_final plan es ≡ true → AreSeen seen es → HasMeantTexts plan seen es
   has_meant_texts es legal final are other legal_other final_other are_other = texts_same plan es other verdicts lasts
     where

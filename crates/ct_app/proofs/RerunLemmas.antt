@@ -1,5 +1,5 @@
--- The names in the log of the last run, read from the first bytes of its file, and the limit of a choice to
--- them.
+-- The names in the log of the last run, read from the first bytes of its file,
+-- and the limit of a choice to them.
 use Rattle.std.proofs.Common.{◌≡◌, ◌∙◌, sym, ap, Bool, true, false, ℕ, ◌+◌, List, [], take, refl}
 use Rattle.std.specs.Prelude.{Option, Some, None, IfSome, Err, option_map}
 use Rattle.ct_base.specs.Outside.{FilesTell, Held}

@@ -1,5 +1,4 @@
--- Two readings of the same words and of the same files give tests of which the same are members, and of which the same come
--- before each.
+-- Two readings of the same words and files have the same members, and the same tests before each member.
 use Rattle.std.proofs.Common.{◌≡◌, ◌∙◌, sym, ap, Bool, false, ℕ, zero, suc, List, [], ◌∷◌, length, map, refl}
 use Rattle.std.specs.Prelude.{Option, Some, None, Result, Ok, filter, flat_map, option_map, unwrap_or, sum_by, not, ◌||◌, ◌&&◌, ◌==◌}
 use Rattle.std.specs.List.{list_all, list_any, range_with_len}
@@ -25,11 +24,11 @@ use Rattle.ct_graph.specs.Before.{before_of, comes_before}
 use Rattle.ct_graph.specs.Order.{edges_of}
 use Rattle.ct_plan.specs.Source.{HaveProps, members_in}
 
--- a result is Ok of one value
+-- two Ok values of one result are the same
 pub same_ok : {T E : Type 0} (result : Result T E) (one other : T) → result ≡ Ok one → result ≡ Ok other → one ≡ other
 same_ok result one other is also = cc
 
--- what a tree hits, where a pattern was given
+-- whether the tree of a pattern hits a text; None without a pattern
 abbrev hit_by : Option Tree → List ℕ → Option Bool
 hit_by tree text = option_map (λ (t : Tree). hits t text) tree
 
@@ -44,7 +43,7 @@ fixture_hit (Some pattern) text = refl
 labels_hit : (patterns : List Regex) (labels : List (List ℕ)) → hit_labels patterns labels ≡ list_all (λ tree. list_any (λ label. hits tree label) labels) (map regex_tree patterns)
 labels_hit patterns labels = sym (list_all-map (λ tree. list_any (λ label. hits tree label) labels) regex_tree patterns)
 
--- a choice that has the same trees in place of its patterns, and is limited to the same names
+-- two choices have equal trees for their patterns, and agree in all else
 pub record IsSameChoice (one other : Choice) : Type 0 where
   pub name : option_map regex_tree one.name ≡ option_map regex_tree other.name
   pub not_name : option_map regex_tree one.not_name ≡ option_map regex_tree other.not_name
@@ -57,7 +56,7 @@ pub record IsSameChoice (one other : Choice) : Type 0 where
   pub keep_cleanup : option_map regex_tree one.keep_cleanup ≡ option_map regex_tree other.keep_cleanup
   pub only : one.only ≡ other.only
 
--- such a choice has the same members
+-- choices that are the same by `IsSameChoice` have the same members
 module _ (one other : Choice) (same : IsSameChoice one other) where
   name_same : (a b : Option Regex) (text : List ℕ) → option_map regex_tree a ≡ option_map regex_tree b → by_name a text ≡ by_name b text
   name_same a b text alike = name_hit a text ∙ ap (λ tree. hit_by tree text) alike ∙ sym (name_hit b text)
@@ -121,7 +120,7 @@ module _ (one other : Choice) (same : IsSameChoice one other) where
   pub choice_members : (defs : List TestDef) (props : List Props) → members_in one defs props ≡ members_in other defs props
   choice_members defs props = rounds_same defs props (length props)
 
--- the properties at which choices and links look; of each other one all tests have the same value
+-- the properties that choices and links use; each other property has one fixed value
 abbrev plain : Props → Props
 plain own =
     record own {
@@ -146,7 +145,7 @@ plain_at : (props : List Props) (number : ℕ) → at_number (map plain props) n
 plain_at props zero = refl
 plain_at props (suc place) = slice_get-map plain props place
 
--- they give the same members, and the same tests before each
+-- the plain properties lead to the same members, and the same tests before each, as the properties
 module _ (choice : Choice) (defs : List TestDef) (props : List Props) where
   plain_there : (numbered : Option Bool) (def : Option TestDef) (own : Option Props) → is_chosen_there choice numbered def (option_map plain own) ≡ is_chosen_there choice numbered def own
   plain_there numbered None own = refl
@@ -203,7 +202,7 @@ module _ (choice : Choice) (defs : List TestDef) (props : List Props) where
       ∙ ap (comes_before (at_number defs j) (option_map plain (at_number props j))) (plain_at props number)
       ∙ plain_comes (at_number defs j) (at_number props j) (at_number props number)) members
 
--- the properties of a test give these once
+-- two readings of the properties of a test have the same plain properties
 plain_same : (def : TestDef) (one other : Props) → HasProps def one → HasProps def other → plain one ≡ plain other
 plain_same def one other has own =
     rw (has.depends, own.depends, has.setup, own.setup, has.required, own.required, has.cleanup, own.cleanup, has.disabled, own.disabled, has.labels, own.labels) refl

@@ -54,8 +54,8 @@ list_sides words files_before files_now sink_before sink_now = sides words [] fi
 abbrev pub PutsOrFails : List ℕ → SinkTell → SinkTell → Type 0
 PutsOrFails line before now = PutsLines (line ∷ []) before now (Ok tt) ⊎ PutsLines (line ∷ []) before now (Err Sinks.Failed)
 
--- a line was put whole by one put, or the put failed or ran out of memory and a beginning of the line was
--- written
+-- a line was put whole by one put, or the put failed or ran out of memory and a beginning of the
+-- line was written
 abbrev pub Tries : List ℕ → SinkTell → SinkTell → Type 0
 Tries line before now = (result : Result (Unit {0}) SinkFault) × PutsLines (line ∷ []) before now result
 
@@ -85,8 +85,8 @@ pub record IsUnreadable (s : Sides) (refusal : Refusal) : Type 0 where
   pub files : FilesStay s.files_before s.files_now
   pub unrun : IsUnrun s
 
--- the tests that the words ask for were read, and the file that declares the resources is refused; the files
--- stay, and nothing was run
+-- the tests that the words ask for were read, and the file that declares the resources is refused;
+-- the files stay, and nothing was run
 pub record IsUndeclared (s : Sides) (refusal : Refusal) : Type 0 where
   pub invocation : Invocation
   pub words : AskFor s.words invocation
@@ -97,8 +97,8 @@ pub record IsUndeclared (s : Sides) (refusal : Refusal) : Type 0 where
   pub files : FilesStay s.files_before s.files_now
   pub unrun : IsUnrun s
 
--- reading a file before a run or a list failed at this path; each path holds what it held, and nothing was
--- run
+-- reading a file before a run or a list failed at this path; each path holds what it held,
+-- and nothing was run
 pub record IsReadFault (s : Sides) (path : List ℕ) : Type 0 where
   pub invocation : Invocation
   pub words : AskFor s.words invocation

@@ -59,8 +59,8 @@ RunLeaves s invocation plan entries (Err (FilesFault path)) = IsWriteFault s pat
 RunLeaves s invocation plan entries (Err OutputFault) = IsCutOff plan entries s.sink_before s.sink_now × FilesStay s.files_before s.files_now
 RunLeaves s invocation plan entries (Err Memory) = IsCutShort s plan entries s.sink_now
 
--- what became of the files of a run with this end: a complete run wrote them, or failed or ran out of memory
--- at it; a run that ended early left the files as they were and keeps its outcome
+-- what became of the files of a run with this end. A complete run wrote them, unless a write failed or memory
+-- ran out. A run that ended early left them as they were, and keeps its outcome.
 abbrev pub EndsWithFiles : PlanParts → List Entry → CostData → FilesTell → FilesTell → Result (Unit {0}) Outcome → Result (Unit {0}) Outcome → Type 0
 EndsWithFiles plan entries costs before now (Err outcome) ended = (ended ≡ Err outcome) × (now ≡ before)
 EndsWithFiles plan entries costs before now (Ok done) (Ok left) = FilesServe (Leaves plan entries costs) before now
@@ -83,8 +83,8 @@ pub record HasTests (invocation : Invocation) (before now : FilesTell) (tests : 
   pub few : length tests.defs < 2 ^ 32 - 1
   pub files : FilesStay before now
 
--- why the tests were not read: a test file or a property is refused, the files failed at a path, or memory
--- ran out
+-- why the tests were not read: a test file or a property is refused, the files failed at a path,
+-- or memory ran out
 abbrev pub IsUnread : Invocation → FilesTell → FilesTell → Outcome → Type 0
 IsUnread invocation before now Completed = ⊥
 IsUnread invocation before now Listed = ⊥
@@ -94,8 +94,8 @@ IsUnread invocation before now (FilesFault path) = FilesFail path SameHeld befor
 IsUnread invocation before now OutputFault = ⊥
 IsUnread invocation before now Memory = FilesStay before now
 
--- the tests that an invocation asks for were read, the file that declares the resources is refused, and the
--- files stay
+-- the tests that an invocation asks for were read, the file that declares the resources is refused,
+-- and the files stay
 pub record HasBadSpec (invocation : Invocation) (before now : FilesTell) (refusal : Refusal) : Type 0 where
   pub tests : Tests
   pub read : AreRead before.held invocation tests.defs tests.props
@@ -121,8 +121,8 @@ pub record IsReadFolder (invocation : Invocation) (before now : FilesTell) (test
   pub last : IfSome before.held (λ held. costs ≡ last_costs invocation.wanted.dir held)
   pub limits : AreOnly before.held invocation.rerun invocation.wanted.dir only
 
--- why the tests of a folder have no plan, with the names of the tests of a cycle; memory may run out for the
--- names
+-- why the tests of a folder have no plan, with the names of the tests of a cycle;
+-- memory may run out for the names
 abbrev pub IsUnplanned : List TestDef → PlanFault → List (List ℕ) → Result ℕ Outcome → Type 0
 IsUnplanned defs (Plans.Cycle tests) names ended = ((ended ≡ Err (Refused (Cycle tests))) × (names ≡ names_at defs tests)) ⊎ (ended ≡ Err Memory)
 IsUnplanned defs Plans.TooManyEdges names ended = ended ≡ Err (Refused TooManyEdges)
@@ -171,20 +171,20 @@ abbrev pub EndsList : Sides → List (List ℕ) → Result ℕ Outcome → Type 
 EndsList s names (Ok status) = ⊥
 EndsList s names (Err outcome) = ListEnds s outcome × (names ≡ [])
 
--- the line of an outcome was put or its put failed, or memory ran out for the line and the outcome told is
--- Memory
+-- the line of an outcome was put or its put failed,
+-- or memory ran out for the line and the outcome told is Memory
 abbrev pub Told : List (List ℕ) → Outcome → Outcome → SinkTell → SinkTell → Type 0
 Told names outcome told before now = ((told ≡ outcome) × PutsOrFails (fault_line names outcome) before now) ⊎ ((told ≡ Memory) × PutsLines (fault_line names outcome ∷ []) before now (Err Sinks.NoMemory))
 
--- the outcome that a call tells for an outcome: the same, without a line, where the sink has failed or a list
--- was put; else with its line, as `Told`
+-- how a call tells an outcome. Where the sink has failed or a list was put, it puts no line and returns the
+-- outcome. Else it puts the line, as in `Told`.
 abbrev pub Tells : List (List ℕ) → Outcome → Outcome → SinkTell → SinkTell → Type 0
 Tells names OutputFault told before now = (told ≡ OutputFault) × (now ≡ before)
 Tells names Listed told before now = (told ≡ Listed) × (now ≡ before)
 Tells names outcome told before now = Told names outcome told before now
 
--- the outcome and the status of a call, after the line of its outcome: Completed with the status of the run
--- and no line, or the outcome that is told with its own status
+-- how a call tells its end: Completed with the status of the run and no line, or else the outcome that is
+-- told, with the status of that outcome
 abbrev pub TellsEnd : List (List ℕ) → Result ℕ Outcome → Outcome → ℕ → SinkTell → SinkTell → Type 0
 TellsEnd names (Ok status) outcome told before now = (outcome ≡ Completed) × (told ≡ status) × (now ≡ before)
 TellsEnd names (Err fault) outcome told before now = Tells names fault outcome before now × (told ≡ fault_status outcome)

@@ -67,8 +67,8 @@ pub record HasList (s : Sides) (P : List (List ℕ) → Type 0) : Type 0 where
   pub unrun : IsUnrun s
   pub holds : P (asked_lines invocation (choice_of invocation only) defs props)
 
--- memory ran out for a list: for the line of this outcome; or, with Memory, before any line or behind a
--- beginning of the list
+-- memory ran out for a list: for the line of this outcome; or, with Memory,
+-- before any line or behind a beginning of the list
 abbrev pub IsShortList : Sides → Outcome → Type 0
 IsShortList s Completed = ⊥
 IsShortList s Listed = ⊥

@@ -30,7 +30,7 @@ first_verdicts rules seen count = map (λ attempt. verdict_of rules (seen attemp
 abbrev pub last_attempt : Repeat → Rules → (ℕ → Seen) → Option ℕ
 last_attempt repeat rules seen = find (λ attempt. is_over repeat (first_verdicts rules seen attempt)) (range_with_len 1 repeat.times)
 
--- the verdict of a test's last attempt
+-- the verdict that the attempts of a test are meant to have: the verdict of the last attempt
 abbrev pub meant_of_attempts : Repeat → Rules → (ℕ → Seen) → Option Verdict
 meant_of_attempts repeat rules seen = option_map (λ attempt. verdict_of rules (seen attempt)) (last_attempt repeat rules seen)
 
@@ -39,8 +39,8 @@ meant_of_attempts repeat rules seen = option_map (λ attempt. verdict_of rules (
 abbrev pub first_unpassed_setup : (ℕ → Option Verdict) → PlanTest → Option ℕ
 first_unpassed_setup meant t = find (λ s. not (is_passed_verdict (meant s))) t.setups
 
--- the cause for which a test is meant not to run: its least setup that is not meant to pass, else its fixed
--- cause
+-- the cause for which a test is meant not to run: its least setup that is not meant to pass,
+-- else its fixed cause
 abbrev pub meant_cause : (ℕ → Option Verdict) → PlanTest → Option Cause
 meant_cause meant t = cause_behind (first_unpassed_setup meant t) t.fixed
 
@@ -51,8 +51,8 @@ meant_by_setups repeat seen meant None = None
 meant_by_setups repeat seen meant (Some t) =
     if t.disabled then Some Disabled else settled_or (meant_cause meant t) (meant_of_attempts repeat t.rules (seen t.number))
 
--- the verdict that the test with this number is meant to have, with setups of setups followed for this many
--- steps
+-- the verdict that the test with this number is meant to have,
+-- with setups of setups followed for this many steps
 abbrev pub meant_within : PlanParts → (ℕ → ℕ → Seen) → ℕ → ℕ → Option Verdict
 meant_within plan seen zero number = None
 meant_within plan seen (suc steps) number = meant_by_setups plan.repeat seen (meant_within plan seen steps) (test_at plan.tests number)

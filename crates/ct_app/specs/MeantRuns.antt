@@ -1,5 +1,5 @@
--- A completed run has the verdicts, status and texts that it is meant to have. This project's own, after
--- CMake manual, ctest(1).
+-- A completed run has the verdicts, status and texts that it is meant to have. This project's own,
+-- after CMake manual, ctest(1).
 use Rattle.std.specs.Prelude.{◌≡◌, ℕ, List, IsSomeAnd}
 use Rattle.ct_history.specs.declared.plan.PlanParts.{PlanParts}
 use Rattle.ct_history.specs.declared.history.Entry.{Entry}
@@ -21,10 +21,10 @@ pub record RanAsMeant (s : Sides) (status : ℕ) (plan : PlanParts) (entries : L
   pub completed : IsCompleted s status invocation plan entries
   pub meant : (world : List Told) → AllTell world s.gates_before → ComesAsMeant invocation.empty_is_error plan (seen_in source.props world) entries status
 
--- plan and history are there and belong to a run as meant
+-- plan and history are there, of a run with the verdicts, status and texts that are meant
 abbrev pub HasRunAsMeant : Sides → ℕ → Type 0
 HasRunAsMeant s status = IsSomeAnd s.plan (λ plan. IsSomeAnd s.history (λ entries. RanAsMeant s status plan entries))
 
--- a call that returns Completed had a run as meant
+-- a call that returns Completed had a run with the verdicts, status and texts that are meant
 abbrev pub AnswersAsMeant : Sides → Outcome → ℕ → Type 0
 AnswersAsMeant s outcome status = outcome ≡ Completed → HasRunAsMeant s status

@@ -1,5 +1,5 @@
--- All complete histories of a plan in which the same is seen have the same summary, cost data and log. This
--- project's own.
+-- All complete histories of a plan in which the same is seen have the same summary,
+-- cost data and log. This project's own.
 use Rattle.std.specs.Prelude.{◌≡◌, ℕ, List, true}
 use Rattle.ct_verdict.specs.declared.attempt.Seen.{Seen}
 use Rattle.ct_history.specs.declared.plan.PlanParts.{PlanParts}
@@ -12,8 +12,8 @@ use Rattle.ct_cost.specs.Costs.{costs_after}
 use Rattle.ct_report.specs.Report.{summary_lines}
 use Rattle.ct_app.specs.Meant.{AreSeen}
 
--- two histories have the same summary, the same log of failed tests, and, for each cost data before, the same
--- cost data after
+-- two histories have the same summary, the same log of failed tests, and, for each cost data before,
+-- the same cost data after
 pub record HaveSameTexts (plan : PlanParts) (one other : List Entry) : Type 0 where
   pub summary : summary_lines plan one ≡ summary_lines plan other
   pub costs : (before : CostData) → costs_after plan one before ≡ costs_after plan other before

@@ -27,8 +27,8 @@ abbrev pub AllTell : List Told → List GateTell → Type 0
 AllTell world [] = ⊤
 AllTell world (gate ∷ gates) = (gate.world ≡ Some world) × AllTell world gates
 
--- a run is meant to fail: some meant verdict is of the failing class, or there is no test and that is an
--- error
+-- a run is meant to fail: some meant verdict is of the failing class,
+-- or there is no test and that is an error
 abbrev pub is_meant_failed : Bool → PlanParts → (ℕ → ℕ → Seen) → Bool
 is_meant_failed empty_is_error plan seen = if length plan.tests == 0 then empty_is_error else is_meant_to_fail plan seen
 

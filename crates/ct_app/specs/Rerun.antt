@@ -24,8 +24,8 @@ names_of (Some text) = if nat_le (length text) most_log_bytes then failed_in tex
 abbrev pub last_failed : List ℕ → Held → List (List ℕ)
 last_failed dir held = names_of (held (log_path dir))
 
--- the names that a choice is limited to: with --rerun-failed the names in the log of the folder, else no
--- limit
+-- the names that a choice is limited to: with --rerun-failed the names in the log of the folder,
+-- else no limit
 abbrev pub AreOnly : Option Held → Bool → List ℕ → Option (List (List ℕ)) → Type 0
 AreOnly told false dir only = only ≡ None
 AreOnly told true dir only = IsSomeAnd only (λ names. IfSome told (λ held. names ≡ last_failed dir held))
@@ -38,8 +38,8 @@ choice_of invocation only = record invocation.wanted.choice { only = only }
 abbrev pub wanted_of : Invocation → Option (List (List ℕ)) → Wanted
 wanted_of invocation only = record invocation.wanted { choice = choice_of invocation only }
 
--- the limit of the choice was read, or the log could not be read or memory ran out; each path holds what it
--- held
+-- the limit of the choice was read, or the log could not be read or memory ran out;
+-- each path holds what it held
 abbrev pub ReadsOnly : Bool → List ℕ → FilesTell → FilesTell → Result (Option (List (List ℕ))) RunFileFault → Type 0
 ReadsOnly rerun dir before now (Ok only) = AreOnly before.held rerun dir only × FilesStay before now
 ReadsOnly rerun dir before now (Err (Fault.Failed path)) = FilesFail path SameHeld before now

@@ -28,8 +28,8 @@ abbrev pub RunEnds : PlanParts → List Entry → Result (Unit {0}) SinkFault �
 RunEnds plan entries (Ok done) = IsComplete plan entries × (had_memory entries ≡ true)
 RunEnds plan entries (Err fault) = ⊤
 
--- the lines behind the header of a run that has tests: those of the tests and, where all tests are final, the
--- summary
+-- the lines behind the header of a run that has tests: those of the tests and,
+-- where all tests are final, the summary
 abbrev pub lines_of_run : PlanParts → List Entry → List (List ℕ)
 lines_of_run plan entries = test_lines plan entries ++ (if are_all_final plan entries then summary_lines plan entries else [])
 

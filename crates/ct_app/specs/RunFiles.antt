@@ -87,8 +87,8 @@ pub record TearsLog (plan : PlanParts) (entries : List Entry) (path : List ℕ) 
   pub written : Writes (costs_path plan.dir) (new_costs plan entries costs) before between
   pub torn : FailsToWrite path (failed_log_text plan entries) between now
 
--- a complete run writes the file at this path: the cost file, if the plan has tests; or the log, if a test
--- failed
+-- a complete run writes the file at this path: the cost file, if the plan has tests; or the log,
+-- if a test failed
 abbrev pub IsWritten : PlanParts → List Entry → List ℕ → Type 0
 IsWritten plan entries path = ((path ≡ costs_path plan.dir) × (0 < length plan.tests)) ⊎ ((path ≡ log_path plan.dir) × (has_failing plan entries ≡ true))
 
@@ -96,8 +96,8 @@ IsWritten plan entries path = ((path ≡ costs_path plan.dir) × (0 < length pla
 abbrev pub LeavesTorn : PlanParts → List Entry → List ℕ → CostData → Held → Held → Type 0
 LeavesTorn plan entries path costs before now = (0 < length plan.tests) × (TearsCosts plan entries path costs before now ⊎ TearsLog plan entries path costs before now)
 
--- memory ran out for the two files: each path holds what it held, or only the cost file was written though a
--- test failed
+-- memory ran out for the two files: each path holds what it held,
+-- or only the cost file was written though a test failed
 abbrev pub LeavesPart : PlanParts → List Entry → CostData → Held → Held → Type 0
 LeavesPart plan entries costs before now = SameHeld before now ⊎ ((has_failing plan entries ≡ true) × Writes (costs_path plan.dir) (new_costs plan entries costs) before now)
 
@@ -110,8 +110,8 @@ abbrev pub fault_at : List ℕ → FilesFault → RunFileFault
 fault_at path Files.Failed = Fault.Failed path
 fault_at path Files.NoMemory = Fault.NoMemory
 
--- the cost data of the last run was read, or could not be read or memory ran out; each path holds what it
--- held
+-- the cost data of the last run was read, or could not be read or memory ran out;
+-- each path holds what it held
 abbrev pub ReadsCosts : List ℕ → FilesTell → FilesTell → Result CostData RunFileFault → Type 0
 ReadsCosts dir before now (Ok costs) = IfSome before.held (λ held. costs ≡ last_costs dir held) × FilesStay before now
 ReadsCosts dir before now (Err (Fault.Failed path)) = FilesFail path SameHeld before now

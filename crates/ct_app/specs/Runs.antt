@@ -72,8 +72,8 @@ IsCutOff plan entries before now = StopsSo Sinks.Failed plan entries before now
 abbrev pub IsGivenUp : PlanParts → List Entry → SinkTell → SinkTell → Type 0
 IsGivenUp plan entries before now = StopsSo Sinks.NoMemory plan entries before now
 
--- the tests that were read have no plan; the files stay, and nothing was run. The tests of a cycle have these
--- names.
+-- the tests that were read have no plan; the files stay, and nothing was run.
+-- The tests of a cycle have these names.
 pub record IsUnplannable (s : Sides) (refusal : Refusal) (names : List (List ℕ)) : Type 0 where
   pub invocation : Invocation
   pub words : AskFor s.words invocation
@@ -101,8 +101,8 @@ FilesAreLeft s plan entries = FilesServe (WithLast plan.dir (Leaves plan entries
 abbrev pub IsWriteFault : Sides → List ℕ → PlanParts → List Entry → Type 0
 IsWriteFault s path plan entries = IsWritten plan entries path × FilesFail path (WithLast plan.dir (LeavesTorn plan entries path)) s.files_before s.files_now
 
--- memory ran out in a run: the run was given up and the files stay, or the run was reported and memory ran
--- out for its files
+-- memory ran out in a run: the run was given up and the files stay,
+-- or the run was reported and memory ran out for its files
 abbrev pub IsCutShort : Sides → PlanParts → List Entry → SinkTell → Type 0
 IsCutShort s plan entries middle = (IsGivenUp plan entries s.sink_before middle × FilesStay s.files_before s.files_now) ⊎ (IsReported plan entries s.sink_before middle × FilesServe (WithLast plan.dir (LeavesPart plan entries)) s.files_before s.files_now)
 
@@ -116,8 +116,8 @@ IsShort s (FilesFault path) = IsReadFault s path × PutsLines (fault_line [] (Fi
 IsShort s OutputFault = ⊥
 IsShort s Memory = IsUnrun s × FilesStay s.files_before s.files_now × Tries (fault_line [] Memory) s.sink_before s.sink_now
 
--- memory ran out with a plan: for the line of a write that failed; or, with Memory, in the run or for its
--- files
+-- memory ran out with a plan: for the line of a write that failed; or, with Memory,
+-- in the run or for its files
 abbrev pub IsShortRun : Sides → Outcome → PlanParts → List Entry → Type 0
 IsShortRun s Completed plan entries = ⊥
 IsShortRun s Listed plan entries = ⊥

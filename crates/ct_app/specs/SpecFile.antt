@@ -20,8 +20,8 @@ most_spec_bytes = 16777216
 abbrev pub declared_by : List ℕ → Result (List Resource) SpecRefusal
 declared_by text = result_map_both (λ resources. resources) Fault (resources_in text)
 
--- the resources that the text at a path declares, or why the file is refused: absent, too long, or a fault of
--- the text
+-- the resources that the text at a path declares, or why the file is refused: absent, too long,
+-- or a fault of the text
 abbrev pub declared_in : Option (List ℕ) → Result (List Resource) SpecRefusal
 declared_in None = Err Absent
 declared_in (Some text) = if nat_le (length text) most_spec_bytes then declared_by text else Err TooLong
@@ -42,16 +42,16 @@ Declares held (Err (Refused why)) = declared_in held ≡ Err why
 Declares held (Err (Failed path)) = ⊥
 Declares held (Err NoMemory) = ⊤
 
--- the file at a path was read, is refused or could not be read, or memory ran out; each path holds what it
--- held
+-- the file at a path was read, is refused or could not be read, or memory ran out;
+-- each path holds what it held
 abbrev pub ReadsPath : List ℕ → FilesTell → FilesTell → Result (List Resource) SpecFileFault → Type 0
 ReadsPath path before now (Ok resources) = IfSome before.held (λ held. declared_in (held path) ≡ Ok resources) × FilesStay before now
 ReadsPath path before now (Err (Refused why)) = IfSome before.held (λ held. declared_in (held path) ≡ Err why) × FilesStay before now
 ReadsPath path before now (Err (Failed failed)) = FilesFail failed SameHeld before now
 ReadsPath path before now (Err NoMemory) = FilesStay before now
 
--- the named file, if any, was read, is refused or could not be read, or memory ran out; each path holds what
--- it held
+-- the named file, if any, was read, is refused or could not be read, or memory ran out;
+-- each path holds what it held
 abbrev pub ReadsSpec : Option (List ℕ) → FilesTell → FilesTell → Result (Option (List Resource)) SpecFileFault → Type 0
 ReadsSpec file before now (Ok lent) = AreLent before.held file lent × FilesStay before now
 ReadsSpec file before now (Err (Refused why)) = RefusesFile before.held file why × FilesStay before now

@@ -1,5 +1,6 @@
 -- The tests of a call, and the first property of them that is refused.
--- Source: CMake manual, cmake-properties(7), Properties on Tests. The order of refusals is this project's own.
+-- Source: CMake manual, cmake-properties(7), Properties on Tests.
+-- The order of refusals is this project's choice.
 use Rattle.std.specs.Prelude.{◌≡◌, ℕ, ◌-◌, ◌≤◌, List, take, All, Some, None, is_some, ⊤}
 use Rattle.ct_base.specs.declared.defs.Pair.{Pair}
 use Rattle.ct_base.specs.declared.defs.TestDef.{TestDef}

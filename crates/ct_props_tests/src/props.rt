@@ -6,8 +6,8 @@ use ct_props::{PropFault, Props};
 use std::alloc::{AllocError, Global};
 use std::test::Fail;
 
-/// The properties of a test in the folder `b`, with `&` between them, and the fields that differ from those
-/// of a test without properties, or the key that is refused. The key `DIR` has the labels of the folder.
+/// The properties of a test in the folder `b`, with `&` between them; then the fields that differ from
+/// those of a test without properties, or the refused key. The key `DIR` has the labels of the folder.
 const PROPS: &str = "\
 NOPE=( is
  is
