@@ -47,8 +47,10 @@ abbrev pub ended_as : Result (Unit {0}) SinkFault → Result (Unit {0}) Outcome
 ended_as (Ok done) = Ok done
 ended_as (Err fault) = Err (outcome_of_sink fault)
 
--- how a run and its files ended: the run is complete and its files were written; or complete and a write
--- failed or ran out of memory; or the run ended early and the files stay
+-- how a run and its files ended:
+-- - the run is complete, its files were written, and this is its status;
+-- - the run is complete, and a write of a file failed, or memory ran out for the files;
+-- - the run ended early with a fault of the sink or out of memory, and the files stay
 abbrev pub RunLeaves : Sides → Invocation → PlanParts → List Entry → Result ℕ Outcome → Type 0
 RunLeaves s invocation plan entries (Ok status) = IsReported plan entries s.sink_before s.sink_now × FilesAreLeft s plan entries × (status ≡ status_of invocation.empty_is_error plan entries)
 RunLeaves s invocation plan entries (Err Completed) = ⊥
@@ -113,8 +115,10 @@ pub record IsReadList (invocation : Invocation) (before now : FilesTell) (tests 
   pub read : HasTests invocation before now tests
   pub limits : AreOnly before.held invocation.rerun invocation.wanted.dir only
 
--- the folder of a run was read: the tests, the resources that are lent, the cost data of the last run, and
--- the names that the run is limited to, if any
+-- the folder of a run was read:
+-- - the tests, and the resources that are lent;
+-- - the cost data of the last run;
+-- - the names that the run is limited to, if any
 pub record IsReadFolder (invocation : Invocation) (before now : FilesTell) (tests : Tests) (resources : Option (List Resource)) (costs : CostData) (only : Option (List (List ℕ))) : Type 0 where
   pub read : HasTests invocation before now tests
   pub lent : AreLent before.held invocation.spec_file resources

@@ -44,8 +44,8 @@ first_unpassed_setup meant t = find (λ s. not (is_passed_verdict (meant s))) t.
 abbrev pub meant_cause : (ℕ → Option Verdict) → PlanTest → Option Cause
 meant_cause meant t = cause_behind (first_unpassed_setup meant t) t.fixed
 
--- the verdict that a test is meant to have, where `meant` tells the verdict of each setup: Disabled, else
--- NotRun for its meant cause, else the verdict of its last attempt
+-- the verdict that a test is meant to have, where `meant` tells the verdict of each setup.
+-- It is Disabled, else NotRun for its meant cause, else the verdict of its last attempt.
 abbrev pub meant_by_setups : Repeat → (ℕ → ℕ → Seen) → (ℕ → Option Verdict) → Option PlanTest → Option Verdict
 meant_by_setups repeat seen meant None = None
 meant_by_setups repeat seen meant (Some t) =

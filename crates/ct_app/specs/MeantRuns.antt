@@ -12,8 +12,8 @@ use Rattle.ct_app.specs.Calls.{Sides}
 use Rattle.ct_app.specs.MeantTold.{AllTell, ComesAsMeant, seen_in}
 use Rattle.ct_app.specs.Runs.{IsCompleted, IsRun}
 
--- the tests that the words ask for were read and ran to the end; where all gates tell one world, the run has
--- the verdicts, status and texts that are meant in this world
+-- the tests that the words ask for were read and ran to the end. Where all gates tell one world,
+-- the run has the verdicts, status and texts that are meant in this world.
 pub record RanAsMeant (s : Sides) (status : ℕ) (plan : PlanParts) (entries : List Entry) : Type 0 where
   pub invocation : Invocation
   pub source : Source

@@ -33,8 +33,10 @@ RunEnds plan entries (Err fault) = ⊤
 abbrev pub lines_of_run : PlanParts → List Entry → List (List ℕ)
 lines_of_run plan entries = test_lines plan entries ++ (if are_all_final plan entries then summary_lines plan entries else [])
 
--- the report was begun, one put for each line: for a plan with tests the header was put, for a plan without
--- tests the whole report; or a fault came, and a beginning of the report was put
+-- the report was begun, with one put for each line:
+-- - for a plan with tests the header was put;
+-- - for a plan without tests the whole report was put;
+-- - with a fault a beginning of the report was put
 abbrev pub Begins : PlanParts → SinkTell → SinkTell → Result Bool SinkFault → Type 0
 Begins plan before now (Ok true) = PutsLines (header_line plan ∷ []) before now (Ok tt) × ((length plan.tests == 0) ≡ false)
 Begins plan before now (Ok false) = ((entries : List Entry) → PutsLines (report_lines plan entries) before now (Ok tt)) × ((length plan.tests == 0) ≡ true)
