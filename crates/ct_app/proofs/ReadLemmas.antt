@@ -38,7 +38,7 @@ unread_props invocation before now defs (FilesFault path) refused read stay = ab
 unread_props invocation before now defs OutputFault refused read stay = absurd refused
 unread_props invocation before now defs Memory refused read stay = stay
 
--- cost data that was read after the files stayed is the cost data of the last run before
+-- the cost data of the last run, read after the files stayed, is the cost data of the last run before too
 same_last : (dir : List ℕ) (costs : CostData) (before between : Option Held) → Becomes before between SameHeld → IfSome between (λ held. costs ≡ last_costs dir held) → IfSome before (λ held. costs ≡ last_costs dir held)
 same_last dir costs None between same read = tt
 same_last dir costs (Some x) None same read = absurd same

@@ -1,8 +1,7 @@
 //! Reads the properties of a test from a row of text.
 //!
-//! A property is `KEY=value`, and the properties are parted by `&`. The key `DIR` has the labels of the
-//! test's
-//! folder, which is `b`.
+//! A property is `KEY=value`, and the properties are parted by `&`. The key `DIR` has the labels of
+//! the test's folder, which is `b`.
 
 use ct_base::{List, Name, NoMemory, Pair, TestDef, split_list};
 use ct_props::{PropFault, Props};
