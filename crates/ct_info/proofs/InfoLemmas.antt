@@ -1,4 +1,5 @@
--- What is told of tests is a value of texts and whole numbers, so that its text is the tests' texts within a frame, and reads back to it.
+-- The list is a value of texts and whole numbers. Its text is a front, the texts of the tests and a back, and
+-- reads back to the value.
 use Rattle.std.proofs.Common.{◌≡◌, ℕ, zero, suc, ◌<◌, ◌≤◌, ◌^◌, List, [], ◌∷◌, ◌++◌, codes, length, map, false, Option, Some, None, option_map, refl, sym, ap, ◌∙◌, append_assoc, arith}
 use Rattle.std.specs.Fmt.{digits}
 use Rattle.std.specs.List.{cons_option}
@@ -53,7 +54,7 @@ info_plain : (defs : List TestDef) (members config : List ℕ) → length defs <
 info_plain defs members config few =
     (tt, (tests_plain (shown config) defs few members, (((refl, IsNumber-decimal 1 (omega arith)), ((refl, IsNumber-decimal 0 (omega arith)), tt)), tt)))
 
--- the text of one test
+-- the text that is written for the object of a test is the compact text of the object
 pub test_text : (config : List ℕ) (n : ℕ) (def : TestDef) → n < 2 ^ 64 → (value : Data) → value ≡ test_value config n def
     → (bytes : List ℕ) → (has_float value ≡ false → bytes ≡ compact_text value) → bytes ≡ compact_text (test_value config n def)
 test_text config n def small value is bytes text = text (ap has_float is ∙ plain_floats (test_value config n def) 3 (test_plain config n def small)) ∙ ap compact_text is
@@ -95,21 +96,21 @@ info_back defs members config few = rw (tests_back (shown config) defs few membe
 
 -- ---- the whole
 
--- what stands in front of the items of the tests
+-- the text in front of the objects of the tests
 abbrev pub front : List ℕ
 front = codes "{\"kind\":\"ctestInfo\",\"tests\":["
 
--- what stands behind them
+-- the text behind the closing bracket of the tests
 abbrev pub back : List ℕ
 back = codes ",\"version\":{\"major\":1,\"minor\":0}}\n"
 
--- the tests' texts within this frame are the line
+-- the front, the texts of the tests and the back are the line
 pub line_is : (defs : List TestDef) (members config : List ℕ) → (front ++ items_text false (items_of (test_values (shown config) defs members))) ++ back ≡ info_text (info_value defs members config)
 unfolding serde_json_on_literals digits
 line_is defs members config =
     let tests = items_text false (items_of (test_values (shown config) defs members)) in
     ap (λ l. front ++ l) (sym (append_assoc tests (codes ",\"version\":{\"major\":1,\"minor\":0}}") (codes "\n")))
 
--- what the line reads back to
+-- the line reads back to the value of the list
 pub line_reads : (defs : List TestDef) (members config : List ℕ) → length defs < 2 ^ 64 → read (info_text (info_value defs members config)) ≡ Some (info_value defs members config)
 line_reads defs members config few = reads_line (info_value defs members config) 5 (info_plain defs members config few) (omega arith) (info_back defs members config few)

@@ -1,4 +1,5 @@
--- Values of texts and whole numbers: they hold no float, and their text reads back to them, with a line feed behind it too.
+-- Values of texts and whole numbers hold no float. Their text, with a line feed behind it, reads back to
+-- them.
 use Rattle.std.proofs.Common.{◌≡◌, ℕ, zero, suc, ◌≤◌, List, [], ◌∷◌, ◌++◌, Bool, true, false, ◌||◌, codes, Option, Some, option_and_then, refl, sym, ap, ap₂, ◌∙◌, append_assoc, append-nil, arith}
 use Rattle.std.specs.Prelude.{⊤}
 use Rattle.std.proofs.Math.Nat.{max-le}
@@ -19,7 +20,7 @@ use Rattle.serde_json.specs.Written.{number_text, outline, items_outline, member
 use Rattle.serde_json.proofs.Texts.{print-outline}
 use Rattle.ct_info.specs.Info.{info_text}
 
--- a value of texts and whole numbers, with arrays and objects inside one another so deep at most
+-- a value of texts and whole numbers, whose arrays and objects nest at most this deep
 abbrev mutual
   pub IsPlain : Data → ℕ → Type 0
   IsPlain null k = ⊥
@@ -116,14 +117,14 @@ record Alike (one other : List ℕ) : Type 0 where
   ends : ends_word one ≡ true
   other_ends : ends_word other ≡ true
 
--- a text that is quoted
+-- a quoted text is read as one string token
 quoted_lexed : (s rest : List ℕ) → lex between (quoted s ++ rest) ≡ token (Token.string s) ∷ lex between rest
 unfolding lex
 quoted_lexed s rest =
     ap (λ l. lex between (34 ∷ l)) (append_assoc (escape s) (34 ∷ []) rest)
     ∙ ap₂ (λ o l. token (string_token o) ∷ l) (content-escape s rest) (lex-escape s rest)
 
--- what stands behind two texts is read behind both
+-- texts that are read alike behind `more` behind `front` are read alike behind `front` and `more` as one text
 regrouped : (front more one other : List ℕ) → lex between (front ++ (more ++ one)) ≡ lex between (front ++ (more ++ other)) → lex between ((front ++ more) ++ one) ≡ lex between ((front ++ more) ++ other)
 regrouped front more one other same = ap (lex between) (append_assoc front more one) ∙ same ∙ sym (ap (lex between) (append_assoc front more other))
 
@@ -190,14 +191,14 @@ mutual
       (regrouped (compact_text d) rest one other
       (value_alike d k plain.0 (rest ++ one) (rest ++ other) (members_behind ms one other (members_alike true ms k plain.1 one other same))))))
 
--- the tokens of a value are those of its line
+-- the line of a value has the same tokens as the text of the value
 line_tokens : (d : Data) (k : ℕ) → IsPlain d k → tokens (info_text d) ≡ tokens (compact_text d)
 unfolding lex
 line_tokens d k plain =
     ap (punctuate fresh)
     (value_alike d k plain (codes "\n") [] (record { same = refl; ends = refl; other_ends = refl }) ∙ ap (lex between) (append-nil (compact_text d)))
 
--- the value that tokens are
+-- the value that tokens are read as
 abbrev read_tokens : List Token → Option Data
 read_tokens ts = option_and_then of_json (option_and_then (λ p. json.if_last p.0 p.1) (json.value max_depth ts))
 
@@ -205,14 +206,14 @@ read_tokens ts = option_and_then of_json (option_and_then (λ p. json.if_last p.
 text_tokens : (d : Data) (k : ℕ) → IsPlain d k → tokens (compact_text d) ≡ tree.json_tokens (outline d)
 text_tokens d k plain = ap tokens (sym (print-outline d)) ∙ tokens-print (tree.json_tokens (outline d)) (ArePrintable-json_tokens (outline d) (plain_numbers d k plain))
 
--- the tree that those tokens are
+-- the tokens of the tree of a value are read as this tree
 tokens_value : (d : Data) (k : ℕ) → IsPlain d k → k ≤ max_depth → json.value max_depth (tree.json_tokens (outline d)) ≡ Some (outline d, [])
 tokens_value d k plain most =
     let least : tree.depth (outline d) ≤ k = plain_depth d k plain in
     let flat : tree.depth (outline d) ≤ 127 = omega arith in
     ap (json.value max_depth) (sym (append-nil (tree.json_tokens (outline d)))) ∙ value-json_tokens (outline d) max_depth [] flat
 
--- a line reads back to a value that its tree stands for
+-- the line of a value reads back to the value, where the tree of the value stands for it
 pub reads_line : (d : Data) (k : ℕ) → IsPlain d k → k ≤ max_depth → of_json (outline d) ≡ Some d → read (info_text d) ≡ Some d
 reads_line d k plain most back =
     ap read_tokens (line_tokens d k plain ∙ text_tokens d k plain)

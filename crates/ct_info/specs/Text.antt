@@ -1,4 +1,4 @@
--- A name as the text of JSON, which is UTF-8. Source: RFC 8259, section 8.1. The `?` is this project's choice.
+-- A name as JSON text, which is UTF-8. Source: RFC 8259, section 8.1. The `?` is this project's choice.
 use Rattle.std.specs.Prelude.{ℕ, List, map, nat_lt, if◌then◌else◌}
 use Rattle.std.specs.Str.{is_utf8}
 
@@ -6,10 +6,10 @@ use Rattle.std.specs.Str.{is_utf8}
 abbrev pub question_mark : ℕ
 question_mark = 63
 
--- a byte of a name that is not UTF-8: `?` where it is 128 or more
+-- the byte that is written for a byte of a name that is not UTF-8: `?` for 128 and more, else the byte itself
 abbrev pub shown_byte : ℕ → ℕ
 shown_byte byte = if nat_lt byte 128 then byte else question_mark
 
--- the name where it is UTF-8, and else the name with `?` in place of each byte from 128 up
+-- the name where it is UTF-8, else the name with `?` in place of each byte from 128 up
 abbrev pub shown : List ℕ → List ℕ
 shown name = if is_utf8 name then name else map shown_byte name

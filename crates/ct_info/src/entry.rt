@@ -11,7 +11,8 @@ use std::alloc::Global;
 
 /// Writes the tests with these numbers behind a text, as the items of an array with its closing bracket.
 ///
-/// A number of no test gives no item. Each test is a value of its own, which is dropped once it is written.
+/// A number without a test is left out. The value of each test is dropped as soon as it is written,
+/// so that only one is kept at a time.
 pub(crate) fn put_tests(
     alloc: Global,
     text: &mut Blob,
@@ -34,7 +35,8 @@ pub(crate) fn put_tests(
     Ok(())
 }
 
-/// Writes a test with this number behind a text, with a comma where another one stands before.
+/// Writes a test with this number behind a text, with a comma in front if another test stands
+/// before.
 fn put_test(
     alloc: Global,
     text: &mut Blob,
@@ -75,7 +77,7 @@ fn test_value(alloc: Global, number: u32, def: &TestDef, config: &str) -> Result
     let name = text_of(alloc, &def.name)?;
     let properties = property_values(alloc, def.props.as_slice())?;
     let config = Value::try_from_str(alloc, config)?;
-    // The members one by one: of five in one `json!` the check finds no proof.
+    // The members are put one by one: for five members in one `json!`, the check finds no proof.
     let mut told = Map::new(alloc);
     put(&mut told, alloc, "command", Value::Array(command))?;
     put(&mut told, alloc, "config", config)?;

@@ -9,12 +9,15 @@ use std::alloc::Global;
 
 /// Writes the tests with these numbers as JSON, for editors.
 ///
-/// Numbers are from 1, and a number of no test is passed over. The text is one line with its line
+/// Numbers count from 1, and a number without a test is left out. The text is one line with its
+/// line
 /// feed, and the members of its objects are in byte order.
 ///
-/// Source: CMake manual, ctest(1), Show as JSON Object Model. That there is no backtrace graph, that
-/// each test has its number and the configuration, that the value of each property is a text, and
-/// the `?` in what is not UTF-8 are this project's choice.
+/// Source: CMake manual, ctest(1), Show as JSON Object Model. This project's choices:
+/// - there is no backtrace graph;
+/// - each test has its number and the configuration;
+/// - the value of each property is a text;
+/// - bytes from 128 up, in a text that is not UTF-8, are written as `?`.
 pub fn info(
     alloc: Global,
     defs: &List<TestDef>,

@@ -5,7 +5,7 @@ use ct_base::{Name, NoMemory};
 use std::alloc::Global;
 use std::str;
 
-/// Copies a name as text: where it is not UTF-8, with `?` in place of each byte from 128 up.
+/// Copies a name as text; a name that is not UTF-8 has `?` in place of each byte from 128 up.
 #[tactic(auto, using(crate::proofs::TextLemmas::is_text, crate::proofs::TextLemmas::is_no_text))]
 pub(crate) fn text_of(alloc: Global, name: &Name) -> Result<String, NoMemory>
     ensures { IfOk result (λ text. string_bytes text ≡ shown name.now) }
@@ -16,7 +16,7 @@ pub(crate) fn text_of(alloc: Global, name: &Name) -> Result<String, NoMemory>
     }
 }
 
-/// Copies bytes as text, with `?` in place of each from 128 up.
+/// Copies bytes as text, with `?` in place of each byte from 128 up.
 fn ascii_of(alloc: Global, bytes: &[u8]) -> Result<String, NoMemory>
     ensures { IfOk result (λ text. string_bytes text ≡ map shown_byte bytes.now) }
 {
