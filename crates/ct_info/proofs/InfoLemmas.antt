@@ -1,5 +1,5 @@
--- The list is a value of texts and whole numbers. Its text is a front, the texts of the tests and a back, and
--- reads back to the value.
+-- The list is a value of texts and whole numbers. Its text is a front,
+-- the texts of the tests and a back, and reads back to the value.
 use Rattle.std.proofs.Common.{◌≡◌, ℕ, zero, suc, ◌<◌, ◌≤◌, ◌^◌, List, [], ◌∷◌, ◌++◌, codes, length, map, false, Option, Some, None, option_map, refl, sym, ap, ◌∙◌, append_assoc, arith}
 use Rattle.std.specs.Fmt.{digits}
 use Rattle.std.specs.List.{cons_option}

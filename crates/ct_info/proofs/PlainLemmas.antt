@@ -1,5 +1,5 @@
--- Values of texts and whole numbers hold no float. Their text, with a line feed behind it, reads back to
--- them.
+-- Values of texts and whole numbers hold no float. Their text, with a line feed behind it,
+-- reads back to them.
 use Rattle.std.proofs.Common.{◌≡◌, ℕ, zero, suc, ◌≤◌, List, [], ◌∷◌, ◌++◌, Bool, true, false, ◌||◌, codes, Option, Some, option_and_then, refl, sym, ap, ap₂, ◌∙◌, append_assoc, append-nil, arith}
 use Rattle.std.specs.Prelude.{⊤}
 use Rattle.std.proofs.Math.Nat.{max-le}

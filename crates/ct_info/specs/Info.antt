@@ -1,6 +1,6 @@
 -- The tests of a run as JSON, for editors. Source: CMake manual, ctest(1), Show as JSON Object Model. That
--- each test has its number and the configuration, and that each property's value is a text, is this project's
--- choice.
+-- each test has its number and the configuration, and that each property's value is a text,
+-- is this project's choice.
 use Rattle.std.specs.Prelude.{ℕ, zero, suc, List, ◌++◌, map, codes, Option, None, option_map, slice_get}
 use Rattle.std.specs.List.{filter_map}
 use Rattle.serde_json.specs.Data.{Data, unsigned, number, string, array, object, no_members, member}
@@ -18,8 +18,8 @@ text_value name = string (shown name)
 abbrev pub property_value : Pair → Data
 property_value pair = object (member (codes "name") (text_value pair.name) (member (codes "value") (text_value pair.value) no_members))
 
--- the object of a test with this number in this configuration; the properties are in the order of the
--- definition
+-- the object of a test with this number in this configuration;
+-- the properties are in the order of the definition
 abbrev pub test_value : List ℕ → ℕ → TestDef → Data
 test_value config n def =
     object
@@ -29,14 +29,14 @@ test_value config n def =
     (member (codes "number") (number (unsigned n))
     (member (codes "properties") (array (items_of (map property_value def.props))) no_members)))))
 
--- The test with this number, counted from 1. It is the same as `at_number` of ct_props, on which this crate
--- does not stand.
+-- The test with this number, counted from 1. It is the same as `at_number` of ct_props,
+-- on which this crate does not stand.
 abbrev pub def_at : List TestDef → ℕ → Option TestDef
 def_at defs zero = None
 def_at defs (suc place) = slice_get defs place
 
--- the objects of the tests with these numbers, in the order of the numbers; a number without a test is left
--- out
+-- the objects of the tests with these numbers, in the order of the numbers;
+-- a number without a test is left out
 abbrev pub test_values : List ℕ → List TestDef → List ℕ → List Data
 test_values config defs members = filter_map (λ n. option_map (test_value config n) (def_at defs n)) members
 
