@@ -10,8 +10,7 @@ use std::alloc::Global;
 /// Writes the tests with these numbers as JSON, for editors.
 ///
 /// Numbers count from 1, and a number without a test is left out. The text is one line with its
-/// line
-/// feed, and the members of its objects are in byte order.
+/// line feed, and the members of its objects are in byte order.
 ///
 /// Source: CMake manual, ctest(1), Show as JSON Object Model. This project's choices:
 /// - there is no backtrace graph;
