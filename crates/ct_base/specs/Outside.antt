@@ -1,5 +1,5 @@
 -- What a call does to files or to a sink, which may tell what they hold. This project's own.
-use Rattle.std.specs.Prelude.{◌≡◌, ◌≢◌, ℕ, ◌+◌, ◌-◌, ◌^◌, ◌≤◌, ◌⊎◌, min, List, [], ◌++◌, Option, Some, Result, IfSome, IsSomeAnd, IsErrOf, OnOk, OnErr}
+use Rattle.std.specs.Prelude.{◌≡◌, ◌≢◌, ⊤, ℕ, ◌+◌, ◌-◌, ◌^◌, ◌≤◌, ◌⊎◌, min, List, [], ◌++◌, Option, Some, Result, IfSome, IsSomeAnd, IsErrOf, OnOk, OnErr}
 use Rattle.ct_base.specs.declared.files.FilesFault.{FilesFault}
 use Rattle.ct_base.specs.declared.files.FilesFault.TheVariants as Files
 use Rattle.ct_base.specs.declared.sink.SinkFault.{SinkFault}
@@ -60,8 +60,9 @@ pub record FilesTell : Type 0 where
   pub faults : ℕ
 
 -- every call on files: on Failed, its path is the refused path, where that is told, and the count rose;
--- on any other answer both stay
+-- on any other answer both stay. Files that tell the refused path go on telling it
 pub record Asks {T : Type 0} (path : List ℕ) (before now : FilesTell) (result : Result T FilesFault) : Type 0 where
+  pub told : Becomes before.refused now.refused (λ was last. ⊤)
   pub refused : IsErrOf result Files.Failed → IfSome now.refused (λ last. last ≡ Some path)
   pub unrefused : (IsErrOf result Files.Failed → ⊥) → now.refused ≡ before.refused
   pub cause : HasCause Files.Failed before.faults now.faults result
