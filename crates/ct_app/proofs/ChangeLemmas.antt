@@ -1,6 +1,6 @@
 -- What the files hold after several calls, from what each call changed.
 use Rattle.std.proofs.Common.{◌≡◌, ◌∙◌, subst, ℕ, List, inl, inr, refl}
-use Rattle.std.specs.Prelude.{Option, Some, None, IfSome}
+use Rattle.std.specs.Prelude.{⊤, Option, Some, None, IfSome}
 use Rattle.ct_base.specs.Outside.{Becomes, FailsToWrite, FilesTell, Held, Rose, SameHeld, Writes}
 use Rattle.ct_cost.specs.declared.cost_data.CostData.{CostData}
 use Rattle.ct_app.specs.RunFiles.{FilesFail, FilesServe, FilesStay, WithLast, last_costs}
@@ -30,6 +30,7 @@ module _ (P Q R : Held → Held → Type 0) (both : (x y z : Held) → P x y →
   pub fails_then : (path : List ℕ) (before between now : FilesTell) → FilesServe P before between → FilesFail path Q between now → FilesFail path R before now
   fails_then path before between now first second = record {
     held = becomes_then before.held between.held now.held first.held second.held;
+    told = subst (λ (refused : Option (Option (List ℕ))). Becomes refused now.refused (λ was last. ⊤)) first.unrefused second.told;
     last = second.last;
     rose = subst (λ (n : ℕ). Rose n now.faults) first.unfailed second.rose;
   }
@@ -40,7 +41,7 @@ module _ (P Q : Held → Held → Type 0) (leads : (x y : Held) → P x y → Q 
   serves_as before now serves = record { held = becomes_as P Q leads before.held now.held serves.held; unrefused = serves.unrefused; unfailed = serves.unfailed }
 
   pub fails_as : (path : List ℕ) (before now : FilesTell) → FilesFail path P before now → FilesFail path Q before now
-  fails_as path before now fails = record { held = becomes_as P Q leads before.held now.held fails.held; last = fails.last; rose = fails.rose }
+  fails_as path before now fails = record { held = becomes_as P Q leads before.held now.held fails.held; told = fails.told; last = fails.last; rose = fails.rose }
 
 stays_told : (held : Option Held) → Becomes held held SameHeld
 stays_told None = tt
@@ -81,6 +82,7 @@ module _ (dir : List ℕ) (Change : CostData → Held → Held → Type 0) (behi
   pub fails_with_last : (path : List ℕ) (before between now : FilesTell) → IfSome before.held (λ held. costs ≡ last_costs dir held) → FilesStay before between → FilesFail path (Change costs) between now → FilesFail path (WithLast dir Change) before now
   fails_with_last path before between now read stay fails = record {
     held = becomes_with_last before.held between.held now.held read stay.held fails.held;
+    told = subst (λ (refused : Option (Option (List ℕ))). Becomes refused now.refused (λ was last. ⊤)) stay.unrefused fails.told;
     last = fails.last;
     rose = subst (λ (n : ℕ). Rose n now.faults) stay.unfailed fails.rose;
   }

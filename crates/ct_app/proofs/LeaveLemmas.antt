@@ -172,6 +172,6 @@ module _ (words : List (List ℕ)) (env : List Pair) (invocation : Invocation) (
         })),
         refl,
       )
-  unread_ends (FilesFault path) unread = inr (record { invocation = invocation; words = asked; files = unread; unrun = unrun_so }, refl)
+  unread_ends (FilesFault path) unread = inr (record { invocation = invocation; words = asked; asked = unread.0; files = unread.1; unrun = unrun_so }, refl)
   unread_ends OutputFault unread = absurd unread
   unread_ends Memory unread = inr ((unrun_so, unread), refl)

@@ -4,7 +4,11 @@ use Rattle.std.specs.Prelude.{Option, Some, None, Result, Ok, Err, IfSome}
 use Rattle.ct_base.specs.declared.defs.Resource.{Resource}
 use Rattle.ct_base.specs.declared.defs.TestDef.{TestDef}
 use Rattle.ct_base.specs.Outside.{Becomes, FilesTell, Held, SameHeld}
+use Rattle.ct_testfile.specs.Asks.{TreeAsks}
+use Rattle.ct_testfile.specs.Says.{HasFilesCause, IfFilesFailed, IsRefusalOf}
 use Rattle.ct_testfile.specs.Tree.{tree_of}
+use Rattle.ct_testfile.specs.declared.fault.ReadFault.{ReadFault}
+use Rattle.ct_testfile.specs.declared.fault.ReadFault.TheVariants as Read
 use Rattle.ct_cost.specs.declared.cost_data.CostData.{CostData}
 use Rattle.ct_args.specs.declared.invocation.Invocation.{Invocation}
 use Rattle.ct_app.specs.declared.outcome.Outcome.{Outcome}
@@ -17,12 +21,21 @@ use Rattle.ct_app.specs.declared.props.Tests.{Tests}
 use Rattle.ct_app.specs.declared.spec_file.SpecFileFault.{SpecFileFault}
 use Rattle.ct_app.specs.declared.spec_file.SpecFileFault.TheVariants as Named
 use Rattle.ct_app.specs.Ends.{HasTests, IsReadFolder, IsReadList, IsUnread, IsUnreadFolder}
-use Rattle.ct_app.specs.Outcome.{outcome_of_file, outcome_of_spec}
+use Rattle.ct_app.specs.Outcome.{outcome_of, outcome_of_file, outcome_of_spec}
 use Rattle.ct_app.specs.Rerun.{AreOnly, ReadsOnly, last_failed, names_of}
 use Rattle.ct_app.specs.RunFiles.{FilesStay, ReadsCosts, costs_of, costs_path, last_costs, log_path}
 use Rattle.ct_app.specs.SpecFile.{AreLent, ReadsSpec, RefusesFile, declared_in}
 use Rattle.ct_app.specs.Tests.{RefusesTests}
 use Rattle.ct_app.proofs.ChangeLemmas.{fails_then, same_then_same, serves_then}
+
+-- the tree of test files was not read
+pub unread_tree : (invocation : Invocation) (before now : FilesTell) (fault : ReadFault) (outcome : Outcome) → outcome ≡ outcome_of fault → IfSome before.held (λ held. IsRefusalOf (tree_of held invocation.wanted.dir invocation.config) fault) → IfSome before.held (λ held. IfFilesFailed fault (TreeAsks held invocation.wanted.dir invocation.config)) → HasFilesCause {A = List TestDef} before now (Err fault) → Becomes before.held now.held SameHeld → IsUnread invocation before now outcome
+unread_tree invocation before now (Read.At file line kind) outcome is refused asks cause kept =
+    subst (λ (o : Outcome). IsUnread invocation before now o) (sym is) (refused, record { held = kept; unrefused = cause.unrefused; unfailed = cause.unfailed })
+unread_tree invocation before now (Read.FilesFailed path) outcome is refused asks cause kept =
+    subst (λ (o : Outcome). IsUnread invocation before now o) (sym is) (inl asks, record { held = kept; told = cause.told; last = cause.failed.last; rose = cause.failed.rose })
+unread_tree invocation before now Read.NoMemory outcome is refused asks cause kept =
+    subst (λ (o : Outcome). IsUnread invocation before now o) (sym is) (record { held = kept; unrefused = cause.unrefused; unfailed = cause.unfailed })
 
 -- a property of one of the tests that were read is refused
 pub unread_props : (invocation : Invocation) (before now : FilesTell) (defs : List TestDef) (outcome : Outcome) → RefusesTests defs outcome → IfSome before.held (λ held. tree_of held invocation.wanted.dir invocation.config ≡ Ok defs) → FilesStay before now → IsUnread invocation before now outcome
@@ -98,7 +111,7 @@ module _ (invocation : Invocation) (before between : FilesTell) (tests : Tests) 
       subst (λ (o : Outcome). IsUnreadFolder invocation before now o) (sym is)
       (inr (record { tests = tests; read = read.read; refused = same_refused invocation.spec_file why before.held between.held read.files.held refused.0; files = then_stay before between now read.files refused.1 }))
   unread_spec now (Named.Failed path) outcome is fails =
-      subst (λ (o : Outcome). IsUnreadFolder invocation before now o) (sym is) (fails_then SameHeld SameHeld SameHeld same_then_same path before between now read.files fails)
+      subst (λ (o : Outcome). IsUnreadFolder invocation before now o) (sym is) (inr (inl fails.0), fails_then SameHeld SameHeld SameHeld same_then_same path before between now read.files fails.1)
   unread_spec now Named.NoMemory outcome is stays =
       subst (λ (o : Outcome). IsUnreadFolder invocation before now o) (sym is) (then_stay before between now read.files stays)
 
@@ -106,7 +119,7 @@ module _ (invocation : Invocation) (before between : FilesTell) (tests : Tests) 
   pub unread_costs : (behind now : FilesTell) (lent : Option (List Resource)) (fault : RunFileFault) (outcome : Outcome) → outcome ≡ outcome_of_file fault → ReadsSpec invocation.spec_file between behind (Ok lent) → ReadsCosts invocation.wanted.dir behind now (Err fault) → IsUnreadFolder invocation before now outcome
   unread_costs behind now lent (Fault.Failed path) outcome is named fails =
       subst (λ (o : Outcome). IsUnreadFolder invocation before now o) (sym is)
-      (fails_then SameHeld SameHeld SameHeld same_then_same path before behind now (then_stay before between behind read.files named.1) fails)
+      (inr (inr fails.0), fails_then SameHeld SameHeld SameHeld same_then_same path before behind now (then_stay before between behind read.files named.1) fails.1)
   unread_costs behind now lent Fault.NoMemory outcome is named stays =
       subst (λ (o : Outcome). IsUnreadFolder invocation before now o) (sym is)
       (then_stay before behind now (then_stay before between behind read.files named.1) stays)
@@ -115,7 +128,7 @@ module _ (invocation : Invocation) (before between : FilesTell) (tests : Tests) 
   pub unread_log : (behind beyond now : FilesTell) (lent : Option (List Resource)) (costs : CostData) (fault : RunFileFault) (outcome : Outcome) → outcome ≡ outcome_of_file fault → ReadsSpec invocation.spec_file between behind (Ok lent) → ReadsCosts invocation.wanted.dir behind beyond (Ok costs) → ReadsOnly invocation.rerun invocation.wanted.dir beyond now (Err fault) → IsUnreadFolder invocation before now outcome
   unread_log behind beyond now lent costs (Fault.Failed path) outcome is named last fails =
       subst (λ (o : Outcome). IsUnreadFolder invocation before now o) (sym is)
-      (fails_then SameHeld SameHeld SameHeld same_then_same path before beyond now (then_stay before behind beyond (then_stay before between behind read.files named.1) last.1) fails)
+      (inl (inr (fails.0, fails.1.0)), fails_then SameHeld SameHeld SameHeld same_then_same path before beyond now (then_stay before behind beyond (then_stay before between behind read.files named.1) last.1) fails.1.1)
   unread_log behind beyond now lent costs Fault.NoMemory outcome is named last stays =
       subst (λ (o : Outcome). IsUnreadFolder invocation before now o) (sym is)
       (then_stay before beyond now (then_stay before behind beyond (then_stay before between behind read.files named.1) last.1) stays)
@@ -123,7 +136,7 @@ module _ (invocation : Invocation) (before between : FilesTell) (tests : Tests) 
   -- the log was not read, so the tests of the list were not
   pub unread_only : (now : FilesTell) (fault : RunFileFault) (outcome : Outcome) → outcome ≡ outcome_of_file fault → ReadsOnly invocation.rerun invocation.wanted.dir between now (Err fault) → IsUnread invocation before now outcome
   unread_only now (Fault.Failed path) outcome is fails =
-      subst (λ (o : Outcome). IsUnread invocation before now o) (sym is) (fails_then SameHeld SameHeld SameHeld same_then_same path before between now read.files fails)
+      subst (λ (o : Outcome). IsUnread invocation before now o) (sym is) (inr (fails.0, fails.1.0), fails_then SameHeld SameHeld SameHeld same_then_same path before between now read.files fails.1.1)
   unread_only now Fault.NoMemory outcome is stays =
       subst (λ (o : Outcome). IsUnread invocation before now o) (sym is) (then_stay before between now read.files stays)
 
@@ -133,6 +146,6 @@ unread_tests invocation before now Completed unread = unread
 unread_tests invocation before now Listed unread = unread
 unread_tests invocation before now (Usage word kind) unread = unread
 unread_tests invocation before now (Refused refusal) unread = inl unread
-unread_tests invocation before now (FilesFault path) unread = unread
+unread_tests invocation before now (FilesFault path) unread = (inl unread.0, unread.1)
 unread_tests invocation before now OutputFault unread = unread
 unread_tests invocation before now Memory unread = unread

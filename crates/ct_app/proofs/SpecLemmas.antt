@@ -39,7 +39,7 @@ path_read path other before now got result same read stay declares = subst (λ (
 -- where the named path was not read, the specification was not read, for the same reason
 pub named_unread : (path : List ℕ) (before now : FilesTell) (fault : SpecFileFault) → ReadsPath path before now (Err fault) → ReadsSpec (Some path) before now (Err fault)
 named_unread path before now (Refused why) unread = unread
-named_unread path before now (Failed failed) unread = unread
+named_unread path before now (Failed failed) unread = (ap Some (sym unread.0), unread.1)
 named_unread path before now NoMemory unread = unread
 
 -- a text within the limit declares its resources, or is refused for its first fault

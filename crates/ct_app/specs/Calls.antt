@@ -4,7 +4,7 @@ use Rattle.ct_base.specs.declared.defs.Pair.{Pair}
 use Rattle.ct_base.specs.declared.defs.TestDef.{TestDef}
 use Rattle.ct_base.specs.declared.sink.SinkFault.{SinkFault}
 use Rattle.ct_base.specs.declared.sink.SinkFault.TheVariants as Sinks
-use Rattle.ct_base.specs.Outside.{FilesTell, SameHeld, SinkTell}
+use Rattle.ct_base.specs.Outside.{FilesTell, Held, SameHeld, SinkTell}
 use Rattle.ct_props.specs.declared.props.Props.{Props}
 use Rattle.ct_history.specs.declared.plan.PlanParts.{PlanParts}
 use Rattle.ct_history.specs.declared.history.Entry.{Entry}
@@ -97,10 +97,11 @@ pub record IsUndeclared (s : Sides) (refusal : Refusal) : Type 0 where
   pub files : FilesStay s.files_before s.files_now
   pub unrun : IsUnrun s
 
--- reading a file before a run or a list failed at this path; each path holds what it held,
+-- reading failed at this path, which is one of what is read for the call; each path holds what it held,
 -- and nothing was run
-pub record IsReadFault (s : Sides) (path : List ℕ) : Type 0 where
+pub record IsReadFault (s : Sides) (Asks : Option Held → Invocation → List ℕ → Type 0) (path : List ℕ) : Type 0 where
   pub invocation : Invocation
   pub words : AskFor s.words invocation
+  pub asked : Asks s.files_before.held invocation path
   pub files : FilesFail path SameHeld s.files_before s.files_now
   pub unrun : IsUnrun s

@@ -22,7 +22,7 @@ use Rattle.ct_app.specs.Calls.{IsReadFault, IsUnreadable, IsUnrun, IsUsage, Puts
 use Rattle.ct_app.specs.Runs.{HasRunWith, IsCutOff, IsCutShort, IsGivenUp, FilesAreLeft, IsRefusal, IsReported, IsWriteFault}
 use Rattle.ct_app.specs.Lists.{HasList}
 use Rattle.ct_app.specs.Outcome.{fault_line, fault_status, names_at, outcome_of_sink, status_of}
-use Rattle.ct_app.specs.Reading.{AreRead, AskFor, RefusesReading, RefusesSpec}
+use Rattle.ct_app.specs.Reading.{AreRead, AskFor, ListAsks, RefusesReading, RefusesSpec, RunAsks}
 use Rattle.ct_app.specs.Rerun.{AreOnly}
 use Rattle.ct_app.specs.RunFiles.{FilesFail, FilesServe, FilesStay, IsWritten, Leaves, LeavesPart, LeavesTorn, last_costs}
 use Rattle.ct_app.specs.SpecFile.{AreLent}
@@ -92,7 +92,7 @@ IsUnread invocation before now Completed = ⊥
 IsUnread invocation before now Listed = ⊥
 IsUnread invocation before now (Usage word kind) = ⊥
 IsUnread invocation before now (Refused refusal) = RefusesReading before.held invocation refusal × FilesStay before now
-IsUnread invocation before now (FilesFault path) = FilesFail path SameHeld before now
+IsUnread invocation before now (FilesFault path) = ListAsks before.held invocation path × FilesFail path SameHeld before now
 IsUnread invocation before now OutputFault = ⊥
 IsUnread invocation before now Memory = FilesStay before now
 
@@ -108,6 +108,7 @@ pub record HasBadSpec (invocation : Invocation) (before now : FilesTell) (refusa
 -- failed at a path, or memory ran out
 abbrev pub IsUnreadFolder : Invocation → FilesTell → FilesTell → Outcome → Type 0
 IsUnreadFolder invocation before now (Refused refusal) = IsUnread invocation before now (Refused refusal) ⊎ HasBadSpec invocation before now refusal
+IsUnreadFolder invocation before now (FilesFault path) = RunAsks before.held invocation path × FilesFail path SameHeld before now
 IsUnreadFolder invocation before now outcome = IsUnread invocation before now outcome
 
 -- the tests of a list were read, and the names that the list is limited to, if any
@@ -139,7 +140,7 @@ EndsUnrun s names (Err Completed) = ⊥
 EndsUnrun s names (Err Listed) = ⊥
 EndsUnrun s names (Err (Usage word kind)) = IsUsage s word kind
 EndsUnrun s names (Err (Refused refusal)) = IsRefusal s refusal names
-EndsUnrun s names (Err (FilesFault path)) = IsReadFault s path
+EndsUnrun s names (Err (FilesFault path)) = IsReadFault s RunAsks path
 EndsUnrun s names (Err OutputFault) = ⊥
 EndsUnrun s names (Err Memory) = IsUnrun s × FilesStay s.files_before s.files_now
 
@@ -162,7 +163,7 @@ ListEnds s Completed = ⊥
 ListEnds s Listed = HasList s (λ lines. PutsLines lines s.sink_before s.sink_now (Ok tt))
 ListEnds s (Usage word kind) = IsUsage s word kind × (s.sink_now ≡ s.sink_before)
 ListEnds s (Refused refusal) = IsUnreadable s refusal × (s.sink_now ≡ s.sink_before)
-ListEnds s (FilesFault path) = IsReadFault s path × (s.sink_now ≡ s.sink_before)
+ListEnds s (FilesFault path) = IsReadFault s ListAsks path × (s.sink_now ≡ s.sink_before)
 ListEnds s OutputFault = HasList s (λ lines. PutsLines lines s.sink_before s.sink_now (Err Sinks.Failed))
 ListEnds s Memory = IsUnrun s × FilesStay s.files_before s.files_now × ((s.sink_now ≡ s.sink_before) ⊎ HasList s (λ lines. PutsLines lines s.sink_before s.sink_now (Err Sinks.NoMemory)))
 

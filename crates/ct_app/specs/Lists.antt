@@ -18,7 +18,7 @@ use Rattle.ct_app.specs.declared.outcome.Outcome.{Outcome}
 use Rattle.ct_app.specs.declared.outcome.Outcome.TheVariants.{Completed, Listed, Usage, Refused, FilesFault, OutputFault, Memory}
 use Rattle.ct_app.specs.Calls.{IsReadFault, IsUnreadable, IsUnrun, IsUsage, PutsOrFails, Sides, ThenLine, Tries}
 use Rattle.ct_app.specs.Outcome.{fault_line}
-use Rattle.ct_app.specs.Reading.{AreRead, AskFor}
+use Rattle.ct_app.specs.Reading.{AreRead, AskFor, ListAsks}
 use Rattle.ct_app.specs.Rerun.{AreOnly, choice_of}
 use Rattle.ct_app.specs.RunFiles.{FilesStay}
 
@@ -74,7 +74,7 @@ IsShortList s Completed = ⊥
 IsShortList s Listed = ⊥
 IsShortList s (Usage word kind) = IsUsage s word kind × PutsLines (fault_line [] (Usage word kind) ∷ []) s.sink_before s.sink_now (Err Sinks.NoMemory)
 IsShortList s (Refused refusal) = IsUnreadable s refusal × PutsLines (fault_line [] (Refused refusal) ∷ []) s.sink_before s.sink_now (Err Sinks.NoMemory)
-IsShortList s (FilesFault path) = IsReadFault s path × PutsLines (fault_line [] (FilesFault path) ∷ []) s.sink_before s.sink_now (Err Sinks.NoMemory)
+IsShortList s (FilesFault path) = IsReadFault s ListAsks path × PutsLines (fault_line [] (FilesFault path) ∷ []) s.sink_before s.sink_now (Err Sinks.NoMemory)
 IsShortList s OutputFault = ⊥
 IsShortList s Memory = IsUnrun s × FilesStay s.files_before s.files_now × (Tries (fault_line [] Memory) s.sink_before s.sink_now ⊎ HasList s (λ lines. ThenLine (λ middle. PutsLines lines s.sink_before middle (Err Sinks.NoMemory)) (λ middle. Tries (fault_line [] Memory) middle s.sink_now)))
 
@@ -85,6 +85,6 @@ AnswersList s Completed status = ⊥
 AnswersList s Listed status = HasList s (λ lines. PutsLines lines s.sink_before s.sink_now (Ok tt)) × (status ≡ 0)
 AnswersList s (Usage word kind) status = IsUsage s word kind × PutsOrFails (fault_line [] (Usage word kind)) s.sink_before s.sink_now × (status ≡ 1)
 AnswersList s (Refused refusal) status = IsUnreadable s refusal × PutsOrFails (fault_line [] (Refused refusal)) s.sink_before s.sink_now × (status ≡ 2)
-AnswersList s (FilesFault path) status = IsReadFault s path × PutsOrFails (fault_line [] (FilesFault path)) s.sink_before s.sink_now × (status ≡ 3)
+AnswersList s (FilesFault path) status = IsReadFault s ListAsks path × PutsOrFails (fault_line [] (FilesFault path)) s.sink_before s.sink_now × (status ≡ 3)
 AnswersList s OutputFault status = HasList s (λ lines. PutsLines lines s.sink_before s.sink_now (Err Sinks.Failed)) × (status ≡ 4)
 AnswersList s Memory status = ((outcome : Outcome) × IsShortList s outcome) × (status ≡ 5)

@@ -1,9 +1,10 @@
 -- What the words of a call ask for, what is read for it, and what is refused.
 -- Source: CMake manual, ctest(1), Options, Run Tests. What is refused is this project's choice.
-use Rattle.std.specs.Prelude.{◌≡◌, ℕ, ◌<◌, ◌≤◌, Bool, true, false, List, Option, Result, Ok, Err, IfSome}
+use Rattle.std.specs.Prelude.{◌≡◌, ◌⊎◌, ℕ, ◌<◌, ◌≤◌, Bool, true, false, List, Option, Some, Result, Ok, Err, IfSome}
 use Rattle.ct_base.specs.declared.defs.TestDef.{TestDef}
 use Rattle.ct_base.specs.Outside.{Held}
 use Rattle.ct_testfile.specs.declared.fault.ReadFault.TheVariants as Read
+use Rattle.ct_testfile.specs.Asks.{TreeAsks}
 use Rattle.ct_testfile.specs.Tree.{tree_of}
 use Rattle.ct_props.specs.declared.props.Props.{Props}
 use Rattle.ct_graph.specs.Cycle.{is_cycle}
@@ -17,7 +18,7 @@ use Rattle.ct_app.specs.declared.outcome.Refusal.{Refusal}
 use Rattle.ct_app.specs.declared.outcome.Refusal.TheVariants.{TestFile, Prop, Spec, Cycle, TooManyEdges}
 use Rattle.ct_app.specs.Outcome.{names_at}
 use Rattle.ct_app.specs.Rerun.{AreOnly, wanted_of}
-use Rattle.ct_app.specs.RunFiles.{last_costs}
+use Rattle.ct_app.specs.RunFiles.{costs_path, last_costs, log_path}
 use Rattle.ct_app.specs.SpecFile.{AreLent, RefusesFile}
 use Rattle.ct_app.specs.Tests.{RefusesFirst}
 
@@ -54,6 +55,17 @@ pub record IsSource (told : Option Held) (invocation : Invocation) (source : Sou
   pub wanted : source.wanted ≡ wanted_of invocation source.wanted.choice.only
   pub resources : AreLent told invocation.spec_file source.resources
   pub costs : IfSome told (λ held. source.costs ≡ last_costs invocation.wanted.dir held)
+
+-- what is read for a list is at this path: in the tree of test files, or with --rerun-failed the log
+abbrev pub ListAsks : Option Held → Invocation → List ℕ → Type 0
+ListAsks told invocation path =
+    IfSome told (λ held. TreeAsks held invocation.wanted.dir invocation.config path)
+    ⊎ ((invocation.rerun ≡ true) × (path ≡ log_path invocation.wanted.dir))
+
+-- what is read for a run is at this path: as for a list, or the specification that is named, or the cost data
+abbrev pub RunAsks : Option Held → Invocation → List ℕ → Type 0
+RunAsks told invocation path =
+    ListAsks told invocation path ⊎ (invocation.spec_file ≡ Some path) ⊎ (path ≡ costs_path invocation.wanted.dir)
 
 -- a test file is refused; or all test files are read, and the first test with a bad property is refused
 abbrev pub RefusesReading : Option Held → Invocation → Refusal → Type 0

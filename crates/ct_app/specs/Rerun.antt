@@ -42,11 +42,11 @@ wanted_of invocation only = record invocation.wanted { choice = choice_of invoca
 -- each path holds what it held
 abbrev pub ReadsOnly : Bool → List ℕ → FilesTell → FilesTell → Result (Option (List (List ℕ))) RunFileFault → Type 0
 ReadsOnly rerun dir before now (Ok only) = AreOnly before.held rerun dir only × FilesStay before now
-ReadsOnly rerun dir before now (Err (Fault.Failed path)) = FilesFail path SameHeld before now
+ReadsOnly rerun dir before now (Err (Fault.Failed path)) = (rerun ≡ true) × (path ≡ log_path dir) × FilesFail path SameHeld before now
 ReadsOnly rerun dir before now (Err Fault.NoMemory) = FilesStay before now
 
 -- the log of a folder was read, or could not be read or memory ran out; each path holds what it held
 abbrev pub ReadsLog : List ℕ → FilesTell → FilesTell → Result (List (List ℕ)) RunFileFault → Type 0
 ReadsLog dir before now (Ok names) = IfSome before.held (λ held. names ≡ last_failed dir held) × FilesStay before now
-ReadsLog dir before now (Err (Fault.Failed path)) = FilesFail path SameHeld before now
+ReadsLog dir before now (Err (Fault.Failed path)) = (path ≡ log_path dir) × FilesFail path SameHeld before now
 ReadsLog dir before now (Err Fault.NoMemory) = FilesStay before now

@@ -1,7 +1,7 @@
 -- The cost data and the log: a run reads the files of the last run and writes them for the next one.
 -- Source: CMake manual, ctest(1), --rerun-failed; cmake-properties(7), COST. The paths are ctest's. How much
 -- of the cost data is read, and when both files are written, is this project's choice.
-use Rattle.std.specs.Prelude.{◌≡◌, ◌≢◌, ◌⊎◌, ℕ, ◌<◌, nat_le, true, List, [], ◌∷◌, length, codes, Option, Some, None, Result, Ok, Err, IfSome, if◌then◌else◌}
+use Rattle.std.specs.Prelude.{◌≡◌, ◌≢◌, ◌⊎◌, ⊤, ℕ, ◌<◌, nat_le, true, List, [], ◌∷◌, length, codes, Option, Some, None, Result, Ok, Err, IfSome, if◌then◌else◌}
 use Rattle.ct_base.specs.declared.files.FilesFault.{FilesFault}
 use Rattle.ct_base.specs.declared.files.FilesFault.TheVariants as Files
 use Rattle.ct_base.specs.Outside.{Becomes, FailsToWrite, FilesTell, Held, Rose, SameHeld, Writes}
@@ -26,10 +26,11 @@ pub record FilesServe (Change : Held → Held → Type 0) (before now : FilesTel
 abbrev pub FilesStay : FilesTell → FilesTell → Type 0
 FilesStay before now = FilesServe SameHeld before now
 
--- the last failed call on the files was on this path, the fault count rose, and `Change` holds between what
--- the files held before and now
+-- the last failed call on the files was on this path, which files that told such a path still tell; the fault
+-- count rose, and `Change` holds between what the files held before and now
 pub record FilesFail (path : List ℕ) (Change : Held → Held → Type 0) (before now : FilesTell) : Type 0 where
   pub held : Becomes before.held now.held Change
+  pub told : Becomes before.refused now.refused (λ was last. ⊤)
   pub last : IfSome now.refused (λ refused. refused ≡ Some path)
   pub rose : Rose before.faults now.faults
 
@@ -114,7 +115,7 @@ fault_at path Files.NoMemory = Fault.NoMemory
 -- each path holds what it held
 abbrev pub ReadsCosts : List ℕ → FilesTell → FilesTell → Result CostData RunFileFault → Type 0
 ReadsCosts dir before now (Ok costs) = IfSome before.held (λ held. costs ≡ last_costs dir held) × FilesStay before now
-ReadsCosts dir before now (Err (Fault.Failed path)) = FilesFail path SameHeld before now
+ReadsCosts dir before now (Err (Fault.Failed path)) = (path ≡ costs_path dir) × FilesFail path SameHeld before now
 ReadsCosts dir before now (Err Fault.NoMemory) = FilesStay before now
 
 -- a text was written to a path; or the write failed there; or memory ran out and each path holds what it held

@@ -21,7 +21,7 @@ use Rattle.ct_worker.specs.Gates.{AreAsked, are_below, had_memory}
 use Rattle.ct_app.specs.Stops.{StopsSo}
 use Rattle.ct_app.specs.Tests.{terms_from}
 use Rattle.ct_app.specs.Outcome.{fault_line, status_of}
-use Rattle.ct_app.specs.Reading.{AskFor, IsSource, RefusesPlan, most_edges}
+use Rattle.ct_app.specs.Reading.{AskFor, IsSource, RefusesPlan, RunAsks, most_edges}
 use Rattle.ct_app.specs.RunFiles.{FilesFail, FilesServe, FilesStay, IsWritten, Leaves, LeavesPart, LeavesTorn, WithLast}
 use Rattle.ct_app.specs.Calls.{IsReadFault, IsUndeclared, IsUnreadable, IsUnrun, IsUsage, PutsOrFails, Sides, ThenLine, Tries}
 
@@ -112,7 +112,7 @@ IsShort s Completed = ⊥
 IsShort s Listed = ⊥
 IsShort s (Usage word kind) = IsUsage s word kind × PutsLines (fault_line [] (Usage word kind) ∷ []) s.sink_before s.sink_now (Err Sinks.NoMemory)
 IsShort s (Refused refusal) = TellsRefusal s refusal (λ line. PutsLines (line ∷ []) s.sink_before s.sink_now (Err Sinks.NoMemory))
-IsShort s (FilesFault path) = IsReadFault s path × PutsLines (fault_line [] (FilesFault path) ∷ []) s.sink_before s.sink_now (Err Sinks.NoMemory)
+IsShort s (FilesFault path) = IsReadFault s RunAsks path × PutsLines (fault_line [] (FilesFault path) ∷ []) s.sink_before s.sink_now (Err Sinks.NoMemory)
 IsShort s OutputFault = ⊥
 IsShort s Memory = IsUnrun s × FilesStay s.files_before s.files_now × Tries (fault_line [] Memory) s.sink_before s.sink_now
 
@@ -143,6 +143,6 @@ AnswersRun s Completed status = HasRunWith s (IsCompleted s status)
 AnswersRun s Listed status = ⊥
 AnswersRun s (Usage word kind) status = IsUsage s word kind × PutsOrFails (fault_line [] (Usage word kind)) s.sink_before s.sink_now × (status ≡ 1)
 AnswersRun s (Refused refusal) status = TellsRefusal s refusal (λ line. PutsOrFails line s.sink_before s.sink_now) × (status ≡ 2)
-AnswersRun s (FilesFault path) status = ((IsReadFault s path × PutsOrFails (fault_line [] (FilesFault path)) s.sink_before s.sink_now) ⊎ HasRunWith s (λ invocation. IsUnwritten s path)) × (status ≡ 3)
+AnswersRun s (FilesFault path) status = ((IsReadFault s RunAsks path × PutsOrFails (fault_line [] (FilesFault path)) s.sink_before s.sink_now) ⊎ HasRunWith s (λ invocation. IsUnwritten s path)) × (status ≡ 3)
 AnswersRun s OutputFault status = HasRunWith s (λ invocation plan entries. IsCutOff plan entries s.sink_before s.sink_now × FilesStay s.files_before s.files_now) × (status ≡ 4)
 AnswersRun s Memory status = ((outcome : Outcome) × (IsShort s outcome ⊎ HasRunWith s (λ invocation. IsShortRun s outcome))) × (status ≡ 5)

@@ -47,7 +47,7 @@ Declares held (Err NoMemory) = ⊤
 abbrev pub ReadsPath : List ℕ → FilesTell → FilesTell → Result (List Resource) SpecFileFault → Type 0
 ReadsPath path before now (Ok resources) = IfSome before.held (λ held. declared_in (held path) ≡ Ok resources) × FilesStay before now
 ReadsPath path before now (Err (Refused why)) = IfSome before.held (λ held. declared_in (held path) ≡ Err why) × FilesStay before now
-ReadsPath path before now (Err (Failed failed)) = FilesFail failed SameHeld before now
+ReadsPath path before now (Err (Failed failed)) = (failed ≡ path) × FilesFail failed SameHeld before now
 ReadsPath path before now (Err NoMemory) = FilesStay before now
 
 -- the named file, if any, was read, is refused or could not be read, or memory ran out;
@@ -55,5 +55,5 @@ ReadsPath path before now (Err NoMemory) = FilesStay before now
 abbrev pub ReadsSpec : Option (List ℕ) → FilesTell → FilesTell → Result (Option (List Resource)) SpecFileFault → Type 0
 ReadsSpec file before now (Ok lent) = AreLent before.held file lent × FilesStay before now
 ReadsSpec file before now (Err (Refused why)) = RefusesFile before.held file why × FilesStay before now
-ReadsSpec file before now (Err (Failed path)) = FilesFail path SameHeld before now
+ReadsSpec file before now (Err (Failed path)) = (file ≡ Some path) × FilesFail path SameHeld before now
 ReadsSpec file before now (Err NoMemory) = FilesStay before now

@@ -76,7 +76,7 @@ fn status(outcome: &Outcome) -> u8
     }
 }
 
-/// Puts the line of an outcome in one put.
+/// Puts the line of an outcome in one put. That of want of memory takes no memory.
 fn put_fault<S: Sink>(
     alloc: Global,
     sink: &mut S,
@@ -85,6 +85,10 @@ fn put_fault<S: Sink>(
 ) -> Result<(), SinkFault>
     ensures { PutsLines (fault_line names.now outcome.now ∷ []) (S.tells sink.old) (S.tells sink.new) result }
 {
+    if let Outcome::Memory = outcome {
+        sink.put(b"ctest: out of memory\n")?;
+        return Ok(());
+    }
     let line = fault_line(alloc, names, outcome)?;
     sink.put(line.bytes())?;
     Ok(())

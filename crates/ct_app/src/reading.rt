@@ -12,7 +12,7 @@ use ct_testfile::read_tree;
 use std::alloc::Global;
 
 /// Reads the tests of the folder that an invocation names, and their properties.
-#[tactic(auto, using(crate::proofs::ReadLemmas::unread_props))]
+#[tactic(auto, using(crate::proofs::ReadLemmas::unread_props, crate::proofs::ReadLemmas::unread_tree))]
 pub(crate) fn read_tests<F: Files>(
     alloc: Global,
     files: &mut F,

@@ -1,7 +1,8 @@
 //! The machine as a run sees it: its files, its output, and the programs of tests.
 //!
 //! Hands up: `RealFiles`, `RealSink` and `ProcessGate`, forms of `Files`, `Sink` and `Gate`; and the
-//! parts of them that are tested without the machine, `read_up_to`, `read_both` and `first_missing`.
+//! parts of them that are tested without the machine, `read_up_to`, `read_both`, `first_missing` and
+//! `attend`.
 //! Stands on: ct_base, ct_verdict, ct_core; for the wait on pipes, `libc` and `os` of the kit.
 //! Read first: `real_files.rt`, `real_sink.rt` and `process_gate.rt`; then the parts of the gate:
 //! `required.rt`, `command.rt`, `watch.rt`, `pipe.rt`.
@@ -27,3 +28,4 @@ pub use real_files::RealFiles;
 pub use real_sink::RealSink;
 pub use required::first_missing;
 pub use transfer::read_up_to;
+pub use watch::{Running, Started, attend};

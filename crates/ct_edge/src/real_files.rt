@@ -64,8 +64,8 @@ impl<R: rt::Files> Files for RealFiles<R> {
         self.count(seen)
     }
 
-    fn write(&mut self, _alloc: Global, path: &Name, bytes: &[u8]) -> Result<(), FilesFault> {
-        let wrote = write_file(&self.rt, path, bytes);
+    fn write(&mut self, alloc: Global, path: &Name, bytes: &[u8]) -> Result<(), FilesFault> {
+        let wrote = write_file(&self.rt, alloc, path, bytes);
         self.count(wrote)
     }
 }
@@ -90,11 +90,61 @@ fn is_there<R: rt::Files>(rt: &R, path: &Name) -> Result<bool, FilesFault> {
 }
 
 /// Makes the folders above the path that are missing, and then the file.
-fn write_file<R: rt::Files>(rt: &R, path: &Name, bytes: &[u8]) -> Result<(), FilesFault> {
+///
+/// A file is replaced, so that the path holds the old bytes or the new ones, whatever fails.
+/// What is no file of its own, such as a link or a device, is written where it is.
+fn write_file<R: rt::Files>(
+    rt: &R,
+    alloc: Global,
+    path: &Name,
+    bytes: &[u8],
+) -> Result<(), FilesFault> {
     let path = path_of(path)?;
     if let Some((above, _)) = path.rsplit_once('/') {
         answer(fs::create_dir_all(rt, above))?;
     }
+    if is_other(rt, path)? {
+        return fill(rt, path, bytes);
+    }
+    replace(rt, alloc, path, bytes)
+}
+
+/// Tells whether there is something at the path that is no file of its own.
+fn is_other<R: rt::Files>(rt: &R, path: &str) -> Result<bool, FilesFault> {
+    let found = present(fs::symlink_metadata(rt, path))?;
+    Ok(found.is_some_and(|what| !what.is_file()))
+}
+
+/// Writes a file beside the path, which then takes its place. If that fails, the file beside it goes.
+fn replace<R: rt::Files>(
+    rt: &R,
+    alloc: Global,
+    path: &str,
+    bytes: &[u8],
+) -> Result<(), FilesFault> {
+    let Ok(beside) = format!(in alloc; "{path}.new") else {
+        return Err(FilesFault::NoMemory);
+    };
+    let beside = beside.as_str();
+    let wrote = put_beside(rt, beside, path, bytes);
+    if wrote.is_err() {
+        let _gone = fs::remove_file(rt, beside);
+    }
+    wrote
+}
+
+fn put_beside<R: rt::Files>(
+    rt: &R,
+    beside: &str,
+    path: &str,
+    bytes: &[u8],
+) -> Result<(), FilesFault> {
+    fill(rt, beside, bytes)?;
+    answer(fs::rename(rt, beside, path))
+}
+
+/// Makes the file at the path hold the bytes. If that fails, it may hold some first ones.
+fn fill<R: rt::Files>(rt: &R, path: &str, bytes: &[u8]) -> Result<(), FilesFault> {
     let mut file = answer(fs::create(rt, path))?;
     answer(write_whole(&mut file, bytes))
 }

@@ -12,6 +12,7 @@ use crate::pipe::read_both;
 use ct_base::{Blob, Ear};
 use ct_verdict::How;
 use std::alloc::Global;
+use std::io;
 use std::io::Read;
 use std::os::fd::AsRawFd;
 use std::process::{Child, ChildStderr, ChildStdout, ExitStatus};
@@ -28,17 +29,43 @@ const SHORTEST_PAUSE: u64 = 100;
 
 const LONGEST_PAUSE: u64 = 20_000;
 
+/// A program that was started, as far as it is stopped and waited for.
+pub trait Started {
+    /// Stops the program, if it still runs.
+    fn stop(&mut self) -> io::Result<()>;
+
+    /// Waits for the end of the program.
+    fn end(&mut self) -> io::Result<ExitStatus>;
+
+    /// Tells how the program ended; `None` if it still runs.
+    fn look(&mut self) -> io::Result<Option<ExitStatus>>;
+}
+
+impl Started for Child {
+    fn stop(&mut self) -> io::Result<()> {
+        self.kill()
+    }
+
+    fn end(&mut self) -> io::Result<ExitStatus> {
+        self.wait()
+    }
+
+    fn look(&mut self) -> io::Result<Option<ExitStatus>> {
+        self.try_wait()
+    }
+}
+
 /// A program that runs, and the ends of its two outputs.
 #[derive(Drop)]
-pub struct Running<O, P> {
-    pub child: Child,
+pub struct Running<S, O, P> {
+    pub child: S,
     pub output: O,
     pub errors: P,
 }
 
-impl Running<ChildStdout, ChildStderr> {
+impl Running<Child, ChildStdout, ChildStderr> {
     /// Takes the outputs of a program that was started. A program without them is stopped.
-    pub fn of(mut child: Child) -> Result<Running<ChildStdout, ChildStderr>, StartFault>
+    pub fn of(mut child: Child) -> Result<Running<Child, ChildStdout, ChildStderr>, StartFault>
         ensures ok { IsSome child.stdout → IsSome child.stderr → IsOk result }
         ensures output { IfOk result (λ program. child.stdout ≡ Some program.output) }
         ensures errors { IfOk result (λ program. child.stderr ≡ Some program.errors) }
@@ -60,11 +87,11 @@ impl Running<ChildStdout, ChildStderr> {
 ///
 /// It returns when the program has ended and no process holds its outputs any more. Else
 /// it returns at the limit: it stops the program, and reads its outputs no further.
-pub fn attend<C: Clock, O: Read + AsRawFd, P: Read + AsRawFd, E: Ear>(
+pub fn attend<C: Clock, S: Started, O: Read + AsRawFd, P: Read + AsRawFd, E: Ear>(
     clock: &C,
     alloc: Global,
     limit: &Limit,
-    program: &mut Running<O, P>,
+    program: &mut Running<S, O, P>,
     ear: &mut E,
 ) -> Result<How, StartFault>
     ensures heard { OnOk result (HearsBoth (O.remaining program.old.output) (O.remaining program.new.output)
@@ -86,10 +113,10 @@ pub fn attend<C: Clock, O: Read + AsRawFd, P: Read + AsRawFd, E: Ear>(
 }
 
 /// Reads both outputs of a program to their ends and waits for its own end. `None` is the limit.
-fn watch<C: Clock, O: Read + AsRawFd, P: Read + AsRawFd, E: Ear>(
+fn watch<C: Clock, S: Started, O: Read + AsRawFd, P: Read + AsRawFd, E: Ear>(
     clock: &C,
     limit: &Limit,
-    program: &mut Running<O, P>,
+    program: &mut Running<S, O, P>,
     ear: &mut E,
     kept: &mut Blob,
 ) -> Result<Option<ExitStatus>, StartFault>
@@ -111,19 +138,19 @@ fn watch<C: Clock, O: Read + AsRawFd, P: Read + AsRawFd, E: Ear>(
 }
 
 /// Waits for the end of a program. `None` is the limit.
-fn end_of<C: Clock>(
+fn end_of<C: Clock, S: Started>(
     clock: &C,
     limit: &Limit,
-    child: &mut Child,
+    child: &mut S,
 ) -> Result<Option<ExitStatus>, StartFault>
     ensures unlimited { IfOk result (λ ended. ended ≡ None → IsSome limit.now.micros) }
 {
     if !limit.is_set() {
-        return Ok(Some(child.wait()?));
+        return Ok(Some(child.end()?));
     }
     let mut pause = SHORTEST_PAUSE;
     for look in 0..u64::MAX {
-        let ended = child.try_wait()?;
+        let ended = child.look()?;
         if ended.is_some() {
             return Ok(ended);
         }
@@ -142,9 +169,9 @@ fn end_of<C: Clock>(
 }
 
 /// Stops a program that still runs, and waits for its end.
-fn stop(child: &mut Child) -> Result<(), StartFault> {
-    child.kill()?;
-    child.wait()?;
+fn stop<S: Started>(child: &mut S) -> Result<(), StartFault> {
+    child.stop()?;
+    child.end()?;
     Ok(())
 }
 

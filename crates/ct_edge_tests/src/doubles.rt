@@ -1,9 +1,14 @@
-//! What stands in the tests for a program's outputs and for the standard output.
+//! What stands in the tests for a program and its outputs, for the standard output and for the clock.
 
 use ct_base::Blob;
+use ct_edge::Started;
 use std::io;
 use std::io::{ErrorKind, Read, Write};
 use std::os::fd::{AsRawFd, RawFd};
+use std::os::unix::process::ExitStatusExt;
+use std::process::ExitStatus;
+use std::rt::Clock;
+use std::time::Duration;
 
 /// A source that gives one byte at a time, and fails after `good` bytes.
 #[derive(Drop)]
@@ -69,5 +74,55 @@ impl Write for Sip {
 
     fn flush(&mut self) -> io::Result<()> {
         Ok(())
+    }
+}
+
+/// A program that exits with 7 and is found ended at the third look. One of its calls fails.
+#[derive(Drop)]
+pub(crate) struct Dummy {
+    pub(crate) looks: u64,
+    /// `stop`, `end` or `look`, or another word.
+    pub(crate) fails: &'static str,
+}
+
+impl Dummy {
+    fn answer<T>(&self, call: &str, answer: T) -> io::Result<T> {
+        if self.fails == call {
+            return Err(io::Error::from(ErrorKind::Other));
+        }
+        Ok(answer)
+    }
+}
+
+impl Started for Dummy {
+    fn stop(&mut self) -> io::Result<()> {
+        self.answer("stop", ())
+    }
+
+    fn end(&mut self) -> io::Result<ExitStatus> {
+        self.answer("end", ExitStatus::from_raw(7 << 8))
+    }
+
+    fn look(&mut self) -> io::Result<Option<ExitStatus>> {
+        self.looks = self.looks.saturating_add(1);
+        let ended = if self.looks < 3 {
+            None
+        } else {
+            Some(ExitStatus::from_raw(7 << 8))
+        };
+        self.answer("look", ended)
+    }
+}
+
+/// A clock that cannot be read.
+pub(crate) struct NoClock;
+
+impl Clock for NoClock {
+    fn monotonic(&self) -> io::Result<Duration> {
+        Err(io::Error::from(ErrorKind::Other))
+    }
+
+    fn since_1970(&self) -> io::Result<Duration> {
+        Err(io::Error::from(ErrorKind::Other))
     }
 }

@@ -10,6 +10,8 @@ mod beside;
 #[cfg(test)]
 mod doubles;
 #[cfg(test)]
+mod ends;
+#[cfg(test)]
 mod files;
 #[cfg(test)]
 mod pieces;

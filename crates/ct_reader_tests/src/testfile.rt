@@ -118,6 +118,17 @@ all_value_bytes 8 if(EXISTS zz)~add_test(aaaa bbbb)~endif() => 1 TooLong
 const CONFIGURED: &str =
     "if(CTEST_CONFIGURATION_TYPE MATCHES \"^([Dd][Ee][Bb][Uu][Gg])$\")~  add_test(u \"/b/Debug/u\")~else()~  add_test(u NOT_AVAILABLE)~endif()~";
 
+/// A test file as CMake writes it.
+const GENERATED: &str = "\
+# CMake generated Testfile for 
+# Source directory: /home/u/demo
+# Build directory: /home/u/demo/build
+add_test([=[unit one]=] \"/home/u/demo/build/unit\" \"--fast\" \"a;b\")
+set_tests_properties([=[unit one]=] PROPERTIES  LABELS \"core;fast\" _BACKTRACE_TRIPLES \"/home/u/demo/CMakeLists.txt;9;add_test;/home/u/demo/CMakeLists.txt;0;\")
+subdirs(\"lib\")
+subdirs(\"none\")
+";
+
 const TOP: &str = "./CTestTestfile.cmake";
 
 /// Returns the files of a row.
@@ -313,6 +324,105 @@ fn names_the_path_that_the_files_refused(rt: HostRuntime) -> Result<(), Fail> {
         let mut files = MemFiles::new(held, fail_at);
         let told = told(alloc, read_tree(alloc, &mut files, &dir, &config))?;
         assert_eq!(rt; told.as_str(), want);
+    }
+    Ok(())
+}
+
+/// Reads a text as the one test file of a tree.
+fn read_text(alloc: Global, text: Name) -> Result<String, NoMemory> {
+    let mut held = List::new(alloc);
+    held.push(Pair {
+        name: Name::of(alloc, TOP.as_bytes())?,
+        value: text,
+    })?;
+    read_held(alloc, held)
+}
+
+fn read_held(alloc: Global, held: List<Pair>) -> Result<String, NoMemory> {
+    let dir = Name::of(alloc, b".")?;
+    let config = Name::of(alloc, b"")?;
+    let mut files = CalmFiles::new(held);
+    Ok(told(alloc, read_tree(alloc, &mut files, &dir, &config))?)
+}
+
+/// Returns the first bytes of the test file that CMake wrote.
+fn cut(alloc: Global, len: usize) -> Result<Name, NoMemory> {
+    Name::of(alloc, GENERATED.as_bytes().get(..len).unwrap_or(b""))
+}
+
+#[test]
+fn refuses_a_file_that_is_cut(rt: HostRuntime) -> Result<(), Fail> {
+    let alloc = rt.alloc();
+    for (last, want) in [
+        ("add_test([=[unit", "4 OpenBracket"),
+        ("add_test(", "4 OpenCall"),
+        ("LABELS \"core", "5 OpenString"),
+        ("build\na", "4 OpenCall"),
+    ] {
+        let (front, _) = GENERATED.split_once(last).unwrap_or(("", ""));
+        let told = read_text(alloc, cut(alloc, front.len().saturating_add(last.len()))?)?;
+        assert_eq!(rt; told.as_str(), want, "{last}");
+    }
+    Ok(())
+}
+
+#[test]
+fn answers_each_beginning_of_a_file(rt: HostRuntime) -> Result<(), Fail> {
+    let alloc = rt.alloc();
+    for len in 0..=GENERATED.len() {
+        let told = read_text(alloc, cut(alloc, len)?)?;
+        assert!(rt; is_answer(told.as_str()), "{len}: {told}");
+    }
+    Ok(())
+}
+
+/// Tells whether a beginning of the file may be read so: as no test, as its test, or as one that ends
+/// inside a command.
+fn is_answer(told: &str) -> bool {
+    let kinds = ["OpenString", "OpenBracket", "OpenCall"];
+    told.is_empty()
+        || told.starts_with(".|unit one|")
+        || kinds.iter().any(|kind| told.ends_with(*kind))
+}
+
+/// Makes 21 files, each with two lines that include the next one, and an empty one.
+fn doubling(alloc: Global) -> Result<List<Pair>, NoMemory> {
+    let mut held = List::new(alloc);
+    held.push(including(alloc, "CTestTestfile.cmake", 1)?)?;
+    for number in 1..21u32 {
+        let name = format!(in alloc; "f{number}")?;
+        held.push(including(alloc, name.as_str(), number + 1)?)?;
+    }
+    held.push(Pair {
+        name: Name::of(alloc, b"./f21")?,
+        value: Name::of(alloc, b"")?,
+    })?;
+    Ok(held)
+}
+
+fn including(alloc: Global, name: &str, next: u32) -> Result<Pair, NoMemory> {
+    let path = format!(in alloc; "./{name}")?;
+    let text = format!(in alloc; "include(\"f{next}\")\ninclude(\"f{next}\")\n")?;
+    Ok(Pair {
+        name: Name::of(alloc, path.as_bytes())?,
+        value: Name::of(alloc, text.as_bytes())?,
+    })
+}
+
+#[test]
+fn refuses_files_that_double(rt: HostRuntime) -> Result<(), Fail> {
+    let told = read_held(rt.alloc(), doubling(rt.alloc())?)?;
+    assert!(rt; told.ends_with(" TooManyCommands"), "{told}");
+    Ok(())
+}
+
+#[test]
+fn reads_line_feeds_up_to_the_limit_of_a_file(rt: HostRuntime) -> Result<(), Fail> {
+    for (len, want) in [(16_777_217usize, "0 TooLong"), (16_777_216, "")] {
+        let mut feeds = Vec::new(rt.alloc());
+        feeds.resize(len, b'\n')?;
+        let told = read_text(rt.alloc(), Name::from_vec(feeds))?;
+        assert_eq!(rt; told.as_str(), want, "{len}");
     }
     Ok(())
 }

@@ -5,4 +5,5 @@ pub mod OverLemmas
 pub mod ConditionLemmas
 pub mod StepLemmas
 pub mod TreeLemmas
+pub mod AsksLemmas
 pub mod IfLemmas

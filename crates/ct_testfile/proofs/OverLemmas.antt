@@ -9,16 +9,25 @@ use Rattle.ct_testfile.specs.declared.fault.ReadKind.{ReadKind}
 use Rattle.ct_testfile.specs.declared.fault.ReadFault.{ReadFault}
 use Rattle.ct_testfile.specs.declared.fault.ReadFault.TheVariants.{At, FilesFailed, NoMemory}
 
+-- what was told is told by the same
+still-told : {B : Type 0} (before now : Option B) → now ≡ before → Becomes before now (λ was last. ⊤)
+still-told before now same = subst (λ told. Becomes before told (λ was last. ⊤)) (sym same) (self before)
+  where
+    self : {B : Type 0} (told : Option B) → Becomes told told (λ was last. ⊤)
+    self None = tt
+    self (Some is) = tt
+
 -- the count stayed, and the answer is no fault of the files
 pub cause-still : {A : Type 0} (before now : FilesTell) (result : Result A ReadFault) → Unfailed result → now.faults ≡ before.faults → now.refused ≡ before.refused → HasFilesCause before now result
-cause-still before now (Ok x) unfailed same unrefused = record { later = omega arith; failed = tt; unfailed = same; unrefused = unrefused }
-cause-still before now (Err (At file line kind)) unfailed same unrefused = record { later = omega arith; failed = tt; unfailed = same; unrefused = unrefused }
+cause-still before now (Ok x) unfailed same unrefused = record { told = still-told before.refused now.refused unrefused; later = omega arith; failed = tt; unfailed = same; unrefused = unrefused }
+cause-still before now (Err (At file line kind)) unfailed same unrefused = record { told = still-told before.refused now.refused unrefused; later = omega arith; failed = tt; unfailed = same; unrefused = unrefused }
 cause-still before now (Err (FilesFailed path)) unfailed same unrefused = absurd unfailed
-cause-still before now (Err NoMemory) unfailed same unrefused = record { later = omega arith; failed = tt; unfailed = same; unrefused = unrefused }
+cause-still before now (Err NoMemory) unfailed same unrefused = record { told = still-told before.refused now.refused unrefused; later = omega arith; failed = tt; unfailed = same; unrefused = unrefused }
 
 -- what holds from a moment on also holds from an earlier one with the same count and refused path
 cause-from : {A : Type 0} (before between now : FilesTell) (result : Result A ReadFault) → between.faults ≡ before.faults → between.refused ≡ before.refused → HasFilesCause between now result → HasFilesCause before now result
 cause-from before between now result same unrefused cause = record {
+  told = subst (λ refused. Becomes refused now.refused (λ was last. ⊤)) unrefused cause.told;
   later = subst (λ faults. faults ≤ now.faults) same cause.later;
   failed = subst (λ faults. IfErr result (λ fault. IfFilesFailed fault (IsRefused faults now))) same cause.failed;
   unfailed = subst (λ faults. IfUnfailed result (now.faults ≡ faults)) same cause.unfailed;
@@ -61,9 +70,9 @@ refusal-stopped first next (FilesFailed path) is = tt
 refusal-stopped first next NoMemory is = tt
 
 cause-stopped : {A B : Type 0} (before now : FilesTell) (fault : ReadFault) → HasFilesCause {A = A} before now (Err fault) → HasFilesCause {A = B} before now (Err fault)
-cause-stopped before now (At file line kind) cause = record { later = cause.later; failed = tt; unfailed = cause.unfailed; unrefused = cause.unrefused }
-cause-stopped before now (FilesFailed path) cause = record { later = cause.later; failed = cause.failed; unfailed = tt; unrefused = tt }
-cause-stopped before now NoMemory cause = record { later = cause.later; failed = tt; unfailed = cause.unfailed; unrefused = cause.unrefused }
+cause-stopped before now (At file line kind) cause = record { told = cause.told; later = cause.later; failed = tt; unfailed = cause.unfailed; unrefused = cause.unrefused }
+cause-stopped before now (FilesFailed path) cause = record { told = cause.told; later = cause.later; failed = cause.failed; unfailed = tt; unrefused = tt }
+cause-stopped before now NoMemory cause = record { told = cause.told; later = cause.later; failed = tt; unfailed = cause.unfailed; unrefused = cause.unrefused }
 
 -- a call that returned a fault, and nothing after it
 pub Over-stopped : {A B : Type 0} (before now : FilesTell) (first : Held → Result A ReadFault) (next : Held → A → Result B ReadFault) (fault : ReadFault) → Over {A = A} before now first (Err fault) → Over {A = B} before now (λ held. first held >>= next held) (Err fault)
@@ -118,6 +127,7 @@ looked-err path before now Files.Failed says looks = record {
   answer = λ held told. tt;
   kept = λ held told. Tells-kept held before.held now.held looks.kept told;
   cause = record {
+    told = looks.asks.told;
     later = looks.asks.cause.later;
     failed = record { rose = looks.asks.cause.failed refl; last = looks.asks.refused refl };
     unfailed = tt;

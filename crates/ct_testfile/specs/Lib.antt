@@ -5,4 +5,5 @@ pub mod Commands
 pub mod Ifs
 pub mod Tree
 pub mod Says
+pub mod Asks
 pub mod Laws

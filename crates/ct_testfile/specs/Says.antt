@@ -1,6 +1,6 @@
 -- What a call of this crate returns, in terms of the definitions. Memory may be wanting, and files may fail.
 use Rattle.std.specs.Prelude.{◌≡◌, ◌≤◌, ◌<◌, ⊤, ℕ, List, [], ◌∷◌, length, Option, Some, None, Result, Ok, Err, IfErr, IfSome, IsSomeAnd}
-use Rattle.ct_base.specs.Outside.{FilesTell, Held, SameHeld, Rose}
+use Rattle.ct_base.specs.Outside.{Becomes, FilesTell, Held, SameHeld, Rose}
 use Rattle.ct_base.specs.declared.files.FilesFault.{FilesFault}
 use Rattle.ct_base.specs.declared.files.FilesFault.TheVariants as Files
 use Rattle.ct_lex.specs.Place.{Place}
@@ -78,8 +78,10 @@ pub record IsRefused (before : ℕ) (now : FilesTell) (path : List ℕ) : Type 0
   pub last : IfSome now.refused (λ last. last ≡ Some path)
 
 -- the files' count of faults never falls. A fault of the files is returned only if the count rose,
--- for the path that they refused; without one, the count and the refused path stay
+-- for the path that they refused; without one, the count and the refused path stay.
+-- Files that tell the refused path go on telling it
 pub record HasFilesCause {A : Type 0} (before now : FilesTell) (result : Result A ReadFault) : Type 0 where
+  pub told : Becomes before.refused now.refused (λ was last. ⊤)
   pub later : before.faults ≤ now.faults
   pub failed : IfErr result (λ fault. IfFilesFailed fault (IsRefused before.faults now))
   pub unfailed : IfUnfailed result (now.faults ≡ before.faults)

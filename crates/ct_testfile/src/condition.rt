@@ -2,6 +2,7 @@ ghost use Rattle.std.specs.Prelude.{◌≡◌, IsTrue, Ok, is_some, length};
 ghost use Rattle.ct_base.specs.Path.{joined};
 ghost use Rattle.ct_regex.specs.Reading as pattern;
 ghost use Rattle.ct_testfile.specs.Outcome.{on_line};
+ghost use Rattle.ct_testfile.specs.Asks.{Blames, NamesPath};
 ghost use Rattle.ct_testfile.specs.Says.{Follows, Over};
 ghost use Rattle.ct_testfile.specs.Condition.{bad_pattern, holds, is_exists, is_matches, is_bare_word, matched, subject};
 
@@ -22,9 +23,10 @@ pub(crate) fn holds<F: Files>(
     table: &Table,
     values: &[Value],
 ) -> Result<bool, ReadFault>
-    ensures { Over (F.tells files.old) (F.tells files.new)
+    ensures says { Over (F.tells files.old) (F.tells files.new)
         (λ held. on_line here.now.file.now.path line
         (holds held here.now.file.now.dir table.now values.now)) result }
+    ensures asks { Blames (NamesPath here.now.file.now.dir values.now) result }
 {
     if is_exists(values) {
         return exists(here.alloc, files, &here.file.dir, &values[1].text);
@@ -69,7 +71,8 @@ fn exists<F: Files>(
     dir: &Name,
     name: &Name,
 ) -> Result<bool, ReadFault>
-    ensures { Over (F.tells files.old) (F.tells files.new) (λ held. Ok (is_some (held (joined dir.now name.now)))) result }
+    ensures says { Over (F.tells files.old) (F.tells files.new) (λ held. Ok (is_some (held (joined dir.now name.now)))) result }
+    ensures asks { Blames (λ path. path ≡ joined dir.now name.now) result }
 {
     let path = join_path(alloc, dir, name)?;
     match files.exists(alloc, &path) {

@@ -1,7 +1,9 @@
-ghost use Rattle.std.specs.Prelude.{◌≡◌, Err, IfOk, if◌then◌else◌};
+ghost use Rattle.std.specs.Prelude.{◌≡◌, Err, IfOk, Some, if◌then◌else◌, true};
+ghost use Rattle.ct_testfile.specs.Asks.{Blames, CallAsks, ConditionAsks, IsEvaluated};
 ghost use Rattle.ct_testfile.specs.Says.{AreBounded, Follows, IsAnswerOf, OverCall, Unfailed};
 ghost use Rattle.ct_testfile.specs.Ifs.{asked, begun_if, behind_else, behind_elseif, behind_if, begun_else, continued, done, in_branch, is_live, left, stepped};
-ghost use Rattle.ct_testfile.specs.declared.branch.Branch.TheVariants as branch;
+ghost use Rattle.ct_testfile.specs.declared.branch.Branch.TheVariants as branches;
+ghost use Rattle.ct_testfile.specs.declared.command.Flow.TheVariants as flow;
 ghost use Rattle.ct_testfile.specs.declared.fault.ReadFault.TheVariants.{At};
 ghost use Rattle.ct_testfile.specs.declared.fault.ReadKind.TheVariants.{UnpairedIf};
 
@@ -36,8 +38,9 @@ pub(crate) fn advance<F: Files>(
     call: &Call,
 ) -> Result<Step, ReadFault>
     requires { AreBounded here.now.limits.now }
-    ensures { OverCall (F.tells files.old) (F.tells files.new) here.now call.now
+    ensures says { OverCall (F.tells files.old) (F.tells files.new) here.now call.now
         (λ limits held dir. stepped limits held dir ifs state call.now) result }
+    ensures asks { Blames (CallAsks here.now.limits.now here.now.file.now.dir ifs state call.now) result }
 {
     let Some(flow) = flow_of(call.name.bytes()) else {
         let step = do_other(here, ifs, state, call);
@@ -81,8 +84,10 @@ fn do_if<F: Files>(
     state: State,
     call: &Call,
 ) -> Result<Step, ReadFault>
-    ensures { OverCall (F.tells files.old) (F.tells files.new) here.now call.now
+    ensures says { OverCall (F.tells files.old) (F.tells files.new) here.now call.now
         (λ limits held dir. begun_if limits held dir call.now ifs state) result }
+    ensures asks { Blames (λ path. IsEvaluated (Some flow.If) ifs
+        × ConditionAsks here.now.limits.now here.now.file.now.dir call.now state path) result }
 {
     let live = ifs.is_live();
     let (branch, state) = behind_if(files, here, live, state, call)?;
@@ -97,8 +102,10 @@ fn behind_if<F: Files>(
     state: State,
     call: &Call,
 ) -> Result<(Branch, State), ReadFault>
-    ensures { OverCall (F.tells files.old) (F.tells files.new) here.now call.now
+    ensures says { OverCall (F.tells files.old) (F.tells files.new) here.now call.now
         (λ limits held dir. behind_if limits held dir call.now state live) result }
+    ensures asks { Blames (λ path. (live ≡ true)
+        × ConditionAsks here.now.limits.now here.now.file.now.dir call.now state path) result }
 {
     if live {
         asked(files, here, state, call)
@@ -117,8 +124,10 @@ fn do_elseif<F: Files>(
     state: State,
     call: &Call,
 ) -> Result<Step, ReadFault>
-    ensures { OverCall (F.tells files.old) (F.tells files.new) here.now call.now
+    ensures says { OverCall (F.tells files.old) (F.tells files.new) here.now call.now
         (λ limits held dir. continued limits held dir call.now ifs state) result }
+    ensures asks { Blames (λ path. IsEvaluated (Some flow.ElseIf) ifs
+        × ConditionAsks here.now.limits.now here.now.file.now.dir call.now state path) result }
 {
     let Some((inner, outer)) = ifs.take_inner() else {
         return unpaired(here, call.line);
@@ -135,8 +144,10 @@ fn behind_elseif<F: Files>(
     state: State,
     call: &Call,
 ) -> Result<(Branch, State), ReadFault>
-    ensures { OverCall (F.tells files.old) (F.tells files.new) here.now call.now
+    ensures says { OverCall (F.tells files.old) (F.tells files.new) here.now call.now
         (λ limits held dir. behind_elseif limits held dir call.now state branch) result }
+    ensures asks { Blames (λ path. (branch ≡ branches.Waiting)
+        × ConditionAsks here.now.limits.now here.now.file.now.dir call.now state path) result }
 {
     match branch {
         Branch::Waiting => asked(files, here, state, call),
@@ -163,8 +174,9 @@ fn asked<F: Files>(
     state: State,
     call: &Call,
 ) -> Result<(Branch, State), ReadFault>
-    ensures { OverCall (F.tells files.old) (F.tells files.new) here.now call.now
+    ensures says { OverCall (F.tells files.old) (F.tells files.new) here.now call.now
         (λ limits held dir. asked limits held dir call.now state) result }
+    ensures asks { Blames (ConditionAsks here.now.limits.now here.now.file.now.dir call.now state) result }
 {
     let begun = state.begin(here.alloc, here.limits, &call.args);
     let (values, state) = here.at_line(call.line, begun)?;
@@ -173,7 +185,7 @@ fn asked<F: Files>(
 }
 
 fn branch_by(is: bool) -> Branch
-    ensures { result ≡ (if is then branch.Taken else branch.Waiting) }
+    ensures { result ≡ (if is then branches.Taken else branches.Waiting) }
 {
     if is { Branch::Taken } else { Branch::Waiting }
 }

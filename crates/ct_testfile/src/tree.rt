@@ -1,8 +1,9 @@
-ghost use Rattle.std.specs.Prelude.{◌≡◌, ◌+◌, ◌<◌, ◌≤◌, [], All, None, Ok, IfOk, IfErr, IfSome, OnOk, length, option_map, take};
+ghost use Rattle.std.specs.Prelude.{◌≡◌, ◌+◌, ◌<◌, ◌≤◌, [], All, None, Ok, IfOk, IfErr, IfSome, IsSomeAnd, OnOk, length, option_map, take};
 ghost use Rattle.ct_base.specs.Outside.{Becomes, SameHeld};
 ghost use Rattle.ct_lex.specs.Place.{beginning};
 ghost use Rattle.ct_lex.specs.Reads.{reading};
-ghost use Rattle.ct_testfile.specs.Says.{AreBounded, Follows, HasFilesCause, IsAnswerOf, IsAt, IsFaultIn, IsNextOf, IsRefusalOf, Over, Unfailed, inside};
+ghost use Rattle.ct_testfile.specs.Asks.{AsksWithin, Blames, BlamesBy, CarriedAsk, NestedAsks, OpenedAsk, OpeningAsks, TreeAsks};
+ghost use Rattle.ct_testfile.specs.Says.{AreBounded, Follows, HasFilesCause, IfFilesFailed, IsAnswerOf, IsAt, IsFaultIn, IsNextOf, IsRefusalOf, Over, Unfailed, inside};
 ghost use Rattle.ct_testfile.specs.Commands.{openings, test_file};
 ghost use Rattle.ct_testfile.specs.Tree.{absent, admitted, beginning_with, carried, ended, nested, all_opened, opened_by, top, tree_of, tree_within};
 ghost use Rattle.ct_suite.specs.Tests.{HasShortValues, most_bytes, most_tests};
@@ -34,6 +35,7 @@ pub fn read_tree<F: Files>(
     ensures few { IfOk result (λ defs. length defs ≤ most_tests) }
     ensures within { IfOk result (λ defs. All (HasShortValues most_bytes) defs) }
     ensures refused { IfErr result (λ fault. IfSome (F.tells files.old).held (λ held. IsRefusalOf (tree_of held dir.now config.now) fault)) }
+    ensures asks { IfErr result (λ fault. IfSome (F.tells files.old).held (λ held. IfFilesFailed fault (TreeAsks held dir.now config.now))) }
     ensures cause { HasFilesCause (F.tells files.old) (F.tells files.new) result }
     ensures kept { Becomes (F.tells files.old).held (F.tells files.new).held SameHeld }
 {
@@ -53,6 +55,7 @@ pub fn read_tree_within<F: Files>(
     ensures few { IfOk result (λ defs. length defs ≤ most_tests) }
     ensures within { IfOk result (λ defs. All (HasShortValues most_bytes) defs) }
     ensures refused { IfErr result (λ fault. IfSome (F.tells files.old).held (λ held. IsRefusalOf (tree_within limits.now held dir.now config.now) fault)) }
+    ensures asks { IfErr result (λ fault. IfSome (F.tells files.old).held (λ held. IfFilesFailed fault (AsksWithin limits.now held dir.now config.now))) }
     ensures cause { HasFilesCause (F.tells files.old) (F.tells files.new) result }
     ensures kept { Becomes (F.tells files.old).held (F.tells files.new).held SameHeld }
 {
@@ -68,6 +71,7 @@ fn read_through<F: Files>(
 ) -> Result<List<TestDef>, ReadFault>
     requires { AreBounded limits.now }
     ensures says { Over (F.tells files.old) (F.tells files.new) (λ held. tree_within limits.now held dir.now config.now) result }
+    ensures asks { BlamesBy (F.tells files.old).held (λ held. AsksWithin limits.now held dir.now config.now) result }
     ensures few { IfOk result (λ defs. length defs ≤ most_tests) }
     ensures within { IfOk result (λ defs. All (HasShortValues most_bytes) defs) }
 {
@@ -85,7 +89,8 @@ fn open_top<F: Files>(
     state: State,
 ) -> Result<State, ReadFault>
     requires { AreBounded limits.now }
-    ensures { Over (F.tells files.old) (F.tells files.new) (λ held. opened_by (nested limits.now held limits.now.open_files) (test_file dir.now).path 0 (top dir.now) state (held (test_file dir.now).path)) result }
+    ensures says { Over (F.tells files.old) (F.tells files.new) (λ held. opened_by (nested limits.now held limits.now.open_files) (test_file dir.now).path 0 (top dir.now) state (held (test_file dir.now).path)) result }
+    ensures asks { BlamesBy (F.tells files.old).held (λ held. OpeningAsks (NestedAsks limits.now held limits.now.open_files) held (top dir.now) state) result }
 {
     let opening = top(alloc, dir)?;
     let here = OpenFile {
@@ -150,9 +155,12 @@ fn open_each<F: Files>(
     state: State,
 ) -> Result<State, ReadFault>
     requires { AreBounded here.now.limits.now }
-    ensures { Over (F.tells files.old) (F.tells files.new)
+    ensures says { Over (F.tells files.old) (F.tells files.new)
         (λ held. all_opened (inside here.now held) held here.now.file.now.path line
         (openings here.now.file.now.dir opens.now) state) result }
+    ensures asks { BlamesBy (F.tells files.old).held
+        (λ held. OpenedAsk (inside here.now held) (NestedAsks here.now.limits.now held here.now.more) held
+        here.now.file.now.path line (openings here.now.file.now.dir opens.now) state) result }
 {
     let mut known = state;
     for name in opens.names.as_slice() {
@@ -172,9 +180,11 @@ fn open<F: Files>(
     state: State,
 ) -> Result<State, ReadFault>
     requires { AreBounded here.now.limits.now }
-    ensures { Over (F.tells files.old) (F.tells files.new)
+    ensures says { Over (F.tells files.old) (F.tells files.new)
         (λ held. opened_by (inside here.now held) here.now.file.now.path line opening.now state
         (held opening.now.file.path)) result }
+    ensures asks { BlamesBy (F.tells files.old).held
+        (λ held. OpeningAsks (NestedAsks here.now.limits.now held here.now.more) held opening.now state) result }
 {
     let most = here.limits.file_bytes;
     let got = fetch(here.alloc, files, &opening.file.path, most)?;
@@ -192,8 +202,10 @@ fn enter<F: Files>(
     got: Option<Blob>,
 ) -> Result<State, ReadFault>
     requires { AreBounded here.now.limits.now }
-    ensures { Over (F.tells files.old) (F.tells files.new)
+    ensures says { Over (F.tells files.old) (F.tells files.new)
         (λ held. opened_by (inside here.now held) here.now.file.now.path line opening.now state got) result }
+    ensures asks { BlamesBy (F.tells files.old).held
+        (λ held path. IsSomeAnd got (λ text. NestedAsks here.now.limits.now held here.now.more opening.now.file state text path)) result }
 {
     let Some(text) = got else {
         return here.at_line(line, absent(opening, state));
@@ -219,7 +231,8 @@ fn fetch<F: Files>(
     path: &Name,
     most: u32,
 ) -> Result<Option<Blob>, ReadFault>
-    ensures { Over (F.tells files.old) (F.tells files.new) (λ held. Ok (option_map (take (most + 1)) (held path.now))) result }
+    ensures says { Over (F.tells files.old) (F.tells files.new) (λ held. Ok (option_map (take (most + 1)) (held path.now))) result }
+    ensures asks { Blames (λ refused. refused ≡ path.now) result }
 {
     let asked = path.copy(alloc)?;
     match files.read(alloc, &asked, u64::from(most)) {
@@ -265,9 +278,12 @@ fn carry<F: Files>(
 ) -> Result<State, ReadFault>
     requires limits { AreBounded here.now.limits.now }
     requires lines { length text.now < 4294967295 }
-    ensures { Over (F.tells files.old) (F.tells files.new)
+    ensures says { Over (F.tells files.old) (F.tells files.new)
         (λ held. carried (inside here.now held) here.now.limits.now held here.now.file.now [] state
         (reading (beginning text.now)).0 (reading (beginning text.now)).1) result }
+    ensures asks { BlamesBy (F.tells files.old).held
+        (λ held. CarriedAsk (inside here.now held) (NestedAsks here.now.limits.now held here.now.more)
+        here.now.limits.now held here.now.file.now [] state (reading (beginning text.now)).0) result }
 {
     let alloc = here.alloc;
     let mut lexer = Lexer::new(text);

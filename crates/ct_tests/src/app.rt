@@ -45,6 +45,34 @@ Test project .
 The following tests FAILED:
 \t2 - b (Not Run)
 Errors while running CTest
+=== a start that fails is repeated
+told 1 unstarted 0
+---
+add_test(ok \"true\")
+>>> --repeat until-pass:3
+status 0, asked 2, unstarted 1
+Test project .
+1/1 Test #1: ok ... Passed 0.00 sec
+
+100% tests passed, 0 tests failed out of 1
+=== neither of two tests is started
+told 1 unstarted 0
+told 2 unstarted 0
+---
+add_test(a true)
+add_test(b true)
+>>>
+status 8, asked 2, unstarted 2
+Test project .
+1/2 Test #1: a ... ***Not Run (Unable to start) 0.00 sec
+2/2 Test #2: b ... ***Not Run (Unable to start) 0.00 sec
+
+0% tests passed, 2 tests failed out of 2
+
+The following tests FAILED:
+\t1 - a (Not Run)
+\t2 - b (Not Run)
+Errors while running CTest
 === a program is killed by a signal, one lacks a file, and the next test runs
 told 1 signalled 2500000
 told 2 lacks 0
@@ -254,6 +282,12 @@ set_tests_properties(b PROPERTIES TIMEOUT soon PROCESSORS many COLOUR red)
 >>>
 status 2, asked 0, unstarted 0
 ctest: test 2: PROCESSORS: bad number
+=== a test file includes itself
+---
+include(\"CTestTestfile.cmake\")
+>>>
+status 2, asked 0, unstarted 0
+ctest: ./CTestTestfile.cmake:1: files nest too deep
 === the first call of the files fails
 call 1 fails
 ---

@@ -354,6 +354,39 @@ Test project .
 100% tests passed, 0 tests failed out of 1
 no costs
 log 7:last;
+=== the header cannot be put: no test starts, and nothing is written
+put 1 fails
+log 7:last;
+told 1 0 10000
+---
+add_test(ok \"true\")
+>>>
+status 4, 0 entries
+no costs
+log 7:last;
+=== the line of a test cannot be put: nothing is written
+put 2 fails
+log 7:last;
+told 1 0 10000
+---
+add_test(ok \"true\")
+>>>
+status 4, 2 entries
+Test project .
+no costs
+log 7:last;
+=== the first line of the summary cannot be put: nothing is written
+put 3 fails
+log 7:last;
+told 1 0 10000
+---
+add_test(ok \"true\")
+>>>
+status 4, 2 entries
+Test project .
+1/1 Test #1: ok ... Passed 0.01 sec
+no costs
+log 7:last;
 === the last line of the summary cannot be put: nothing is written
 put 4 fails
 log 7:last;

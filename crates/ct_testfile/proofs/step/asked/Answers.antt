@@ -12,10 +12,13 @@ use Rattle.ct_testfile.specs.declared.state.State.{State}
 use Rattle.ct_suite.specs.declared.value.Value.{Value}
 use Rattle.ct_testfile.proofs.OverLemmas.{Over-same, Over-still, Over-stopped, Over-then, Over-made}
 use Rattle.ct_testfile.proofs.StepLemmas.{then_asked, branch_with, asked-on_line}
+use Rattle.ct_testfile.specs.Asks.{ConditionAsks, NamesPath}
+use Rattle.ct_testfile.specs.Says.{IfFilesFailed}
+use Rattle.ct_testfile.proofs.AsksLemmas.{blamed-fault, ok-and, on_line-ok, unblamed}
 use Rattle.ct_testfile.proofs.step.asked.Goals as goal
 
-pub returns-in_err-values : goal.returns-in_err-values
-returns-in_err-values g c =
+pub returns-in_err-values-clause-says : goal.returns-in_err-values-clause-says
+returns-in_err-values-clause-says g c =
     let tells = g.F.Files.tells c.args.files.now in
     let path = c.args.here.now.file.now.path in
     let dir = c.args.here.now.file.now.dir in
@@ -28,8 +31,8 @@ returns-in_err-values g c =
     let asks : Held → Result (Branch × State) ReadFault = λ held. on_line path line (asked c.args.here.now.limits.now held dir c.args.call.now c.args.state) in
     rw (p.1, p.2) (Over-same tells tells (λ held. first held >>= then_asked held dir path line) asks (Err fault) (λ held. sym (asked-on_line c.args.here.now.limits.now held dir path line c.args.call.now c.args.state)) (Over-stopped tells tells first (λ held. then_asked held dir path line) fault (Over-still tells first (Err fault) c.in_err-values.ensures.unfailed (λ held. c.in_err-values.ensures.says read begins))))
 
-pub returns-in_err-found : goal.returns-in_err-found
-returns-in_err-found g c =
+pub returns-in_err-found-clause-says : goal.returns-in_err-found-clause-says
+returns-in_err-found-clause-says g c =
     let tells = g.F.Files.tells c.args.files.now in
     let now = g.F.Files.tells c.holds.new.files in
     let path = c.args.here.now.file.now.path in
@@ -44,11 +47,11 @@ returns-in_err-found g c =
     let first : Held → Result (List Value × State) ReadFault = λ held. on_line path line read in
     let asks : Held → Result (Branch × State) ReadFault = λ held. on_line path line (asked c.args.here.now.limits.now held dir c.args.call.now c.args.state) in
     let Q : List Value → Type 0 = λ vs. Over {A = Bool} tells now (λ held. on_line path line (holds held dir state.variables vs)) (Err fault) in
-    let over = subst Q c.as_slice.ensures c.in_err-found.ensures in
+    let over = subst Q c.as_slice.ensures c.in_err-found.ensures.says in
     rw (p.1, p.2) (Over-same tells now (λ held. first held >>= then_asked held dir path line) asks (Err fault) (λ held. sym (asked-on_line c.args.here.now.limits.now held dir path line c.args.call.now c.args.state)) (Over-then tells tells now first (λ held. then_asked held dir path line) (values, state) (Err fault) (Over-still tells first (Ok (values, state)) tt (λ held. c.in_ok-values.ensures.says read begins)) (Over-stopped tells now (λ held. on_line path line (holds held dir state.variables values)) (λ held is. Ok (branch_with state is)) fault over)))
 
-pub returns : goal.returns
-returns g c =
+pub returns-clause-says : goal.returns-clause-says
+returns-clause-says g c =
     let tells = g.F.Files.tells c.args.files.now in
     let now = g.F.Files.tells c.holds.new.files in
     let path = c.args.here.now.file.now.path in
@@ -62,5 +65,26 @@ returns g c =
     let first : Held → Result (List Value × State) ReadFault = λ held. on_line path line read in
     let asks : Held → Result (Branch × State) ReadFault = λ held. on_line path line (asked c.args.here.now.limits.now held dir c.args.call.now c.args.state) in
     let Q : List Value → Type 0 = λ vs. Over {A = Bool} tells now (λ held. on_line path line (holds held dir state.variables vs)) (Ok found) in
-    let over = subst Q c.as_slice.ensures c.in_ok-found.ensures in
+    let over = subst Q c.as_slice.ensures c.in_ok-found.ensures.says in
     Over-same tells now (λ held. first held >>= then_asked held dir path line) asks (Ok (c.branch_by.result, state)) (λ held. sym (asked-on_line c.args.here.now.limits.now held dir path line c.args.call.now c.args.state)) (Over-then tells tells now first (λ held. then_asked held dir path line) (values, state) (Ok (c.branch_by.result, state)) (Over-still tells first (Ok (values, state)) tt (λ held. c.in_ok-values.ensures.says read begins)) (Over-made tells now (λ held. on_line path line (holds held dir state.variables values)) (branch_with state) found (c.branch_by.result, state) over (λ i. (c.branch_by.ensures i, state))))
+
+pub returns-in_err-values-clause-asks : goal.returns-in_err-values-clause-asks
+returns-in_err-values-clause-asks g c =
+    let asks = ConditionAsks c.args.here.now.limits.now c.args.here.now.file.now.dir c.args.call.now c.args.state in
+    let p = err_from_is_err_and c.from_residual.result c.from_residual.ensures.1 in
+    rw (p.1, p.2) (unblamed {A = List Value × State} asks (Err c.in_err-values.field-0.0) c.in_err-values.ensures.unfailed)
+
+pub returns-in_err-found-clause-asks : goal.returns-in_err-found-clause-asks
+returns-in_err-found-clause-asks g c =
+    let limits = c.args.here.now.limits.now in
+    let dir = c.args.here.now.file.now.dir in
+    let line = c.args.call.now.line in
+    let read = begun limits c.args.call.now.args c.args.state in
+    let values = c.in_ok-values.values in
+    let state = c.in_ok-values.state in
+    let fault = c.in_err-found.field-0.0 in
+    let asks = ConditionAsks limits dir c.args.call.now c.args.state in
+    let is = on_line-ok c.args.here.now.file.now.path line read (values, state) (c.in_ok-values.ensures.says read c.begin-begun.ensures) in
+    let named = subst (λ (vs : List Value). IfFilesFailed fault (NamesPath dir vs)) c.as_slice.ensures c.in_err-found.ensures.asks in
+    let p = err_from_is_err_and c.from_residual-in_err-found.result c.from_residual-in_err-found.ensures.1 in
+    rw (p.1, p.2) (blamed-fault (NamesPath dir values) asks fault (λ path. ok-and read (values, state) (λ r. NamesPath dir r.0 path) is) named)

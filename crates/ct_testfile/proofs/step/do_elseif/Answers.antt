@@ -10,10 +10,16 @@ use Rattle.ct_testfile.specs.declared.state.State.{State}
 use Rattle.ct_testfile.specs.declared.step.Step.{Step}
 use Rattle.ct_testfile.proofs.ConditionLemmas.{innermost-none, innermost-some}
 use Rattle.ct_testfile.proofs.OverLemmas.{Over-same, Over-still, Over-stopped, Over-memory, Over-made, on_line-then}
+use Rattle.std.proofs.Common.{Some}
+use Rattle.ct_testfile.specs.Asks.{ConditionAsks, IsEvaluated}
+use Rattle.ct_testfile.specs.Ifs.{innermost}
+use Rattle.ct_testfile.specs.declared.branch.Branch.TheVariants.{Waiting}
+use Rattle.ct_testfile.specs.declared.command.Flow.TheVariants.{ElseIf}
+use Rattle.ct_testfile.proofs.AsksLemmas.{blamed-fault, some-and, unblamed}
 use Rattle.ct_testfile.proofs.step.do_elseif.Goals as goal
 
-pub returns-in_default : goal.returns-in_default
-returns-in_default g c =
+pub returns-in_default-clause-says : goal.returns-in_default-clause-says
+returns-in_default-clause-says g c =
     let tells = g.F.Files.tells c.args.files.now in
     let path = c.args.here.now.file.now.path in
     let call = c.args.call.now in
@@ -21,8 +27,8 @@ returns-in_default g c =
     let none : c.args.ifs ≡ [] = innermost-none c.args.ifs (sym c.take_inner.ensures ∙ c.in_default.is) in
     Over-same tells tells (goes []) (goes c.args.ifs) c.unpaired.result (λ held. ap (λ ifs. goes ifs held) (sym none)) (Over-still tells (goes []) c.unpaired.result c.unpaired.ensures.unfailed (λ held. c.unpaired.ensures.says))
 
-pub returns-in_err-branch : goal.returns-in_err-branch
-returns-in_err-branch g c =
+pub returns-in_err-branch-clause-says : goal.returns-in_err-branch-clause-says
+returns-in_err-branch-clause-says g c =
     let tells = g.F.Files.tells c.args.files.now in
     let now = g.F.Files.tells c.behind_elseif.new.files in
     let path = c.args.here.now.file.now.path in
@@ -35,20 +41,20 @@ returns-in_err-branch g c =
     let some : c.args.ifs ≡ inner ∷ outer = innermost-some c.args.ifs outer inner (sym c.take_inner.ensures ∙ c.in-Some.is) in
     let branch_of : Held → Result (Branch × State) ReadFault = λ held. on_line path call.line (behind_elseif c.args.here.now.limits.now held dir call c.args.state inner.branch) in
     let p = err_from_is_err_and c.from_residual.result c.from_residual.ensures.1 in
-    rw (p.1, p.2) (Over-same tells now (λ held. branch_of held >>= λ f. Ok (in_branch inner.line outer f)) (goes c.args.ifs) (Err fault) (λ held. sym (on_line-then path call.line (behind_elseif c.args.here.now.limits.now held dir call c.args.state inner.branch) (in_branch inner.line outer)) ∙ ap (λ ifs. goes ifs held) (sym some)) (Over-stopped tells now branch_of (λ held f. Ok (in_branch inner.line outer f)) fault c.in_err-branch.ensures))
+    rw (p.1, p.2) (Over-same tells now (λ held. branch_of held >>= λ f. Ok (in_branch inner.line outer f)) (goes c.args.ifs) (Err fault) (λ held. sym (on_line-then path call.line (behind_elseif c.args.here.now.limits.now held dir call c.args.state inner.branch) (in_branch inner.line outer)) ∙ ap (λ ifs. goes ifs held) (sym some)) (Over-stopped tells now branch_of (λ held f. Ok (in_branch inner.line outer f)) fault c.in_err-branch.ensures.says))
 
-pub returns-in_err-in_branch : goal.returns-in_err-in_branch
-returns-in_err-in_branch g c =
+pub returns-in_err-in_branch-clause-says : goal.returns-in_err-in_branch-clause-says
+returns-in_err-in_branch-clause-says g c =
     let tells = g.F.Files.tells c.args.files.now in
     let now = g.F.Files.tells c.behind_elseif.new.files in
     let path = c.args.here.now.file.now.path in
     let call = c.args.call.now in
     let branch_of : Held → Result (Branch × State) ReadFault = λ held. on_line path call.line (behind_elseif c.args.here.now.limits.now held c.args.here.now.file.now.dir call c.args.state c.in-Some.inner.branch) in
     let p = err_from_is_err_and c.from_residual-in_err-in_branch.result c.from_residual-in_err-in_branch.ensures.1 in
-    rw (p.1, p.2) (Over-memory tells now branch_of (λ held. on_line path call.line (continued c.args.here.now.limits.now held c.args.here.now.file.now.dir call c.args.ifs c.args.state)) (c.in_ok-branch.branch, c.in_ok-branch.state) c.in_ok-branch.ensures)
+    rw (p.1, p.2) (Over-memory tells now branch_of (λ held. on_line path call.line (continued c.args.here.now.limits.now held c.args.here.now.file.now.dir call c.args.ifs c.args.state)) (c.in_ok-branch.branch, c.in_ok-branch.state) c.in_ok-branch.ensures.says)
 
-pub returns : goal.returns
-returns g c =
+pub returns-clause-says : goal.returns-clause-says
+returns-clause-says g c =
     let tells = g.F.Files.tells c.args.files.now in
     let now = g.F.Files.tells c.behind_elseif.new.files in
     let path = c.args.here.now.file.now.path in
@@ -60,4 +66,18 @@ returns g c =
     let goes : List OpenIf → Held → Result Step ReadFault = λ ifs held. on_line path call.line (continued c.args.here.now.limits.now held dir call ifs c.args.state) in
     let some : c.args.ifs ≡ inner ∷ outer = innermost-some c.args.ifs outer inner (sym c.take_inner.ensures ∙ c.in-Some.is) in
     let branch_of : Held → Result (Branch × State) ReadFault = λ held. on_line path call.line (behind_elseif c.args.here.now.limits.now held dir call c.args.state inner.branch) in
-    Over-same tells now (λ held. branch_of held >>= λ f. Ok (in_branch inner.line outer f)) (goes c.args.ifs) (Ok c.in_ok-in_branch.field-0) (λ held. sym (on_line-then path call.line (behind_elseif c.args.here.now.limits.now held dir call c.args.state inner.branch) (in_branch inner.line outer)) ∙ ap (λ ifs. goes ifs held) (sym some)) (Over-made tells now branch_of (in_branch inner.line outer) found c.in_ok-in_branch.field-0 c.in_ok-branch.ensures c.in_ok-in_branch.ensures)
+    Over-same tells now (λ held. branch_of held >>= λ f. Ok (in_branch inner.line outer f)) (goes c.args.ifs) (Ok c.in_ok-in_branch.field-0) (λ held. sym (on_line-then path call.line (behind_elseif c.args.here.now.limits.now held dir call c.args.state inner.branch) (in_branch inner.line outer)) ∙ ap (λ ifs. goes ifs held) (sym some)) (Over-made tells now branch_of (in_branch inner.line outer) found c.in_ok-in_branch.field-0 c.in_ok-branch.ensures.says c.in_ok-in_branch.ensures)
+
+pub returns-in_default-clause-asks : goal.returns-in_default-clause-asks
+returns-in_default-clause-asks g c =
+    let asks = ConditionAsks c.args.here.now.limits.now c.args.here.now.file.now.dir c.args.call.now c.args.state in
+    unblamed (λ path. IsEvaluated (Some ElseIf) c.args.ifs × asks path) c.unpaired.result c.unpaired.ensures.unfailed
+
+pub returns-in_err-branch-clause-asks : goal.returns-in_err-branch-clause-asks
+returns-in_err-branch-clause-asks g c =
+    let asks = ConditionAsks c.args.here.now.limits.now c.args.here.now.file.now.dir c.args.call.now c.args.state in
+    let inner = c.in-Some.inner in
+    let outer = c.in-Some.outer in
+    let is : innermost c.args.ifs ≡ Some (inner, outer) = sym c.take_inner.ensures ∙ c.in-Some.is in
+    let p = err_from_is_err_and c.from_residual.result c.from_residual.ensures.1 in
+    rw (p.1, p.2) (blamed-fault (λ path. (inner.branch ≡ Waiting) × asks path) (λ path. IsEvaluated (Some ElseIf) c.args.ifs × asks path) c.in_err-branch.field-0.0 (λ path waits. (some-and (innermost c.args.ifs) (inner, outer) (λ found. found.0.branch ≡ Waiting) is waits.0, waits.1)) c.in_err-branch.ensures.asks)

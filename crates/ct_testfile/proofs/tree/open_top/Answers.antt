@@ -7,16 +7,22 @@ use Rattle.ct_testfile.specs.declared.fault.ReadFault.TheVariants.{NoMemory}
 use Rattle.ct_testfile.specs.declared.opening.Opening.{Opening}
 use Rattle.ct_testfile.specs.declared.state.State.{State}
 use Rattle.ct_testfile.proofs.OverLemmas.{Over-still}
+use Rattle.ct_testfile.specs.Asks.{BlamesBy, NestedAsks, OpeningAsks}
 use Rattle.ct_testfile.proofs.tree.open_top.Goals as goal
 
-pub returns-in_err-opening : goal.returns-in_err-opening
-returns-in_err-opening g c =
+pub returns-in_err-opening-clause-says : goal.returns-in_err-opening-clause-says
+returns-in_err-opening-clause-says g c =
     let limits = c.args.limits.now in
     let dir = c.args.dir.now in
     let p = err_from_is_err_and c.from_residual.result c.from_residual.ensures.1 in
     rw (p.1, p.2) (Over-still (g.F.Files.tells c.args.files.now) (λ held. opened_by (nested limits held limits.open_files) (test_file dir).path 0 (top dir) c.args.state (held (test_file dir).path)) (Err NoMemory) tt (λ held. tt))
 
-pub returns : goal.returns
-returns g c =
+pub returns-clause-says : goal.returns-clause-says
+returns-clause-says g c =
     let limits = c.args.limits.now in
-    subst (λ (opening : Opening). Over {A = State} (g.F.Files.tells c.args.files.now) (g.F.Files.tells c.open.new.files) (λ held. opened_by (nested limits held limits.open_files) opening.file.path 0 opening c.args.state (held opening.file.path)) c.open.result) c.in_ok-opening.ensures c.open.ensures
+    subst (λ (opening : Opening). Over {A = State} (g.F.Files.tells c.args.files.now) (g.F.Files.tells c.open.new.files) (λ held. opened_by (nested limits held limits.open_files) opening.file.path 0 opening c.args.state (held opening.file.path)) c.open.result) c.in_ok-opening.ensures c.open.ensures.says
+
+pub returns-clause-asks : goal.returns-clause-asks
+returns-clause-asks g c =
+    let limits = c.args.limits.now in
+    subst (λ (opening : Opening). BlamesBy {A = State} (g.F.Files.tells c.args.files.now).held (λ held. OpeningAsks (NestedAsks limits held limits.open_files) held opening c.args.state) c.open.result) c.in_ok-opening.ensures c.open.ensures.asks

@@ -7,6 +7,9 @@ use Rattle.ct_testfile.specs.declared.fault.ReadFault.TheVariants.{NoMemory}
 use Rattle.ct_testfile.specs.declared.state.State.{State}
 use Rattle.ct_testfile.proofs.OverLemmas.{Over-made, Over-memory, Over-still, Over-stopped}
 use Rattle.ct_testfile.proofs.TreeLemmas.{begun-through}
+use Rattle.std.proofs.Common.{subst}
+use Rattle.ct_testfile.specs.Asks.{BlamesBy, NestedAsks, OpeningAsks}
+use Rattle.ct_testfile.specs.Tree.{top}
 use Rattle.ct_testfile.proofs.tree.read_through.Goals as goal
 
 pub returns-in_err-state-clause-says : goal.returns-in_err-state-clause-says
@@ -21,7 +24,7 @@ returns-in_err-state-2-clause-says g c =
     let fault = c.in_err-state-2.field-0.0 in
     let says : Held → Result State ReadFault = λ held. read_through c.args.limits.now held c.args.dir.now c.args.config.now in
     let p = err_from_is_err_and c.from_residual-in_err-state-2.result c.from_residual-in_err-state-2.ensures.1 in
-    rw (p.1, p.2) (Over-stopped before now says (λ held state. Ok state.tests) fault (begun-through c.args.limits.now c.args.dir.now c.args.config.now c.in_ok-state.state before now (Err fault) c.in_ok-state.ensures c.in_err-state-2.ensures))
+    rw (p.1, p.2) (Over-stopped before now says (λ held state. Ok state.tests) fault (begun-through c.args.limits.now c.args.dir.now c.args.config.now c.in_ok-state.state before now (Err fault) c.in_ok-state.ensures c.in_err-state-2.ensures.says))
 
 pub returns-in_err-define-clause-says : goal.returns-in_err-define-clause-says
 returns-in_err-define-clause-says g c =
@@ -30,7 +33,7 @@ returns-in_err-define-clause-says g c =
     let state = c.in_ok-state-2.state in
     let says : Held → Result State ReadFault = λ held. read_through c.args.limits.now held c.args.dir.now c.args.config.now in
     let p = err_from_is_err_and c.from_residual-in_err-define.result c.from_residual-in_err-define.ensures.1 in
-    rw (p.1, p.2) (Over-memory before now says (λ held. tree_within c.args.limits.now held c.args.dir.now c.args.config.now) state (begun-through c.args.limits.now c.args.dir.now c.args.config.now c.in_ok-state.state before now (Ok state) c.in_ok-state.ensures c.in_ok-state-2.ensures))
+    rw (p.1, p.2) (Over-memory before now says (λ held. tree_within c.args.limits.now held c.args.dir.now c.args.config.now) state (begun-through c.args.limits.now c.args.dir.now c.args.config.now c.in_ok-state.state before now (Ok state) c.in_ok-state.ensures c.in_ok-state-2.ensures.says))
 
 pub returns-clause-says : goal.returns-clause-says
 returns-clause-says g c =
@@ -38,4 +41,13 @@ returns-clause-says g c =
     let now = g.F.Files.tells c.open_top.new.files in
     let state = c.in_ok-state-2.state in
     let says : Held → Result State ReadFault = λ held. read_through c.args.limits.now held c.args.dir.now c.args.config.now in
-    Over-made before now says (λ (state : State). state.tests) state c.in_ok-define.field-0 (begun-through c.args.limits.now c.args.dir.now c.args.config.now c.in_ok-state.state before now (Ok state) c.in_ok-state.ensures c.in_ok-state-2.ensures) c.in_ok-define.ensures.is
+    Over-made before now says (λ (state : State). state.tests) state c.in_ok-define.field-0 (begun-through c.args.limits.now c.args.dir.now c.args.config.now c.in_ok-state.state before now (Ok state) c.in_ok-state.ensures c.in_ok-state-2.ensures.says) c.in_ok-define.ensures.is
+
+pub returns-in_err-state-2-clause-asks : goal.returns-in_err-state-2-clause-asks
+returns-in_err-state-2-clause-asks g c =
+    let limits = c.args.limits.now in
+    let before = (g.F.Files.tells c.args.files.now).held in
+    let fault = c.in_err-state-2.field-0.0 in
+    let asks = subst (λ (state : State). BlamesBy {A = State} before (λ held. OpeningAsks (NestedAsks limits held limits.open_files) held (top c.args.dir.now) state) (Err fault)) c.in_ok-state.ensures c.in_err-state-2.ensures.asks in
+    let p = err_from_is_err_and c.from_residual-in_err-state-2.result c.from_residual-in_err-state-2.ensures.1 in
+    rw (p.1, p.2) asks

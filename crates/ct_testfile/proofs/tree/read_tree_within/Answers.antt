@@ -1,5 +1,7 @@
 use Rattle.ct_testfile.specs.Tree.{tree_within}
 use Rattle.ct_testfile.proofs.TreeLemmas.{told-ok, told-refused, told-kept}
+use Rattle.ct_testfile.specs.Asks.{AsksWithin}
+use Rattle.ct_testfile.proofs.AsksLemmas.{told-blamed}
 use Rattle.ct_testfile.proofs.tree.read_tree_within.Goals as goal
 
 pub returns-clause-ok : goal.returns-clause-ok
@@ -13,3 +15,6 @@ returns-clause-cause g c = c.read_through.ensures.says.cause
 
 pub returns-clause-kept : goal.returns-clause-kept
 returns-clause-kept g c = told-kept (g.F.Files.tells c.args.files.now).held (g.F.Files.tells c.read_through.new.files).held c.read_through.ensures.says.kept
+
+pub returns-clause-asks : goal.returns-clause-asks
+returns-clause-asks g c = told-blamed (g.F.Files.tells c.args.files.now).held (λ held. AsksWithin c.args.limits.now held c.args.dir.now c.args.config.now) c.read_through.result c.read_through.ensures.asks
