@@ -86,7 +86,8 @@ impl Running<Child, ChildStdout, ChildStderr> {
 /// it runs and then its standard error, and tells how it ended.
 ///
 /// It returns when the program has ended and no process holds its outputs any more. Else
-/// it returns at the limit: it stops the program, and reads its outputs no further.
+/// it returns at the limit: it stops the program, and reads its outputs no further. A program
+/// that the system refuses to stop has timed out all the same, and runs on.
 pub fn attend<C: Clock, S: Started, O: Read + AsRawFd, P: Read + AsRawFd, E: Ear>(
     clock: &C,
     alloc: Global,
@@ -105,7 +106,7 @@ pub fn attend<C: Clock, S: Started, O: Read + AsRawFd, P: Read + AsRawFd, E: Ear
     let mut kept = Blob::new(alloc);
     let ended = watch(clock, limit, program, ear, &mut kept);
     if !matches!(ended, Ok(Some(_))) {
-        stop(&mut program.child)?;
+        let _stopped = stop(&mut program.child);
     }
     let how = how_of(ended?);
     ear.hear(kept.bytes());

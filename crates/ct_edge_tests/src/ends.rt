@@ -18,12 +18,11 @@ const ENDS: &str = "\
 none none is Exited(7)
 none 60000000 is Exited(7)
 none 0 is TimedOut
-stop none is Exited(7)
 stop 60000000 is Exited(7)
-stop 0 is a fault
+stop 0 is TimedOut
 end none is a fault
 end 60000000 is Exited(7)
-end 0 is a fault
+end 0 is TimedOut
 look none is Exited(7)
 look 60000000 is a fault
 look 0 is TimedOut
@@ -82,7 +81,9 @@ fn are_ended<C: Clock>(rt: HostRuntime, clock: &C, rows: &'static str) -> Result
 }
 
 #[test]
-fn tells_a_fault_where_a_program_cannot_be_stopped_or_waited_for(rt: HostRuntime) -> Result<(), Fail> {
+fn tells_how_a_program_ends_that_cannot_be_stopped_or_waited_for(
+    rt: HostRuntime,
+) -> Result<(), Fail> {
     are_ended(rt, &rt, ENDS)
 }
 
