@@ -12,13 +12,12 @@ use crate::pipe::read_both;
 use ct_base::{Blob, Ear};
 use ct_verdict::How;
 use std::alloc::Global;
-use std::io;
 use std::io::Read;
 use std::os::fd::AsRawFd;
 use std::process::{Child, ChildStderr, ChildStdout, ExitStatus};
 use std::rt::Clock;
-use std::thread;
 use std::time::Duration;
+use std::{io, thread};
 
 /// How many looks at a program that has closed its outputs come without a pause: it usually ends at once.
 const QUICK_LOOKS: u64 = 64;

@@ -57,7 +57,10 @@ fn ended<C: Clock>(
         output: closed(ready),
         errors: closed(ready),
     };
-    told_of(alloc, attend(clock, alloc, limit, &mut program, &mut Collect::new(alloc)))
+    told_of(
+        alloc,
+        attend(clock, alloc, limit, &mut program, &mut Collect::new(alloc)),
+    )
 }
 
 fn told_of(alloc: Global, ended: Result<How, StartFault>) -> Result<String, NoMemory> {

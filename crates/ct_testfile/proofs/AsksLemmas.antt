@@ -132,7 +132,7 @@ module _ (limits : Limits) (more : ℕ) (file : TestFile) where
     asks-behind step known is opens asks =
         let goes : Result Step ReadFault → Result (List OpenIf × State) ReadFault = λ r. r >>= λ s. known_of limits more file s call.line held >>= λ next. Ok (s.ifs, next) in
         let behind : behind_call (nested limits held more) limits held file ifs state call ≡ Ok (step.ifs, known) =
-            ap goes is ∙ ap (λ (r : Result State ReadFault). r >>= λ next. Ok (step.ifs, next)) opens in
+        ap goes is ∙ ap (λ (r : Result State ReadFault). r >>= λ next. Ok (step.ifs, next)) opens in
         subst (λ calls. CarriedAsk (nested limits held more) (NestedAsks limits held more) limits held file ifs state calls path) (sym next.0) (inr (inr (ok-and (behind_call (nested limits held more) limits held file ifs state call) (step.ifs, known) (λ next. CarriedAsk (nested limits held more) (NestedAsks limits held more) limits held file next.0 next.1 (reading new).0 path) behind asks)))
 
 -- files that are opened one after the other, from the one at a place on
@@ -141,20 +141,23 @@ module _ (limits : Limits) (left : ℕ) (file : TestFile) (line : ℕ) (opens : 
   opened_ask_from names state held path = OpenedAsk (nested limits held left) (NestedAsks limits held left) held file.path line (map (opening_of file.dir opens.required) names) state path
 
   module _ (names : List (List ℕ)) (i : ℕ) (name : List ℕ) (opening : Opening) (state : State) (within : i < length names) (is : name ≡ get_or names i name) (means : opening ≡ opening_of file.dir opens.required name) (held : Held) (path : List ℕ) where
-    front : opened_ask_from (drop i names) state held path ≡ OpenedAsk (nested limits held left) (NestedAsks limits held left) held file.path line (opening ∷ map (opening_of file.dir opens.required) (drop (i + 1) names)) state path
+    front : map (opening_of file.dir opens.required) (drop i names) ≡ opening ∷ map (opening_of file.dir opens.required) (drop (i + 1) names)
     front =
-        at_drop_more (λ ns. opened_ask_from ns state held path) names i name within
-        ∙ ap (λ n. opened_ask_from (n ∷ drop (i + 1) names) state held path) (sym is)
-        ∙ ap (λ (o : Opening). OpenedAsk (nested limits held left) (NestedAsks limits held left) held file.path line (o ∷ map (opening_of file.dir opens.required) (drop (i + 1) names)) state path) (sym means)
+        at_drop_more (λ ns. map (opening_of file.dir opens.required) ns) names i name within
+        ∙ ap (λ n. opening_of file.dir opens.required n ∷ map (opening_of file.dir opens.required) (drop (i + 1) names)) (sym is)
+        ∙ ap (λ (o : Opening). o ∷ map (opening_of file.dir opens.required) (drop (i + 1) names)) (sym means)
+
+    abbrev ask_of : List Opening → Type 0
+    ask_of opened = OpenedAsk (nested limits held left) (NestedAsks limits held left) held file.path line opened state path
 
     -- this one asks
     pub asks-one : OpeningAsks (NestedAsks limits held left) held opening state path → opened_ask_from (drop i names) state held path
-    asks-one asks = subst (λ (P : Type 0). P) (sym front) (inl asks)
+    asks-one asks = subst ask_of (sym front) (inl asks)
 
     -- one behind it asks
     pub asks-more : (known : State) → opened_one limits left file line opens opening state held ≡ Ok known → opened_ask_from (drop (i + 1) names) known held path → opened_ask_from (drop i names) state held path
     asks-more known opened asks =
-        subst (λ (P : Type 0). P) (sym front) (inr (ok-and (opened_one limits left file line opens opening state held) known (λ next. opened_ask_from (drop (i + 1) names) next held path) opened asks))
+        subst ask_of (sym front) (inr (ok-and (opened_one limits left file line opens opening state held) known (λ next. opened_ask_from (drop (i + 1) names) next held path) opened asks))
 
 -- what a fault names, where the files tell what they hold
 pub told-blamed : {A : Type 0} (told : Option Held) (asks : Held → List ℕ → Type 0) (result : Result A ReadFault) → BlamesBy told asks result → IfErr result (λ fault. IfSome told (λ held. IfFilesFailed fault (asks held)))

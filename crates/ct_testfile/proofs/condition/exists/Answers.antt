@@ -1,4 +1,4 @@
-use Rattle.std.proofs.Common.{ap, sym, ◌∙◌, Ok, Err, is_some}
+use Rattle.std.proofs.Common.{◌≡◌, ap, sym, ◌∙◌, Ok, Err, is_some}
 use Rattle.std.proofs.lemmas.Result.{err_from_is_err_and}
 use Rattle.ct_base.specs.Path.{joined}
 use Rattle.ct_testfile.specs.declared.fault.ReadFault.TheVariants.{NoMemory}

@@ -85,10 +85,12 @@ carry-calls-preserved g t c =
     let file = c.args.here.now.file.now in
     let begin = from limits c.args.here.now.more file c.new-ifs.result c.args.state c.new-lexer.result in
     let P : Option Call → Type 0 = λ call. IsNextOf file.path c.calls.lexer c.next_call.new.lexer (Ok call) in
-    let next = subst P c.in-Some.is c.in_ok-call.ensures in
-    (once-more limits c.args.here.now.more file before between mid c.calls.ifs c.calls.known c.in-Some.call c.calls.lexer c.next_call.new.lexer now begin c.in_ok-step.step c.in_ok-known.known c.calls.invariant.0 next c.in_ok-step.ensures.says c.in_ok-known.ensures.says, λ held told path asks.
-        let so_far = c.calls.invariant.0.kept held told in
-        c.calls.invariant.1 held told path (asks-behind limits c.args.here.now.more file c.calls.ifs c.calls.known c.in-Some.call c.calls.lexer c.next_call.new.lexer next held path c.in_ok-step.step c.in_ok-known.known (c.in_ok-step.ensures.says.answer held so_far) (c.in_ok-known.ensures.says.answer held (c.in_ok-step.ensures.says.kept held so_far)) asks))
+    let next = subst P c.in-Some.is c.in_ok-call.ensures in (
+      once-more limits c.args.here.now.more file before between mid c.calls.ifs c.calls.known c.in-Some.call c.calls.lexer c.next_call.new.lexer now begin c.in_ok-step.step c.in_ok-known.known c.calls.invariant.0 next c.in_ok-step.ensures.says c.in_ok-known.ensures.says,
+      λ held told path asks.
+          let so_far = c.calls.invariant.0.kept held told in
+          c.calls.invariant.1 held told path (asks-behind limits c.args.here.now.more file c.calls.ifs c.calls.known c.in-Some.call c.calls.lexer c.next_call.new.lexer next held path c.in_ok-step.step c.in_ok-known.known (c.in_ok-step.ensures.says.answer held so_far) (c.in_ok-known.ensures.says.answer held (c.in_ok-step.ensures.says.kept held so_far)) asks),
+    )
 
 pub carry-same-ifs-2 : goal.carry-same-ifs-2
 carry-same-ifs-2 g t c = refl
@@ -217,9 +219,11 @@ open_each-loop-name-preserved g t c =
     let opens = c.args.opens.now in
     let begin = opened_from c.args.here.now.limits.now c.args.here.now.more c.args.here.now.file.now c.args.line opens opens.names c.args.state in
     let within : c.loop-name.name-index < length opens.names = subst (λ ns. c.loop-name.name-index < length ns) c.as_slice-name-items.ensures c.loop-name-test.true in
-    let is : c.name-item.result ≡ get_or opens.names c.loop-name.name-index c.name-item.result = c.name-item.is ∙ ap (λ ns. get_or ns c.loop-name.name-index c.name-item.result) c.as_slice-name-items.ensures in
-    (opened-more c.args.here.now.limits.now c.args.here.now.more c.args.here.now.file.now c.args.line opens before between now opens.names c.loop-name.name-index c.name-item.result c.in_ok-opening.opening c.loop-name.known within is c.in_ok-opening.ensures begin c.in_ok-known.known c.loop-name.invariant.0 c.in_ok-known.ensures.says, λ held told path asks.
-        c.loop-name.invariant.1 held told path (asks-more c.args.here.now.limits.now c.args.here.now.more c.args.here.now.file.now c.args.line opens opens.names c.loop-name.name-index c.name-item.result c.in_ok-opening.opening c.loop-name.known within is c.in_ok-opening.ensures held path c.in_ok-known.known (c.in_ok-known.ensures.says.answer held (c.loop-name.invariant.0.kept held told)) asks))
+    let is : c.name-item.result ≡ get_or opens.names c.loop-name.name-index c.name-item.result = c.name-item.is ∙ ap (λ ns. get_or ns c.loop-name.name-index c.name-item.result) c.as_slice-name-items.ensures in (
+      opened-more c.args.here.now.limits.now c.args.here.now.more c.args.here.now.file.now c.args.line opens before between now opens.names c.loop-name.name-index c.name-item.result c.in_ok-opening.opening c.loop-name.known within is c.in_ok-opening.ensures begin c.in_ok-known.known c.loop-name.invariant.0 c.in_ok-known.ensures.says,
+      λ held told path asks.
+          c.loop-name.invariant.1 held told path (asks-more c.args.here.now.limits.now c.args.here.now.more c.args.here.now.file.now c.args.line opens opens.names c.loop-name.name-index c.name-item.result c.in_ok-opening.opening c.loop-name.known within is c.in_ok-opening.ensures held path c.in_ok-known.known (c.in_ok-known.ensures.says.answer held (c.loop-name.invariant.0.kept held told)) asks),
+    )
 
 pub open_each-returns-clause-says : goal.open_each-returns-clause-says
 open_each-returns-clause-says g t c =
@@ -260,8 +264,8 @@ carry-returns-in_err-known-clause-asks g t c =
     let next = subst P c.in-Some.is c.in_ok-call.ensures in
     let p = err_from_is_err_and c.from_residual-in_err-known.result c.from_residual-in_err-known.ensures.1 in
     rw (p.1, p.2) (λ held told.
-        let so_far = c.calls.invariant.0.kept held told in
-        blamed-fault (opened_asks limits more file step call.line held) (asks_from limits more file [] c.args.state (beginning c.args.text.now) held) fault (λ path asks. asks_from-start limits more file c.new-ifs.result c.args.state c.new-lexer.result c.args.text.now c.new-ifs.ensures c.new-lexer.ensures.place held path (c.calls.invariant.1 held told path (asks-opened limits more file c.calls.ifs c.calls.known call c.calls.lexer c.next_call.new.lexer next held path step (c.in_ok-step.ensures.says.answer held so_far) asks))) (c.in_err-known.ensures.asks held (c.in_ok-step.ensures.says.kept held so_far)))
+    let so_far = c.calls.invariant.0.kept held told in
+    blamed-fault (opened_asks limits more file step call.line held) (asks_from limits more file [] c.args.state (beginning c.args.text.now) held) fault (λ path asks. asks_from-start limits more file c.new-ifs.result c.args.state c.new-lexer.result c.args.text.now c.new-ifs.ensures c.new-lexer.ensures.place held path (c.calls.invariant.1 held told path (asks-opened limits more file c.calls.ifs c.calls.known call c.calls.lexer c.next_call.new.lexer next held path step (c.in_ok-step.ensures.says.answer held so_far) asks))) (c.in_err-known.ensures.asks held (c.in_ok-step.ensures.says.kept held so_far)))
 
 pub carry-returns-clause-asks : goal.carry-returns-clause-asks
 carry-returns-clause-asks g t c =
@@ -308,8 +312,8 @@ open-returns-clause-asks g t c =
     let opening = c.args.opening.now in
     let got = c.in_ok-got.got in
     λ held told.
-        let X : Option (List ℕ) → List ℕ → Type 0 = λ o path. IsSomeAnd o (λ text. NestedAsks limits held left opening.file c.args.state text path) in
-        blamed (X got) (OpeningAsks (NestedAsks limits held left) held opening c.args.state) c.enter.result (λ path asks. inr (asks-taken limits held opening.file c.args.state path left (held opening.file.path) (subst (λ (r : Result (Option (List ℕ)) ReadFault). IfOk r (λ o. X o path)) (sym (c.in_ok-got.ensures.says.answer held told)) asks))) (c.enter.ensures.asks held (c.in_ok-got.ensures.says.kept held told))
+    let X : Option (List ℕ) → List ℕ → Type 0 = λ o path. IsSomeAnd o (λ text. NestedAsks limits held left opening.file c.args.state text path) in
+    blamed (X got) (OpeningAsks (NestedAsks limits held left) held opening c.args.state) c.enter.result (λ path asks. inr (asks-taken limits held opening.file c.args.state path left (held opening.file.path) (subst (λ (r : Result (Option (List ℕ)) ReadFault). IfOk r (λ o. X o path)) (sym (c.in_ok-got.ensures.says.answer held told)) asks))) (c.enter.ensures.asks held (c.in_ok-got.ensures.says.kept held told))
 
 pub open_each-returns-in_err-known-clause-asks : goal.open_each-returns-in_err-known-clause-asks
 open_each-returns-in_err-known-clause-asks g t c =
