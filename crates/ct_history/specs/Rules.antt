@@ -1,5 +1,6 @@
 -- When a test may start, and when it may be settled. Source: CMake manual, cmake-properties(7), DEPENDS,
 -- FIXTURES_REQUIRED, PROCESSORS, RESOURCE_LOCK, RUN_SERIAL; ctest(1), Resource Allocation, --stop-on-failure.
+-- That locks may be shared is this project's own.
 use Rattle.std.specs.Prelude.{◌≡◌, ℕ, ◌+◌, Bool, true, false, not, ◌&&◌, ◌||◌, List, [], ◌∷◌, find, Option, Some, None, is_some, is_none, nat_le, bytes_eq, if◌then◌else◌}
 use Rattle.std.specs.List.{list_any, list_all}
 use Rattle.ct_base.specs.declared.defs.Resource.{Resource}
@@ -23,19 +24,28 @@ is_among name others = list_any (λ other. bytes_eq name other) others
 abbrev pub shares_name : List (List ℕ) → List (List ℕ) → Bool
 shares_name names others = list_any (λ name. is_among name others) names
 
--- the locks that a test names
+-- the locks that a test holds alone
 abbrev pub locks_of : Option PlanTest → List (List ℕ)
 locks_of None = []
 locks_of (Some t) = t.locks
+
+-- the locks that a test shares
+abbrev pub shared_of : Option PlanTest → List (List ℕ)
+shared_of None = []
+shared_of (Some t) = t.shared
+
+-- one test locks the other one out: a name in `locks` of the one stands in `locks` or in `shared` of the other
+abbrev pub locks_out : Option PlanTest → Option PlanTest → Bool
+locks_out one other = shares_name (locks_of one) (locks_of other) || shares_name (locks_of one) (shared_of other)
 
 -- the test runs alone
 abbrev pub is_serial : Option PlanTest → Bool
 is_serial None = false
 is_serial (Some t) = t.serial
 
--- two tests exclude each other: they name a lock in common, or one of them is serial
+-- two tests exclude each other: one of them locks the other one out, or one of them is serial
 unfoldable pub exclude : Option PlanTest → Option PlanTest → Bool
-exclude one other = shares_name (locks_of one) (locks_of other) || is_serial one || is_serial other
+exclude one other = locks_out one other || locks_out other one || is_serial one || is_serial other
 
 -- this test and some open test exclude each other
 abbrev pub is_excluded : List PlanTest → PlanTest → List Entry → Bool

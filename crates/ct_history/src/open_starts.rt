@@ -126,19 +126,25 @@ fn excludes(tests: &[PlanTest], test: &PlanTest, number: u32) -> bool
     ensures { result ≡ Rules.exclude (Some test.now) (Rules.test_at tests.now number) }
 {
     match test_at(tests, number) {
-        Some(other) => shares_lock(test, other) || test.serial || other.serial,
+        Some(other) => {
+            locks_out(test, other) || locks_out(other, test) || test.serial || other.serial
+        }
         None => test.serial,
     }
 }
 
-fn shares_lock(test: &PlanTest, other: &PlanTest) -> bool
-    ensures { result ≡ Rules.shares_name test.now.locks other.now.locks }
+/// Tells whether a lock that the test holds alone is one that the other test holds or shares.
+fn locks_out(test: &PlanTest, other: &PlanTest) -> bool
+    ensures { result ≡ Rules.locks_out (Some test.now) (Some other.now) }
 {
-    let others = other.locks.as_slice();
-    test.locks
-        .as_slice()
-        .iter()
-        .any(|name| is_among(name, others))
+    let locks = test.locks.as_slice();
+    shares_name(locks, other.locks.as_slice()) || shares_name(locks, other.shared.as_slice())
+}
+
+fn shares_name(names: &[Name], others: &[Name]) -> bool
+    ensures { result ≡ Rules.shares_name names.now others.now }
+{
+    names.iter().any(|name| is_among(name, others))
 }
 
 fn is_among(name: &Name, others: &[Name]) -> bool

@@ -13,7 +13,10 @@ pub struct PlanTest {
     pub name: Name,
     pub disabled: bool,
     pub processors: u32,
+    /// The locks that it holds alone: no test beside it names one of them, in `locks` or in `shared`.
     pub locks: List<Name>,
+    /// The locks that it may hold beside other tests that share them.
+    pub shared: List<Name>,
     /// Whether it runs alone.
     pub serial: bool,
     pub rules: Rules,

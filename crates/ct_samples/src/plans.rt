@@ -35,6 +35,7 @@ pub fn named(alloc: Global, number: u32, name: &[u8]) -> Result<PlanTest, NoMemo
         disabled: false,
         processors: 1,
         locks: List::new(alloc),
+        shared: List::new(alloc),
         serial: false,
         rules: Rules {
             pass_wanted: false,
