@@ -1,4 +1,4 @@
--- Bunches of tests that wait for one lock: while the lock is held, no test of
+-- Bunches of tests that wait for one lock: while the lock is taken, no test of
 -- the bunch can start. So the first test that may start is found by a look at
 -- the first head of each bunch and, if the lock is free, at the heads behind it.
 use Rattle.std.proofs.Common.{◌≡◌, ◌∙◌, sym, ap, subst, Bool, true, false, not, ◌&&◌, ◌||◌, ◌==◌, cond, ℕ, ◌+◌, ◌<◌, ◌≤◌, List, [], ◌∷◌, ◌++◌, All, length, length-append, take, get_or, slice_get, nat_le, nat_lt, refl, arith, inl, inr}
@@ -25,7 +25,7 @@ use Rattle.ct_core.specs.declared.choice.Startable.{Startable}
 use Rattle.ct_core.specs.declared.in_use.InUse.{InUse}
 use Rattle.ct_core.specs.Bunches.{AreBunchesOf, IsBefore, IsFirstOfBunch, NoneOfBunch, NoNewBunchTo, has_room_at, is_free_lock, key_at, lock_at, test_in_queue}
 use Rattle.ct_core.specs.Choice.{IsStartOf, IsStartable, NoneSettles, NoneStarts}
-use Rattle.ct_core.specs.InUse.{IsInUse}
+use Rattle.ct_core.specs.InUse.{IsInUse, is_locked}
 use Rattle.ct_core.specs.Lines.{demand_at, demand_of_test}
 use Rattle.ct_core.specs.Locks.{is_held}
 use Rattle.ct_core.specs.Waiting.{IsDue, IsQueued}
@@ -265,8 +265,8 @@ module _ (plan : PlanParts) (sound : IsSound plan) (es : List Entry) (r : ReadyV
   -- the search through the heads of one bunch
   module _ (keys : List (Option ℕ)) (are : AreBunchesOf plan keys r.bunches) (u : InUse) (in_use : IsInUse plan (open_starts es) u) (first : ℕ) (here : IsHead r first) where
     -- if the first head can't start, and the lock of the bunch is
-    -- held or there is none, no other head of the bunch can start
-    pub closed_none : (end : Option ℕ) → (CanStart plan es (get_or plan.queue first 0) → ⊥) → is_free_lock (is_held u.locks) (key_at plan keys first) ≡ false → NoneOfBunch plan es r first end
+    -- taken or there is none, no other head of the bunch can start
+    pub closed_none : (end : Option ℕ) → (CanStart plan es (get_or plan.queue first 0) → ⊥) → is_free_lock (is_locked u) (key_at plan keys first) ≡ false → NoneOfBunch plan es r first end
     closed_none end unable closed head behind inside same is =
         by_key (key_at plan keys first) refl
       where
@@ -278,34 +278,35 @@ module _ (plan : PlanParts) (sound : IsSound plan) (es : List Entry) (r : ReadyV
             none_alike plan es (get_or plan.queue first 0) (get_or plan.queue head 0) (head_due first here)
             (one_demand plan keys r.bunches are first head (head_within first here) within (sym same) none) unable
         by_key (Some lock) some =
-            let held : is_held u.locks lock ≡ true = held_lock (is_held u.locks lock) (sym (ap (λ (k : Option (List ℕ)). is_free_lock (is_held u.locks) k) some) ∙ closed) in
+            let held : is_locked u lock ≡ true = held_lock (is_locked u lock) (sym (ap (λ (k : Option (List ℕ)). is_free_lock (is_locked u) k) some) ∙ closed) in
             let has = has_key (test_in_queue plan head) (get_or keys head None) lock (one_key plan keys r.bunches are head first within (head_within first here) same ∙ some) in
             let t = has.test in
             let found : test_at plan.tests (get_or plan.queue head 0) ≡ Some t = sym (queue_there plan head within) ∙ has.found in
-            let any = any_at (is_held u.locks) t.locks has.at lock has.named held in
+            let any = any_at (is_locked u) t.locks has.at lock has.named held in
             not_due plan es t (get_or plan.queue head 0) found (excluded t found any)
           where
             held_lock : (b : Bool) → not b ≡ false → b ≡ true
             held_lock true is = refl
             held_lock false is = absurd (true≢false is)
 
-            excluded : (t : PlanTest) → test_at plan.tests (get_or plan.queue head 0) ≡ Some t → list_any (is_held u.locks) t.locks ≡ true → may_start_if_placed plan t es ≡ false
+            excluded : (t : PlanTest) → test_at plan.tests (get_or plan.queue head 0) ≡ Some t → list_any (is_locked u) t.locks ≡ true → may_start_if_placed plan t es ≡ false
             excluded t found any =
                 let next = member_may plan sound es r q head on unsettled is.member in
                 let this : next.test ≡ t = same_Some next.test t (sym next.found ∙ found) in
                 subst (λ (v : PlanTest). may_start_if_placed plan v es ≡ has_room plan v es) this next.may
                 ∙ sym (room_beside plan es u t in_use)
                 ∙ ap (λ (b : Bool). nat_le (t.processors + u.processors) plan.level && not b)
-                (ap (λ (b : Bool). u.serial || t.serial && nat_lt 0 u.open_count || b) any ∙ or_right (u.serial || t.serial && nat_lt 0 u.open_count) true refl)
+                (ap (λ (b : Bool). u.serial || t.serial && nat_lt 0 u.open_count || b || list_any (is_held u.locks) t.shared) any
+                ∙ ap (λ (b : Bool). b || list_any (is_held u.locks) t.shared) (or_right (u.serial || t.serial && nat_lt 0 u.open_count) true refl))
                 ∙ and_no (nat_le (t.processors + u.processors) plan.level)
 
     -- if the lock of the bunch is free, a head may start exactly if there is room for it
-    module _ (free : is_free_lock (is_held u.locks) (key_at plan keys first) ≡ true) (head : ℕ) (same : get_or r.bunches head 0 ≡ get_or r.bunches first 0) (is : IsHead r head) where
+    module _ (free : is_free_lock (is_locked u) (key_at plan keys first) ≡ true) (head : ℕ) (same : get_or r.bunches head 0 ≡ get_or r.bunches first 0) (is : IsHead r head) where
       head_room : IsRoomFor plan es u head
       head_room = by_key (key_at plan keys first) refl
         where
           by_key : (k : Option (List ℕ)) → key_at plan keys first ≡ k → IsRoomFor plan es u head
-          by_key None none = absurd (true≢false (sym free ∙ ap (λ (k : Option (List ℕ)). is_free_lock (is_held u.locks) k) none))
+          by_key None none = absurd (true≢false (sym free ∙ ap (λ (k : Option (List ℕ)). is_free_lock (is_locked u) k) none))
           by_key (Some lock) some =
               let within = head_within head is in
               let has = has_key (test_in_queue plan head) (get_or keys head None) lock (one_key plan keys r.bunches are head first within (head_within first here) same ∙ some) in

@@ -16,15 +16,16 @@ use Rattle.ct_history.specs.declared.plan.PlanParts.{PlanParts}
 use Rattle.ct_history.specs.declared.history.Entry.{Entry}
 use Rattle.ct_history.specs.Plan.{test_at}
 use Rattle.ct_history.specs.History.{Running, open_starts, placed_slots, processors_of, used_processors, used_slots}
-use Rattle.ct_history.specs.Rules.{exclude, has_room, is_among, is_placed, is_serial, locks_of, may_start, shares_name}
+use Rattle.ct_history.specs.Rules.{exclude, has_room, is_among, is_placed, is_serial, locks_of, locks_out, may_start, shared_of, shares_name}
 use Rattle.ct_history.specs.Legal.{GetAlong}
 use Rattle.ct_history.proofs.ExcludeLemmas.{exclude-sym}
 use Rattle.ct_history.proofs.MayLemmas.{may_start-parts}
 use Rattle.ct_history.proofs.PlanLemmas.{find_passes}
 use Rattle.ct_core.specs.Locks.{is_held, knows}
+use Rattle.ct_core.specs.Sharers.{sharers_of, counts_sharers, is_shared, one_if}
 use Rattle.ct_core.specs.Slots.{IsFreeBeside, used_of}
 use Rattle.ct_core.specs.declared.in_use.InUse.{InUse}
-use Rattle.ct_core.specs.InUse.{CanGive, CanTake, Gives, IsInUse, KnowsLocks, Takes, has_room_beside, is_excluded_beside}
+use Rattle.ct_core.specs.InUse.{CanGive, CanTake, CountsSharers, Gives, IsInUse, KnowsLocks, Takes, has_room_beside, is_excluded_beside, is_locked}
 use Rattle.ct_core.proofs.FreeLemmas.{placed_beside, taken_for, used_if_some}
 
 -- if each lock is known as before, the locks of all tests stay known
@@ -32,6 +33,12 @@ still_known : (tests : List PlanTest) (old new : InUse) → ((name : List ℕ) �
 still_known tests old new same known = λ k d lt.
     let all : knows new.locks ≡ knows old.locks = λ j name. same name j in
     ap (λ (p : List ℕ → Bool). list_all p (get_or tests k d).locks) all ∙ known k d lt
+
+-- if the sharers of the same locks are counted as before, those of all tests still are
+still_counted : (tests : List PlanTest) (old new : InUse) → ((name : List ℕ) → counts_sharers new.sharers name ≡ counts_sharers old.sharers name) → CountsSharers tests old → CountsSharers tests new
+still_counted tests old new same counted = λ k d lt.
+    let all : counts_sharers new.sharers ≡ counts_sharers old.sharers = λ j name. same name j in
+    ap (λ (p : List ℕ → Bool). list_all p (get_or tests k d).shared) all ∙ counted k d lt
 
 any_one : (p : Running → Bool) (rs : List Running) (r : Running) → list_any p (rs ++ r ∷ []) ≡ (list_any p rs || p r)
 any_one p rs r = list_any-append p rs (r ∷ []) ∙ ap (λ (b : Bool). list_any p rs || b) (or_false (p r))
@@ -58,6 +65,10 @@ taken plan rs r t old new is found takes = record {
       ∙ ap (λ (b : Bool). b || is_among name t.locks) (is.locks name)
       ∙ ap (λ (o : Option PlanTest). list_any (λ (q : Running). is_among name (locks_of (test_at plan.tests q.test))) rs || is_among name (locks_of o)) (sym found)
       ∙ sym (any_one (λ (q : Running). is_among name (locks_of (test_at plan.tests q.test))) rs r);
+  counted = still_counted plan.tests old new takes.counted is.counted;
+  shares = λ name.
+      let same : one_if (is_among name (shared_of (test_at plan.tests r.test))) ≡ one_if (is_among name t.shared) = ap (λ (o : Option PlanTest). one_if (is_among name (shared_of o))) found in
+      omega (arith, takes.shares name, is.shares name, same, sum_by_push (λ (q : Running). one_if (is_among name (shared_of (test_at plan.tests q.test)))) rs r);
   resources = takes.resources ∙ is.resources;
   slots = λ place. omega (arith, takes.slots place, is.slots place, sum_by_push (λ (q : Running). placed_slots place q.placement) rs r);
 }
@@ -152,9 +163,11 @@ record GoTogether (one other : Option PlanTest) : Type 0 where
 together : (one other : Option PlanTest) → exclude one other ≡ false → GoTogether one other
 unfolding exclude
 together one other apart =
-    let both = or_parts (shares_name (locks_of one) (locks_of other) || is_serial one) (is_serial other) apart in
-    let rest = or_parts (shares_name (locks_of one) (locks_of other)) (is_serial one) both.0 in
-    record { shares = rest.0; first = rest.1; second = both.1 }
+    let both = or_parts (locks_out one other || locks_out other one || is_serial one) (is_serial other) apart in
+    let rest = or_parts (locks_out one other || locks_out other one) (is_serial one) both.0 in
+    let out = or_parts (locks_out one other) (locks_out other one) rest.0 in
+    let names = or_parts (shares_name (locks_of one) (locks_of other)) (shares_name (locks_of one) (shared_of other)) out.0 in
+    record { shares = names.0; first = rest.1; second = both.1 }
 
 any_less : (p q : Running → Bool) → ((r : Running) → q r ≡ false → p r ≡ false) → (rs : List Running) → list_any q rs ≡ false → list_any p rs ≡ false
 any_less p q less [] none = refl
@@ -203,6 +216,10 @@ given plan rs n r t old new is finds once along looked gives =
           (λ mine. any_less (λ (q : Running). is_among name (locks_of (test_at plan.tests q.test))) (λ (q : Running). exclude (test_at plan.tests r.test) (test_at plan.tests q.test))
           (λ q apart. shared_among name t.locks (locks_of (test_at plan.tests q.test)) (ap (λ (o : Option PlanTest). shares_name (locks_of o) (locks_of (test_at plan.tests q.test))) (sym found) ∙ (together (test_at plan.tests r.test) (test_at plan.tests q.test) apart).shares) mine)
           others out.alone);
+      counted = still_counted plan.tests old new gives.counted is.counted;
+      shares = λ name.
+          let mine : one_if (is_among name (shared_of (test_at plan.tests r.test))) ≡ one_if (is_among name t.shared) = ap (λ (o : Option PlanTest). one_if (is_among name (shared_of o))) found in
+          omega (arith, gives.shares name, is.shares name, mine, out.sums (λ (q : Running). one_if (is_among name (shared_of (test_at plan.tests q.test)))));
       resources = gives.resources ∙ is.resources;
       slots = λ place. omega (arith, gives.slots place, is.slots place, out.sums (λ (q : Running). placed_slots place q.placement));
     }
@@ -245,9 +262,23 @@ give_possible plan rs n r t u used is finds looked placed =
           omega (arith, is.processors, mine, found_sum (λ (q : Running). processors_of (test_at plan.tests q.test)) (λ (q : Running). q.test == n) rs r finds);
       opens = omega (arith, is.opens, found_any (λ (q : Running). q.test == n) rs r finds);
       known = looked_up (λ (x : PlanTest). list_all (knows u.locks) x.locks ≡ true) n plan.tests t looked is.known;
+      counted = looked_up (λ (x : PlanTest). list_all (counts_sharers u.sharers) x.shared ≡ true) n plan.tests t looked is.counted;
+      shares = λ name.
+          let mine : one_if (is_among name (shared_of (test_at plan.tests r.test))) ≡ one_if (is_among name t.shared) =
+          ap (λ (m : ℕ). one_if (is_among name (shared_of (test_at plan.tests m)))) same ∙ ap (λ (o : Option PlanTest). one_if (is_among name (shared_of o))) looked in
+          omega (arith, is.shares name, mine, found_sum (λ (q : Running). one_if (is_among name (shared_of (test_at plan.tests q.test)))) (λ (q : Running). q.test == n) rs r finds);
       slots = taken_for u.free plan.resources t.needs used r.placement is.resources placed
           (λ place. omega (arith, is.slots place, found_sum (λ (q : Running). placed_slots place q.placement) (λ (q : Running). q.test == n) rs r finds));
     }
+
+-- no more of these starts are counted than there are
+few_share : (p : Running → Bool) (rs : List Running) → sum_by (λ (r : Running). one_if (p r)) rs ≤ length rs
+few_share p [] = omega arith
+few_share p (r ∷ rs) = omega (arith, sum_by-cons (λ (q : Running). one_if (p q)) r rs, few_share p rs, at_most (p r))
+  where
+    at_most : (b : Bool) → one_if b ≤ 1
+    at_most true = omega arith
+    at_most false = omega arith
 
 -- a test that may start can take what it needs
 pub take_possible : (plan : PlanParts) (entries : List Entry) (n : ℕ) (t : PlanTest) (placement : Option Placement) (u : InUse) → IsInUse plan (open_starts entries) u → test_at plan.tests n ≡ Some t → may_start plan t placement entries ≡ true → plan.level < 2 ^ 32 → length (open_starts entries) + 1 < 2 ^ 64 → CanTake t placement u
@@ -259,6 +290,8 @@ take_possible plan entries n t placement u is looked may level few =
           omega (arith, is.processors, fits);
       opens = omega (arith, is.opens);
       known = looked_up (λ (x : PlanTest). list_all (knows u.locks) x.locks ≡ true) n plan.tests t looked is.known;
+      counted = looked_up (λ (x : PlanTest). list_all (counts_sharers u.sharers) x.shared ≡ true) n plan.tests t looked is.counted;
+      few = λ name. omega (arith, is.shares name, few_share (λ (q : Running). is_among name (shared_of (test_at plan.tests q.test))) (open_starts entries));
       placed =
           ap (λ (o : Option (List Resource)). is_placed o t.needs (used_of u.free) placement) is.resources
           ∙ placed_beside plan.resources t.needs (used_slots entries) (used_of u.free) placement (λ place. sym (is.slots place)) parts.placed;
@@ -289,45 +322,131 @@ any_either p q (x ∷ xs) = ap (λ (b : Bool). p x || q x || b) (any_either p q 
     in_pairs false true false d = refl
     in_pairs false false c d = refl
 
--- a search by lock and a search by start agree on whether some start holds a lock that the test names
-any_shared : (tests : List PlanTest) (names : List (List ℕ)) (rs : List Running) → list_any (λ (name : List ℕ). list_any (λ (r : Running). is_among name (locks_of (test_at tests r.test))) rs) names ≡ list_any (λ (r : Running). shares_name names (locks_of (test_at tests r.test))) rs
-any_shared tests [] rs = sym (any_nowhere rs)
-any_shared tests (name ∷ names) rs =
-    ap (λ (b : Bool). list_any (λ (r : Running). is_among name (locks_of (test_at tests r.test))) rs || b) (any_shared tests names rs)
-    ∙ sym (any_either (λ (r : Running). is_among name (locks_of (test_at tests r.test))) (λ (r : Running). shares_name names (locks_of (test_at tests r.test))) rs)
+-- a search by lock and a search by start agree on whether some start has a name of this list
+any_shared : (of : Option PlanTest → List (List ℕ)) (tests : List PlanTest) (names : List (List ℕ)) (rs : List Running) → list_any (λ (name : List ℕ). list_any (λ (r : Running). is_among name (of (test_at tests r.test))) rs) names ≡ list_any (λ (r : Running). shares_name names (of (test_at tests r.test))) rs
+any_shared of tests [] rs = sym (any_nowhere rs)
+any_shared of tests (name ∷ names) rs =
+    ap (λ (b : Bool). list_any (λ (r : Running). is_among name (of (test_at tests r.test))) rs || b) (any_shared of tests names rs)
+    ∙ sym (any_either (λ (r : Running). is_among name (of (test_at tests r.test))) (λ (r : Running). shares_name names (of (test_at tests r.test))) rs)
+
+-- some start is counted exactly if some start passes
+any_counted : (p : Running → Bool) (rs : List Running) → nat_lt 0 (sum_by (λ (r : Running). one_if (p r)) rs) ≡ list_any p rs
+any_counted p [] = refl
+any_counted p (r ∷ rs) =
+    ap (nat_lt 0) (sum_by-cons (λ (q : Running). one_if (p q)) r rs)
+    ∙ by_first (p r) (sum_by (λ (q : Running). one_if (p q)) rs) (list_any p rs) (any_counted p rs)
+  where
+    by_first : (b : Bool) (n : ℕ) (rest : Bool) → nat_lt 0 n ≡ rest → nat_lt 0 (one_if b + n) ≡ (b || rest)
+    by_first true n rest is = lt-ltb 0 (one_if true + n) (omega arith)
+    by_first false n rest is = let none : one_if false + n ≡ n = omega arith in ap (nat_lt 0) none ∙ is
+
+bytes_eq-sym : (xs ys : List ℕ) → bytes_eq xs ys ≡ bytes_eq ys xs
+bytes_eq-sym xs ys = elim (cases_Bool (bytes_eq xs ys)) [
+  | inl same ↦ same ∙ sym ((bytes_eq-Decides ys xs).1 (sym ((bytes_eq-Decides xs ys).0 same)))
+  | inr other ↦
+      other ∙ sym (false_from_ne_true (bytes_eq ys xs) (λ same. false_is_true (sym other ∙ (bytes_eq-Decides xs ys).1 (sym ((bytes_eq-Decides ys xs).0 same)))))
+]
+  where
+    false_is_true : false ≡ true → ⊥
+    false_is_true is = cc
+
+shares_none : (names : List (List ℕ)) → shares_name names [] ≡ false
+shares_none [] = refl
+shares_none (name ∷ names) = shares_none names
+
+-- two lists share a name, whichever is looked at first
+shares_name-sym : (xs ys : List (List ℕ)) → shares_name xs ys ≡ shares_name ys xs
+shares_name-sym [] ys = sym (shares_none ys)
+shares_name-sym (x ∷ xs) ys =
+    ap (λ (b : Bool). is_among x ys || b) (shares_name-sym xs ys)
+    ∙ ap (λ (b : Bool). b || shares_name ys xs) (any_same (λ y. bytes_eq x y) (λ y. bytes_eq y x) (λ y. bytes_eq-sym x y) ys)
+    ∙ sym (any_either (λ y. bytes_eq y x) (λ y. is_among y xs) ys)
+
+-- two tests exclude each other: a lock that the one holds is held or shared by the other, or a lock that the one
+-- shares is held by the other, or one of them is serial
+exclude_parts : (t : PlanTest) (o : Option PlanTest) → exclude (Some t) o ≡ (shares_name t.locks (locks_of o) || shares_name t.locks (shared_of o) || shares_name t.shared (locks_of o) || t.serial || is_serial o)
+unfolding exclude
+exclude_parts t o =
+    ap (λ (b : Bool). locks_out (Some t) o || (b || shares_name (locks_of o) t.shared) || t.serial || is_serial o) (shares_name-sym (locks_of o) t.locks)
+    ∙ ap (λ (b : Bool). locks_out (Some t) o || (shares_name t.locks (locks_of o) || b) || t.serial || is_serial o) (shares_name-sym (locks_of o) t.shared)
+    ∙ ap (λ (b : Bool). b || t.serial || is_serial o) (said_once (shares_name t.locks (locks_of o)) (shares_name t.locks (shared_of o)) (shares_name t.shared (locks_of o)))
+  where
+    said_once : (a b c : Bool) → (a || b || (a || c)) ≡ (a || b || c)
+    said_once true b c = refl
+    said_once false true c = refl
+    said_once false false c = refl
 
 any_alike : (b : Bool) (rs : List Running) → list_any (λ (r : Running). b) rs ≡ (b && nat_lt 0 (length rs))
 any_alike true [] = refl
 any_alike true (r ∷ rs) = sym (lt-ltb 0 (length (r ∷ rs)) (omega arith))
 any_alike false rs = any_nowhere rs
 
-excluded_any : (tests : List PlanTest) (t : PlanTest) (rs : List Running) → list_any (λ (r : Running). exclude (Some t) (test_at tests r.test)) rs ≡ (list_any (λ (r : Running). shares_name t.locks (locks_of (test_at tests r.test))) rs || (t.serial && nat_lt 0 (length rs)) || list_any (λ (r : Running). is_serial (test_at tests r.test)) rs)
-unfolding exclude
-excluded_any tests t rs =
-    any_either (λ (r : Running). shares_name t.locks (locks_of (test_at tests r.test)) || t.serial) (λ (r : Running). is_serial (test_at tests r.test)) rs
-    ∙ ap (λ (b : Bool). b || list_any (λ (r : Running). is_serial (test_at tests r.test)) rs)
-    (any_either (λ (r : Running). shares_name t.locks (locks_of (test_at tests r.test))) (λ (r : Running). t.serial) rs
-    ∙ ap (λ (b : Bool). list_any (λ (r : Running). shares_name t.locks (locks_of (test_at tests r.test))) rs || b) (any_alike t.serial rs))
+module _ (tests : List PlanTest) (t : PlanTest) where
+  -- the start holds alone a lock that the test wants alone
+  abbrev holds_held : Running → Bool
+  holds_held r = shares_name t.locks (locks_of (test_at tests r.test))
 
-turned : (a b c : Bool) → (a || b || c) ≡ (c || b || a)
-turned true true true = refl
-turned true true false = refl
-turned true false true = refl
-turned true false false = refl
-turned false true true = refl
-turned false true false = refl
-turned false false true = refl
-turned false false false = refl
+  -- the start shares a lock that the test wants alone
+  abbrev holds_shared : Running → Bool
+  holds_shared r = shares_name t.locks (shared_of (test_at tests r.test))
+
+  -- the start holds alone a lock that the test wants to share
+  abbrev shares_held : Running → Bool
+  shares_held r = shares_name t.shared (locks_of (test_at tests r.test))
+
+  abbrev is_lone : Running → Bool
+  is_lone r = is_serial (test_at tests r.test)
+
+  excluded_any : (rs : List Running) → list_any (λ (r : Running). exclude (Some t) (test_at tests r.test)) rs ≡ (list_any holds_held rs || list_any holds_shared rs || list_any shares_held rs || (t.serial && nat_lt 0 (length rs)) || list_any is_lone rs)
+  excluded_any rs =
+      any_same (λ (r : Running). exclude (Some t) (test_at tests r.test)) (λ (r : Running). holds_held r || holds_shared r || shares_held r || t.serial || is_lone r) (λ r. exclude_parts t (test_at tests r.test)) rs
+      ∙ any_either (λ (r : Running). holds_held r || holds_shared r || shares_held r || t.serial) is_lone rs
+      ∙ ap (λ (b : Bool). b || list_any is_lone rs) (any_either (λ (r : Running). holds_held r || holds_shared r || shares_held r) (λ (r : Running). t.serial) rs)
+      ∙ ap (λ (b : Bool). b || list_any (λ (r : Running). t.serial) rs || list_any is_lone rs) (any_either (λ (r : Running). holds_held r || holds_shared r) shares_held rs)
+      ∙ ap (λ (b : Bool). b || list_any shares_held rs || list_any (λ (r : Running). t.serial) rs || list_any is_lone rs) (any_either holds_held holds_shared rs)
+      ∙ ap (λ (b : Bool). list_any holds_held rs || list_any holds_shared rs || list_any shares_held rs || b || list_any is_lone rs) (any_alike t.serial rs)
+
+turned : (a b c d : Bool) → (a || b || c || d) ≡ (c || d || b || a)
+turned true true true d = refl
+turned true true false true = refl
+turned true true false false = refl
+turned true false true d = refl
+turned true false false true = refl
+turned true false false false = refl
+turned false true true d = refl
+turned false true false true = refl
+turned false true false false = refl
+turned false false true d = refl
+turned false false false true = refl
+turned false false false false = refl
 
 -- what is in use excludes a test exactly if an open test excludes it
-excluded_beside : (plan : PlanParts) (rs : List Running) (u : InUse) (t : PlanTest) → IsInUse plan rs u → is_excluded_beside u t ≡ list_any (λ (r : Running). exclude (Some t) (test_at plan.tests r.test)) rs
-excluded_beside plan rs u t is =
-    ap (λ (b : Bool). b || t.serial && nat_lt 0 u.open_count || list_any (is_held u.locks) t.locks) is.serial
-    ∙ ap (λ (n : ℕ). list_any (λ (r : Running). is_serial (test_at plan.tests r.test)) rs || t.serial && nat_lt 0 n || list_any (is_held u.locks) t.locks) is.opens
-    ∙ ap (λ (b : Bool). list_any (λ (r : Running). is_serial (test_at plan.tests r.test)) rs || t.serial && nat_lt 0 (length rs) || b)
-    (any_same (is_held u.locks) (λ (name : List ℕ). list_any (λ (r : Running). is_among name (locks_of (test_at plan.tests r.test))) rs) is.locks t.locks ∙ any_shared plan.tests t.locks rs)
-    ∙ turned (list_any (λ (r : Running). is_serial (test_at plan.tests r.test)) rs) (t.serial && nat_lt 0 (length rs)) (list_any (λ (r : Running). shares_name t.locks (locks_of (test_at plan.tests r.test))) rs)
-    ∙ sym (excluded_any plan.tests t rs)
+module _ (plan : PlanParts) (rs : List Running) (u : InUse) (t : PlanTest) (is : IsInUse plan rs u) where
+  held_any : (names : List (List ℕ)) → list_any (is_held u.locks) names ≡ list_any (λ (r : Running). shares_name names (locks_of (test_at plan.tests r.test))) rs
+  held_any names =
+      any_same (is_held u.locks) (λ (name : List ℕ). list_any (λ (r : Running). is_among name (locks_of (test_at plan.tests r.test))) rs) is.locks names
+      ∙ any_shared locks_of plan.tests names rs
+
+  shared_any : (names : List (List ℕ)) → list_any (is_shared u.sharers) names ≡ list_any (λ (r : Running). shares_name names (shared_of (test_at plan.tests r.test))) rs
+  shared_any names =
+      any_same (is_shared u.sharers) (λ (name : List ℕ). list_any (λ (r : Running). is_among name (shared_of (test_at plan.tests r.test))) rs)
+      (λ name. ap (nat_lt 0) (is.shares name) ∙ any_counted (λ (r : Running). is_among name (shared_of (test_at plan.tests r.test))) rs) names
+      ∙ any_shared shared_of plan.tests names rs
+
+  taken_any : list_any (is_locked u) t.locks ≡ (list_any (holds_held plan.tests t) rs || list_any (holds_shared plan.tests t) rs)
+  taken_any =
+      any_either (is_held u.locks) (is_shared u.sharers) t.locks
+      ∙ ap (λ (b : Bool). b || list_any (is_shared u.sharers) t.locks) (held_any t.locks)
+      ∙ ap (λ (b : Bool). list_any (holds_held plan.tests t) rs || b) (shared_any t.locks)
+
+  excluded_beside : is_excluded_beside u t ≡ list_any (λ (r : Running). exclude (Some t) (test_at plan.tests r.test)) rs
+  excluded_beside =
+      ap (λ (b : Bool). b || t.serial && nat_lt 0 u.open_count || list_any (is_locked u) t.locks || list_any (is_held u.locks) t.shared) is.serial
+      ∙ ap (λ (n : ℕ). list_any (is_lone plan.tests t) rs || t.serial && nat_lt 0 n || list_any (is_locked u) t.locks || list_any (is_held u.locks) t.shared) is.opens
+      ∙ ap (λ (b : Bool). list_any (is_lone plan.tests t) rs || t.serial && nat_lt 0 (length rs) || b || list_any (is_held u.locks) t.shared) taken_any
+      ∙ ap (λ (b : Bool). list_any (is_lone plan.tests t) rs || t.serial && nat_lt 0 (length rs) || (list_any (holds_held plan.tests t) rs || list_any (holds_shared plan.tests t) rs) || b) (held_any t.shared)
+      ∙ turned (list_any (is_lone plan.tests t) rs) (t.serial && nat_lt 0 (length rs)) (list_any (holds_held plan.tests t) rs || list_any (holds_shared plan.tests t) rs) (list_any (shares_held plan.tests t) rs)
+      ∙ sym (excluded_any plan.tests t rs)
 
 -- there is room beside what is in use exactly if the history has room
 pub room_beside : (plan : PlanParts) (entries : List Entry) (u : InUse) (t : PlanTest) → IsInUse plan (open_starts entries) u → has_room_beside plan.level u t ≡ has_room plan t entries

@@ -8,6 +8,7 @@ pub mod PlaceLemmas
 pub mod NumberLemmas
 pub mod FollowerLemmas
 pub mod LockLemmas
+pub mod SharerLemmas
 pub mod FreeLemmas
 pub mod InUseLemmas
 pub mod PredecessorLemmas

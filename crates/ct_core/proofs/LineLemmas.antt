@@ -12,7 +12,7 @@ use Rattle.ct_history.specs.declared.plan.PlanParts.{PlanParts}
 use Rattle.ct_history.specs.declared.history.Entry.{Entry}
 use Rattle.ct_history.specs.Plan.{IsSound, test_at}
 use Rattle.ct_history.specs.History.{Running, has_stop, open_starts, used_processors, used_slots}
-use Rattle.ct_history.specs.Rules.{CanStart, exclude, has_processors, has_room, is_excluded, is_pending, is_placed, is_ready, is_serial, locks_of, may_start_at, shares_name}
+use Rattle.ct_history.specs.Rules.{CanStart, exclude, has_processors, has_room, is_excluded, is_pending, is_placed, is_ready, is_serial, locks_of, may_start_at, shared_of, shares_name}
 use Rattle.ct_queue.specs.Lines.{AreNumbered}
 use Rattle.ct_queue.specs.Ready.{ReadyValue, IsHead, is_member}
 use Rattle.ct_queue.proofs.CallerLemmas.{HasHead, head_of_line}
@@ -22,11 +22,14 @@ use Rattle.ct_core.specs.Waiting.{IsDue, IsQueued}
 use Rattle.ct_core.proofs.PickLemmas.{found_parts, member_may, no_member}
 use Rattle.ct_core.proofs.ChoiceLemmas.{next_due}
 
-same_exclude : (t u : PlanTest) (o : Option PlanTest) → t.locks ≡ u.locks → t.serial ≡ u.serial → exclude (Some t) o ≡ exclude (Some u) o
+same_exclude : (t u : PlanTest) (o : Option PlanTest) → t.locks ≡ u.locks → t.shared ≡ u.shared → t.serial ≡ u.serial → exclude (Some t) o ≡ exclude (Some u) o
 unfolding exclude
-same_exclude t u o locks serial =
-    ap (λ (names : List (List ℕ)). shares_name names (locks_of o) || t.serial || is_serial o) locks
-    ∙ ap (λ (b : Bool). shares_name u.locks (locks_of o) || b || is_serial o) serial
+same_exclude t u o locks shared serial = λ i.
+    shares_name (locks i) (locks_of o)
+    || shares_name (locks i) (shared_of o)
+    || (shares_name (locks_of o) (locks i) || shares_name (locks_of o) (shared i))
+    || serial i
+    || is_serial o
 
 module _ (plan : PlanParts) (es : List Entry) where
   -- of two tests with the same demand, both have room or neither has
@@ -34,9 +37,10 @@ module _ (plan : PlanParts) (es : List Entry) where
   same_room t u alike =
       let processors : t.processors ≡ u.processors = ap (λ (d : Demand). d.processors) alike in
       let locks : t.locks ≡ u.locks = ap (λ (d : Demand). d.locks) alike in
+      let shared : t.shared ≡ u.shared = ap (λ (d : Demand). d.shared) alike in
       let serial : t.serial ≡ u.serial = ap (λ (d : Demand). d.serial) alike in
       let excludes : (λ (r : Running). exclude (Some t) (test_at plan.tests r.test)) ≡ (λ (r : Running). exclude (Some u) (test_at plan.tests r.test)) =
-      fun_ext (λ r. same_exclude t u (test_at plan.tests r.test) locks serial) in
+      fun_ext (λ r. same_exclude t u (test_at plan.tests r.test) locks shared serial) in
       ap (λ (n : ℕ). nat_le (n + used_processors plan.tests es) plan.level && not (is_excluded plan.tests t es)) processors
       ∙ ap (λ (p : Running → Bool). has_processors plan u es && not (list_any p (open_starts es))) excludes
 

@@ -10,8 +10,7 @@ use Rattle.std.proofs.lemmas.Slice.Eq.{bytes_eq-Decides}
 use Rattle.indexmap.specs.IndexMap.{IndexMap, UpdatesBy}
 use Rattle.ct_history.specs.declared.plan.PlanTest.{PlanTest}
 use Rattle.ct_history.specs.Rules.{is_among}
-use Rattle.ct_core.specs.declared.locks.Locks.{Locks}
-use Rattle.ct_core.specs.Locks.{hold_of, knows}
+use Rattle.ct_core.specs.Locks.{noted_for}
 
 module _ {Y : Type 0} where
   key_test : (asked : List ℕ) → IsKeyTest (λ (one other : Vec ℕ Y). bytes_eq one.items other.items) (λ (name : Vec ℕ Y). bytes_eq asked name.items)
@@ -20,17 +19,18 @@ module _ {Y : Type 0} where
   apart : (name asked : List ℕ) → bytes_eq asked name ≡ false → AreApart (λ (lock : Vec ℕ Y). bytes_eq name lock.items) (λ (lock : Vec ℕ Y). bytes_eq asked lock.items)
   apart name asked differ = λ lock at_it. ap (bytes_eq asked) (sym ((bytes_eq-Decides name lock.items).0 at_it)) ∙ differ
 
-  kept_apart : (name asked : List ℕ) (before now : List (Vec ℕ Y × Bool)) → bytes_eq asked name ≡ false → KeepsOthers (λ (one other : Vec ℕ Y). bytes_eq one.items other.items) (λ (lock : Vec ℕ Y). bytes_eq name lock.items) before now → lookup (λ (lock : Vec ℕ Y). bytes_eq asked lock.items) now ≡ lookup (λ (lock : Vec ℕ Y). bytes_eq asked lock.items) before
+module _ {Y V : Type 0} where
+  kept_apart : (name asked : List ℕ) (before now : List (Vec ℕ Y × V)) → bytes_eq asked name ≡ false → KeepsOthers (λ (one other : Vec ℕ Y). bytes_eq one.items other.items) (λ (lock : Vec ℕ Y). bytes_eq name lock.items) before now → lookup (λ (lock : Vec ℕ Y). bytes_eq asked lock.items) now ≡ lookup (λ (lock : Vec ℕ Y). bytes_eq asked lock.items) before
   unfolding KeepsOthers
   kept_apart name asked before now differ kept = kept (λ (lock : Vec ℕ Y). bytes_eq asked lock.items) (key_test asked) (apart name asked differ)
 
   module _ {S : Type 0} where
-    updated_by : (before now : IndexMap (Vec ℕ Y) Bool S) (name asked : List ℕ) (held : Bool) → UpdatesBy (λ (one other : Vec ℕ Y). bytes_eq one.items other.items) (λ (lock : Vec ℕ Y). bytes_eq name lock.items) before now (Some held) → (is : Bool) → bytes_eq asked name ≡ is → hold_of now asked ≡ cond is (Some held) (hold_of before asked)
-    updated_by before now name asked held updates true is = ap (hold_of now) ((bytes_eq-Decides asked name).0 is) ∙ updates.1
+    updated_by : (before now : IndexMap (Vec ℕ Y) V S) (name asked : List ℕ) (held : V) → UpdatesBy (λ (one other : Vec ℕ Y). bytes_eq one.items other.items) (λ (lock : Vec ℕ Y). bytes_eq name lock.items) before now (Some held) → (is : Bool) → bytes_eq asked name ≡ is → noted_for now asked ≡ cond is (Some held) (noted_for before asked)
+    updated_by before now name asked held updates true is = ap (noted_for now) ((bytes_eq-Decides asked name).0 is) ∙ updates.1
     updated_by before now name asked held updates false is = kept_apart name asked before.entries now.entries is updates.3
 
     -- the entry of one lock was changed, and the entries of the others stay
-    pub updated : (before now : IndexMap (Vec ℕ Y) Bool S) (name : List ℕ) (held : Bool) → UpdatesBy (λ (one other : Vec ℕ Y). bytes_eq one.items other.items) (λ (lock : Vec ℕ Y). bytes_eq name lock.items) before now (Some held) → (asked : List ℕ) → hold_of now asked ≡ cond (bytes_eq asked name) (Some held) (hold_of before asked)
+    pub updated : (before now : IndexMap (Vec ℕ Y) V S) (name : List ℕ) (held : V) → UpdatesBy (λ (one other : Vec ℕ Y). bytes_eq one.items other.items) (λ (lock : Vec ℕ Y). bytes_eq name lock.items) before now (Some held) → (asked : List ℕ) → noted_for now asked ≡ cond (bytes_eq asked name) (Some held) (noted_for before asked)
     updated before now name held updates asked = updated_by before now name asked held updates (bytes_eq asked name) refl
 
 or_true : (b : Bool) → true ≡ (b || true)
@@ -42,21 +42,21 @@ or_false true = refl
 or_false false = refl
 
 -- one more lock is known, or the same locks are
-pub known_more : (now before : Option Bool) (held is : Bool) → now ≡ cond is (Some held) before → is_some now ≡ (is_some before || is)
+pub known_more : {V : Type 0} (now before : Option V) (held : V) (is : Bool) → now ≡ cond is (Some held) before → is_some now ≡ (is_some before || is)
 known_more now before held true same = ap is_some same ∙ or_true (is_some before)
 known_more now before held false same = ap is_some same ∙ or_false (is_some before)
 
-pub known_still : (now before : Option Bool) (held is : Bool) → now ≡ cond is (Some held) before → (is ≡ true → is_some before ≡ true) → is_some now ≡ is_some before
+pub known_still : {V : Type 0} (now before : Option V) (held : V) (is : Bool) → now ≡ cond is (Some held) before → (is ≡ true → is_some before ≡ true) → is_some now ≡ is_some before
 known_still now before held true same there = ap is_some same ∙ sym (there refl)
 known_still now before held false same there = ap is_some same
 
-pub held_now : (now before : Option Bool) (held is : Bool) → now ≡ cond is (Some held) before → unwrap_or now false ≡ cond is held (unwrap_or before false)
-held_now now before held true same = ap (λ (o : Option Bool). unwrap_or o false) same
-held_now now before held false same = ap (λ (o : Option Bool). unwrap_or o false) same
+pub held_now : {V : Type 0} (d : V) (now before : Option V) (held : V) (is : Bool) → now ≡ cond is (Some held) before → unwrap_or now d ≡ cond is held (unwrap_or before d)
+held_now {V} d now before held true same = ap (λ (o : Option V). unwrap_or o d) same
+held_now {V} d now before held false same = ap (λ (o : Option V). unwrap_or o d) same
 
-pub none_still : (now before : Option Bool) (is : Bool) → now ≡ cond is (Some false) before → unwrap_or before false ≡ false → unwrap_or now false ≡ false
-none_still now before true same none = ap (λ (o : Option Bool). unwrap_or o false) same
-none_still now before false same none = ap (λ (o : Option Bool). unwrap_or o false) same ∙ none
+pub none_still : {V : Type 0} (d : V) (now before : Option V) (is : Bool) → now ≡ cond is (Some d) before → unwrap_or before d ≡ d → unwrap_or now d ≡ d
+none_still {V} d now before true same none = ap (λ (o : Option V). unwrap_or o d) same
+none_still {V} d now before false same none = ap (λ (o : Option V). unwrap_or o d) same ∙ none
 
 -- one more lock is held, or one is held no longer
 pub held_more : (now before among is : Bool) → now ≡ cond is true (before || among) → now ≡ (before || (among || is))
@@ -79,10 +79,10 @@ held_less now false among false same = same
 pub among_all : (names : List (List ℕ)) → All (λ name. is_among name names ≡ true) names
 among_all names = λ k d lt. list_any_at (λ other. bytes_eq (get_or names k d) other) names k d lt ((bytes_eq-Decides (get_or names k d) (get_or names k d)).1 refl)
 
--- if the known locks are the locks that the tests name, each lock of each test is known
-pub knows_named : (locks : Locks) (tests : List PlanTest) → ((name : List ℕ) → knows locks name ≡ list_any (λ (t : PlanTest). is_among name t.locks) tests) → All (λ (t : PlanTest). list_all (knows locks) t.locks ≡ true) tests
-knows_named locks tests known = λ k d lt.
+-- if exactly the names of these tests pass, each name of each test passes
+pub named_pass : (pass : List ℕ → Bool) (names : PlanTest → List (List ℕ)) (tests : List PlanTest) → ((name : List ℕ) → pass name ≡ list_any (λ (t : PlanTest). is_among name (names t)) tests) → All (λ (t : PlanTest). list_all pass (names t) ≡ true) tests
+named_pass pass names tests known = λ k d lt.
     let t = get_or tests k d in
-    list_all-from_AllPass (knows locks) t.locks (λ i e within.
-    let name = get_or t.locks i e in
-    known name ∙ list_any_at (λ (x : PlanTest). is_among name x.locks) tests k d lt (among_all t.locks i e within))
+    list_all-from_AllPass pass (names t) (λ i e within.
+    let name = get_or (names t) i e in
+    known name ∙ list_any_at (λ (x : PlanTest). is_among name (names x)) tests k d lt (among_all (names t) i e within))

@@ -13,7 +13,7 @@ use Rattle.ct_history.specs.declared.plan.PlanParts.{PlanParts}
 use Rattle.ct_history.specs.declared.history.Entry.{Entry}
 use Rattle.ct_history.specs.Plan.{IsSound, has_sound_processors, test_at}
 use Rattle.ct_history.specs.History.{Running, has_stop, open_starts, used_processors}
-use Rattle.ct_history.specs.Rules.{CanStart, cause_behind, exclude, first_unpassed, follows_finals, has_room, is_pending, is_ready, is_serial, locks_of, may_start_at, may_start_if_placed, settle_cause, settle_cause_at, shares_name}
+use Rattle.ct_history.specs.Rules.{CanStart, cause_behind, exclude, first_unpassed, follows_finals, has_room, is_pending, is_ready, is_serial, locks_out, may_start_at, may_start_if_placed, settle_cause, settle_cause_at}
 use Rattle.ct_history.proofs.MayLemmas.{MayStart, may_start-parts}
 use Rattle.ct_history.proofs.ProgressLemmas.{all_found}
 use Rattle.ct_queue.specs.Ready.{ReadyValue, count_at, is_member, is_out_at, place_of}
@@ -232,7 +232,7 @@ any_wider p q wider (x ∷ xs) any = elim (cases_Bool (p x)) [
 -- a serial test excludes each other test
 serial_excludes : (one other : Option PlanTest) → is_serial other ≡ true → exclude one other ≡ true
 unfolding exclude
-serial_excludes one other serial = last (shares_name (locks_of one) (locks_of other)) (is_serial one) (is_serial other) serial
+serial_excludes one other serial = last (locks_out one other || locks_out other one) (is_serial one) (is_serial other) serial
   where
     last : (a b c : Bool) → c ≡ true → (a || b || c) ≡ true
     last true b c is = refl

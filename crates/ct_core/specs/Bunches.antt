@@ -35,10 +35,10 @@ pub record AreBunchesOf (plan : PlanParts) (keys : List (Option ℕ)) (bunches :
   pub locked : (place : ℕ) → place < length plan.queue → key_at plan keys (slice_index bunches place) ≡ key_at plan keys place
   pub alike : (place : ℕ) → place < length plan.queue → key_at plan keys place ≡ None → demand_at plan (slice_index bunches place) ≡ demand_at plan place
 
--- there is a lock, and it is not held
+-- there is a lock, and it is not taken
 abbrev pub is_free_lock : (List ℕ → Bool) → Option (List ℕ) → Bool
-is_free_lock is_held None = false
-is_free_lock is_held (Some lock) = not (is_held lock)
+is_free_lock is_locked None = false
+is_free_lock is_locked (Some lock) = not (is_locked lock)
 
 -- the test that was looked up is there, and has room beside what is in use
 abbrev pub has_room_at : PlanParts → InUse → Option PlanTest → Bool

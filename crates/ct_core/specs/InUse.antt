@@ -8,14 +8,19 @@ use Rattle.ct_alloc.specs.Free.{FreeValue, are_there, used_at}
 use Rattle.ct_history.specs.declared.plan.PlanTest.{PlanTest}
 use Rattle.ct_history.specs.declared.plan.PlanParts.{PlanParts}
 use Rattle.ct_history.specs.History.{Running, placed_slots, processors_of, test_at}
-use Rattle.ct_history.specs.Rules.{is_among, is_placed, is_serial, locks_of}
+use Rattle.ct_history.specs.Rules.{is_among, is_placed, is_serial, locks_of, shared_of}
 use Rattle.ct_core.specs.Slots.{resources_of, used_of}
 use Rattle.ct_core.specs.Locks.{is_held, knows}
+use Rattle.ct_core.specs.Sharers.{sharers_of, counts_sharers, is_shared, one_if}
 use Rattle.ct_core.specs.declared.in_use.InUse.{InUse}
 
 -- each lock that a test of the plan names is known
 abbrev pub KnowsLocks : List PlanTest → InUse → Type 0
 KnowsLocks tests u = All (λ (t : PlanTest). list_all (knows u.locks) t.locks ≡ true) tests
+
+-- the sharers of each lock that a test of the plan shares are counted
+abbrev pub CountsSharers : List PlanTest → InUse → Type 0
+CountsSharers tests u = All (λ (t : PlanTest). list_all (counts_sharers u.sharers) t.shared ≡ true) tests
 
 -- the value says what these starts use together; it has the
 -- plan's resources, and knows each lock that a test names
@@ -25,6 +30,8 @@ pub record IsInUse (plan : PlanParts) (starts : List Running) (u : InUse) : Type
   pub serial : u.serial ≡ list_any (λ (r : Running). is_serial (test_at plan.tests r.test)) starts
   pub known : KnowsLocks plan.tests u
   pub locks : (name : List ℕ) → is_held u.locks name ≡ list_any (λ (r : Running). is_among name (locks_of (test_at plan.tests r.test))) starts
+  pub counted : CountsSharers plan.tests u
+  pub shares : (name : List ℕ) → sharers_of u.sharers name ≡ sum_by (λ (r : Running). one_if (is_among name (shared_of (test_at plan.tests r.test)))) starts
   pub resources : resources_of u.free ≡ plan.resources
   pub slots : (place : ℕ) → used_of u.free place ≡ sum_by (λ (r : Running). placed_slots place r.placement) starts
 
@@ -35,6 +42,8 @@ pub record Takes (t : PlanTest) (placement : Option Placement) (old new : InUse)
   pub serial : new.serial ≡ (old.serial || t.serial)
   pub known : (name : List ℕ) → knows new.locks name ≡ knows old.locks name
   pub locks : (name : List ℕ) → is_held new.locks name ≡ (is_held old.locks name || is_among name t.locks)
+  pub counted : (name : List ℕ) → counts_sharers new.sharers name ≡ counts_sharers old.sharers name
+  pub shares : (name : List ℕ) → sharers_of new.sharers name ≡ sharers_of old.sharers name + one_if (is_among name t.shared)
   pub resources : resources_of new.free ≡ resources_of old.free
   pub slots : (place : ℕ) → used_of new.free place ≡ used_of old.free place + placed_slots place placement
 
@@ -45,12 +54,19 @@ pub record Gives (t : PlanTest) (placement : Option Placement) (old new : InUse)
   pub serial : new.serial ≡ (old.serial && not t.serial)
   pub known : (name : List ℕ) → knows new.locks name ≡ knows old.locks name
   pub locks : (name : List ℕ) → is_held new.locks name ≡ (is_held old.locks name && not (is_among name t.locks))
+  pub counted : (name : List ℕ) → counts_sharers new.sharers name ≡ counts_sharers old.sharers name
+  pub shares : (name : List ℕ) → sharers_of new.sharers name ≡ sharers_of old.sharers name - one_if (is_among name t.shared)
   pub resources : resources_of new.free ≡ resources_of old.free
   pub slots : (place : ℕ) → used_of new.free place ≡ used_of old.free place - placed_slots place placement
 
+-- some open test holds the lock alone or shares it
+abbrev pub is_locked : InUse → List ℕ → Bool
+is_locked u lock = is_held u.locks lock || is_shared u.sharers lock
+
 -- some open test and this test exclude each other
 abbrev pub is_excluded_beside : InUse → PlanTest → Bool
-is_excluded_beside u t = u.serial || t.serial && nat_lt 0 u.open_count || list_any (is_held u.locks) t.locks
+is_excluded_beside u t =
+    u.serial || t.serial && nat_lt 0 u.open_count || list_any (is_locked u) t.locks || list_any (is_held u.locks) t.shared
 
 -- the test has room: its processors and the used ones are
 -- together at most the level, and no open test excludes it
@@ -79,6 +95,8 @@ pub record CanTake (t : PlanTest) (placement : Option Placement) (u : InUse) : T
   pub processors : u.processors + t.processors < 2 ^ 64
   pub opens : u.open_count + 1 < 2 ^ 64
   pub known : list_all (knows u.locks) t.locks ≡ true
+  pub counted : list_all (counts_sharers u.sharers) t.shared ≡ true
+  pub few : (name : List ℕ) → sharers_of u.sharers name + 1 < 2 ^ 64
   pub placed : is_placed (resources_of u.free) t.needs (used_of u.free) placement ≡ true
 
 -- a test with this placement can give back what it took
@@ -86,4 +104,6 @@ pub record CanGive (t : PlanTest) (placement : Option Placement) (u : InUse) : T
   pub processors : t.processors ≤ u.processors
   pub opens : 0 < u.open_count
   pub known : list_all (knows u.locks) t.locks ≡ true
+  pub counted : list_all (counts_sharers u.sharers) t.shared ≡ true
+  pub shares : (name : List ℕ) → one_if (is_among name t.shared) ≤ sharers_of u.sharers name
   pub slots : HasTaken u.free placement

@@ -11,6 +11,7 @@ pub mod Lines
 pub mod Waiting
 pub mod Begin
 pub mod Locks
+pub mod Sharers
 pub mod InUse
 pub mod Bunches
 pub mod Places

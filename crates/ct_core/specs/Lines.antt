@@ -7,16 +7,17 @@ use Rattle.ct_history.specs.declared.plan.PlanParts.{PlanParts}
 use Rattle.ct_history.specs.Plan.{test_at}
 
 -- the demand of a test, which has to be met before it starts:
--- processors, locks, needs, and whether it runs alone
+-- processors, locks that it holds alone or shares, needs, and whether it runs alone
 pub record Demand : Type 0 where
   pub processors : ℕ
   pub serial : Bool
   pub locks : List (List ℕ)
+  pub shared : List (List ℕ)
   pub needs : List Need
 
 -- the demand of a test
 abbrev pub demand_of : PlanTest → Demand
-demand_of t = record { processors = t.processors; serial = t.serial; locks = t.locks; needs = t.needs }
+demand_of t = record { processors = t.processors; serial = t.serial; locks = t.locks; shared = t.shared; needs = t.needs }
 
 -- two tests have the same demand
 abbrev pub AskAlike : PlanTest → PlanTest → Type 0

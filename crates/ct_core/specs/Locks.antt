@@ -5,14 +5,14 @@ use Rattle.std.specs.declared.vec.Vec.{Vec}
 use Rattle.indexmap.specs.IndexMap.{IndexMap, get_by}
 use Rattle.ct_core.specs.declared.locks.Locks.{Locks}
 
--- whether a lock is held, if it is known
-abbrev pub hold_of : {Y S : Type 0} → IndexMap (Vec ℕ Y) Bool S → List ℕ → Option Bool
-hold_of {Y} held name = get_by (λ (lock : Vec ℕ Y). bytes_eq name lock.items) held
+-- what a map says of a lock, if the lock is known
+abbrev pub noted_for : {Y V S : Type 0} → IndexMap (Vec ℕ Y) V S → List ℕ → Option V
+noted_for {Y} locks name = get_by (λ (lock : Vec ℕ Y). bytes_eq name lock.items) locks
 
 -- the lock is known
 abbrev pub knows : Locks → List ℕ → Bool
-knows locks name = is_some (hold_of locks.held name)
+knows locks name = is_some (noted_for locks.held name)
 
 -- the lock is held
 abbrev pub is_held : Locks → List ℕ → Bool
-is_held locks name = unwrap_or (hold_of locks.held name) false
+is_held locks name = unwrap_or (noted_for locks.held name) false

@@ -13,7 +13,7 @@ use std::alloc::Global;
 
 /// Chooses the key of each test of the queue: the lock that it waits for together with other tests.
 ///
-/// Any of its locks is right. The chosen one is the lock
+/// Any of the locks that it holds alone is right. The chosen one is the lock
 /// that the most tests name, which keeps bunches few.
 pub(crate) fn keys_of(alloc: Global, plan: &PlanParts) -> Result<Vec<Option<u32>>, NoMemory>
     requires { IsAscendingFrom 1 (map (λ t. t.number) plan.now.tests) }

@@ -1,12 +1,14 @@
 ghost use Rattle.std.specs.Prelude.{◌≡◌, ℕ, ◌+◌, ◌-◌, ◌||◌, [], IfOk, nat_le};
+ghost use Rattle.std.specs.List.{list_any};
 ghost use Rattle.std.specs.Option.{option_copied};
 ghost use Rattle.ct_history.specs.History.{placed_slots};
 ghost use Rattle.ct_core.specs.Slots.{resources_of, used_of};
-ghost use Rattle.ct_core.specs.InUse.{CanGive, CanTake, Gives, HasFreeFor, HasTaken, IsInUse, Takes, has_room_beside, is_excluded_beside};
+ghost use Rattle.ct_core.specs.InUse.{CanGive, CanTake, Gives, HasFreeFor, HasTaken, IsInUse, Takes, has_room_beside, is_excluded_beside, is_locked};
 
 use crate::locks::{Locks, none_held};
+use crate::sharers::{Sharers, none_share};
 use ct_alloc::{Free, Placement};
-use ct_base::NoMemory;
+use ct_base::{Name, NoMemory};
 use ct_history::{PlanParts, PlanTest};
 use std::alloc::Global;
 
@@ -20,7 +22,9 @@ pub(crate) struct InUse {
     pub(crate) open_count: usize,
     /// Whether a serial test is open.
     pub(crate) serial: bool,
+    /// The locks, and which of them an open test holds alone.
     pub(crate) locks: Locks,
+    pub(crate) sharers: Sharers,
     /// What is free of the plan's resources, if they are given.
     pub(crate) free: Option<Free>,
 }
@@ -34,6 +38,7 @@ pub(crate) fn nothing(alloc: Global, plan: &PlanParts) -> Result<InUse, NoMemory
         open_count: 0,
         serial: false,
         locks: none_held(alloc, plan.tests.as_slice())?,
+        sharers: none_share(alloc, plan.tests.as_slice())?,
         free: all_free(alloc, plan)?,
     })
 }
@@ -80,7 +85,21 @@ impl InUse {
     {
         self.serial
             || test.serial && self.open_count > 0
-            || self.locks.is_any_held(test.locks.as_slice())
+            || self.is_any_taken(test.locks.as_slice())
+            || self.locks.is_any_held(test.shared.as_slice())
+    }
+
+    fn is_any_taken(&self, locks: &[Name]) -> bool
+        ensures { result ≡ list_any (is_locked self.now) locks.now }
+    {
+        locks.iter().any(|lock| self.is_locked(lock))
+    }
+
+    /// Tells whether an open test holds this lock alone or shares it.
+    pub(crate) fn is_locked(&self, lock: &Name) -> bool
+        ensures { result ≡ is_locked self.now lock.now }
+    {
+        self.locks.is_held(lock) || self.sharers.is_shared(lock)
     }
 
     /// Adds what a test with this placement needs to what is in use.
@@ -92,6 +111,7 @@ impl InUse {
         self.open_count += 1;
         self.serial = self.serial || test.serial;
         self.locks.hold(test.locks.as_slice());
+        self.sharers.share(test.shared.as_slice());
         take_slots(&mut self.free, placement);
     }
 
@@ -104,6 +124,7 @@ impl InUse {
         self.open_count -= 1;
         self.serial = self.serial && !test.serial;
         self.locks.release(test.locks.as_slice());
+        self.sharers.leave(test.shared.as_slice());
         give_slots(&mut self.free, placement);
     }
 }

@@ -19,6 +19,7 @@ mod places;
 mod run;
 mod scheduler;
 mod script;
+mod sharers;
 mod slots;
 mod state;
 mod ticket;

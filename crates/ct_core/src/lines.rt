@@ -82,6 +82,7 @@ fn asks_alike(one: &PlanTest, other: &PlanTest) -> bool
     one.processors == other.processors
         && one.serial == other.serial
         && are_same_names(one.locks.as_slice(), other.locks.as_slice())
+        && are_same_names(one.shared.as_slice(), other.shared.as_slice())
         && are_same_needs(one.needs.as_slice(), other.needs.as_slice())
 }
 
@@ -124,6 +125,8 @@ fn text_of(alloc: Global, test: &PlanTest) -> Result<Vec<u8>, NoMemory> {
     let mut text = Vec::from_slice(alloc, &test.processors.to_le_bytes())?;
     text.push(u8::from(test.serial))?;
     put_locks(&mut text, test.locks.as_slice())?;
+    text.push(0)?;
+    put_locks(&mut text, test.shared.as_slice())?;
     put_needs(&mut text, test.needs.as_slice())?;
     Ok(text)
 }

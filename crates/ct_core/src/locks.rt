@@ -8,7 +8,7 @@ use ct_history::PlanTest;
 use indexmap::IndexMap;
 use std::alloc::Global;
 
-/// The locks of a plan, and which of them are held.
+/// The locks of a plan, and which of them are held alone.
 ///
 /// Source: CMake manual, cmake-properties(7), RESOURCE_LOCK.
 #[derive(Drop)]

@@ -1,0 +1,10 @@
+use Rattle.std.proofs.Common.{◌≡◌, ◌+◌, ℕ, List, take}
+use Rattle.ct_history.specs.Rules.{is_among}
+use Rattle.ct_core.specs.Sharers.{sharers_of, counts_sharers, one_if}
+use Rattle.ct_core.proofs.sharers.Sharers.share.Given as goal
+
+abbrev pub invariant-loop-at : goal.invariant-loop-at
+invariant-loop-at l = record {
+  counted : (name : List ℕ) → counts_sharers l.self name ≡ counts_sharers l.initial.self name;
+  changed : (name : List ℕ) → sharers_of l.self name ≡ sharers_of l.initial.self name + one_if (is_among name (take l.at l.names));
+}

@@ -1,0 +1,20 @@
+-- The locks that the tests of a plan share, and how many open tests share each. This project's own.
+use Rattle.std.specs.Prelude.{ℕ, Bool, List, is_some, nat_lt, unwrap_or, if◌then◌else◌}
+use Rattle.ct_core.specs.declared.sharers.Sharers.{Sharers}
+use Rattle.ct_core.specs.Locks.{noted_for}
+
+-- the sharers of the lock are counted
+abbrev pub counts_sharers : Sharers → List ℕ → Bool
+counts_sharers sharers name = is_some (noted_for sharers.counts name)
+
+-- how many open tests share the lock
+abbrev pub sharers_of : Sharers → List ℕ → ℕ
+sharers_of sharers name = unwrap_or (noted_for sharers.counts name) 0
+
+-- some open test shares the lock
+abbrev pub is_shared : Sharers → List ℕ → Bool
+is_shared sharers name = nat_lt 0 (sharers_of sharers name)
+
+-- a test counts once, if it does
+abbrev pub one_if : Bool → ℕ
+one_if is = if is then 1 else 0

@@ -1,0 +1,117 @@
+ghost use Rattle.std.specs.Prelude.{◌≡◌, ℕ, ◌+◌, ◌-◌, ◌<◌, ◌≤◌, ◌^◌, ◌||◌, true, List, IfOk, OnOk, bytes_eq, if◌then◌else◌};
+ghost use Rattle.std.specs.List.{list_any, list_all};
+ghost use Rattle.ct_history.specs.Rules.{is_among};
+ghost use Rattle.ct_core.specs.Sharers.{sharers_of, counts_sharers, is_shared, one_if};
+
+use ct_base::{Name, NoMemory};
+use ct_history::PlanTest;
+use indexmap::IndexMap;
+use std::alloc::Global;
+
+/// The locks that the tests of a plan share, and how many open tests share each.
+#[derive(Drop)]
+pub(crate) struct Sharers {
+    counts: IndexMap<Vec<u8>, u64>,
+}
+
+/// Makes the counts of the locks that these tests share: 0 for each.
+pub(crate) fn none_share(alloc: Global, tests: &[PlanTest]) -> Result<Sharers, NoMemory>
+    ensures counted { IfOk result (λ sharers. (name : List ℕ) → counts_sharers sharers name ≡ list_any (λ t. is_among name t.shared) tests.now) }
+    ensures none { IfOk result (λ sharers. (name : List ℕ) → sharers_of sharers name ≡ 0) }
+{
+    let mut sharers = Sharers {
+        counts: IndexMap::new(alloc),
+    };
+    for test in tests {
+        sharers.add_each(alloc, test.shared.as_slice())?;
+    }
+    Ok(sharers)
+}
+
+impl Sharers {
+    /// Tells whether some open test shares this lock.
+    pub(crate) fn is_shared(&self, name: &Name) -> bool
+        ensures { result ≡ is_shared self.now name.now }
+    {
+        self.count(name) > 0
+    }
+
+    /// Counts one test more for each of these locks, which the test shares.
+    pub(crate) fn share(&mut self, names: &[Name])
+        requires counted { list_all (counts_sharers self.old) names.now ≡ true }
+        requires few { (name : List ℕ) → sharers_of self.old name + 1 < 2 ^ 64 }
+        ensures counted { (name : List ℕ) → counts_sharers self.new name ≡ counts_sharers self.old name }
+        ensures more { (name : List ℕ) → sharers_of self.new name ≡ sharers_of self.old name + one_if (is_among name names.now) }
+    {
+        for at in 0..names.len() {
+            let name = &names[at];
+            if !is_among(name, &names[..at]) {
+                let count = self.count(name) + 1;
+                self.set(name, count);
+            }
+        }
+    }
+
+    /// Counts one test fewer for each of these locks, which the test shared.
+    pub(crate) fn leave(&mut self, names: &[Name])
+        requires counted { list_all (counts_sharers self.old) names.now ≡ true }
+        requires shares { (name : List ℕ) → one_if (is_among name names.now) ≤ sharers_of self.old name }
+        ensures counted { (name : List ℕ) → counts_sharers self.new name ≡ counts_sharers self.old name }
+        ensures fewer { (name : List ℕ) → sharers_of self.new name ≡ sharers_of self.old name - one_if (is_among name names.now) }
+    {
+        for at in 0..names.len() {
+            let name = &names[at];
+            if !is_among(name, &names[..at]) {
+                let count = self.count(name) - 1;
+                self.set(name, count);
+            }
+        }
+    }
+
+    fn count(&self, name: &Name) -> u64
+        ensures { result ≡ sharers_of self.now name.now }
+    {
+        match self.counts.get(name.bytes()) {
+            Some(count) => *count,
+            None => 0,
+        }
+    }
+
+    fn set(&mut self, name: &Name, count: u64)
+        requires { counts_sharers self.old name.now ≡ true }
+        ensures counted { (asked : List ℕ) → counts_sharers self.new asked ≡ counts_sharers self.old asked }
+        ensures set { (asked : List ℕ) → sharers_of self.new asked
+            ≡ (if bytes_eq asked name.now then count else sharers_of self.old asked) }
+    {
+        if let Some(here) = self.counts.get_mut(name.bytes()) {
+            *here = count;
+        }
+    }
+
+    fn add_each(&mut self, alloc: Global, names: &[Name]) -> Result<(), NoMemory>
+        requires { (name : List ℕ) → sharers_of self.old name ≡ 0 }
+        ensures counted { OnOk result ((name : List ℕ) → counts_sharers self.new name ≡ (counts_sharers self.old name || is_among name names.now)) }
+        ensures none { OnOk result ((name : List ℕ) → sharers_of self.new name ≡ 0) }
+    {
+        for name in names {
+            self.add(alloc, name)?;
+        }
+        Ok(())
+    }
+
+    fn add(&mut self, alloc: Global, name: &Name) -> Result<(), NoMemory>
+        requires { (asked : List ℕ) → sharers_of self.old asked ≡ 0 }
+        ensures counted { OnOk result ((asked : List ℕ) → counts_sharers self.new asked ≡ (counts_sharers self.old asked || bytes_eq asked name.now)) }
+        ensures none { OnOk result ((asked : List ℕ) → sharers_of self.new asked ≡ 0) }
+    {
+        self.counts
+            .insert(Vec::from_slice(alloc, name.bytes())?, 0)?;
+        Ok(())
+    }
+}
+
+fn is_among(name: &Name, others: &[Name]) -> bool
+    ensures { result ≡ is_among name.now others.now }
+{
+    others.iter().any(|other| name.is(other))
+}
