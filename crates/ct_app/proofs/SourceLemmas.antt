@@ -126,6 +126,7 @@ plain own =
     record own {
       processors = 0;
       locks = [];
+      shared = [];
       serial = false;
       fail = [];
       pass = [];

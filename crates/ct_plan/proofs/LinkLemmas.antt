@@ -12,7 +12,7 @@ use Rattle.ct_graph.specs.declared.ordering.Links.{Links}
 use Rattle.ct_history.specs.declared.plan.PlanTest.{PlanTest}
 use Rattle.ct_cost.specs.declared.cost_data.CostData.{CostData}
 use Rattle.ct_plan.specs.Source.{Source, members_before, setup_members, source}
-use Rattle.ct_plan.specs.Planned.{ArePlannedTests, IsPlannedTest, planned_test, rules_of}
+use Rattle.ct_plan.specs.Planned.{ArePlannedTests, IsPlannedTest, planned_test, rules_of, shared_by}
 use Rattle.ct_plan.specs.Linked.{AreLinked, IsLinked, test_from}
 use Rattle.ct_plan.proofs.NumberLemmas.{AreOfTests}
 
@@ -64,6 +64,7 @@ module _ (defs : List TestDef) (props : List Props) (wanted : Wanted) (resources
         disabled = linked.own.disabled;
         processors = min linked.own.processors wanted.level;
         locks = linked.own.locks;
+        shared = shared_by linked.own;
         serial = linked.own.serial;
         rules = rules_of linked.own;
         needs = linked.own.groups.needs;

@@ -15,7 +15,7 @@ use Rattle.ct_cost.specs.declared.cost_data.CostData.{CostData}
 use Rattle.ct_plan.specs.declared.fault.PlanFault.{PlanFault}
 use Rattle.ct_plan.specs.declared.fault.PlanFault.TheVariants.{Cycle, TooManyEdges, NoMemory}
 use Rattle.ct_plan.specs.declared.standing.Standing.{Standing}
-use Rattle.ct_plan.specs.Planned.{IsFixed, rules_of}
+use Rattle.ct_plan.specs.Planned.{IsFixed, rules_of, shared_by}
 use Rattle.ct_plan.specs.Queue.{IsQueue, standing_there}
 use Rattle.ct_plan.specs.Source.{source}
 
@@ -36,6 +36,7 @@ test_from level link def props fixed = record {
   disabled = props.disabled;
   processors = min props.processors level;
   locks = props.locks;
+  shared = shared_by props;
   serial = props.serial;
   rules = rules_of props;
   needs = props.groups.needs;

@@ -1,8 +1,8 @@
 -- What a plan says of a test: what its properties ask for, and what keeps it from running. Source: CMake
 -- manual, cmake-properties(7), DISABLED, LABELS, PASS_REGULAR_EXPRESSION, PROCESSORS, RESOURCE_GROUPS,
--- RESOURCE_LOCK, RUN_SERIAL, SKIP_RETURN_CODE, WILL_FAIL; add_test. That a test takes the level at most is
--- this project's choice.
-use Rattle.std.specs.Prelude.{◌≡◌, ℕ, ⊤, min, Bool, false, not, bytes_eq, codes, List, [], ◌∷◌, length, Option, Some, None, option_map, ◌==◌, if◌then◌else◌}
+-- RESOURCE_LOCK, RUN_SERIAL, SKIP_RETURN_CODE, WILL_FAIL; add_test. That a test takes the level at most, and
+-- that locks are shared, is this project's choice.
+use Rattle.std.specs.Prelude.{◌≡◌, ℕ, ⊤, min, Bool, false, not, bytes_eq, codes, List, [], ◌∷◌, filter, length, Option, Some, None, option_map, ◌==◌, if◌then◌else◌}
 use Rattle.ct_base.specs.declared.defs.Need.{Need}
 use Rattle.ct_base.specs.declared.defs.Resource.{Resource}
 use Rattle.ct_base.specs.declared.defs.TestDef.{TestDef}
@@ -14,6 +14,7 @@ use Rattle.ct_verdict.specs.declared.rules.Rules.{Rules}
 use Rattle.ct_verdict.specs.declared.verdict.Cause.{Cause}
 use Rattle.ct_verdict.specs.declared.verdict.Cause.TheVariants.{NotAvailable, BadOperation, Insufficient}
 use Rattle.ct_history.specs.declared.plan.PlanTest.{PlanTest}
+use Rattle.ct_history.specs.Rules.{is_among}
 use Rattle.ct_plan.specs.Source.{Source, members_before, setup_members}
 
 -- how an exit of the test is judged
@@ -49,6 +50,14 @@ IsFixedBy None Fits (Some _) = ⊥
 abbrev pub IsFixed : Option (List Resource) → TestDef → Props → Option Cause → Type 0
 IsFixed resources def props cause = IsFixedBy (own_cause def props) (ArePlaceable resources props.groups.needs) cause
 
+-- the names without those of the locks
+abbrev pub without : List (List ℕ) → List (List ℕ) → List (List ℕ)
+without locks names = filter (λ name. not (is_among name locks)) names
+
+-- the locks that a test shares: those that it names as shared, without those that it holds alone
+abbrev pub shared_by : Props → List (List ℕ)
+shared_by props = without props.locks props.shared
+
 -- the test of the plan with this number and rank, and with the cause that keeps it from running
 abbrev pub planned_test : Source → ℕ → TestDef → Props → ℕ → Option Cause → PlanTest
 planned_test s number def props rank fixed = record {
@@ -57,6 +66,7 @@ planned_test s number def props rank fixed = record {
   disabled = props.disabled;
   processors = min props.processors s.wanted.level;
   locks = props.locks;
+  shared = shared_by props;
   serial = props.serial;
   rules = rules_of props;
   needs = props.groups.needs;

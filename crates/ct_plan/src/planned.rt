@@ -1,7 +1,8 @@
 ghost use Rattle.std.specs.Prelude.{◌≡◌, ◌<◌, ◌≤◌, ◌^◌, All, IfOk, IfSome, None, length, map};
 ghost use Rattle.std.specs.Option.{option_copied};
 ghost use Rattle.ct_plan.specs.Linked.{AreLinked, IsUnused, lent, test_from};
-ghost use Rattle.ct_plan.specs.Planned.{ArePlaceable, IsFixed, IsFixedBy, is_not_available as stands_for_none, own_cause as cause_of_words, rules_of};
+ghost use Rattle.ct_plan.specs.Planned.{ArePlaceable, IsFixed, IsFixedBy, is_not_available as stands_for_none, own_cause as cause_of_words, rules_of, without as names_without};
+ghost use Rattle.ct_history.specs.Rules.{is_among};
 
 use ct_alloc::Free;
 use ct_base::{List, Name, Need, NoMemory, TestDef};
@@ -54,6 +55,7 @@ fn plan_test(
         disabled: own.disabled,
         processors: own.processors.min(level),
         locks: copy_names(alloc, own.locks.as_slice())?,
+        shared: without(alloc, own.locks.as_slice(), own.shared.as_slice())?,
         serial: own.serial,
         rules: rules(own),
         needs: copy_needs(alloc, own.groups.needs().as_slice())?,
@@ -73,6 +75,25 @@ fn copy_names(alloc: Global, names: &[Name]) -> Result<List<Name>, NoMemory>
         copies.push(name.copy(alloc)?)?;
     }
     Ok(copies)
+}
+
+/// Copies the names that are none of the locks.
+fn without(alloc: Global, locks: &[Name], names: &[Name]) -> Result<List<Name>, NoMemory>
+    ensures { IfOk result (λ copies. copies ≡ names_without locks.now names.now) }
+{
+    let mut copies = List::new(alloc);
+    for name in names {
+        if !is_among(name, locks) {
+            copies.push(name.copy(alloc)?)?;
+        }
+    }
+    Ok(copies)
+}
+
+fn is_among(name: &Name, others: &[Name]) -> bool
+    ensures { result ≡ is_among name.now others.now }
+{
+    others.iter().any(|other| name.is(other))
 }
 
 fn copy_needs(alloc: Global, needs: &[Need]) -> Result<List<Need>, NoMemory>

@@ -42,6 +42,7 @@ pub record HasProps (def : TestDef) (props : Props) : Type 0 where
   pub disabled : props.disabled ≡ is_true_text (text_of_key def.props (codes "DISABLED"))
   pub processors : processors_in (value_of_key def.props (codes "PROCESSORS")) ≡ Ok props.processors
   pub locks : props.locks ≡ entries_of (text_of_key def.props (codes "RESOURCE_LOCK"))
+  pub shared : props.shared ≡ entries_of (text_of_key def.props (codes "RESOURCE_LOCK_SHARED"))
   pub serial : props.serial ≡ is_true_text (text_of_key def.props (codes "RUN_SERIAL"))
   pub fail : patterns_in (text_of_key def.props (codes "FAIL_REGULAR_EXPRESSION")) ≡ Ok (map regex_tree props.fail)
   pub pass : patterns_in (text_of_key def.props (codes "PASS_REGULAR_EXPRESSION")) ≡ Ok (map regex_tree props.pass)

@@ -31,8 +31,10 @@ pub struct Props {
     pub disabled: bool,
     /// How many processors it takes, from 1 to 65,535: PROCESSORS.
     pub processors: u32,
-    /// The locks that no other test may hold while it runs: RESOURCE_LOCK.
+    /// The locks that no other test may hold or share while it runs: RESOURCE_LOCK.
     pub locks: List<Name>,
+    /// The locks that other tests may share, and none may hold, while it runs: RESOURCE_LOCK_SHARED.
+    pub shared: List<Name>,
     /// Whether it runs alone: RUN_SERIAL.
     pub serial: bool,
     /// The patterns that make it fail where one has a match in its output: FAIL_REGULAR_EXPRESSION.
@@ -87,6 +89,7 @@ impl Props {
             disabled: is_true(text_of(props, b"DISABLED")),
             processors: checked.processors,
             locks: entries(alloc, props, b"RESOURCE_LOCK")?,
+            shared: entries(alloc, props, b"RESOURCE_LOCK_SHARED")?,
             serial: is_true(text_of(props, b"RUN_SERIAL")),
             fail: checked.fail,
             pass: checked.pass,

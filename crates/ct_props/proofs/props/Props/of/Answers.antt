@@ -16,6 +16,7 @@ returns-clause-ok c =
       disabled = search rules;
       processors = checked.processors;
       locks = search rules;
+      shared = search rules;
       serial = search rules;
       fail = checked.fail;
       pass = checked.pass;
