@@ -1,8 +1,8 @@
 //! The core over fixed plans, step by step.
 
 use crate::workers::{Run, Step, close, end, next, open, seen};
-use ct_base::{List, NoMemory, Resource};
-use ct_history::{Entry, History, Plan, PlanParts, PlanTest};
+use ct_base::{List, Name, NoMemory, Resource};
+use ct_history::{Entry, History, Plan, PlanParts, PlanTest, judge};
 use ct_samples::{Manner, cards, free, need, parts_of};
 use ct_verdict::{Cause, How, Mode, Repeat, Verdict};
 use std::alloc::Global;
@@ -43,8 +43,16 @@ level 3 on 3,2 | needs 2;needs 2;needs 2;plain | 0 starts 1, 1 starts 2, 2 start
 level 3 on 5,5 | needs 2, needs 2, needs 3, needs 3;needs 1 | 0 starts 1, 1 waits, 0 ends 0 passed, 1 starts 2, 1 ends 0 passed, 0 is done
 level 1 on 2,4,2,1 | needs 8, insufficient;plain | 0 settles 1, 0 starts 2, 0 ends 0 passed, 0 is done
 level 2 | needs 8;needs 8 | 0 starts 1, 1 starts 2, 0 ends 0 passed, 1 ends 0 passed, 0 is done
+level 3 | shares db;shares db;locks db | 0 starts 1, 1 starts 2, 2 waits, 0 ends 0 passed, 2 waits, 1 ends 0 passed, 0 starts 3, 1 waits, 0 ends 0 passed, 0 is done
+level 3 | locks db;shares db;shares db | 0 starts 1, 1 waits, 0 ends 0 passed, 0 starts 2, 1 starts 3, 0 ends 0 passed, 1 ends 0 passed, 0 is done
+level 3 | shares db;shares db, locks db;plain | 0 starts 1, 1 starts 3, 2 waits, 0 ends 0 passed, 2 starts 2, 1 ends 0 passed, 2 ends 0 passed, 0 is done
+level 3 | shares db, shares db;shares db;locks db | 0 starts 1, 1 starts 2, 0 ends 0 passed, 0 waits, 1 ends 0 passed, 0 starts 3, 0 ends 0 passed, 0 is done
+level 3 | shares db;locks db;shares db | 0 starts 1, 1 starts 3, 2 waits, 0 ends 0 passed, 2 waits, 1 ends 0 passed, 2 starts 2, 2 ends 0 passed, 0 is done
 until-pass 2 on 1 | needs 1;needs 1 | 0 starts 1, 0 ends 1 again, 0 starts 1, 0 ends 0 passed, 0 starts 2, 0 ends 0 passed, 0 is done
 ";
+
+/// A run in which one test holds a lock alone that two tests before it shared.
+const SHARED: &str = "level 3 | shares db;shares db;locks db | 0 starts 1, 1 starts 2, 0 ends 0 passed, 1 ends 0 passed, 0 starts 3, 0 ends 0 passed, 0 is done";
 
 /// A run that stops at a failure.
 const STOPS: &str =
@@ -110,10 +118,12 @@ fn test_of(alloc: Global, number: u32, text: &str) -> Result<PlanTest, NoMemory>
 
 /// Changes a test as a text says.
 fn mark(alloc: Global, test: &mut PlanTest, text: &str) -> Result<(), NoMemory> {
-    let (word, count) = text.split_once(' ').unwrap_or((text, ""));
-    let count = number(count);
+    let (word, object) = text.split_once(' ').unwrap_or((text, ""));
+    let count = number(object);
     match word {
         "processors" => test.processors = count,
+        "locks" => test.locks.push(Name::of(alloc, object.as_bytes())?)?,
+        "shares" => test.shared.push(Name::of(alloc, object.as_bytes())?)?,
         "serial" => test.serial = true,
         "insufficient" => test.fixed = Some(Cause::Insufficient),
         "needs" => test.needs.push(need(alloc, count)?)?,
@@ -226,5 +236,21 @@ fn a_failure_stops_a_run_that_is_to_stop(rt: HostRuntime) -> Result<(), Fail> {
     }
     let wanted = ["start", "end", "stop", "settle", "settle"];
     assert_eq!(rt; kinds.as_slice(), wanted.as_slice());
+    Ok(())
+}
+
+/// Puts the start of the third test of that run in front of the end before it.
+fn start_early(entries: &mut Vec<Entry>) {
+    if entries.len() > 4 {
+        entries.swap(3, 4);
+    }
+}
+
+#[test]
+fn a_lock_is_not_held_alone_beside_a_test_that_shares_it(rt: HostRuntime) -> Result<(), Fail> {
+    let (plan, mut history) = play(&rt, rt.alloc(), SHARED)?;
+    start_early(&mut history.entries);
+    assert!(rt; matches!(history.entries.get(3), Some(Entry::Start { test: 3, .. })));
+    assert!(rt; !judge(&plan, &history)?);
     Ok(())
 }

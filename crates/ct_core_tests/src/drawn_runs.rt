@@ -75,6 +75,7 @@ fn drawn_tests(
         let mut test = free(alloc, number)?;
         draw_marks(dice, &mut test, level);
         draw_locks(alloc, dice, &mut test.locks)?;
+        draw_locks(alloc, dice, &mut test.shared)?;
         draw_links(dice, &mut test, tests.as_slice())?;
         draw_needs(alloc, dice, &mut test, resources)?;
         tests.push(test)?;

@@ -23,6 +23,8 @@ pub enum Kind {
     Slots,
     /// Every test holds the same lock.
     Locked,
+    /// Every test shares the same lock, but every thousandth, which holds it alone.
+    Shared,
     /// Each needs all slots of the one card.
     Spent,
     /// Each holds a lock of its own and one that all hold, and sixteen workers ask.
@@ -39,6 +41,7 @@ impl Kind {
             "wide" => Some(Kind::Wide),
             "slots" => Some(Kind::Slots),
             "locked" => Some(Kind::Locked),
+            "shared" => Some(Kind::Shared),
             "spent" => Some(Kind::Spent),
             "crowd" => Some(Kind::Crowd),
             _ => None,
@@ -75,6 +78,8 @@ impl Kind {
             Kind::Wide => pair(alloc, "PROCESSORS", widths(place)),
             Kind::Slots => pair(alloc, "RESOURCE_GROUPS", "gpus:1"),
             Kind::Locked => pair(alloc, "RESOURCE_LOCK", "lock"),
+            Kind::Shared if place % 1000 == 999 => pair(alloc, "RESOURCE_LOCK", "lock"),
+            Kind::Shared => pair(alloc, "RESOURCE_LOCK_SHARED", "lock"),
             Kind::Spent => pair(alloc, "RESOURCE_GROUPS", "gpus:32"),
             Kind::Crowd => crowded(alloc, place),
         }

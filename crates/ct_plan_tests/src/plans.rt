@@ -1,4 +1,4 @@
-//! The plan of a run: its queue, or why there is no plan.
+//! The plan of a run: its queue, and the locks that its tests share.
 //!
 //! A row has the words of a command line, the tests, and the cost data of earlier runs with `/` for
 //! the end of a line.
@@ -6,11 +6,12 @@
 ghost use Rattle.ct_plan.specs.Source.{HaveProps};
 
 use crate::rows::{Tests, invocation_of, is_told, tests_of, told};
-use ct_base::NoMemory;
+use ct_base::{Name, NoMemory};
 use ct_cost::CostData;
+use ct_history::Plan;
 use ct_plan::plan;
 use ct_props::Wanted;
-use std::alloc::Global;
+use std::alloc::{AllocError, Global};
 use std::process::Abort;
 use std::test::Fail;
 
@@ -27,6 +28,13 @@ const QUEUES: &str = "\
 -j2 -R b | s setup=f, b required=f COST=3, d COST=9 | is 2,1
 ";
 
+/// Rows, and the locks that the tests of each plan share.
+const SHARED: &str = "\
+-j1 | a RESOURCE_LOCK_SHARED=y;x;y is y,x,y,
+-j1 | a RESOURCE_LOCK=x;z RESOURCE_LOCK_SHARED=y;x;y;z is y,y,
+-j1 | a RESOURCE_LOCK=x RESOURCE_LOCK_SHARED=x, b RESOURCE_LOCK_SHARED=x is x,
+";
+
 /// Reads the cost data of earlier runs, with `/` for the end of a line.
 fn costs_of(alloc: Global, text: &str) -> Result<CostData, NoMemory> {
     let mut bytes = Vec::new(alloc);
@@ -37,38 +45,66 @@ fn costs_of(alloc: Global, text: &str) -> Result<CostData, NoMemory> {
     CostData::read(alloc, bytes.as_slice())
 }
 
-/// Reports the queue of the plan of these tests.
-fn queue_told(
+/// Plans these tests.
+fn planned(
     rt: &impl Abort,
     alloc: Global,
     tests: &Tests,
     wanted: &Wanted,
     costs: &CostData,
-) -> Result<String, Fail>
+) -> Result<Plan, Fail>
     requires { HaveProps tests.now.defs tests.now.props }
 {
     assert!(rt; tests.defs.len() < 100);
     assert!(rt; wanted.level >= 1 && wanted.repeat.times >= 1);
-    let plan = plan(alloc, &tests.defs, &tests.props, wanted, None, costs)?;
-    Ok(told(alloc, plan.parts().queue.as_slice())?)
+    Ok(plan(alloc, &tests.defs, &tests.props, wanted, None, costs)?)
 }
 
-/// Reports the queue of a row.
-fn queue_of(rt: &impl Abort, alloc: Global, given: &str) -> Result<String, Fail> {
+/// Plans the tests of a row.
+fn plan_of(rt: &impl Abort, alloc: Global, given: &str) -> Result<Plan, Fail> {
     let (words, rest) = given.split_once(" | ").unwrap_or((given, ""));
     let (tests, left) = rest.split_once(" |").unwrap_or((rest, ""));
     let invocation = invocation_of(rt, alloc, words)?;
     let tests = tests_of(alloc, tests)?;
     let costs = costs_of(alloc, left.trim())?;
-    queue_told(rt, alloc, &tests, &invocation.wanted, &costs)
+    planned(rt, alloc, &tests, &invocation.wanted, &costs)
+}
+
+/// Lists the locks that the tests of a plan share, with a `,` behind each.
+fn shared_told(alloc: Global, plan: &Plan) -> Result<String, AllocError> {
+    let mut told = String::new(alloc);
+    for test in plan.parts().tests.as_slice() {
+        put_names(&mut told, test.shared.as_slice())?;
+    }
+    Ok(told)
+}
+
+fn put_names(told: &mut String, names: &[Name]) -> Result<(), AllocError> {
+    for name in names {
+        told.push_str(str::from_utf8(name.bytes()).unwrap_or("?"))?;
+        told.push_str(",")?;
+    }
+    Ok(())
 }
 
 #[test]
 fn queues_failed_tests_and_then_the_costliest(rt: HostRuntime) -> Result<(), Fail> {
     for row in QUEUES.lines() {
         let (given, want) = row.split_once(" is ").unwrap_or((row, ""));
-        let queue = queue_of(&rt, rt.alloc(), given)?;
+        let plan = plan_of(&rt, rt.alloc(), given)?;
+        let queue = told(rt.alloc(), plan.parts().queue.as_slice())?;
         is_told(&rt, row, queue.as_str(), want);
+    }
+    Ok(())
+}
+
+#[test]
+fn shares_no_lock_that_a_test_holds_alone(rt: HostRuntime) -> Result<(), Fail> {
+    for row in SHARED.lines() {
+        let (given, want) = row.split_once(" is ").unwrap_or((row, ""));
+        let plan = plan_of(&rt, rt.alloc(), given)?;
+        let shared = shared_told(rt.alloc(), &plan)?;
+        is_told(&rt, row, shared.as_str(), want);
     }
     Ok(())
 }

@@ -61,6 +61,8 @@ SKIP_RETURN_CODE=- is bad SKIP_RETURN_CODE BadNumber
 SKIP_RETURN_CODE= is bad SKIP_RETURN_CODE BadNumber
 RESOURCE_LOCK= is
 RESOURCE_LOCK=a;;b;a; is locks=a,b,a
+RESOURCE_LOCK_SHARED= is
+RESOURCE_LOCK_SHARED=a;;b;a;&RESOURCE_LOCK=a is locks=a shared=a,b,a
 ENVIRONMENT=A=1;B is environment=A=1,B
 ENVIRONMENT_MODIFICATION=A=plus:1 is modification=A=plus:1
 LABELS=x;y;x is labels=x,y
@@ -154,6 +156,7 @@ fn put_fields(told: &mut String, props: &Props) -> Result<(), AllocError> {
     put_flag(told, "disabled", props.disabled)?;
     put_count(told, "processors", u64::from(props.processors), 1)?;
     put_names(told, "locks", &props.locks)?;
+    put_names(told, "shared", &props.shared)?;
     put_flag(told, "serial", props.serial)?;
     put_count(told, "fail", props.fail.len() as u64, 0)?;
     put_count(told, "pass", props.pass.len() as u64, 0)?;
