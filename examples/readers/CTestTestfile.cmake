@@ -1,0 +1,8 @@
+add_test(read_1 "./read" "read_1")
+set_tests_properties(read_1 PROPERTIES RESOURCE_LOCK_SHARED "base")
+add_test(write "./write")
+set_tests_properties(write PROPERTIES RESOURCE_LOCK "base" RESOURCE_LOCK_SHARED "base")
+add_test(read_2 "./read" "read_2")
+set_tests_properties(read_2 PROPERTIES RESOURCE_LOCK_SHARED "base")
+add_test(read_3 "./read" "read_3")
+set_tests_properties(read_3 PROPERTIES RESOURCE_LOCK_SHARED "base")
