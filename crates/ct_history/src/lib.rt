@@ -19,6 +19,7 @@ pub use board::{Base, Board};
 pub use endings::{Ending, Endings, ending_at, endings_of, verdict_by};
 pub use history::{Entry, History};
 pub use legal::judge;
-pub use open_starts::{holds_start, is_busy};
+pub use open_starts::{exclude, holds_start, is_busy};
+pub use placed::{is_placement, slots_at};
 pub use plan::{Plan, PlanParts, PlanTest, test_at};
 pub use verdicts::{are_all_final, final_verdict, verdict, verdict_of};

@@ -121,16 +121,23 @@ pub(crate) fn is_excluded(tests: &[PlanTest], test: &PlanTest, entries: &[Entry]
     false
 }
 
-#[tactic(auto, unfolding(crate::specs::Rules::exclude))]
 fn excludes(tests: &[PlanTest], test: &PlanTest, number: u32) -> bool
     ensures { result ≡ Rules.exclude (Some test.now) (Rules.test_at tests.now number) }
 {
     match test_at(tests, number) {
-        Some(other) => {
-            locks_out(test, other) || locks_out(other, test) || test.serial || other.serial
-        }
+        Some(other) => exclude(test, other),
         None => test.serial,
     }
+}
+
+/// Tells whether two tests exclude each other: one locks the other out, or one of them is serial.
+///
+/// Source: CMake manual, cmake-properties(7), RESOURCE_LOCK, RUN_SERIAL.
+#[tactic(auto, unfolding(crate::specs::Rules::exclude))]
+pub fn exclude(test: &PlanTest, other: &PlanTest) -> bool
+    ensures { result ≡ Rules.exclude (Some test.now) (Some other.now) }
+{
+    locks_out(test, other) || locks_out(other, test) || test.serial || other.serial
 }
 
 /// Tells whether a lock that the test holds alone is one that the other test holds or shares.

@@ -52,7 +52,10 @@ fn is_placed_on(
     }
 }
 
-fn is_placement(resources: &[Resource], needs: &[Need], picks: &[Pick]) -> bool
+/// Tells whether picks are a placement for the needs on these resources.
+///
+/// Source: CMake manual, ctest(1), Resource Allocation.
+pub fn is_placement(resources: &[Resource], needs: &[Need], picks: &[Pick]) -> bool
     ensures { result ≡ Placing.is_placement resources.now needs.now picks.now }
 {
     if needs.len() != picks.len() {
@@ -119,7 +122,7 @@ fn used_slots(entries: &[Entry], place: usize) -> u64
 }
 
 /// Adds up the slots that picks take of a resource. A greater sum counts as 2^64 - 1.
-fn slots_at(place: usize, picks: &[Pick]) -> u64
+pub fn slots_at(place: usize, picks: &[Pick]) -> u64
     ensures { result ≡ min (Placing.slots_at place picks.now) (2 ^ 64 - 1) }
 {
     let mut slots: u64 = 0;
