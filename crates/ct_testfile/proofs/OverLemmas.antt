@@ -1,4 +1,5 @@
 -- Calls that look at files, one after the other: what holds of each of them holds of all together.
+use Rattle.std.specs.Prelude.{⊤}
 use Rattle.std.proofs.Common.{◌≡◌, ◌≤◌, ℕ, List, Option, Some, None, Result, Ok, Err, IfErr, IfSome, refl, sym, ap, ◌∙◌, subst, arith}
 use Rattle.ct_base.specs.Outside.{FilesTell, Held, SameHeld, Becomes, LooksAt}
 use Rattle.ct_base.specs.declared.files.FilesFault.{FilesFault}
