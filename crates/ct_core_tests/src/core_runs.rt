@@ -52,7 +52,8 @@ until-pass 2 on 1 | needs 1;needs 1 | 0 starts 1, 0 ends 1 again, 0 starts 1, 0 
 ";
 
 /// A run in which one test holds a lock alone that two tests before it shared.
-const SHARED: &str = "level 3 | shares db;shares db;locks db | 0 starts 1, 1 starts 2, 0 ends 0 passed, 1 ends 0 passed, 0 starts 3, 0 ends 0 passed, 0 is done";
+const SHARED: &str =
+    "level 3 | shares db;shares db;locks db | 0 starts 1, 1 starts 2, 0 ends 0 passed, 1 ends 0 passed, 0 starts 3, 0 ends 0 passed, 0 is done";
 
 /// A run that stops at a failure.
 const STOPS: &str =

@@ -32,7 +32,9 @@ fn main(rt: HostRuntime) -> anyhow::Result<()> {
         bail!("ct_drive wants three words: KIND COUNT times|counts");
     };
     let Some(kind) = Kind::of(kind.as_str()) else {
-        bail!("the kind is plain, chain, fixture, lock, wide, slots, locked, shared, spent or crowd");
+        bail!(
+            "the kind is plain, chain, fixture, lock, wide, slots, locked, shared, spent or crowd"
+        );
     };
     let count: u32 = count.as_str().parse().unwrap_or(0);
     if count == 0 || count > MOST_TESTS {
