@@ -1,14 +1,16 @@
 -- What a scan answers behind a text is whether the pattern hits it.
-use Rattle.std.proofs.Common.{◌≡◌, ◌≤◌, ◌<◌, ◌⊎◌, ◌||◌, ◌==◌, ℕ, ◌+◌, Bool, true, false, List, [], ◌∷◌, ◌++◌, length, get_or, ⊎_elim, refl, sym, ◌∙◌, ap, subst, append-nil, append_assoc, arith}
+use Rattle.std.proofs.Common.{◌≡◌, ◌≤◌, ◌<◌, ◌⊎◌, ◌||◌, ◌==◌, ℕ, ◌+◌, Bool, true, false, List, [], ◌∷◌, ◌++◌, length, map, get_or, ⊎_elim, refl, sym, ◌∙◌, ap, subst, append-nil, append_assoc, arith}
 use Rattle.std.proofs.lemmas.List.{length-append, get_or_at}
 use Rattle.std.proofs.lemmas.Bool.{eq-eqb, ne_eqb}
 use Rattle.ct_regex.specs.Tree.{Tree}
 use Rattle.ct_regex.specs.Ends.{hits}
 use Rattle.ct_regex.specs.Reading.{can_be_empty}
 use Rattle.ct_regex.specs.Sound.{is_sound}
-use Rattle.ct_regex.specs.Walk.{Step, all_flow, walked, steps_of, no_marks}
+use Rattle.ct_regex.specs.Walk.{Step, step_of, all_flow, walked, steps_of, no_marks}
 use Rattle.ct_regex.specs.Stand.{Stand, a_stand, stand_with, stand_by, behind_byte, behind_bytes, answer}
+use Rattle.ct_regex.specs.Scan.{stand_of, answer_behind, StandsFor, GoesOn}
 use Rattle.ct_regex.specs.declared.walk.Flow.{Flow}
+use Rattle.ct_regex.specs.declared.scan.Scan.{Scan}
 use Rattle.ct_regex.proofs.HitLemmas.{hits_from, hits_to}
 use Rattle.ct_regex.proofs.Live.{Spot, spot_at, leaves, next_marks}
 use Rattle.ct_regex.proofs.LiveLemmas.{Out, Right, Places, bounded, ends_le, or_from, or_one, or_none, leaves_sound, leaves_whole, next_right, first_right}
@@ -191,3 +193,24 @@ walk_stands steps stand byte marks flow found e m now =
     ∙ ap (λ (f : Flow). stand_by (stand_with false stand) (a_walk f [] (walked steps byte (a_walk all_flow [] stand.marks)).marks)) (sym e)
     ∙ ap (λ (ms : List Bool). stand_by (stand_with false stand) (a_walk flow [] ms)) (sym m)
     ∙ ap (λ (b : Bool). stand_with b (a_stand marks flow.last)) now
+
+-- a scan that goes on to the end of a piece stands for the text with the piece behind it
+pub goes_on_all : (tree : Tree) (text piece rest : List ℕ) (before after : Scan) → GoesOn before piece rest after → rest ≡ [] →
+    StandsFor tree text before → StandsFor tree (text ++ piece) after
+goes_on_all tree text piece rest before after goes none stands = record {
+  answers = λ more.
+      ap (λ (r : List ℕ). answer_behind after (r ++ more)) (sym none)
+      ∙ goes.answers more ∙ stands.answers (piece ++ more) ∙ ap (hits tree) (sym (append_assoc text piece more));
+  pattern = λ bytes. goes.anew bytes ∙ stands.pattern bytes;
+}
+
+-- a scan that has found a match stands for the text with the whole piece behind it
+pub goes_on_some : (tree : Tree) (text piece rest : List ℕ) (before after : Scan) → GoesOn before piece rest after → after.found ≡ true →
+    StandsFor tree text before → StandsFor tree (text ++ piece) after
+goes_on_some tree text piece rest before after goes found stands = record {
+  answers = λ more.
+      found_stays (map step_of after.steps.items) (stand_of after) more found
+      ∙ sym (found_stays (map step_of after.steps.items) (stand_of after) (rest ++ more) found)
+      ∙ goes.answers more ∙ stands.answers (piece ++ more) ∙ ap (hits tree) (sym (append_assoc text piece more));
+  pattern = λ bytes. goes.anew bytes ∙ stands.pattern bytes;
+}

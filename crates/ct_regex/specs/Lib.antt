@@ -15,3 +15,4 @@ pub mod Stand
 pub mod Met
 pub mod Memory
 pub mod Scan
+pub mod PatternOf

@@ -1,7 +1,7 @@
 //! The regular expressions of CMake: parsed exactly, and matched by their definition.
 //!
 //! Hands up: `Regex::parse` reads a pattern or returns its first fault, `hit` tells whether a text
-//! has a match anywhere, and a `Scan` tells the same of a text in pieces.
+//! has a match anywhere, a `Scan` tells the same of a text in pieces, and a `Matcher` of many texts.
 //! Stands on: ct_base and `thiserror`.
 //! Read first: `specs/Tree.antt`, `specs/Ends.antt`, `specs/Signs.antt`, `specs/Reading.antt` and
 //! `specs/Scan.antt`. In `specs/Lib.antt`, the files from `Walk` to `Memory` are internal to the matcher.
@@ -9,6 +9,7 @@
 
 mod fault;
 pub mod laws;
+mod matcher;
 mod memory;
 mod pattern;
 mod program;
@@ -20,5 +21,6 @@ mod tree;
 mod walk;
 
 pub use fault::RegexFault;
+pub use matcher::Matcher;
 pub use pattern::Regex;
 pub use scan::Scan;

@@ -14,7 +14,8 @@ pub struct Met {
     pub digest: u32,
 }
 
-/// The sets that were met, by number, and the set that each byte leads to from each of them.
+/// The sets that were met, by number, and the set that each byte leads to from each of them. Set 0 is
+/// the one before the first byte, and stays.
 #[derive(Drop)]
 pub struct Memory {
     /// The first `count` sets were met; the others are room for more.
@@ -25,7 +26,8 @@ pub struct Memory {
     /// For each set and byte, the set that the byte leads to, if it is known.
     pub next: Vec<Option<u16>>,
     ghost few: { count ≤ vec_len sets },
-    ghost some: { 0 < vec_len sets },
+    ghost begun: { 0 < count },
+    ghost room: { 1 < vec_len sets },
     ghost short: { vec_len sets < 65536 },
     ghost wide: { (at : ℕ) → at < vec_len sets → length (marks_in sets.items at) ≡ width },
 }
@@ -43,7 +45,7 @@ impl Memory {
         marks: &[bool],
         last: bool,
     ) -> Result<Memory, NoMemory>
-        requires room { 0 < room }
+        requires room { 1 < room }
         ensures remembers { IfOk result (λ memory. (steps : List Step) → Remembers steps memory) }
         ensures first { IfOk result (λ memory. stand_at memory 0 ≡ a_stand marks.now last) }
         ensures count { IfOk result (λ memory. memory.count ≡ 1) }
@@ -149,7 +151,7 @@ impl Memory {
 
     /// Remembers the set that the byte leads to, and returns its number.
     ///
-    /// If there is no room for one more set, it forgets all others.
+    /// If there is no room for one more set, it forgets all but the first one.
     pub(crate) fn learn(&mut self, from: u16, byte: u8, marks: &[bool], last: bool) -> u16
         requires met { from < self.old.count }
         requires wide { length marks.now ≡ self.old.width }
@@ -158,27 +160,50 @@ impl Memory {
             Remembers steps self.new }
         ensures met { result < self.new.count }
         ensures same { stand_at self.new result ≡ a_stand marks.now last }
+        ensures first { stand_at self.new 0 ≡ stand_at self.old 0 }
         ensures width { self.new.width ≡ self.old.width }
     {
-        if let Some(to) = self.find(marks, last) {
+        let digest = digest(marks);
+        if let Some(to) = self.find(digest, marks, last) {
             self.link(from, byte, to);
             return to;
         }
         if self.is_full() {
             self.forget();
-            return self.add(marks, last);
+            return self.add(digest, marks, last);
         }
-        let to = self.add(marks, last);
+        let to = self.add(digest, marks, last);
         self.link(from, byte, to);
         to
     }
 
+    /// Returns the number of the set, which is added if it was not met.
+    ///
+    /// If there is no room for one more set, all but the first one are forgotten.
+    pub(crate) fn meet(&mut self, marks: &[bool], last: bool) -> u16
+        requires wide { length marks.now ≡ self.old.width }
+        ensures remembers { (steps : List Step) →
+            Remembers steps self.old → Remembers steps self.new }
+        ensures met { result < self.new.count }
+        ensures same { stand_at self.new result ≡ a_stand marks.now last }
+        ensures first { stand_at self.new 0 ≡ stand_at self.old 0 }
+        ensures width { self.new.width ≡ self.old.width }
+    {
+        let digest = digest(marks);
+        if let Some(at) = self.find(digest, marks, last) {
+            return at;
+        }
+        if self.is_full() {
+            self.forget();
+        }
+        self.add(digest, marks, last)
+    }
+
     /// Returns the number of the set, if it was met.
-    pub(crate) fn find(&self, marks: &[bool], last: bool) -> Option<u16>
+    fn find(&self, digest: u32, marks: &[bool], last: bool) -> Option<u16>
         ensures met { IfSome result (λ at. at < self.now.count) }
         ensures same { IfSome result (λ at. stand_at self.now at ≡ a_stand marks.now last) }
     {
-        let digest = digest(marks);
         for at in 0..self.count {
             let met = &self.sets[at as usize];
             if met.digest == digest && is_same(met, marks, last) {
@@ -195,7 +220,7 @@ impl Memory {
     }
 
     /// Adds a set that was not met, and returns its number.
-    pub(crate) fn add(&mut self, marks: &[bool], last: bool) -> u16
+    fn add(&mut self, digest: u32, marks: &[bool], last: bool) -> u16
         requires room { self.old.count < vec_len self.old.sets }
         requires wide { length marks.now ≡ self.old.width }
         ensures remembers { (steps : List Step) →
@@ -211,13 +236,13 @@ impl Memory {
         let met = &mut self.sets[at as usize];
         met.marks.copy_from_slice(marks);
         met.last = last;
-        met.digest = digest(marks);
+        met.digest = digest;
         self.count = at + 1;
         at
     }
 
     /// Remembers where the byte leads from a set.
-    pub(crate) fn link(&mut self, at: u16, byte: u8, to: u16)
+    fn link(&mut self, at: u16, byte: u8, to: u16)
         ensures remembers { (steps : List Step) → Remembers steps self.old →
             Leads steps self.old at byte to → Remembers steps self.new }
         ensures sets { self.new.sets ≡ self.old.sets }
@@ -230,14 +255,15 @@ impl Memory {
         }
     }
 
-    /// Forgets all sets.
-    pub(crate) fn forget(&mut self)
+    /// Forgets all sets but the first one.
+    fn forget(&mut self)
         ensures remembers { (steps : List Step) → Remembers steps self.new }
         ensures room { self.new.count < vec_len self.new.sets }
-        ensures count { self.new.count ≡ 0 }
+        ensures count { self.new.count ≡ 1 }
+        ensures first { stand_at self.new 0 ≡ stand_at self.old 0 }
         ensures width { self.new.width ≡ self.old.width }
     {
-        self.count = 0;
+        self.count = 1;
         self.next.fill(None);
     }
 }

@@ -35,11 +35,11 @@ pub struct Scan {
 }
 
 impl Scan {
-    ghost use Rattle.std.specs.Prelude.{ℕ, List, [], ◌∷◌, ◌++◌, IfOk, false};
+    ghost use Rattle.std.specs.Prelude.{ℕ, List, [], ◌∷◌, ◌++◌, IfOk, IsTrue, false};
     ghost use Rattle.ct_regex.specs.Tree.{Tree};
     ghost use Rattle.ct_regex.specs.TreeOf.{regex_tree};
     ghost use Rattle.ct_regex.specs.Ends.{hits};
-    ghost use Rattle.ct_regex.specs.Scan.{StandsFor, GoesOn};
+    ghost use Rattle.ct_regex.specs.Scan.{IsScanOf, StandsFor, GoesOn};
 
     /// Makes a scan of the empty text. It takes here all the memory that it ever takes.
     pub fn new(alloc: Global, regex: &Regex) -> Result<Scan, NoMemory>
@@ -52,13 +52,13 @@ impl Scan {
     pub(crate) fn of_text(alloc: Global, regex: &Regex, text: &[u8]) -> Result<Scan, NoMemory>
         ensures { IfOk result (λ scan. StandsFor (regex_tree regex.now) [] scan) }
     {
-        let sets = text.len().min(MOST_SETS as usize - 1) + 1;
+        let sets = text.len().min(MOST_SETS as usize - 2) + 2;
         Scan::with_room(alloc, regex, sets as u16)
     }
 
     /// Makes a scan that remembers at most `sets` sets.
     fn with_room(alloc: Global, regex: &Regex, sets: u16) -> Result<Scan, NoMemory>
-        requires sets { 0 < sets }
+        requires sets { 1 < sets }
         ensures { IfOk result (λ scan. StandsFor (regex_tree regex.now) [] scan) }
     {
         let root = regex.root();
@@ -96,6 +96,24 @@ impl Scan {
             StandsFor tree text self.now → result ≡ hits tree text }
     {
         either(self.found, self.memory.last(self.at))
+    }
+
+    /// Tells whether the text has a match, whatever comes behind it. Then `feed` passes over what comes.
+    ///
+    /// A match at the end of the text may show only when one more byte has come.
+    pub fn is_decided(&self) -> bool
+        ensures { (tree : Tree) (text more : List ℕ) → StandsFor tree text self.now →
+            IsTrue result → IsTrue (hits tree (text ++ more)) }
+    {
+        self.found
+    }
+
+    /// Sets the scan back to the empty text. It keeps the sets that it has met, and takes no memory.
+    pub fn restart(&mut self)
+        ensures { (tree : Tree) → IsScanOf tree self.old → StandsFor tree [] self.new }
+    {
+        self.at = 0;
+        self.found = false;
     }
 
     /// Takes the bytes of the piece that the memory knows, and one byte more. Returns the rest of the piece.
@@ -174,7 +192,7 @@ a..$ abaabbba ---+-++--
     /// Tells whether a scan with room for `sets` sets, which takes pieces of `size` bytes, is right
     /// on the row between the pieces and behind the last one.
     fn is_right(alloc: Global, row: &str, sets: u16, size: usize) -> Result<bool, RegexFault>
-        requires sets { 0 < sets }
+        requires sets { 1 < sets }
         requires size { 0 < size }
     {
         let mut cells = row.split(' ');
@@ -196,7 +214,7 @@ a..$ abaabbba ---+-++--
     #[test]
     fn stays_right_with_little_room(rt: HostRuntime) {
         for row in ROWS.lines() {
-            for sets in 1..4 {
+            for sets in 2..5 {
                 for size in 1..15 {
                     let found = is_right(rt.alloc(), row, sets, size);
                     assert_eq!(rt;

@@ -1,5 +1,6 @@
-use Rattle.std.proofs.Common.{sym, ap, ◌∙◌, arith}
+use Rattle.std.proofs.Common.{rules, sym, ap, ◌∙◌, arith}
 use Rattle.ct_regex.specs.Stand.{Stand, behind_byte}
+use Rattle.ct_regex.specs.Memory.{stand_in}
 use Rattle.ct_regex.proofs.memory.Memory.learn.Goals as goal
 
 pub returns-clause-remembers : goal.returns-clause-remembers
@@ -15,3 +16,9 @@ returns-in-Some-clause-remembers c = λ steps h e. c.link.ensures.remembers step
 
 pub returns-then-is_full-clause-remembers : goal.returns-then-is_full-clause-remembers
 returns-then-is_full-clause-remembers c = λ steps h e. c.add.ensures.remembers steps (c.forget.ensures.remembers steps)
+
+pub returns-clause-first : goal.returns-clause-first
+returns-clause-first c = ap (λ sets. stand_in sets.items 0) c.link-2.ensures.sets ∙ c.add-to.ensures.kept 0 (search rules)
+
+pub returns-then-is_full-clause-first : goal.returns-then-is_full-clause-first
+returns-then-is_full-clause-first c = c.add.ensures.kept 0 (omega (arith, c.forget.ensures.count)) ∙ c.forget.ensures.first

@@ -1,14 +1,9 @@
-use Rattle.std.proofs.Common.{◌++◌, map, sym, ap, ◌∙◌, append_assoc}
-use Rattle.ct_regex.specs.Ends.{hits}
-use Rattle.ct_regex.specs.Walk.{step_of}
-use Rattle.ct_regex.specs.Scan.{stand_of}
-use Rattle.ct_regex.proofs.ScanLemmas.{found_stays}
+use Rattle.std.proofs.Common.{rules}
+use Rattle.ct_regex.proofs.ScanLemmas.{goes_on_all, goes_on_some}
 use Rattle.ct_regex.proofs.scan.Scan.feed.Goals as goal
 
 pub returns-then-self : goal.returns-then-self
-returns-then-self c = λ tree text stands more.
-    found_stays (map step_of c.rest.self.steps.items) (stand_of c.rest.self) more c.if-self.true
-    ∙ sym (found_stays (map step_of c.rest.self.steps.items) (stand_of c.rest.self) (c.rest.rest.now ++ more) c.if-self.true)
-    ∙ c.rest.invariant more
-    ∙ stands (c.args.piece.now ++ more)
-    ∙ ap (hits tree) (sym (append_assoc text c.args.piece.now more))
+returns-then-self c = λ tree text stands. goes_on_some tree text c.args.piece.now c.rest.rest.now c.args.self.now c.rest.self c.rest.invariant c.if-self.true stands
+
+pub returns : goal.returns
+returns c = λ tree text stands. goes_on_all tree text c.args.piece.now c.rest.rest.now c.args.self.now c.rest.self c.rest.invariant (search rules) stands
