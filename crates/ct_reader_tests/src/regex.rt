@@ -1,6 +1,6 @@
 //! Patterns of CMake: what is refused, and what hits.
 
-use ct_regex::{Regex, RegexFault, Scan};
+use ct_regex::{Matcher, Regex, RegexFault, Scan};
 use std::alloc::{AllocError, Global};
 use std::process::Abort;
 use std::test::Fail;
@@ -192,6 +192,44 @@ fn says_the_same_of_a_text_in_pieces(rt: HostRuntime) {
         let text = cells.next().unwrap_or("");
         let found = agrees(rt.alloc(), pattern.as_bytes(), text.as_bytes());
         assert_eq!(rt; found, Ok(true), "{row}");
+    }
+}
+
+/// Each line is a row, with spaces between its cells: a pattern, texts, and of each whether it is hit.
+const TEXTS: &str = "\
+[]a]+$ x]a,ab,x]a +-+
+error error,er,ror,error +--+
+(a*b?)?c c,b,abc +-+
+^a.$ ab,aab,ba,ac +--+
+";
+
+/// Tells whether one scan, set back for each text, and one matcher say of each what the row says.
+fn says_of_each(alloc: Global, row: &str) -> Result<bool, RegexFault> {
+    let mut cells = row.split(' ');
+    let regex = Regex::parse(alloc, cells.next().unwrap_or("").as_bytes())?;
+    let texts = cells.next().unwrap_or("");
+    let says = cells.next().unwrap_or("").as_bytes();
+    let mut scan = Scan::new(alloc, &regex)?;
+    let mut matcher = Matcher::new(alloc, &regex)?;
+    let mut is_right = true;
+    for (at, text) in texts.split(',').enumerate() {
+        let text = text.as_bytes();
+        let (front, rest) = text.split_at(text.len() / 2);
+        scan.restart();
+        scan.feed(front);
+        scan.feed(rest);
+        let is_hit = says.get(at) == Some(&b'+');
+        is_right &= scan.ended() == is_hit && matcher.hit(text) == is_hit;
+        scan.feed(b"\n");
+        is_right &= !scan.is_decided() || is_hit;
+    }
+    Ok(is_right)
+}
+
+#[test]
+fn says_the_same_once_it_is_set_back(rt: HostRuntime) {
+    for row in TEXTS.lines() {
+        assert_eq!(rt; says_of_each(rt.alloc(), row), Ok(true), "{row}");
     }
 }
 

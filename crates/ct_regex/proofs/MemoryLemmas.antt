@@ -6,7 +6,7 @@ use Rattle.ct_regex.specs.Walk.{Step}
 use Rattle.std.proofs.lemmas.List.{drop_more}
 use Rattle.ct_regex.specs.Stand.{Stand, a_stand, behind_byte, behind_bytes}
 use Rattle.ct_regex.specs.Met.{marks_of}
-use Rattle.ct_regex.specs.Memory.{last_of, stand_in, stand_at, entry_at, Remembers}
+use Rattle.ct_regex.specs.Memory.{last_of, stand_in, stand_at, entry_at, Leads, LeadsBy, Remembers}
 use Rattle.ct_regex.specs.declared.memory.Memory.{Memory}
 use Rattle.ct_regex.specs.declared.memory.Met.{Met}
 
@@ -96,3 +96,9 @@ goes_by steps memory piece at to i inside small h e =
     let leads = h at (get_or piece i 0) to small e in
     ap (λ (s : Stand). behind_bytes steps s (drop (i + 1) piece)) (sym leads.2)
     ∙ ap (behind_bytes steps (stand_at memory at)) (sym (drop_more piece i 0 inside))
+
+-- where one byte alone leads
+pub leads_one : (steps : List Step) (memory : Memory) (at : ℕ) (bytes : List ℕ) (to : ℕ) → length bytes ≡ 1 → LeadsBy steps memory at bytes to → Leads steps memory at (get_or bytes 0 0) to
+leads_one steps memory at [] to one h = absurd (omega (arith, one))
+leads_one steps memory at (byte ∷ []) to one h = h
+leads_one steps memory at (byte ∷ other ∷ bytes) to one h = absurd (omega (arith, one))

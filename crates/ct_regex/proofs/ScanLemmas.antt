@@ -1,6 +1,6 @@
 -- What a scan answers behind a text is whether the pattern hits it.
-use Rattle.std.proofs.Common.{◌≡◌, ◌≤◌, ◌<◌, ◌⊎◌, ◌||◌, ◌==◌, ℕ, ◌+◌, Bool, true, false, List, [], ◌∷◌, ◌++◌, length, map, get_or, ⊎_elim, refl, sym, ◌∙◌, ap, subst, append-nil, append_assoc, arith}
-use Rattle.std.proofs.lemmas.List.{length-append, get_or_at}
+use Rattle.std.proofs.Common.{◌≡◌, ◌≤◌, ◌<◌, ◌⊎◌, ◌||◌, ◌==◌, ℕ, ◌+◌, Bool, true, false, List, [], ◌∷◌, ◌++◌, length, map, drop, get_or, ⊎_elim, refl, sym, ◌∙◌, ap, subst, append-nil, append_assoc, arith}
+use Rattle.std.proofs.lemmas.List.{length-append, get_or_at, drop_more}
 use Rattle.std.proofs.lemmas.Bool.{eq-eqb, ne_eqb}
 use Rattle.ct_regex.specs.Tree.{Tree}
 use Rattle.ct_regex.specs.Ends.{hits}
@@ -184,6 +184,22 @@ alike_found steps found here there rest piece more f e =
     ∙ alike_behind steps (stand_with false here) (stand_with false there) rest piece more e
     ∙ ap (λ (b : Bool). answer (behind_bytes steps (stand_with b there) (piece ++ more))) (sym f)
 
+-- one byte more leads on to the next stand
+pub goes_by_one : (steps : List Step) (first here next : Stand) (bytes : List ℕ) (i : ℕ) → i < length bytes → behind_byte steps here (get_or bytes i 0) ≡ next →
+    behind_bytes steps here (drop i bytes) ≡ behind_bytes steps first bytes → behind_bytes steps next (drop (i + 1) bytes) ≡ behind_bytes steps first bytes
+goes_by_one steps first here next bytes i inside step e =
+    ap (λ (s : Stand). behind_bytes steps s (drop (i + 1) bytes)) (sym step)
+    ∙ ap (behind_bytes steps here) (sym (drop_more bytes i 0 inside)) ∙ e
+
+-- a match that is found at a byte is found whatever follows the bytes
+pub finds_here : (steps : List Step) (first here : Stand) (bytes : List ℕ) (i : ℕ) → i < length bytes →
+    behind_bytes steps here (drop i bytes) ≡ behind_bytes steps first bytes → (behind_byte steps here (get_or bytes i 0)).found ≡ true →
+    (more : List ℕ) → answer (behind_bytes steps first (bytes ++ more)) ≡ true
+finds_here steps first here bytes i inside e found more =
+    sym (alike_behind steps here first (drop i bytes) bytes more e)
+    ∙ ap (λ (ys : List ℕ). answer (behind_bytes steps here (ys ++ more))) (drop_more bytes i 0 inside)
+    ∙ found_stays steps (behind_byte steps here (get_or bytes i 0)) (drop (i + 1) bytes ++ more) found
+
 -- where a scan stands behind a walk, if no match has ended in front of it
 pub walk_stands : (steps : List Step) (stand : Stand) (byte : ℕ) (marks : List Bool) (flow : Flow) → stand.found ≡ false →
     flow ≡ (walked steps byte (a_walk all_flow [] stand.marks)).flow → marks ≡ (walked steps byte (a_walk all_flow [] stand.marks)).marks → flow.now ≡ false →
@@ -195,12 +211,12 @@ walk_stands steps stand byte marks flow found e m now =
     ∙ ap (λ (b : Bool). stand_with b (a_stand marks flow.last)) now
 
 -- a scan that goes on to the end of a piece stands for the text with the piece behind it
-pub goes_on_all : (tree : Tree) (text piece rest : List ℕ) (before after : Scan) → GoesOn before piece rest after → rest ≡ [] →
+pub goes_on_all : (tree : Tree) (text piece rest : List ℕ) (before after : Scan) → GoesOn before piece rest after → length rest ≡ 0 →
     StandsFor tree text before → StandsFor tree (text ++ piece) after
-goes_on_all tree text piece rest before after goes none stands = record {
+goes_on_all tree text piece (byte ∷ rest) before after goes none stands = absurd (omega (arith, none))
+goes_on_all tree text piece [] before after goes none stands = record {
   answers = λ more.
-      ap (λ (r : List ℕ). answer_behind after (r ++ more)) (sym none)
-      ∙ goes.answers more ∙ stands.answers (piece ++ more) ∙ ap (hits tree) (sym (append_assoc text piece more));
+      goes.answers more ∙ stands.answers (piece ++ more) ∙ ap (hits tree) (sym (append_assoc text piece more));
   pattern = λ bytes. goes.anew bytes ∙ stands.pattern bytes;
 }
 

@@ -1,7 +1,7 @@
 -- What a memory of steps holds. Internal to the matcher.
 use Rattle.std.specs.Prelude.{◌≡◌, ◌<◌, ℕ, ◌+◌, ◌*◌, Bool, false, List, Option, Some, None, slice_get, slice_index_or}
 use Rattle.ct_regex.specs.Walk.{Step}
-use Rattle.ct_regex.specs.Stand.{Stand, a_stand, behind_byte}
+use Rattle.ct_regex.specs.Stand.{Stand, a_stand, behind_byte, behind_bytes}
 use Rattle.ct_regex.specs.Met.{marks_of}
 use Rattle.ct_regex.specs.declared.memory.Met.{Met}
 use Rattle.ct_regex.specs.declared.memory.Memory.{Memory}
@@ -22,6 +22,10 @@ stand_at memory at = stand_in memory.sets.items at
 -- the number of the set that the byte leads to from a set, if it is known
 abbrev pub entry_at : Memory → ℕ → ℕ → Option ℕ
 entry_at memory at byte = slice_index_or memory.next.items (at * 256 + byte) None
+
+-- both sets were met, and the bytes lead from the first to the second
+abbrev pub LeadsBy : List Step → Memory → ℕ → List ℕ → ℕ → Type 0
+LeadsBy steps memory at bytes to = (at < memory.count) × (to < memory.count) × (behind_bytes steps (stand_at memory at) bytes ≡ stand_at memory to)
 
 -- both sets were met, and the byte leads from the first to the second
 abbrev pub Leads : List Step → Memory → ℕ → ℕ → ℕ → Type 0

@@ -1,5 +1,5 @@
 -- Where a scan stands between two bytes, and what it answers there. Internal to the matcher.
-use Rattle.std.specs.Prelude.{ℕ, Bool, false, ◌||◌, List, [], ◌∷◌}
+use Rattle.std.specs.Prelude.{◌≡◌, ℕ, Bool, true, false, ◌||◌, List, [], ◌∷◌, ◌++◌, Option, Some, None}
 use Rattle.ct_regex.specs.Walk.{Walk, Step, walked, all_flow}
 
 -- where a scan stands: its marks; whether a match has ended, whatever bytes follow;
@@ -33,3 +33,8 @@ behind_bytes steps stand (byte ∷ bytes) = behind_bytes steps (behind_byte step
 -- whether the text has a match if it ends here
 abbrev pub answer : Stand → Bool
 answer stand = stand.found || stand.last
+
+-- These bytes lead from a stand to these marks, or, where there is no answer, to a match that no later byte takes away.
+abbrev pub Comes : List Step → Stand → List ℕ → List Bool → Option Bool → Type 0
+Comes steps stand bytes marks None = (more : List ℕ) → answer (behind_bytes steps stand (bytes ++ more)) ≡ true
+Comes steps stand bytes marks (Some last) = behind_bytes steps stand bytes ≡ a_stand marks last

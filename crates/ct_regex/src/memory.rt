@@ -35,8 +35,8 @@ pub struct Memory {
 impl Memory {
     ghost use Rattle.std.specs.Prelude.{◌≡◌, ◌≤◌, ◌<◌, ◌+◌, ◌*◌, ℕ, List, Bool, Some, [], drop, length, vec_len, IfOk, IfSome, IsTrue, nat_le};
     ghost use Rattle.ct_regex.specs.Walk.{Step};
-    ghost use Rattle.ct_regex.specs.Stand.{Stand, a_stand, behind_byte, behind_bytes};
-    ghost use Rattle.ct_regex.specs.Memory.{stand_at, entry_at, Remembers, Leads};
+    ghost use Rattle.ct_regex.specs.Stand.{Stand, a_stand, behind_bytes};
+    ghost use Rattle.ct_regex.specs.Memory.{stand_at, entry_at, Remembers, Leads, LeadsBy};
 
     /// Makes a memory with one set, and room for `room` sets.
     pub(crate) fn new(
@@ -149,14 +149,14 @@ impl Memory {
         &self.sets[at as usize].marks
     }
 
-    /// Remembers the set that the byte leads to, and returns its number.
+    /// Returns the number of the set that the bytes lead to, and remembers where a single byte leads.
     ///
     /// If there is no room for one more set, it forgets all but the first one.
-    pub(crate) fn learn(&mut self, from: u16, byte: u8, marks: &[bool], last: bool) -> u16
+    pub(crate) fn learn(&mut self, from: u16, bytes: &[u8], marks: &[bool], last: bool) -> u16
         requires met { from < self.old.count }
         requires wide { length marks.now ≡ self.old.width }
         ensures remembers { (steps : List Step) → Remembers steps self.old →
-            behind_byte steps (stand_at self.old from) byte ≡ a_stand marks.now last →
+            behind_bytes steps (stand_at self.old from) bytes.now ≡ a_stand marks.now last →
             Remembers steps self.new }
         ensures met { result < self.new.count }
         ensures same { stand_at self.new result ≡ a_stand marks.now last }
@@ -165,7 +165,7 @@ impl Memory {
     {
         let digest = digest(marks);
         if let Some(to) = self.find(digest, marks, last) {
-            self.link(from, byte, to);
+            self.link(from, bytes, to);
             return to;
         }
         if self.is_full() {
@@ -173,30 +173,8 @@ impl Memory {
             return self.add(digest, marks, last);
         }
         let to = self.add(digest, marks, last);
-        self.link(from, byte, to);
+        self.link(from, bytes, to);
         to
-    }
-
-    /// Returns the number of the set, which is added if it was not met.
-    ///
-    /// If there is no room for one more set, all but the first one are forgotten.
-    pub(crate) fn meet(&mut self, marks: &[bool], last: bool) -> u16
-        requires wide { length marks.now ≡ self.old.width }
-        ensures remembers { (steps : List Step) →
-            Remembers steps self.old → Remembers steps self.new }
-        ensures met { result < self.new.count }
-        ensures same { stand_at self.new result ≡ a_stand marks.now last }
-        ensures first { stand_at self.new 0 ≡ stand_at self.old 0 }
-        ensures width { self.new.width ≡ self.old.width }
-    {
-        let digest = digest(marks);
-        if let Some(at) = self.find(digest, marks, last) {
-            return at;
-        }
-        if self.is_full() {
-            self.forget();
-        }
-        self.add(digest, marks, last)
     }
 
     /// Returns the number of the set, if it was met.
@@ -241,8 +219,20 @@ impl Memory {
         at
     }
 
-    /// Remembers where the byte leads from a set.
-    fn link(&mut self, at: u16, byte: u8, to: u16)
+    /// Remembers where a single byte leads from a set.
+    fn link(&mut self, at: u16, bytes: &[u8], to: u16)
+        ensures remembers { (steps : List Step) → Remembers steps self.old →
+            LeadsBy steps self.old at bytes.now to → Remembers steps self.new }
+        ensures sets { self.new.sets ≡ self.old.sets }
+        ensures count { self.new.count ≡ self.old.count }
+        ensures width { self.new.width ≡ self.old.width }
+    {
+        if bytes.len() == 1 {
+            self.link_byte(at, bytes[0], to);
+        }
+    }
+
+    fn link_byte(&mut self, at: u16, byte: u8, to: u16)
         ensures remembers { (steps : List Step) → Remembers steps self.old →
             Leads steps self.old at byte to → Remembers steps self.new }
         ensures sets { self.new.sets ≡ self.old.sets }

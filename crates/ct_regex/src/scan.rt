@@ -6,12 +6,21 @@ use crate::Regex;
 use crate::memory::Memory;
 use crate::program::Program;
 use crate::reader::can_be_empty;
-use crate::walk::{Branches, Step, walk};
+use crate::walk::{Branches, Step, walk_on};
 use ct_base::NoMemory;
 use std::alloc::Global;
 
 /// How many sets of live positions a scan remembers.
 const MOST_SETS: u16 = 128;
+
+/// How many bytes a set has to lead to the next one for its place in the memory.
+const WORTH: usize = 16;
+
+/// Fewer bytes than these are looked up one by one.
+const FEW_BYTES: usize = 256;
+
+/// How many bytes are taken by walks, at most, before a set is looked up again.
+const MOST_WALKS: usize = 16_384;
 
 /// A pattern and a text that comes in pieces. In contracts `StandsFor` says which text has come.
 ///
@@ -24,6 +33,7 @@ pub struct Scan {
     at: u16,
     /// Whether a match has ended, whatever bytes follow.
     found: bool,
+    gain: Gain,
     /// Room for the marks of a walk.
     marks: Vec<bool>,
     /// Room for the choices that are open in a walk.
@@ -71,6 +81,7 @@ impl Scan {
             memory,
             at: 0,
             found: false,
+            gain: Gain { known: 0 },
             marks: program.marks,
             choices,
         })
@@ -116,7 +127,7 @@ impl Scan {
         self.found = false;
     }
 
-    /// Takes the bytes of the piece that the memory knows, and one byte more. Returns the rest of the piece.
+    /// Takes the bytes of the piece that the memory knows, and then some by walks. Returns the rest.
     fn take<'a>(&mut self, piece: &'a [u8]) -> &'a [u8]
         requires some { 0 < length piece.now }
         requires goes { self.old.found ≡ false }
@@ -125,31 +136,54 @@ impl Scan {
     {
         let (at, known) = self.memory.follow(self.at, piece);
         self.at = at;
-        if known == piece.len() {
-            return &piece[known..];
+        let rest = &piece[known..];
+        if rest.is_empty() {
+            return rest;
         }
-        self.walk(piece[known]);
-        &piece[known + 1..]
+        let is_full = self.memory.is_full();
+        let count = self.gain.walks(known, rest.len(), is_full);
+        self.walk(&rest[..count]);
+        &rest[count..]
     }
 
-    /// Takes a byte by a walk over the pattern, and remembers the set that it leads to.
-    fn walk(&mut self, byte: u8)
+    /// Takes bytes by walks over the pattern, and remembers the set that they lead to.
+    fn walk(&mut self, bytes: &[u8])
         requires goes { self.old.found ≡ false }
-        ensures { GoesOn self.old (byte ∷ []) [] self.new }
+        ensures { GoesOn self.old bytes.now [] self.new }
     {
-        let before = self.memory.marks(self.at);
-        let flow = walk(
-            &self.steps,
-            byte,
-            before,
-            &mut self.marks,
-            &mut self.choices,
-        );
-        if flow.now {
-            self.found = true;
-            return;
+        self.marks.copy_from_slice(self.memory.marks(self.at));
+        let last = self.memory.last(self.at);
+        match walk_on(&self.steps, bytes, last, &mut self.marks, &mut self.choices) {
+            Some(last) => self.at = self.memory.learn(self.at, bytes, &self.marks, last),
+            None => self.found = true,
         }
-        self.at = self.memory.learn(self.at, byte, &self.marks, flow.last);
+    }
+}
+
+/// How well the memory of a scan has served. Only speed depends on it.
+#[derive(Drop)]
+struct Gain {
+    /// Bytes that the memory knew, less `WORTH` for each set that found no room.
+    known: usize,
+}
+
+impl Gain {
+    /// Tells how many of the bytes that are left to take by walks before the set that they lead to is
+    /// looked up: many, if the sets of a full memory hardly ever come again.
+    fn walks(&mut self, known: usize, left: usize, is_full: bool) -> usize
+        requires some { 0 < left }
+        ensures some { 0 < result }
+        ensures within { result ≤ left }
+    {
+        self.known = self.known.saturating_add(known);
+        if !is_full || left < FEW_BYTES {
+            return 1;
+        }
+        if self.known < WORTH {
+            return left.min(MOST_WALKS);
+        }
+        self.known -= WORTH;
+        1
     }
 }
 

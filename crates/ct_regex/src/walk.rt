@@ -2,6 +2,7 @@ ghost use Rattle.std.specs.Prelude.{◌≡◌, ◌+◌, ◌&&◌, ◌≤◌, ◌
 ghost use Rattle.ct_regex.specs.Tree.{takes, has_byte};
 ghost use Rattle.ct_regex.specs.Meaning.{byte_test};
 ghost use Rattle.ct_regex.specs.Walk.{Walk, merged as merged_flow, no_flow, all_flow, entered as entered_of, left_of, around, with_left, step_of, behind_one, behind_step, walked};
+ghost use Rattle.ct_regex.specs.Stand.{a_stand, Comes};
 
 use crate::tree::{ByteTest, Span};
 
@@ -46,23 +47,41 @@ pub struct Branches {
     pub left: Flow,
 }
 
-/// Walks over the pattern once for a byte: updates the marks, and returns the flow that leaves it.
-pub(crate) fn walk(
+/// Walks over the pattern once for each byte, and updates the marks. Returns whether a match ends behind
+/// the last byte if the text does, or `None` once a match has ended in front of a byte. `ends` says
+/// whether a match ends in front of the first byte if the text does.
+pub(crate) fn walk_on(
     steps: &[Step],
-    byte: u8,
-    before: &[bool],
+    bytes: &[u8],
+    ends: bool,
     marks: &mut [bool],
     opened: &mut Vec<Branches>,
-) -> Flow
+) -> Option<bool>
     requires room { length steps.now ≤ vec_capacity opened.old }
-    requires wide { length marks.old ≡ length before.now }
-    ensures flow { result ≡ (walked (map step_of steps.now) byte
-        (record { flow = all_flow; opened = []; marks = before.now })).flow }
-    ensures marks { marks.new ≡ (walked (map step_of steps.now) byte
-        (record { flow = all_flow; opened = []; marks = before.now })).marks }
+    ensures comes { Comes (map step_of steps.now) (a_stand marks.old ends)
+        bytes.now marks.new result }
     ensures room { vec_capacity opened.new ≡ vec_capacity opened.old }
 {
-    marks.copy_from_slice(before);
+    let mut last = ends;
+    for i in 0..bytes.len() {
+        let flow = walk(steps, bytes[i], marks, opened);
+        if flow.now {
+            return None;
+        }
+        last = flow.last;
+    }
+    Some(last)
+}
+
+/// Walks over the pattern once for a byte: updates the marks, and returns the flow that leaves it.
+fn walk(steps: &[Step], byte: u8, marks: &mut [bool], opened: &mut Vec<Branches>) -> Flow
+    requires room { length steps.now ≤ vec_capacity opened.old }
+    ensures flow { result ≡ (walked (map step_of steps.now) byte
+        (record { flow = all_flow; opened = []; marks = marks.old })).flow }
+    ensures marks { marks.new ≡ (walked (map step_of steps.now) byte
+        (record { flow = all_flow; opened = []; marks = marks.old })).marks }
+    ensures room { vec_capacity opened.new ≡ vec_capacity opened.old }
+{
     opened.clear();
     let mut flow = Flow {
         now: true,
@@ -92,7 +111,9 @@ fn take(step: &Step, byte: u8, flow: Flow, marks: &mut [bool], opened: &mut Vec<
         },
         Step::One(at, test) => {
             let came = mark_at(marks, *at);
-            let comes = flow.now && is_taken(test, byte);
+            // The test comes first, since a branch on the flow would often be predicted wrong.
+            let taken = is_taken(test, byte);
+            let comes = flow.now && taken;
             set_mark(marks, *at, comes);
             behind(came, comes)
         }

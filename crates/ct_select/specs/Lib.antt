@@ -2,4 +2,5 @@
 pub mod Chosen
 pub mod Others
 pub mod Names
+pub mod Matching
 pub mod FailedLog

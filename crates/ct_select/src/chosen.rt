@@ -2,10 +2,11 @@ ghost use Rattle.std.specs.Prelude.{◌≡◌, ◌<◌, ◌-◌, ◌^◌, length
 ghost use Rattle.ct_select.specs.Chosen.{by_number as numbered_by, chosen_tests, is_chosen as is_chosen_by, is_chosen_by_options as options_choose};
 ghost use Rattle.ct_select.specs.Others.{HasOthers};
 ghost use Rattle.ct_select.specs.Names.{HasNames};
+ghost use Rattle.ct_select.specs.Matching.{AreMatchersOf};
 
 use crate::names::names_of;
 use crate::numbers::{by_number, others_of};
-use crate::patterns::{admit, hit_labels, is_left_out, name_hit};
+use crate::patterns::{Matchers, admit, hit_labels, is_left_out, name_hit};
 use ct_base::{List, NoMemory, TestDef};
 use ct_props::{Choice, Props};
 use std::alloc::Global;
@@ -35,11 +36,12 @@ pub fn select(
     let count = defs.len() as u32;
     let names = names_of(alloc, choice)?;
     let others = others_of(alloc, choice)?;
+    let mut matchers = Matchers::of(alloc, choice)?;
     let mut chosen = List::new(alloc);
     for at in 0..defs.len() {
         let number = at as u32 + 1;
         let numbered = by_number(choice, &others, count, number);
-        if is_chosen(alloc, choice, &names, numbered, &defs[at], &props[at])? {
+        if is_chosen(choice, &names, &mut matchers, numbered, &defs[at], &props[at]) {
             chosen.push(number)?;
         }
     }
@@ -50,43 +52,46 @@ pub fn select(
 ///
 /// Where names alone are asked for, no pattern is tried.
 fn is_chosen<'a>(
-    alloc: Global,
     choice: &Choice,
     names: &BTreeSet<&'a [u8]>,
+    matchers: &mut Matchers<'_>,
     numbered: Option<bool>,
     def: &'a TestDef,
     own: &Props,
-) -> Result<bool, NoMemory>
-    requires { HasNames choice.now names.now }
-    ensures { IfOk result (λ chosen. chosen ≡ is_chosen_by choice.now numbered def.now own.now) }
+) -> bool
+    requires names { HasNames choice.now names.now }
+    requires matchers { AreMatchersOf choice.now matchers.old }
+    ensures chosen { result ≡ is_chosen_by choice.now numbered def.now own.now }
+    ensures kept { AreMatchersOf choice.now matchers.new }
 {
     match &choice.only {
-        Some(_) => Ok(names.contains(&def.name.bytes())),
-        None => is_chosen_by_options(alloc, choice, numbered, def, own),
+        Some(_) => names.contains(&def.name.bytes()),
+        None => is_chosen_by_options(choice, matchers, numbered, def, own),
     }
 }
 
 /// Tells whether the options choose a test.
 fn is_chosen_by_options(
-    alloc: Global,
     choice: &Choice,
+    matchers: &mut Matchers<'_>,
     numbered: Option<bool>,
     def: &TestDef,
     own: &Props,
-) -> Result<bool, NoMemory>
-    ensures { IfOk result (λ chosen. chosen ≡ options_choose choice.now numbered def.now own.now) }
+) -> bool
+    requires { AreMatchersOf choice.now matchers.old }
+    ensures chosen { result ≡ options_choose choice.now numbered def.now own.now }
+    ensures kept { AreMatchersOf choice.now matchers.new }
 {
-    let named = name_hit(alloc, &choice.name, &def.name)?;
+    let named = name_hit(&mut matchers.name, &def.name);
     if !admit(choice.union, named, numbered) {
-        return Ok(false);
+        return false;
     }
-    if name_hit(alloc, &choice.not_name, &def.name)?.unwrap_or(false) {
-        return Ok(false);
+    if name_hit(&mut matchers.not_name, &def.name).unwrap_or(false) {
+        return false;
     }
     let labels = own.labels.as_slice();
-    if !hit_labels(alloc, choice.labels.as_slice(), labels)? {
-        return Ok(false);
+    if !hit_labels(&mut matchers.labels, labels) {
+        return false;
     }
-    let left_out = is_left_out(alloc, choice.not_labels.as_slice(), labels)?;
-    Ok(!left_out)
+    !is_left_out(&mut matchers.not_labels, labels)
 }

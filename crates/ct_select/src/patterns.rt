@@ -1,21 +1,66 @@
-ghost use Rattle.std.specs.Prelude.{◌≡◌, IfOk};
+ghost use Rattle.std.specs.Prelude.{◌≡◌, IfOk, map, option_map};
+ghost use Rattle.ct_regex.specs.PatternOf.{pattern_of};
 ghost use Rattle.ct_select.specs.Chosen.{admit as admitted, by_name, hit_labels as are_hit, hits_label as is_label_hit, is_left_out as leaves_out};
 
 use ct_base::{Name, NoMemory};
-use ct_regex::Regex;
+use ct_props::Choice;
+use ct_regex::{Matcher, Regex};
 use std::alloc::Global;
 
-/// Tells whether a pattern hits a name, where there is one.
-pub(crate) fn name_hit(
+/// The matchers of a choice's patterns, which serve for all tests.
+#[derive(Drop)]
+pub struct Matchers<'a> {
+    pub name: Option<Matcher<'a>>,
+    pub not_name: Option<Matcher<'a>>,
+    pub labels: Vec<Matcher<'a>>,
+    pub not_labels: Vec<Matcher<'a>>,
+}
+
+impl<'a> Matchers<'a> {
+    ghost use Rattle.ct_select.specs.Matching.{AreMatchersOf};
+
+    pub(crate) fn of(alloc: Global, choice: &'a Choice) -> Result<Matchers<'a>, NoMemory>
+        ensures { IfOk result (λ matchers. AreMatchersOf choice.now matchers) }
+    {
+        Ok(Matchers {
+            name: matcher_of(alloc, &choice.name)?,
+            not_name: matcher_of(alloc, &choice.not_name)?,
+            labels: matchers_of(alloc, choice.labels.as_slice())?,
+            not_labels: matchers_of(alloc, choice.not_labels.as_slice())?,
+        })
+    }
+}
+
+fn matcher_of<'a>(
     alloc: Global,
-    pattern: &Option<Regex>,
-    name: &Name,
-) -> Result<Option<bool>, NoMemory>
-    ensures { IfOk result (λ hit. hit ≡ by_name pattern.now name.now) }
+    pattern: &'a Option<Regex>,
+) -> Result<Option<Matcher<'a>>, NoMemory>
+    ensures { IfOk result (λ matcher. option_map pattern_of matcher ≡ pattern.now) }
 {
     match pattern {
-        Some(pattern) => Ok(Some(pattern.hit(alloc, name.bytes())?)),
+        Some(pattern) => Ok(Some(Matcher::new(alloc, pattern)?)),
         None => Ok(None),
+    }
+}
+
+fn matchers_of<'a>(alloc: Global, patterns: &'a [Regex]) -> Result<Vec<Matcher<'a>>, NoMemory>
+    ensures { IfOk result (λ matchers. map pattern_of matchers.items ≡ patterns.now) }
+{
+    let mut matchers = Vec::new(alloc);
+    for pattern in patterns {
+        matchers.push(Matcher::new(alloc, pattern)?)?;
+    }
+    Ok(matchers)
+}
+
+/// Tells whether a pattern hits a name, where there is one.
+pub(crate) fn name_hit(matcher: &mut Option<Matcher<'_>>, name: &Name) -> Option<bool>
+    ensures hit { result ≡ by_name (option_map pattern_of matcher.old) name.now }
+    ensures kept { option_map pattern_of matcher.new ≡ option_map pattern_of matcher.old }
+{
+    match matcher {
+        Some(matcher) => Some(matcher.hit(name.bytes())),
+        None => None,
     }
 }
 
@@ -33,43 +78,38 @@ pub(crate) fn admit(union: bool, named: Option<bool>, numbered: Option<bool>) ->
 }
 
 /// Tells whether each pattern hits some label.
-pub(crate) fn hit_labels(
-    alloc: Global,
-    patterns: &[Regex],
-    labels: &[Name],
-) -> Result<bool, NoMemory>
-    ensures { IfOk result (λ hit. hit ≡ are_hit patterns.now labels.now) }
+pub(crate) fn hit_labels(matchers: &mut [Matcher<'_>], labels: &[Name]) -> bool
+    ensures hit { result ≡ are_hit (map pattern_of matchers.old) labels.now }
+    ensures kept { map pattern_of matchers.new ≡ map pattern_of matchers.old }
 {
-    for pattern in patterns {
-        if !hits_label(alloc, pattern, labels)? {
-            return Ok(false);
+    for i in 0..matchers.len() {
+        if !hits_label(&mut matchers[i], labels) {
+            return false;
         }
     }
-    Ok(true)
+    true
 }
 
 /// Tells whether a pattern hits some label.
-fn hits_label(alloc: Global, pattern: &Regex, labels: &[Name]) -> Result<bool, NoMemory>
-    ensures { IfOk result (λ hit. hit ≡ is_label_hit labels.now pattern.now) }
+fn hits_label(matcher: &mut Matcher<'_>, labels: &[Name]) -> bool
+    ensures hit { result ≡ is_label_hit labels.now (pattern_of matcher.old) }
+    ensures kept { pattern_of matcher.new ≡ pattern_of matcher.old }
 {
     for label in labels {
-        if pattern.hit(alloc, label.bytes())? {
-            return Ok(true);
+        if matcher.hit(label.bytes()) {
+            return true;
         }
     }
-    Ok(false)
+    false
 }
 
 /// Tells whether there are patterns, and each hits some label.
-pub(crate) fn is_left_out(
-    alloc: Global,
-    patterns: &[Regex],
-    labels: &[Name],
-) -> Result<bool, NoMemory>
-    ensures { IfOk result (λ left_out. left_out ≡ leaves_out patterns.now labels.now) }
+pub(crate) fn is_left_out(matchers: &mut [Matcher<'_>], labels: &[Name]) -> bool
+    ensures left_out { result ≡ leaves_out (map pattern_of matchers.old) labels.now }
+    ensures kept { map pattern_of matchers.new ≡ map pattern_of matchers.old }
 {
-    if patterns.is_empty() {
-        return Ok(false);
+    if matchers.is_empty() {
+        return false;
     }
-    hit_labels(alloc, patterns, labels)
+    hit_labels(matchers, labels)
 }

@@ -4,13 +4,13 @@ use Rattle.ct_select.proofs.ChosenLemmas.{chosen_here, takes, passes_over}
 use Rattle.ct_select.proofs.chosen.select.Goals as goal
 use Rattle.ct_select.proofs.chosen.select.Goals.{then-branch+in_ok-push, else-branch}
 
-here : (c : goal.Joined-branch) → c.in_ok-is_chosen.field-0 ≡ is_chosen_at c.as_slice-defs.result.now c.as_slice-props.result.now c.args.choice.now (c.loop-at.at + 1)
+here : (c : goal.Joined-branch) → c.is_chosen.result ≡ is_chosen_at c.as_slice-defs.result.now c.as_slice-props.result.now c.args.choice.now (c.loop-at.at + 1)
 here c =
     let def = c.index-defs-at.result in
     let own = c.index-props-at.result in
     let within : c.loop-at.at < length c.as_slice-props.result.now =
     omega (arith, c.loop-at-test.true, c.requires.together, ap length c.as_slice-defs.ensures, ap length c.as_slice-props.ensures) in
-    c.in_ok-is_chosen.ensures
+    c.is_chosen.ensures.chosen
     ∙ ap (λ n. is_chosen c.args.choice.now n def own) c.by_number-numbered.ensures
     ∙ chosen_here c.as_slice-defs.result.now c.as_slice-props.result.now c.args.choice.now c.loop-at.at def own c.loop-at-test.true within c.index-defs-at.is c.index-props-at.is
 
@@ -18,6 +18,12 @@ pub loop-at-preserved : goal.loop-at-preserved
 loop-at-preserved c =
     let test = is_chosen_at c.as_slice-defs.result.now c.as_slice-props.result.now c.args.choice.now in
     elim c.if-branch.branch [
-      | then-branch+in_ok-push w ↦ w.chosen-is ∙ w.in_ok-push.ensures.ok ∙ takes test c.loop-at.at c.loop-at.chosen c.loop-at.invariant (sym (here c) ∙ w.if-branch.true)
-      | else-branch w ↦ w.chosen-is ∙ passes_over test c.loop-at.at c.loop-at.chosen c.loop-at.invariant (sym (here c) ∙ w.if-branch.false)
+      | then-branch+in_ok-push w ↦ record {
+        chosen = w.chosen-is ∙ w.in_ok-push.ensures.ok ∙ takes test c.loop-at.at c.loop-at.chosen c.loop-at.invariant.chosen (sym (here c) ∙ w.if-branch.true);
+        matchers = c.is_chosen.ensures.kept;
+      }
+      | else-branch w ↦ record {
+        chosen = w.chosen-is ∙ passes_over test c.loop-at.at c.loop-at.chosen c.loop-at.invariant.chosen (sym (here c) ∙ w.if-branch.false);
+        matchers = c.is_chosen.ensures.kept;
+      }
     ]

@@ -1,5 +1,5 @@
 use Rattle.std.proofs.Common.{rules, sym, ap, ◌∙◌, arith}
-use Rattle.ct_regex.specs.Stand.{Stand, behind_byte}
+use Rattle.ct_regex.specs.Stand.{Stand, behind_bytes}
 use Rattle.ct_regex.specs.Memory.{stand_in}
 use Rattle.ct_regex.proofs.memory.Memory.learn.Goals as goal
 
@@ -8,7 +8,7 @@ returns-clause-remembers c = λ steps h e.
     c.link-2.ensures.remembers steps (c.add-to.ensures.remembers steps h) (
       (omega (arith, c.requires.met, c.add-to.ensures.count)),
       (omega (arith, c.add-to.ensures.number, c.add-to.ensures.count)),
-      ap (λ (s : Stand). behind_byte steps s c.args.byte) (c.add-to.ensures.kept c.args.from c.requires.met) ∙ e ∙ sym c.add-to.ensures.same,
+      ap (λ (s : Stand). behind_bytes steps s c.args.bytes.now) (c.add-to.ensures.kept c.args.from c.requires.met) ∙ e ∙ sym c.add-to.ensures.same,
     )
 
 pub returns-in-Some-clause-remembers : goal.returns-in-Some-clause-remembers
