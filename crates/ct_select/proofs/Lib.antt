@@ -1,3 +1,4 @@
 mod StrideLemmas
 mod ChosenLemmas
 mod NameLemmas
+mod MatcherLemmas
