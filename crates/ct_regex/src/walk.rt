@@ -102,6 +102,9 @@ fn take(step: &Step, byte: u8, flow: Flow, marks: &mut [bool], opened: &mut Vec<
     ensures len { vec_len opened.new ≤ vec_len opened.old + 1 }
     ensures room { vec_capacity opened.new ≡ vec_capacity opened.old }
 {
+    if let Step::One(at, test) = step {
+        return at_one(*at, test, byte, flow, marks);
+    }
     match step {
         Step::Start(at) => at_start(flow, marks, *at),
         Step::End => Flow {
@@ -109,14 +112,7 @@ fn take(step: &Step, byte: u8, flow: Flow, marks: &mut [bool], opened: &mut Vec<
             next: false,
             last: flow.last,
         },
-        Step::One(at, test) => {
-            let came = mark_at(marks, *at);
-            // The test comes first, since a branch on the flow would often be predicted wrong.
-            let taken = is_taken(test, byte);
-            let comes = flow.now && taken;
-            set_mark(marks, *at, comes);
-            behind(came, comes)
-        }
+        Step::One(at, test) => at_one(*at, test, byte, flow, marks),
         Step::Fork => open(opened, flow, nothing()),
         Step::Maybe => open(opened, flow, flow),
         Step::Or => next_branch(opened, flow),
@@ -133,6 +129,19 @@ fn take(step: &Step, byte: u8, flow: Flow, marks: &mut [bool], opened: &mut Vec<
     }
 }
 
+fn at_one(at: usize, test: &ByteTest, byte: u8, flow: Flow, marks: &mut [bool]) -> Flow
+    ensures flow { result ≡ behind_one (slice_index_or marks.old at false)
+        (flow.now && takes (byte_test test.now) byte) }
+    ensures marks { marks.new ≡ slice_set marks.old at
+        (flow.now && takes (byte_test test.now) byte) }
+{
+    // The test comes first, since a branch on the flow would often be predicted wrong.
+    let taken = is_taken(test, byte);
+    let comes = flow.now && taken;
+    let came = exchange(marks, at, comes);
+    behind(came, comes)
+}
+
 fn at_start(flow: Flow, marks: &mut [bool], at: usize) -> Flow
     ensures flow { result ≡ (record {
       now = flow.now && slice_index_or marks.old at false;
@@ -141,8 +150,7 @@ fn at_start(flow: Flow, marks: &mut [bool], at: usize) -> Flow
     }) }
     ensures marks { marks.new ≡ slice_set marks.old at false }
 {
-    let is_first = mark_at(marks, at);
-    set_mark(marks, at, false);
+    let is_first = exchange(marks, at, false);
     Flow {
         now: flow.now && is_first,
         next: false,
@@ -191,6 +199,19 @@ fn mark_at(marks: &[bool], at: usize) -> bool
         Some(mark) => *mark,
         None => false,
     }
+}
+
+/// Sets a mark, and returns what it was.
+fn exchange(marks: &mut [bool], at: usize, mark: bool) -> bool
+    ensures was { result ≡ slice_index_or marks.old at false }
+    ensures marks { marks.new ≡ slice_set marks.old at mark }
+{
+    if at >= marks.len() {
+        return false;
+    }
+    let was = marks[at];
+    marks[at] = mark;
+    was
 }
 
 fn set_mark(marks: &mut [bool], at: usize, mark: bool)
@@ -247,6 +268,9 @@ fn merged(left: Flow, right: Flow) -> Flow
 fn is_taken(test: &ByteTest, byte: u8) -> bool
     ensures { result ≡ takes (byte_test test.now) byte }
 {
+    if let ByteTest::Any = test {
+        return true;
+    }
     match test {
         ByteTest::Any => true,
         ByteTest::Same(wanted) => byte == *wanted,

@@ -41,7 +41,14 @@ pub fn select(
     for at in 0..defs.len() {
         let number = at as u32 + 1;
         let numbered = by_number(choice, &others, count, number);
-        if is_chosen(choice, &names, &mut matchers, numbered, &defs[at], &props[at]) {
+        if is_chosen(
+            choice,
+            &names,
+            &mut matchers,
+            numbered,
+            &defs[at],
+            &props[at],
+        ) {
             chosen.push(number)?;
         }
     }

@@ -2,9 +2,9 @@ use Rattle.std.proofs.Common.{◌≡◌, ◌∙◌, sym, ap, ◌+◌, ◌<◌, l
 use Rattle.ct_select.specs.Chosen.{is_chosen, is_chosen_at}
 use Rattle.ct_select.proofs.ChosenLemmas.{chosen_here, takes, passes_over}
 use Rattle.ct_select.proofs.chosen.select.Goals as goal
-use Rattle.ct_select.proofs.chosen.select.Goals.{then-branch+in_ok-push, else-branch}
+use Rattle.ct_select.proofs.chosen.select.Goals.{then-is_chosen+in_ok-push, else-is_chosen}
 
-here : (c : goal.Joined-branch) → c.is_chosen.result ≡ is_chosen_at c.as_slice-defs.result.now c.as_slice-props.result.now c.args.choice.now (c.loop-at.at + 1)
+here : (c : goal.Joined-is_chosen) → c.is_chosen.result ≡ is_chosen_at c.as_slice-defs.result.now c.as_slice-props.result.now c.args.choice.now (c.loop-at.at + 1)
 here c =
     let def = c.index-defs-at.result in
     let own = c.index-props-at.result in
@@ -17,13 +17,13 @@ here c =
 pub loop-at-preserved : goal.loop-at-preserved
 loop-at-preserved c =
     let test = is_chosen_at c.as_slice-defs.result.now c.as_slice-props.result.now c.args.choice.now in
-    elim c.if-branch.branch [
-      | then-branch+in_ok-push w ↦ record {
-        chosen = w.chosen-is ∙ w.in_ok-push.ensures.ok ∙ takes test c.loop-at.at c.loop-at.chosen c.loop-at.invariant.chosen (sym (here c) ∙ w.if-branch.true);
+    elim c.if-is_chosen.branch [
+      | then-is_chosen+in_ok-push w ↦ record {
+        chosen = w.chosen-is ∙ w.in_ok-push.ensures.ok ∙ takes test c.loop-at.at c.loop-at.chosen c.loop-at.invariant.chosen (sym (here c) ∙ w.if-is_chosen.true);
         matchers = c.is_chosen.ensures.kept;
       }
-      | else-branch w ↦ record {
-        chosen = w.chosen-is ∙ passes_over test c.loop-at.at c.loop-at.chosen c.loop-at.invariant.chosen (sym (here c) ∙ w.if-branch.false);
+      | else-is_chosen w ↦ record {
+        chosen = w.chosen-is ∙ passes_over test c.loop-at.at c.loop-at.chosen c.loop-at.invariant.chosen (sym (here c) ∙ w.if-is_chosen.false);
         matchers = c.is_chosen.ensures.kept;
       }
     ]
