@@ -1,5 +1,5 @@
 -- Lines and names that are kept by their names, and what contracts see of them.
-use Rattle.std.proofs.Common.{◌≡◌, ℕ, ◌+◌, ◌*◌, ◌/◌, min, Bool, true, false, cond, bytes_eq, List, [], ◌∷◌, ◌++◌, map, Option, Some, None, option_map, IfSome, is_some, unwrap_or, refl, sym, ap, ◌∙◌, ◌||◌}
+use Rattle.std.proofs.Common.{◌≡◌, ℕ, Bool, true, false, cond, bytes_eq, List, [], ◌∷◌, ◌++◌, map, Option, Some, None, option_map, option_and_then, IfSome, is_some, refl, sym, ap, ◌∙◌, ◌||◌}
 use Rattle.std.specs.List.{list_any, AllZip}
 use Rattle.std.specs.Option.{option_map_or}
 use Rattle.std.specs.Map.{lookup}
@@ -9,33 +9,32 @@ use Rattle.std.proofs.lemmas.Slice.Eq.{bytes_eq-Decides}
 use Rattle.indexmap.specs.IndexMap.{insert_entry}
 use Rattle.indexmap.specs.IndexSet.{insert_key}
 use Rattle.ct_history.specs.Rules.{is_among}
-use Rattle.ct_cost.specs.declared.line.Counts.{Counts}
-use Rattle.ct_cost.specs.CostLine.{CostLine, line_of, with_line, with_new_name, with_run, unrun, after_run, most_runs}
-use Rattle.ct_cost.specs.Kept.{line_for, kept_line, counts_of, with_read}
+use Rattle.ct_cost.specs.CostLine.{CostLine, greatest_of, last_of, line_of, with_line, with_new_name, with_run, unrun, after_run}
+use Rattle.ct_cost.specs.Kept.{line_for, kept_line, durations_of, with_read}
 
 module _ {Z : Type 0} where
-  counts_by : (entry : Vec ℕ Z × Counts) (name : List ℕ) (found : Option Counts) (lines : List CostLine) → found ≡ option_map counts_of (line_of lines name) → (is : Bool)
-      → cond is (Some entry.1) found ≡ option_map counts_of (cond is (Some (kept_line entry)) (line_of lines name))
-  counts_by entry name found lines rest true = refl
-  counts_by entry name found lines rest false = rest
+  durations_by : (entry : Vec ℕ Z × List ℕ) (name : List ℕ) (found : Option (List ℕ)) (lines : List CostLine) → found ≡ option_map durations_of (line_of lines name) → (is : Bool)
+      → cond is (Some entry.1) found ≡ option_map durations_of (cond is (Some (kept_line entry)) (line_of lines name))
+  durations_by entry name found lines rest true = refl
+  durations_by entry name found lines rest false = rest
 
-  -- the counts that are kept by a name are those of its line
-  pub counts-lookup : (name : List ℕ) (entries : List (Vec ℕ Z × Counts)) → lookup (λ (key : Vec ℕ Z). bytes_eq name key.items) entries ≡ option_map counts_of (line_of (map kept_line entries) name)
-  counts-lookup name [] = refl
-  counts-lookup name (entry ∷ entries) =
-      counts_by entry name (lookup (λ (key : Vec ℕ Z). bytes_eq name key.items) entries) (map kept_line entries) (counts-lookup name entries) (bytes_eq name entry.0.items)
+  -- the durations that are kept by a name are those of its line
+  pub durations-lookup : (name : List ℕ) (entries : List (Vec ℕ Z × List ℕ)) → lookup (λ (key : Vec ℕ Z). bytes_eq name key.items) entries ≡ option_map durations_of (line_of (map kept_line entries) name)
+  durations-lookup name [] = refl
+  durations-lookup name (entry ∷ entries) =
+      durations_by entry name (lookup (λ (key : Vec ℕ Z). bytes_eq name key.items) entries) (map kept_line entries) (durations-lookup name entries) (bytes_eq name entry.0.items)
 
-  insert_by : (entry : Vec ℕ Z × Counts) (entries more : List (Vec ℕ Z × Counts)) (key : Vec ℕ Z) (counts : Counts) → map kept_line more ≡ with_line (map kept_line entries) (line_for key.items counts) → (is : Bool) → bytes_eq key.items entry.0.items ≡ is
-      → map kept_line (cond is ((entry.0, counts) ∷ entries) (entry ∷ more)) ≡ cond is (line_for key.items counts ∷ map kept_line entries) (kept_line entry ∷ with_line (map kept_line entries) (line_for key.items counts))
-  insert_by entry entries more key counts rest true is =
-      ap (λ name. line_for name counts ∷ map kept_line entries) (sym ((bytes_eq-Decides key.items entry.0.items).0 is))
-  insert_by entry entries more key counts rest false is = ap (λ lines. kept_line entry ∷ lines) rest
+  insert_by : (entry : Vec ℕ Z × List ℕ) (entries more : List (Vec ℕ Z × List ℕ)) (key : Vec ℕ Z) (durations : List ℕ) → map kept_line more ≡ with_line (map kept_line entries) (line_for key.items durations) → (is : Bool) → bytes_eq key.items entry.0.items ≡ is
+      → map kept_line (cond is ((entry.0, durations) ∷ entries) (entry ∷ more)) ≡ cond is (line_for key.items durations ∷ map kept_line entries) (kept_line entry ∷ with_line (map kept_line entries) (line_for key.items durations))
+  insert_by entry entries more key durations rest true is =
+      ap (λ name. line_for name durations ∷ map kept_line entries) (sym ((bytes_eq-Decides key.items entry.0.items).0 is))
+  insert_by entry entries more key durations rest false is = ap (λ lines. kept_line entry ∷ lines) rest
 
-  -- counts that are put in are the line of their name
-  pub lines-insert_entry : (entries : List (Vec ℕ Z × Counts)) (key : Vec ℕ Z) (counts : Counts) → map kept_line (insert_entry (λ (one other : Vec ℕ Z). bytes_eq one.items other.items) entries key counts) ≡ with_line (map kept_line entries) (line_for key.items counts)
-  lines-insert_entry [] key counts = refl
-  lines-insert_entry (entry ∷ entries) key counts =
-      insert_by entry entries (insert_entry (λ (one other : Vec ℕ Z). bytes_eq one.items other.items) entries key counts) key counts (lines-insert_entry entries key counts) (bytes_eq key.items entry.0.items) refl
+  -- durations that are put in are the line of their name
+  pub lines-insert_entry : (entries : List (Vec ℕ Z × List ℕ)) (key : Vec ℕ Z) (durations : List ℕ) → map kept_line (insert_entry (λ (one other : Vec ℕ Z). bytes_eq one.items other.items) entries key durations) ≡ with_line (map kept_line entries) (line_for key.items durations)
+  lines-insert_entry [] key durations = refl
+  lines-insert_entry (entry ∷ entries) key durations =
+      insert_by entry entries (insert_entry (λ (one other : Vec ℕ Z). bytes_eq one.items other.items) entries key durations) key durations (lines-insert_entry entries key durations) (bytes_eq key.items entry.0.items) refl
 
   -- a name among those that are kept
   pub is_among-keys : (name : List ℕ) (keys : List (Vec ℕ Z)) → list_any (λ (key : Vec ℕ Z). bytes_eq name key.items) keys ≡ is_among name (map (λ (key : Vec ℕ Z). key.items) keys)
@@ -72,35 +71,37 @@ pub line_of-named : (lines : List CostLine) (name : List ℕ) → IfSome (line_o
 line_of-named [] name = tt
 line_of-named (first ∷ lines) name = named_by first name (line_of lines name) (line_of-named lines name) (bytes_eq name first.name) refl
 
--- the counts of a name without a run
-abbrev pub no_counts : Counts
-no_counts = record { runs = 0; micros = 0 }
+run_by : (name : List ℕ) (micros : ℕ) (found : Option CostLine) → IfSome found (λ (l : CostLine). l.name ≡ name)
+    → line_for name (last_of (option_map_or durations_of found [] ++ micros ∷ [])) ≡ option_map_or (with_run micros) found (with_run micros (unrun name))
+run_by name micros None named = refl
+run_by name micros (Some line) named = λ i. record { name = sym named i; durations = last_of (line.durations ++ micros ∷ []) }
 
-run_by : (name : List ℕ) (micros : ℕ) (found : Option CostLine) (counts : Counts) → IfSome found (λ (l : CostLine). l.name ≡ name)
-    → counts.runs ≡ min ((unwrap_or (option_map counts_of found) no_counts).runs + 1) most_runs
-    → counts.micros ≡ ((unwrap_or (option_map counts_of found) no_counts).runs * (unwrap_or (option_map counts_of found) no_counts).micros + micros) / ((unwrap_or (option_map counts_of found) no_counts).runs + 1)
-    → line_for name counts ≡ option_map_or (with_run micros) found (with_run micros (unrun name))
-run_by name micros None counts named runs mean = λ i. record { name = name; runs = runs i; micros = mean i }
-run_by name micros (Some line) counts named runs mean = λ i. record { name = sym named i; runs = runs i; micros = mean i }
-
--- the counts of a name after one more run are those of its line
-pub run-line : (lines : List CostLine) (name : List ℕ) (micros : ℕ) (before counts : Counts) → before ≡ unwrap_or (option_map counts_of (line_of lines name)) no_counts
-    → counts.runs ≡ min (before.runs + 1) most_runs → counts.micros ≡ (before.runs * before.micros + micros) / (before.runs + 1)
-    → with_line lines (line_for name counts) ≡ after_run lines name micros
-run-line lines name micros before counts is runs mean =
+-- the durations of a name after one more run are those of its line
+pub run-line : (lines : List CostLine) (name : List ℕ) (micros : ℕ) (before after : List ℕ) → before ≡ option_map_or durations_of (line_of lines name) [] → after ≡ last_of (before ++ micros ∷ [])
+    → with_line lines (line_for name after) ≡ after_run lines name micros
+run-line lines name micros before after is more =
     ap (with_line lines)
-    (run_by name micros (line_of lines name) counts (line_of-named lines name)
-    (runs ∙ ap (λ (b : Counts). min (b.runs + 1) most_runs) is)
-    (mean ∙ ap (λ (b : Counts). (b.runs * b.micros + micros) / (b.runs + 1)) is))
+    (ap (line_for name) more
+    ∙ ap (λ durations. line_for name (last_of (durations ++ micros ∷ []))) is
+    ∙ run_by name micros (line_of lines name) (line_of-named lines name))
+
+-- the cost of a name by its durations
+pub greatest-line : (found : Option CostLine) → option_and_then greatest_of (option_map durations_of found) ≡ option_and_then (λ (l : CostLine). greatest_of l.durations) found
+greatest-line None = refl
+greatest-line (Some line) = refl
+
+pub durations_or : (found : Option CostLine) → option_map_or durations_of found [] ≡ option_map_or (λ (d : List ℕ). d) (option_map durations_of found) []
+durations_or None = refl
+durations_or (Some line) = refl
 
 -- a line that was read, and whose name has no line yet, goes behind the others
 pub new_read : (lines : List CostLine) (line : CostLine) (said : Option CostLine) → Some line ≡ said → is_some (line_of lines line.name) ≡ false → with_line lines line ≡ with_read lines said
 new_read lines line said is none =
     new_line lines line none ∙ ap (λ b. cond b lines (lines ++ line ∷ [])) (sym none) ∙ ap (with_read lines) is
 
-pub is_some-counts : (found : Option CostLine) → is_some (option_map counts_of found) ≡ is_some found
-is_some-counts None = refl
-is_some-counts (Some line) = refl
+pub is_some-mapped : {X Y : Type 0} (f : X → Y) (found : Option X) → is_some (option_map f found) ≡ is_some found
+is_some-mapped f None = refl
+is_some-mapped f (Some item) = refl
 
 pub same_bytes : (xs ys : List ℕ) → AllZip (λ x y. y ≡ x) xs ys → ys ≡ xs
 same_bytes [] [] all = refl
@@ -109,10 +110,10 @@ same_bytes (x ∷ xs) [] all = absurd all
 same_bytes (x ∷ xs) (y ∷ ys) all = λ i. all.0 i ∷ same_bytes xs ys all.1 i
 
 -- copies of kept lines are the same lines
-pub copied : {Z : Type 0} (C : Vec ℕ Z → Vec ℕ Z → Type 0) (D : Counts → Counts → Type 0) → ((k l : Vec ℕ Z) → C k l → l.items ≡ k.items) → ((x y : Counts) → D x y → y ≡ x) → (entries copies : List (Vec ℕ Z × Counts)) → AllZip (λ p q. C p.0 q.0 × D p.1 q.1) entries copies
+pub copied : {Z : Type 0} (C : Vec ℕ Z → Vec ℕ Z → Type 0) (D : List ℕ → List ℕ → Type 0) → ((k l : Vec ℕ Z) → C k l → l.items ≡ k.items) → ((x y : List ℕ) → D x y → y ≡ x) → (entries copies : List (Vec ℕ Z × List ℕ)) → AllZip (λ p q. C p.0 q.0 × D p.1 q.1) entries copies
     → map kept_line copies ≡ map kept_line entries
-copied C D key counts [] [] all = refl
-copied C D key counts [] (copy ∷ copies) all = absurd all
-copied C D key counts (entry ∷ entries) [] all = absurd all
-copied C D key counts (entry ∷ entries) (copy ∷ copies) all =
-    λ i. line_for (key entry.0 copy.0 all.0.0 i) (counts entry.1 copy.1 all.0.1 i) ∷ copied C D key counts entries copies all.1 i
+copied C D key times [] [] all = refl
+copied C D key times [] (copy ∷ copies) all = absurd all
+copied C D key times (entry ∷ entries) [] all = absurd all
+copied C D key times (entry ∷ entries) (copy ∷ copies) all =
+    λ i. line_for (key entry.0 copy.0 all.0.0 i) (times entry.1 copy.1 all.0.1 i) ∷ copied C D key times entries copies all.1 i

@@ -1,4 +1,5 @@
 pub mod KeptLemmas
 pub mod PlaceLemmas
 pub mod ReadingLemmas
+pub mod DurationLemmas
 pub mod EndingLemmas

@@ -1,26 +1,34 @@
 -- The lines of cost data. Source: CMake manual, cmake-properties(7), COST. That a name has
 -- one line is this project's choice.
-use Rattle.std.specs.Prelude.{ℕ, ◌+◌, ◌*◌, ◌/◌, min, List, [], ◌∷◌, ◌++◌, find, bytes_eq, Option, is_some, option_map, fold, if◌then◌else◌}
+use Rattle.std.specs.Prelude.{ℕ, ◌-◌, max, List, [], ◌∷◌, ◌++◌, drop, length, find, bytes_eq, Option, is_some, option_and_then, fold, if◌then◌else◌}
+use Rattle.std.specs.List.{reduce}
 use Rattle.std.specs.Option.{option_map_or}
 use Rattle.ct_history.specs.Rules.{is_among}
 
--- what is known of a name: how many runs of it passed, and their mean cost in microseconds
+-- what is known of a name: how long its last attempts that passed took, in microseconds, oldest first
 pub record CostLine : Type 0 where
   pub name : List ℕ
-  pub runs : ℕ
-  pub micros : ℕ
+  pub durations : List ℕ
 
--- how many runs are counted at most
-abbrev pub most_runs : ℕ
-most_runs = 1000000
+-- how many durations of a name are kept
+abbrev pub most_durations : ℕ
+most_durations = 8
+
+-- the last durations of these, as many as are kept
+abbrev pub last_of : List ℕ → List ℕ
+last_of durations = drop (length durations - most_durations) durations
+
+-- the greatest of these durations, if there is one
+abbrev pub greatest_of : List ℕ → Option ℕ
+greatest_of durations = reduce max durations
 
 -- the line of a name, if it has one
 abbrev pub line_of : List CostLine → List ℕ → Option CostLine
 line_of lines name = find (λ (l : CostLine). bytes_eq name l.name) lines
 
--- the cost of a name, if it has a line
+-- the cost of a name, if it has a line: its greatest duration
 abbrev pub cost_of : List CostLine → List ℕ → Option ℕ
-cost_of lines name = option_map (λ (l : CostLine). l.micros) (line_of lines name)
+cost_of lines name = option_and_then (λ (l : CostLine). greatest_of l.durations) (line_of lines name)
 
 -- the lines with this one in place of the one with its name, or behind the others where there is none
 abbrev pub with_line : List CostLine → CostLine → List CostLine
@@ -39,14 +47,13 @@ with_new_name names name = if is_among name names then names else names ++ name 
 abbrev pub each_once : List (List ℕ) → List (List ℕ)
 each_once names = fold with_new_name [] names
 
--- a line after one more run, which took `micros`: the count of runs, up to
--- `most_runs`, and the mean cost, rounded down
+-- a line after one more run, which took `micros`
 abbrev pub with_run : ℕ → CostLine → CostLine
-with_run micros line = record { name = line.name; runs = min (line.runs + 1) most_runs; micros = (line.runs * line.micros + micros) / (line.runs + 1) }
+with_run micros line = record { name = line.name; durations = last_of (line.durations ++ micros ∷ []) }
 
 -- the line of a name without a run
 abbrev pub unrun : List ℕ → CostLine
-unrun name = record { name = name; runs = 0; micros = 0 }
+unrun name = record { name = name; durations = [] }
 
 -- the lines after one more run of a name, which took `micros`
 abbrev pub after_run : List CostLine → List ℕ → ℕ → List CostLine

@@ -1,26 +1,25 @@
 -- What contracts see of lines that are kept by their names. This project's own.
 use Rattle.std.specs.Prelude.{ℕ, List, Option, Some, None, if◌then◌else◌}
 use Rattle.std.specs.declared.vec.Vec.{Vec}
-use Rattle.ct_cost.specs.declared.line.Counts.{Counts}
 use Rattle.ct_cost.specs.declared.line.Line.{Line}
 use Rattle.ct_cost.specs.CostLine.{CostLine, with_new_line, with_new_name}
 use Rattle.ct_cost.specs.Text.{is_named}
 
--- the line of a name with these counts
-abbrev pub line_for : List ℕ → Counts → CostLine
-line_for name counts = record { name = name; runs = counts.runs; micros = counts.micros }
+-- the line of a name with these durations
+abbrev pub line_for : List ℕ → List ℕ → CostLine
+line_for name durations = record { name = name; durations = durations }
 
 -- a line that is kept by its name
-abbrev pub kept_line : {Z : Type 0} → Vec ℕ Z × Counts → CostLine
+abbrev pub kept_line : {Z : Type 0} → Vec ℕ Z × List ℕ → CostLine
 kept_line entry = line_for entry.0.items entry.1
 
 -- a line that was read in a text, as contracts see it
 abbrev pub seen_line : Line → CostLine
-seen_line line = line_for line.name.now line.counts
+seen_line line = line_for line.name.now line.durations
 
--- the counts of a line
-abbrev pub counts_of : CostLine → Counts
-counts_of line = record { runs = line.runs; micros = line.micros }
+-- the durations of a line
+abbrev pub durations_of : CostLine → List ℕ
+durations_of line = line.durations
 
 -- the lines with the one that was read behind them, if one was read
 abbrev pub with_read : List CostLine → Option CostLine → List CostLine

@@ -24,8 +24,11 @@ pub struct CostData {
 }
 
 impl CostData {
-    /// Reads cost data: lines of a name, a space, runs, a space and a cost in seconds up to a line
-    /// `---`, and behind it the names of failed tests.
+    /// Reads cost data: lines of costs up to a line `---`, and behind it the names of failed tests.
+    ///
+    /// Where the first line is `version 2`, the others are a name, a space, and durations in seconds
+    /// that are joined by `,`. The last eight are kept. In every other text they are a name, a space,
+    /// runs, a space and a cost in seconds, which becomes the one duration.
     ///
     /// No text is refused: every other line is passed over, and so is a second line of a name.
     pub fn read(alloc: Global, text: &[u8]) -> Result<CostData, NoMemory>
@@ -38,7 +41,7 @@ impl CostData {
         })
     }
 
-    /// Looks up what a test of this name costs, in microseconds.
+    /// Looks up what a test of this name costs: its greatest duration, in microseconds.
     pub fn cost(&self, name: &Name) -> Option<u64>
         ensures { result ≡ cost_of self.now.lines name.now }
     {
@@ -52,10 +55,10 @@ impl CostData {
         self.failed.has(name.bytes())
     }
 
-    /// Makes the cost data after a run: each test that passed counts for the mean cost of its name,
-    /// and the failed names are those of this run.
+    /// Makes the cost data after a run: the time of each test that passed goes behind the durations of
+    /// its name, and the failed names are those of this run.
     ///
-    /// The mean is rounded down. Lines of names that did not run stay.
+    /// The last eight durations of a name are kept. Lines of names that did not run stay.
     pub fn after(&self, alloc: Global, plan: &Plan, history: &History) -> Result<CostData, NoMemory>
         requires ended { are_all_final plan.now history.now.entries.items ≡ true }
         ensures { IfOk result (λ costs. costs ≡ costs_after plan.now history.now.entries.items self.now) }
@@ -67,11 +70,12 @@ impl CostData {
         Ok(CostData { lines, failed })
     }
 
-    /// Writes the text that `read` reads, with costs as seconds with six decimals.
+    /// Writes the text of version 2 that `read` reads, with durations as seconds with six decimals.
     pub fn text(&self, alloc: Global) -> Result<Blob, NoMemory>
         ensures { IfOk result (λ text. text ≡ costs_text self.now) }
     {
-        let mut text = self.lines.text(alloc)?;
+        let mut text = Blob::of(alloc, b"version 2\n")?;
+        self.lines.append_to(alloc, &mut text)?;
         text.append(b"---\n")?;
         text.append(self.failed.text(alloc)?.bytes())?;
         Ok(text)

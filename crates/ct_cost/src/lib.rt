@@ -7,11 +7,13 @@
 #![tactic(auto)]
 
 mod cost_data;
+mod durations;
 mod endings;
 mod line;
 mod lines;
 mod log;
 mod names;
+mod parts;
 mod reading;
 mod texts;
 

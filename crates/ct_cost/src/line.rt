@@ -1,57 +1,93 @@
-ghost use Rattle.std.specs.Prelude.{◌≡◌, ◌<◌, ◌≤◌, ◌^◌, ◌+◌, ◌*◌, ◌/◌, min, length, IfSome, option_map};
+ghost use Rattle.std.specs.Prelude.{◌≡◌, ◌<◌, length, IfOk, IfSome, option_map};
 ghost use Rattle.std.specs.Path.{rfind_below};
-ghost use Rattle.ct_cost.specs.CostLine.{most_runs};
-ghost use Rattle.ct_cost.specs.Text.{line_in as line_read, line_before as line_cut, line_from as line_made, space};
+ghost use Rattle.ct_cost.specs.Text.{line_in as line_read, line_before as line_cut, line_with as line_made, durations_in, only_duration as only_one, space};
 ghost use Rattle.ct_cost.specs.Kept.{seen_line};
 
-use ct_base::{micros, number};
+use crate::durations::Durations;
+use ct_base::{NoMemory, micros, number};
+use std::alloc::Global;
 
-/// How many runs are counted at most. This project's choice.
-const MOST_RUNS: u32 = 1_000_000;
-
-/// How many runs of a name passed, and their mean cost in microseconds.
+/// The form of the lines of cost data.
 #[derive(Clone, Copy)]
-pub(crate) struct Counts {
-    pub runs: u32,
-    pub micros: u64,
+pub(crate) enum Version {
+    /// A name, how many runs passed, and what they cost.
+    One,
+    /// A name and the last durations.
+    Two,
 }
 
 /// A line of cost data, with its name in the text that was read.
-#[derive(Clone, Copy)]
+#[derive(Drop)]
 pub(crate) struct Line<'a> {
     pub name: &'a [u8],
-    pub counts: Counts,
+    pub durations: Durations,
 }
 
-/// Reads a line of cost data: a name that is not empty, a space, runs, a space and a cost.
+/// Reads a line of cost data: a name that is not empty, a space, and what a version has behind it.
 #[tactic(auto, unfolding(std::specs::Path::rsplit_once))]
-pub(crate) fn line_in(text: &[u8]) -> Option<Line<'_>>
-    ensures { option_map seen_line result ≡ line_read text.now }
+pub(crate) fn line_in(
+    alloc: Global,
+    version: Version,
+    text: &[u8],
+) -> Result<Option<Line<'_>>, NoMemory>
+    ensures { IfOk result (λ line. option_map seen_line line ≡ line_read version text.now) }
 {
-    let last = last_space(text)?;
-    line_before(&text[..last], &text[last + 1..])
+    let Some(last) = last_space(text) else {
+        return Ok(None);
+    };
+    let (front, end) = (&text[..last], &text[last + 1..]);
+    match version {
+        Version::One => mean_line(alloc, front, end),
+        Version::Two => durations_line(alloc, front, end),
+    }
 }
 
+/// Reads the line of a name and durations.
+fn durations_line<'a>(
+    alloc: Global,
+    name: &'a [u8],
+    durations: &[u8],
+) -> Result<Option<Line<'a>>, NoMemory>
+    ensures { IfOk result (λ line. option_map seen_line line ≡ line_made name.now (durations_in durations.now)) }
+{
+    let durations = Durations::read(alloc, durations)?;
+    Ok(line_with(name, durations))
+}
+
+/// Reads the line of a name and runs, and of a cost.
 #[tactic(auto, unfolding(std::specs::Path::rsplit_once))]
-fn line_before<'a>(front: &'a [u8], cost: &[u8]) -> Option<Line<'a>>
-    ensures { option_map seen_line result ≡ line_cut (front.now, cost.now) }
+fn mean_line<'a>(alloc: Global, front: &'a [u8], cost: &[u8]) -> Result<Option<Line<'a>>, NoMemory>
+    ensures { IfOk result (λ line. option_map seen_line line ≡ line_cut (front.now, cost.now)) }
 {
-    let last = last_space(front)?;
-    line_from(&front[..last], number(&front[last + 1..]), micros(cost))
+    let Some(last) = last_space(front) else {
+        return Ok(None);
+    };
+    let durations = only_duration(alloc, number(&front[last + 1..]), micros(cost))?;
+    Ok(line_with(&front[..last], durations))
 }
 
-fn line_from<'a>(name: &'a [u8], runs: Option<u64>, cost: Option<u64>) -> Option<Line<'a>>
-    ensures { option_map seen_line result ≡ line_made name.now runs cost }
+/// Returns the one duration of a line with runs and a cost.
+fn only_duration(
+    alloc: Global,
+    runs: Option<u64>,
+    cost: Option<u64>,
+) -> Result<Option<Durations>, NoMemory>
+    ensures { IfOk result (λ durations. durations ≡ only_one runs cost) }
+{
+    match (runs, cost) {
+        (Some(_), Some(micros)) => Ok(Some(Durations::of(alloc, micros)?)),
+        _ => Ok(None),
+    }
+}
+
+fn line_with(name: &[u8], durations: Option<Durations>) -> Option<Line<'_>>
+    ensures { option_map seen_line result ≡ line_made name.now durations }
 {
     if name.is_empty() {
         return None;
     }
-    let runs = runs?.min(u64::from(MOST_RUNS)) as u32;
-    let micros = cost?;
-    Some(Line {
-        name,
-        counts: Counts { runs, micros },
-    })
+    let durations = durations?;
+    Some(Line { name, durations })
 }
 
 /// Finds the place of the last space, from 0.
@@ -68,19 +104,4 @@ fn last_space(text: &[u8]) -> Option<usize>
         }
     }
     None
-}
-
-impl Counts {
-    /// Counts one more run, which took `micros` microseconds. The mean of all runs is rounded down.
-    pub(crate) fn with_run(self, micros: u64) -> Counts
-        ensures runs { result.runs ≡ min (self.runs + 1) most_runs }
-        ensures mean { result.micros ≡ (self.runs * self.micros + micros) / (self.runs + 1) }
-    {
-        let total = u128::from(self.runs) * u128::from(self.micros) + u128::from(micros);
-        let mean = total / (u128::from(self.runs) + 1);
-        Counts {
-            runs: self.runs.saturating_add(1).min(MOST_RUNS),
-            micros: mean as u64,
-        }
-    }
 }

@@ -1,12 +1,13 @@
-ghost use Rattle.std.specs.Prelude.{◌≡◌, [], IfOk, flat_map, fold, option_map};
+ghost use Rattle.std.specs.Prelude.{◌≡◌, ◌++◌, [], IfOk, OnOk, flat_map, fold, option_map};
 ghost use Rattle.std.specs.Option.{option_map_or};
 ghost use Rattle.ct_cost.specs.CostLine.{cost_of, line_of as line_by_name, with_line as with_line_of, after_run as run_counted};
 ghost use Rattle.ct_cost.specs.Text.{line_in as line_read, line_text};
-ghost use Rattle.ct_cost.specs.Kept.{counts_of, line_for, with_read};
+ghost use Rattle.ct_cost.specs.Kept.{durations_of, line_for, with_read};
 ghost use Rattle.ct_cost.specs.Endings.{after_ending};
 
+use crate::durations::Durations;
 use crate::endings::passed_micros;
-use crate::line::{Counts, line_in};
+use crate::line::{Line, Version, line_in};
 use crate::texts::append_line;
 use ct_base::{Blob, NoMemory};
 use ct_history::{Endings, PlanTest, ending_at};
@@ -17,7 +18,7 @@ use std::marker::Model;
 /// Lines of cost data by their names, in order. Contracts see the lines.
 #[derive(Drop)]
 pub(crate) struct Lines {
-    counts: IndexMap<Vec<u8>, Counts>,
+    durations: IndexMap<Vec<u8>, Durations>,
 }
 
 impl Model for Lines {
@@ -27,7 +28,7 @@ impl Model for Lines {
 
     ghost Value = { List CostLine };
 
-    ghost view = { λ l. map kept_line l.counts.entries };
+    ghost view = { λ l. map kept_line l.durations.entries };
 }
 
 impl Lines {
@@ -36,64 +37,77 @@ impl Lines {
         ensures { result ≡ [] }
     {
         Lines {
-            counts: IndexMap::new(alloc),
+            durations: IndexMap::new(alloc),
         }
     }
 
-    fn counts(&self, name: &[u8]) -> Option<Counts>
-        ensures { result ≡ option_map counts_of (line_by_name self.now name.now) }
+    fn durations(&self, name: &[u8]) -> Option<&Durations>
+        ensures { option_map (λ found. found.now) result ≡ option_map durations_of (line_by_name self.now name.now) }
     {
-        self.counts.get(name).copied()
+        self.durations.get(name)
     }
 
     /// Looks up what a test of this name costs, in microseconds.
     pub(crate) fn cost(&self, name: &[u8]) -> Option<u64>
         ensures { result ≡ cost_of self.now name.now }
     {
-        match self.counts(name) {
-            Some(counts) => Some(counts.micros),
-            None => None,
-        }
+        self.durations(name)?.greatest()
     }
 
-    /// Replaces the counts of a name, or adds them behind the others where the name has none.
-    fn with(self, alloc: Global, name: &[u8], counts: Counts) -> Result<Lines, NoMemory>
-        ensures { IfOk result (λ lines. lines ≡ with_line_of self (line_for name.now counts)) }
+    /// Replaces the durations of a name, or adds them behind the others where the name has none.
+    fn with(self, alloc: Global, name: &[u8], durations: Durations) -> Result<Lines, NoMemory>
+        ensures { IfOk result (λ lines. lines ≡ with_line_of self (line_for name.now durations)) }
     {
         let Lines {
-            counts: mut entries,
+            durations: mut entries,
         } = self;
-        entries.insert(Vec::from_slice(alloc, name)?, counts)?;
-        Ok(Lines { counts: entries })
+        entries.insert(Vec::from_slice(alloc, name)?, durations)?;
+        Ok(Lines { durations: entries })
     }
 
     /// Reads one more line. It is passed over where it is no line of
     /// cost data, or its name has a line.
-    pub(crate) fn with_line(self, alloc: Global, text: &[u8]) -> Result<Lines, NoMemory>
-        ensures { IfOk result (λ lines. lines ≡ with_read self (line_read text.now)) }
+    pub(crate) fn with_line(
+        self,
+        alloc: Global,
+        version: Version,
+        text: &[u8],
+    ) -> Result<Lines, NoMemory>
+        ensures { IfOk result (λ lines. lines ≡ with_read self (line_read version text.now)) }
     {
-        let Some(line) = line_in(text) else {
+        let Some(line) = line_in(alloc, version, text)? else {
             return Ok(self);
         };
-        if self.counts(line.name).is_some() {
+        if self.durations(line.name).is_some() {
             return Ok(self);
         }
-        self.with(alloc, line.name, line.counts)
+        let Line { name, durations } = line;
+        self.with(alloc, name, durations)
+    }
+
+    fn durations_or_none(&self, alloc: Global, name: &[u8]) -> Result<Durations, NoMemory>
+        ensures { IfOk result (λ durations. durations ≡ option_map_or durations_of (line_by_name self.now name.now) []) }
+    {
+        match self.durations(name) {
+            Some(durations) => Ok(durations.clone()?),
+            None => Ok(Durations::new(alloc)),
+        }
     }
 
     /// Counts one more run of a name.
     fn with_run(self, alloc: Global, name: &[u8], micros: u64) -> Result<Lines, NoMemory>
         ensures { IfOk result (λ lines. lines ≡ run_counted self name.now micros) }
     {
-        let counts = self.counts(name).unwrap_or(Counts { runs: 0, micros: 0 });
-        self.with(alloc, name, counts.with_run(micros))
+        let mut durations = self.durations_or_none(alloc, name)?;
+        durations.push(micros)?;
+        self.with(alloc, name, durations)
     }
 
     fn copy(&self) -> Result<Lines, NoMemory>
         ensures { IfOk result (λ lines. lines ≡ self.now) }
     {
         Ok(Lines {
-            counts: self.counts.clone()?,
+            durations: self.durations.clone()?,
         })
     }
 
@@ -127,14 +141,13 @@ impl Lines {
         }
     }
 
-    /// Writes each line.
-    pub(crate) fn text(&self, alloc: Global) -> Result<Blob, NoMemory>
-        ensures { IfOk result (λ text. text ≡ flat_map line_text self.now) }
+    /// Puts each line behind the text.
+    pub(crate) fn append_to(&self, alloc: Global, text: &mut Blob) -> Result<(), NoMemory>
+        ensures { OnOk result (text.new ≡ text.old ++ flat_map line_text self.now) }
     {
-        let mut text = Blob::new(alloc);
-        for (name, counts) in self.counts.iter() {
-            append_line(alloc, &mut text, name.as_slice(), *counts)?;
+        for (name, durations) in self.durations.iter() {
+            append_line(alloc, text, name.as_slice(), durations)?;
         }
-        Ok(text)
+        Ok(())
     }
 }

@@ -1,16 +1,18 @@
-ghost use Rattle.std.specs.Prelude.{◌≡◌, ◌≤◌, IfOk, fold, length};
-ghost use Rattle.std.specs.List.{position_or_len};
-ghost use Rattle.ct_cost.specs.Text.{ends_line, is_divider as divides, lines_in};
-ghost use Rattle.ct_cost.specs.Reading.{after_line, unread};
+ghost use Rattle.std.specs.Prelude.{◌≡◌, IfOk, fold};
+ghost use Rattle.ct_cost.specs.Text.{ends_line, is_divider as divides, is_mark as marks, lines_in};
+ghost use Rattle.ct_cost.specs.Reading.{after_line, after_lines, parts_from, unread};
 
+use crate::line::Version;
 use crate::lines::Lines;
 use crate::names::Names;
-use ct_base::{NoMemory, first_place};
+use crate::parts::part_len;
+use ct_base::NoMemory;
 use std::alloc::Global;
 
 /// What was read of a text of cost data so far.
 #[derive(Drop)]
 pub(crate) struct Reading {
+    pub version: Version,
     pub lines: Lines,
     pub failed: Names,
     /// Whether the line `---` was read.
@@ -20,16 +22,34 @@ pub(crate) struct Reading {
 impl Reading {
     /// Reads all lines of a text.
     pub(crate) fn of(alloc: Global, text: &[u8]) -> Result<Reading, NoMemory>
-        ensures { IfOk result (λ reading. reading ≡ fold after_line unread (lines_in text.now)) }
+        ensures { IfOk result (λ reading. reading ≡ after_lines (lines_in text.now)) }
     {
-        let mut reading = Reading {
+        let end = part_len(text, b'\n');
+        if is_mark(&text[..end]) {
+            return Reading::new(alloc, Version::Two).with_lines(alloc, text, end + 1);
+        }
+        Reading::new(alloc, Version::One).with_lines(alloc, text, 0)
+    }
+
+    fn new(alloc: Global, version: Version) -> Reading
+        ensures { result ≡ unread version }
+    {
+        Reading {
+            version,
             lines: Lines::new(alloc),
             failed: Names::new(alloc),
             is_behind: false,
-        };
-        let mut at = 0;
+        }
+    }
+
+    /// Reads the lines from a place on.
+    fn with_lines(self, alloc: Global, text: &[u8], start: usize) -> Result<Reading, NoMemory>
+        ensures { IfOk result (λ reading. reading ≡ fold after_line self (parts_from ends_line text.now start)) }
+    {
+        let mut reading = self;
+        let mut at = start;
         while at <= text.len() {
-            let end = at + line_len(&text[at..]);
+            let end = at + part_len(&text[at..], b'\n');
             reading = reading.with(alloc, &text[at..end])?;
             at = end + 1;
         }
@@ -41,6 +61,7 @@ impl Reading {
         ensures { IfOk result (λ reading. reading ≡ after_line self line.now) }
     {
         let Reading {
+            version,
             lines,
             failed,
             is_behind,
@@ -48,6 +69,7 @@ impl Reading {
         if is_behind {
             let failed = failed.with_line(alloc, line)?;
             return Ok(Reading {
+                version,
                 lines,
                 failed,
                 is_behind,
@@ -55,13 +77,15 @@ impl Reading {
         }
         if is_divider(line) {
             return Ok(Reading {
+                version,
                 lines,
                 failed,
                 is_behind: true,
             });
         }
-        let lines = lines.with_line(alloc, line)?;
+        let lines = lines.with_line(alloc, version, line)?;
         Ok(Reading {
+            version,
             lines,
             failed,
             is_behind,
@@ -75,14 +99,8 @@ fn is_divider(line: &[u8]) -> bool
     line == b"---".as_slice()
 }
 
-/// Returns the length of the first line of a text.
-#[tactic(auto, using(crate::proofs::PlaceLemmas::len_found, crate::proofs::PlaceLemmas::len_none))]
-fn line_len(text: &[u8]) -> usize
-    ensures is { result ≡ position_or_len ends_line text.now }
-    ensures within { result ≤ length text.now }
+fn is_mark(line: &[u8]) -> bool
+    ensures { result ≡ marks line.now }
 {
-    match first_place(text, b'\n') {
-        Some(at) => at,
-        None => text.len(),
-    }
+    line == b"version 2".as_slice()
 }

@@ -1,8 +1,8 @@
-ghost use Rattle.std.specs.Prelude.{◌≡◌, ◌++◌, ◌+◌, ◌/◌, ◌%◌, ◌<◌, IfOk, OnOk, decimal};
+ghost use Rattle.std.specs.Prelude.{◌≡◌, ◌++◌, ◌+◌, ◌/◌, ◌%◌, ◌<◌, OnOk, decimal};
 ghost use Rattle.ct_cost.specs.Text.{exact_seconds as seconds, line_text as line_written};
 ghost use Rattle.ct_cost.specs.Kept.{line_for};
 
-use crate::line::Counts;
+use crate::durations::Durations;
 use ct_base::{Blob, NoMemory};
 use std::alloc::Global;
 
@@ -20,33 +20,22 @@ pub(crate) fn append_line(
     alloc: Global,
     text: &mut Blob,
     name: &[u8],
-    counts: Counts,
+    durations: &Durations,
 ) -> Result<(), NoMemory>
-    ensures { OnOk result (text.new ≡ text.old ++ line_written (line_for name.now counts)) }
+    ensures { OnOk result (text.new ≡ text.old ++ line_written (line_for name.now durations.now)) }
 {
-    let line = line_text(alloc, name, counts)?;
-    text.append(line.bytes())?;
+    text.append(name)?;
+    text.append(b" ")?;
+    durations.append_to(alloc, text)?;
+    text.append(b"\n")?;
     Ok(())
 }
 
-fn line_text(alloc: Global, name: &[u8], counts: Counts) -> Result<Blob, NoMemory>
-    ensures { IfOk result (λ text. text ≡ line_written (line_for name.now counts)) }
+/// Puts microseconds behind the text, as seconds with six decimals.
+pub(crate) fn append_seconds(alloc: Global, text: &mut Blob, micros: u64) -> Result<(), NoMemory>
+    ensures { OnOk result (text.new ≡ text.old ++ seconds micros) }
 {
-    let mut text = Blob::of(alloc, name)?;
-    text.append(b" ")?;
-    append_number(alloc, &mut text, u64::from(counts.runs))?;
-    text.append(b" ")?;
-    text.append(exact_seconds(alloc, counts.micros)?.bytes())?;
-    text.append(b"\n")?;
-    Ok(text)
-}
-
-/// Writes microseconds as seconds with six decimals.
-fn exact_seconds(alloc: Global, micros: u64) -> Result<Blob, NoMemory>
-    ensures { IfOk result (λ text. text ≡ seconds micros) }
-{
-    let mut text = Blob::new(alloc);
-    append_number(alloc, &mut text, micros / 1_000_000)?;
+    append_number(alloc, text, micros / 1_000_000)?;
     text.append(b".")?;
     let rest = micros % 1_000_000;
     text.append(&[
@@ -57,7 +46,7 @@ fn exact_seconds(alloc: Global, micros: u64) -> Result<Blob, NoMemory>
         digit(rest, 10),
         digit(rest, 1),
     ])?;
-    Ok(text)
+    Ok(())
 }
 
 /// Returns the digit of a number at a decimal place.

@@ -24,6 +24,9 @@ const QUEUES: &str = "\
 -j2 | a COST=1, b COST=5, c COST=5 | ---/c/b is 2,3,1
 -j2 | a, b, c | b 1 9.000000/--- is 2,1,3
 -j2 | a COST=10, b | b 1 9.000000/--- is 1,2
+-j2 | a, b, c | version 2/a 1.000000,9.000000/b 5.000000/c/--- is 1,2,3
+-j2 | a, b, c | version 2/a 5.000000/b 9.000000,1.000000/c 6/---/c is 3,2,1
+-j2 | a, b, c | a 1.000000,9.000000/b 1 5.000000/--- is 2,1,3
 -j2 | a off COST=9, b COST=1, c COST=2 | is 3,2
 -j2 -R b | s setup=f, b required=f COST=3, d COST=9 | is 2,1
 ";

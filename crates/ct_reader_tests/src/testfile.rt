@@ -308,6 +308,47 @@ fn reads_up_to_each_limit(rt: HostRuntime) -> Result<(), Fail> {
     Ok(())
 }
 
+fn file(alloc: Global, path: &str, text: &[u8]) -> Result<Pair, NoMemory> {
+    Ok(Pair {
+        name: Name::of(alloc, path.as_bytes())?,
+        value: Name::of(alloc, text)?,
+    })
+}
+
+/// Reads 25 folders of 16,000 tests each, and behind them a folder with this test file.
+fn read_folders(
+    alloc: Global,
+    last: &[u8],
+) -> Result<Result<List<TestDef>, ReadFault>, NoMemory> {
+    let mut tests = Vec::new(alloc);
+    for _ in 0..16_000 {
+        tests.extend_from_slice(b"add_test(a b)\n")?;
+    }
+    let mut held = List::new(alloc);
+    let mut top = String::new(alloc);
+    for number in 1..26 {
+        top = format!(in alloc; "{top}subdirs(d{number})\n")?;
+        let path = format!(in alloc; "./d{number}/CTestTestfile.cmake")?;
+        held.push(file(alloc, path.as_str(), &tests)?)?;
+    }
+    top = format!(in alloc; "{top}subdirs(last)\n")?;
+    held.push(file(alloc, TOP, top.as_bytes())?)?;
+    held.push(file(alloc, "./last/CTestTestfile.cmake", last)?)?;
+    let dir = Name::of(alloc, b".")?;
+    let config = Name::of(alloc, b"")?;
+    Ok(read_tree(alloc, &mut CalmFiles::new(held), &dir, &config))
+}
+
+#[test]
+fn reads_as_many_tests_as_a_tree_may_have(rt: HostRuntime) -> Result<(), Fail> {
+    let alloc = rt.alloc();
+    let read = read_folders(alloc, b"")?;
+    assert!(rt; read.is_ok_and(|tests| tests.len() == 400_000));
+    let told = told(alloc, read_folders(alloc, b"add_test(a b)")?)?;
+    assert_eq!(rt; told.as_str(), "./last/CTestTestfile.cmake:1 TooManyTests");
+    Ok(())
+}
+
 #[test]
 fn names_the_path_that_the_files_refused(rt: HostRuntime) -> Result<(), Fail> {
     let alloc = rt.alloc();

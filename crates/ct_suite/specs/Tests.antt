@@ -9,7 +9,7 @@ use Rattle.ct_base.specs.declared.defs.TestDef.{TestDef}
 
 -- the greatest number of tests in a tree
 abbrev pub most_tests : ℕ
-most_tests = 100000
+most_tests = 400000
 
 -- the greatest number of bytes in a value
 abbrev pub most_bytes : ℕ

@@ -32,7 +32,7 @@ pub const LIMITS: Limits = Limits {
     all_value_bytes: 536_870_912,
     open_files: 64,
     commands: 4_000_000,
-    tests: 100_000,
+    tests: 400_000,
 };
 
 /// Returns the limits on the values of a command.

@@ -20,7 +20,7 @@ Test project .
 1/1 Test #1: ok ... Passed 0.01 sec
 
 100% tests passed, 0 tests failed out of 1
-costs ok 1 0.010000;---;
+costs version 2;ok 0.010000;---;
 log 7:last;
 === of two tests one fails: its line of the cost file stays, and it stands in the log
 costs a 2 3.000000;old 1 9.000000;odd line x;---;b;
@@ -41,7 +41,7 @@ Test project .
 The following tests FAILED:
 \t2 - b (Failed)
 Errors while running CTest
-costs a 3 4.000000;old 1 9.000000;---;b;
+costs version 2;a 3.000000,6.000000;old 9.000000;---;b;
 log 2:b;
 === the test that failed last time passes: the log stays
 costs ok 1 0.030000;---;ok;
@@ -55,8 +55,21 @@ Test project .
 1/1 Test #1: ok ... Passed 0.01 sec
 
 100% tests passed, 0 tests failed out of 1
-costs ok 2 0.020000;---;
+costs version 2;ok 0.030000,0.010000;---;
 log 7:last;
+=== eight durations: the oldest one goes
+costs version 2;ok 1,2,3,4,5,6,7,8;
+told 1 0 3000000
+---
+add_test(ok \"true\")
+>>>
+status 0, 2 entries
+Test project .
+1/1 Test #1: ok ... Passed 3.00 sec
+
+100% tests passed, 0 tests failed out of 1
+costs version 2;ok 2.000000,3.000000,4.000000,5.000000,6.000000,7.000000,8.000000,3.000000;---;
+no log
 === a test that cannot run stands in the log without an attempt
 costs gone 3 1.000000;---;
 log 7:last;
@@ -72,7 +85,7 @@ Test project .
 The following tests FAILED:
 \t1 - gone (Not Run)
 Errors while running CTest
-costs gone 3 1.000000;---;gone;
+costs version 2;gone 1.000000;---;gone;
 log 1:gone;
 === a disabled test alone: the failed names of the last run go
 costs off 1 1.000000;---;off;
@@ -88,7 +101,7 @@ Test project .
 
 The following tests did not run:
 \t1 - off (Disabled)
-costs off 1 1.000000;---;
+costs version 2;off 1.000000;---;
 log 7:last;
 === there is no test: nothing is written
 costs no line
@@ -112,7 +125,7 @@ Test project .
 1/1 Test #1: ok ... Passed 0.01 sec
 
 100% tests passed, 0 tests failed out of 1
-costs ok 1 0.010000;---;
+costs version 2;ok 0.010000;---;
 log 7:last;
 === two processors and one gate: the test that failed last time comes first
 gates 1
@@ -134,7 +147,7 @@ Test project .
 The following tests FAILED:
 \t2 - b (Failed)
 Errors while running CTest
-costs a 3 4.000000;old 1 9.000000;---;b;
+costs version 2;a 3.000000,6.000000;old 9.000000;---;b;
 log 2:b;
 === a test that is not chosen: its line of the cost file stays, and it is not among the failed names
 costs b 1 9.000000;a 2 3.000000;---;b;
@@ -150,7 +163,7 @@ Test project .
 1/1 Test #1: a ... Passed 6.00 sec
 
 100% tests passed, 0 tests failed out of 1
-costs b 1 9.000000;a 3 4.000000;---;
+costs version 2;b 9.000000;a 3.000000,6.000000;---;
 log 7:last;
 === no test is chosen, which is an error: nothing is written
 costs ok 1 1.000000;
@@ -192,7 +205,7 @@ Test project .
 1/1 Test #2: b ... Passed 0.00 sec
 
 100% tests passed, 0 tests failed out of 1
-costs b 1 0.000000;---;
+costs version 2;b 0.000000;---;
 log 2:b;odd;9:zz;
 === it fails again: the log is new
 log 2:b;odd;9:zz;1:a;
@@ -211,7 +224,7 @@ Test project .
 The following tests FAILED:
 \t2 - b (Failed)
 Errors while running CTest
-costs a 1 0.000000;---;b;
+costs version 2;a 0.000000;---;b;
 log 2:b;
 === the log names no test
 log odd;
@@ -318,7 +331,7 @@ The following tests FAILED:
 \t1 - ok (Failed)
 Errors while running CTest
 ctest: cannot use file ./Testing/Temporary/LastTestsFailed.log
-costs ok 1 1.000000;---;ok;
+costs version 2;ok 1.000000;---;ok;
 log 7:last;
 === no further call on the files comes
 call 5 fails
@@ -337,7 +350,7 @@ Test project .
 The following tests FAILED:
 \t1 - ok (Failed)
 Errors while running CTest
-costs ok 1 1.000000;---;ok;
+costs version 2;ok 1.000000;---;ok;
 log 1:ok;
 === the cost file of a run that passes cannot be written, nor the line of that
 call 3 fails
@@ -449,7 +462,7 @@ Test project .
 1/1 Test #1: ok ... Passed 0.01 sec
 
 100% tests passed, 0 tests failed out of 1
-costs ok 2 0.020000;---;
+costs version 2;ok 0.030000,0.010000;---;
 no log
 === more than that: it counts as empty
 costs ok 1 0.030000;---;
@@ -463,7 +476,7 @@ Test project .
 1/1 Test #1: ok ... Passed 0.01 sec
 
 100% tests passed, 0 tests failed out of 1
-costs ok 1 0.010000;---;
+costs version 2;ok 0.010000;---;
 no log
 ";
 

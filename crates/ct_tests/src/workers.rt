@@ -98,8 +98,8 @@ The following tests FAILED:
 \t4 - fetch (Not Run)
 \t6 - slow (Timeout)
 Errors while running CTest
-costs query 2 0.375000;gone 4 1.250000;start_db 1 0.000000;flaky 1 0.030000;\
-stop_db 1 0.000000;stop_net 1 0.000000;after 1 0.000000;---;start_net;fetch;slow;
+costs version 2;query 0.500000,0.250000;gone 1.250000;start_db 0.000000;flaky 0.030000;\
+stop_db 0.000000;stop_net 0.000000;after 0.000000;---;start_net;fetch;slow;
 log 2:start_net;4:fetch;6:slow;
 >>> -j 4 --repeat until-pass:2
 ";

@@ -6,5 +6,5 @@ use Rattle.ct_cost.proofs.lines.Lines.with.Goals as goal
 
 pub returns : goal.returns
 returns c =
-    rw (c.in_ok-insert.ensures.entries, ← c.self.view_is) (lines-insert_entry c.self.inside.counts.entries c.in_ok-from_slice.field-0 c.args.counts
-    ∙ ap (λ name. with_line (map kept_line c.self.inside.counts.entries) (line_for name c.args.counts)) c.in_ok-from_slice.ensures.items)
+    rw (c.in_ok-insert.ensures.entries, ← c.self.view_is) (lines-insert_entry c.self.inside.durations.entries c.in_ok-from_slice.field-0 c.args.durations
+    ∙ ap (λ name. with_line (map kept_line c.self.inside.durations.entries) (line_for name c.args.durations)) c.in_ok-from_slice.ensures.items)

@@ -1,19 +1,21 @@
-use Rattle.std.proofs.Common.{rules, arith, ◌≡◌, ◌≤◌, ◌+◌, ◌-◌, length, take, drop, ap, ◌∙◌, fold}
-use Rattle.std.specs.List.{position_or_len}
-use Rattle.std.proofs.lemmas.List.{take_rest}
-use Rattle.ct_cost.specs.Text.{ends_line, lines_in}
-use Rattle.ct_cost.specs.Reading.{after_line, unread}
-use Rattle.ct_cost.proofs.ReadingLemmas.{reads_more}
+use Rattle.std.proofs.Common.{◌≡◌, ◌+◌, ◌∙◌, ap, sym, true, false, take, fold}
+use Rattle.ct_cost.specs.Text.{ends_line, is_mark}
+use Rattle.ct_cost.specs.Reading.{after_line, parts_from}
+use Rattle.ct_cost.proofs.ReadingLemmas.{reads_one, reads_two}
 use Rattle.ct_cost.proofs.reading.Reading.of.Goals as goal
 
-pub loop-at-preserved : goal.loop-at-preserved
-loop-at-preserved c =
+pub returns-then-is_mark : goal.returns-then-is_mark
+returns-then-is_mark c =
     let text = c.args.text.now in
-    let at = c.loop-at.at in
-    let n = c.line_len.result in
-    let within : at ≤ length text = search rules in
-    let is : n ≡ position_or_len ends_line (drop at text) = c.line_len.ensures.is ∙ ap (position_or_len ends_line) (take_rest text at) in
-    let cut : take (at + n - at) (drop at text) ≡ take n (drop at text) = let sub : at + n - at ≡ n = omega arith in ap (λ k. take k (drop at text)) sub in (
-      reads_more text at n c.loop-at.reading c.in_ok-reading.reading (take (at + n - at) (drop at text)) (fold after_line unread (lines_in text)) within is cut c.in_ok-reading.ensures c.loop-at.invariant.0,
-      omega arith,
-    )
+    let n = c.part_len-end.result in
+    let marked : is_mark (take n text) ≡ true = sym c.is_mark.ensures ∙ c.if-is_mark.true in
+    let same = ap (λ new. fold after_line new (parts_from ends_line text (n + 1))) c.new.ensures ∙ reads_two text n c.part_len-end.ensures.is marked in
+    rw (← same) c.with_lines.ensures
+
+pub returns : goal.returns
+returns c =
+    let text = c.args.text.now in
+    let n = c.part_len-end.result in
+    let unmarked : is_mark (take n text) ≡ false = sym c.is_mark.ensures ∙ c.if-is_mark.false in
+    let same = ap (λ new. fold after_line new (parts_from ends_line text 0)) c.new-2.ensures ∙ reads_one text n c.part_len-end.ensures.is unmarked in
+    rw (← same) c.with_lines-2.ensures
