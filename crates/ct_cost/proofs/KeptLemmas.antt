@@ -1,5 +1,5 @@
 -- Lines and names that are kept by their names, and what contracts see of them.
-use Rattle.std.proofs.Common.{◌≡◌, ℕ, Bool, true, false, cond, bytes_eq, List, [], ◌∷◌, ◌++◌, map, Option, Some, None, option_map, option_and_then, IfSome, is_some, refl, sym, ap, ◌∙◌, ◌||◌}
+use Rattle.std.proofs.Common.{◌≡◌, ℕ, Bool, true, false, cond, bytes_eq, List, [], ◌∷◌, ◌++◌, map, Option, Some, None, option_map, IfSome, is_some, refl, sym, ap, ◌∙◌, ◌||◌}
 use Rattle.std.specs.List.{list_any, AllZip}
 use Rattle.std.specs.Option.{option_map_or}
 use Rattle.std.specs.Map.{lookup}
@@ -9,7 +9,7 @@ use Rattle.std.proofs.lemmas.Slice.Eq.{bytes_eq-Decides}
 use Rattle.indexmap.specs.IndexMap.{insert_entry}
 use Rattle.indexmap.specs.IndexSet.{insert_key}
 use Rattle.ct_history.specs.Rules.{is_among}
-use Rattle.ct_cost.specs.CostLine.{CostLine, greatest_of, last_of, line_of, with_line, with_new_name, with_run, unrun, after_run}
+use Rattle.ct_cost.specs.CostLine.{CostLine, last_of, line_of, with_line, with_new_name, with_run, unrun, after_run}
 use Rattle.ct_cost.specs.Kept.{line_for, kept_line, durations_of, with_read}
 
 module _ {Z : Type 0} where
@@ -84,15 +84,6 @@ run-line lines name micros before after is more =
     (ap (line_for name) more
     ∙ ap (λ durations. line_for name (last_of (durations ++ micros ∷ []))) is
     ∙ run_by name micros (line_of lines name) (line_of-named lines name))
-
--- the cost of a name by its durations
-pub greatest-line : (found : Option CostLine) → option_and_then greatest_of (option_map durations_of found) ≡ option_and_then (λ (l : CostLine). greatest_of l.durations) found
-greatest-line None = refl
-greatest-line (Some line) = refl
-
-pub durations_or : (found : Option CostLine) → option_map_or durations_of found [] ≡ option_map_or (λ (d : List ℕ). d) (option_map durations_of found) []
-durations_or None = refl
-durations_or (Some line) = refl
 
 -- a line that was read, and whose name has no line yet, goes behind the others
 pub new_read : (lines : List CostLine) (line : CostLine) (said : Option CostLine) → Some line ≡ said → is_some (line_of lines line.name) ≡ false → with_line lines line ≡ with_read lines said

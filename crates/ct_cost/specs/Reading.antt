@@ -4,7 +4,7 @@ use Rattle.std.specs.List.{slice_split}
 use Rattle.ct_cost.specs.declared.line.Version.{Version}
 use Rattle.ct_cost.specs.declared.line.Version.TheVariants.{One, Two}
 use Rattle.ct_cost.specs.declared.reading.Reading.{Reading}
-use Rattle.ct_cost.specs.Text.{is_divider, is_mark, ends_line, line_in}
+use Rattle.ct_cost.specs.Text.{is_divider, is_mark, line_in}
 use Rattle.ct_cost.specs.Kept.{with_read, with_named}
 
 -- the parts of a text from a place on, none behind its end

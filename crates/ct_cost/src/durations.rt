@@ -1,4 +1,4 @@
-ghost use Rattle.std.specs.Prelude.{◌≡◌, ◌++◌, ◌∷◌, [], IfOk, OnOk, option_map};
+ghost use Rattle.std.specs.Prelude.{◌≡◌, ◌++◌, ◌∷◌, [], IfOk, OnOk};
 ghost use Rattle.ct_cost.specs.CostLine.{greatest_of, last_of};
 ghost use Rattle.ct_cost.specs.Text.{durations_in, durations_text, next_text};
 

@@ -1,4 +1,4 @@
-use Rattle.std.proofs.Common.{rules, ◌≡◌, ◌∙◌, Some, sym, ap, is_some, option_map, false}
+use Rattle.std.proofs.Common.{rules, ◌≡◌, ◌∙◌, sym, ap, is_some, option_map, false}
 use Rattle.ct_cost.specs.CostLine.{line_of}
 use Rattle.ct_cost.specs.Text.{line_in}
 use Rattle.ct_cost.specs.Kept.{durations_of, seen_line}
