@@ -49,6 +49,8 @@ impl Collect {
 impl Ear for Collect {
     ghost stands_for = { MayHaveHeard };
 
+    ghost kept = { λ _. tt };
+
     fn hear(&mut self, piece: &[u8]) {
         if self.heard.append(piece).is_err() {
             self.short = true;

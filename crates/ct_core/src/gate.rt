@@ -120,5 +120,6 @@ pub trait Gate {
     ) -> Ended
         requires test { request.now.test ≡ test_of ticket.now }
         requires attempt { request.now.attempt ≡ attempt_of ticket.now }
-        ensures { RunsRequest request.now (tells self.old) (tells self.new) (E.stands_for ear.old) (E.stands_for ear.new) result };
+        ensures runs { RunsRequest request.now (tells self.old) (tells self.new) (E.stands_for ear.old) (E.stands_for ear.new) result }
+        ensures kept { E.kept ear.new ≡ E.kept ear.old };
 }

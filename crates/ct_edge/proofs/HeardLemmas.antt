@@ -40,3 +40,7 @@ hears_more left mid now before between after was is = record {
   moved = more-moved was.heard is.heard left mid now was.moved is.moved;
   said = λ text so. subst after (append_assoc text was.heard is.heard) (is.said (text ++ was.heard) (was.said text so));
 }
+
+-- a piece was heard of what nothing is known of
+pub hears_piece : (piece : List ℕ) (before now : List ℕ → Type 0) → ((text : List ℕ) → before text → now (text ++ piece)) → Hears None None before now
+hears_piece piece before now said = record { heard = piece; moved = tt; said = said }

@@ -1,5 +1,6 @@
 pub mod TransferLemmas
 pub mod EnvLemmas
 pub mod HeardLemmas
+pub mod KeepLemmas
 pub mod RequiredLemmas
 pub mod TextLemmas

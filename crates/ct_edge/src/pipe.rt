@@ -1,14 +1,14 @@
-ghost use Rattle.std.specs.Prelude.{◌≡◌, ◌≢◌, ◌∷◌, [], Err, IfOk, IsSome, Ok, OnOk, false, true};
+ghost use Rattle.std.specs.Prelude.{◌≡◌, ◌≢◌, ◌<◌, ◌∷◌, [], Err, IfOk, IsSome, Ok, OnOk, false, length, true};
 ghost use Rattle.std.specs.Io.KnownBytes.{IsAtEnd};
 ghost use Rattle.std.specs.IoError.{error_kind};
 ghost use Rattle.std.specs.declared.io.ErrorKind.TheVariants as ErrorKind;
 ghost use Rattle.ct_edge.specs.Heard.{Hears};
-ghost use Rattle.ct_edge.specs.Transfer.{Moves};
+ghost use Rattle.ct_edge.specs.Transfer.{MovesTo};
 
 use crate::fault::StartFault;
+use crate::keep::Keep;
 use crate::limit::Limit;
-use crate::transfer::read_piece;
-use ct_base::{Blob, Ear};
+use ct_base::Ear;
 use libc::net::{POLLIN, poll};
 use libc::types::pollfd;
 use std::io;
@@ -19,26 +19,31 @@ use std::rt::Clock;
 /// The longest single wait for an output of a program, in microseconds: an hour.
 const LONGEST_WAIT: u64 = 3_600_000_000;
 
+/// How many bytes of an output are read at a time at most: as many as a pipe holds on Linux.
+const PIECE: usize = 65_536;
+
 /// A descriptor that the system never finds ready.
 const NO_DESCRIPTOR: RawFd = -1;
 
 /// Hands what comes of an output to the ear, and keeps what comes of the errors beside it,
 /// each as soon as it can be read. Tells whether both came to their ends within the limit.
-#[tactic(auto, using(crate::proofs::HeardLemmas::hears_none, crate::proofs::HeardLemmas::hears_more))]
-pub fn read_both<C: Clock, O: Read + AsRawFd, P: Read + AsRawFd, E: Ear>(
+#[tactic(auto, using(crate::proofs::HeardLemmas::hears_none, crate::proofs::HeardLemmas::hears_more, crate::proofs::KeepLemmas::moves_none, crate::proofs::KeepLemmas::moves_more))]
+pub fn read_both<C: Clock, O: Read + AsRawFd, P: Read + AsRawFd, E: Ear, K: Keep>(
     clock: &C,
     limit: &Limit,
     output: &mut O,
     errors: &mut P,
     ear: &mut E,
-    kept: &mut Blob,
+    kept: &mut K,
 ) -> Result<bool, StartFault>
     ensures heard { OnOk result (Hears (O.remaining output.old) (O.remaining output.new) (E.stands_for ear.old) (E.stands_for ear.new)) }
-    ensures moved { OnOk result (Moves (P.remaining errors.old) kept.old (P.remaining errors.new) kept.new) }
+    ensures kept { E.kept ear.new ≡ E.kept ear.old }
+    ensures moved { OnOk result (MovesTo (P.remaining errors.old) (K.holds kept.old) (P.remaining errors.new) (K.holds kept.new)) }
     ensures output { IfOk result (λ whole. whole ≡ true → IsAtEnd (O.remaining output.new)) }
     ensures errors { IfOk result (λ whole. whole ≡ true → IsAtEnd (P.remaining errors.new)) }
     ensures unlimited { IfOk result (λ whole. whole ≡ false → IsSome limit.now.micros) }
 {
+    let mut room = [0u8; PIECE];
     let mut more_output = true;
     let mut more_errors = true;
     for _ in 0..u64::MAX {
@@ -52,23 +57,43 @@ pub fn read_both<C: Clock, O: Read + AsRawFd, P: Read + AsRawFd, E: Ear>(
         let both = [awaited(output, more_output), awaited(errors, more_errors)];
         let [output_ready, errors_ready] = ready(both, left)?;
         if output_ready {
-            more_output = hear_piece(output, ear)?;
+            more_output = hear_piece(output, ear, &mut room)?;
         }
         if errors_ready {
-            more_errors = read_piece(errors, kept, u64::MAX)?;
+            more_errors = keep_piece(errors, kept, &mut room)?;
         }
     }
     Err(StartFault::Failed)
 }
 
-/// Hands what one read returns to the ear, and tells whether more may come.
-fn hear_piece<R: Read, E: Ear>(output: &mut R, ear: &mut E) -> io::Result<bool>
+/// Hands what one read into this room returns to the ear, and tells whether more may come.
+fn hear_piece<R: Read, E: Ear>(
+    output: &mut R,
+    ear: &mut E,
+    room: &mut [u8],
+) -> io::Result<bool>
+    requires room { 0 < length room.old }
     ensures moved { OnOk result (Hears (R.remaining output.old) (R.remaining output.new) (E.stands_for ear.old) (E.stands_for ear.new)) }
+    ensures kept { E.kept ear.new ≡ E.kept ear.old }
     ensures end { IfOk result (λ more. more ≡ false → IsAtEnd (R.remaining output.new)) }
 {
-    let mut room = [0u8; 8192];
-    let got = output.read(&mut room)?;
+    let got = output.read(room)?;
     ear.hear(&room[..got]);
+    Ok(got > 0)
+}
+
+/// Keeps what one read into this room returns, and tells whether more may come.
+fn keep_piece<R: Read, K: Keep>(
+    errors: &mut R,
+    kept: &mut K,
+    room: &mut [u8],
+) -> Result<bool, StartFault>
+    requires room { 0 < length room.old }
+    ensures moved { OnOk result (MovesTo (R.remaining errors.old) (K.holds kept.old) (R.remaining errors.new) (K.holds kept.new)) }
+    ensures end { IfOk result (λ more. more ≡ false → IsAtEnd (R.remaining errors.new)) }
+{
+    let got = errors.read(room)?;
+    kept.keep(&room[..got])?;
     Ok(got > 0)
 }
 

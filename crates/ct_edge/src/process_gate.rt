@@ -10,12 +10,16 @@ use crate::fault::StartFault;
 use crate::limit::{Limit, micros_of};
 use crate::real_files::RealFiles;
 use crate::required::first_missing;
+use crate::spool::Spool;
 use crate::watch::{Running, attend};
 use ct_base::Ear;
 use ct_core::{Ended, Gate, Request, Ticket};
 use ct_verdict::How;
 use std::alloc::Global;
 use std::time::Instant;
+
+/// How many bytes of a program's standard error are kept in memory at most, unless its file fails.
+const MOST_IN_MEMORY: usize = 1_048_576;
 
 /// Runs the programs of tests on the machine, and waits for each.
 ///
@@ -46,6 +50,7 @@ impl ProcessGate {
     pub fn attempt<E: Ear>(&mut self, alloc: Global, request: &Request, ear: &mut E) -> Ended
         ensures cause { HasStartCause self.old.faults self.new.faults result.how }
         ensures unlimited { result.how ≡ Ends.TimedOut → IsSome request.now.limit }
+        ensures kept { E.kept ear.new ≡ E.kept ear.old }
     {
         let began = Instant::now(&self.rt);
         let outcome = run_program(self.rt, alloc, request, ear);
@@ -98,6 +103,7 @@ fn run_program<E: Ear>(
     ensures started { IfOk result (λ how. is_not_started how ≡ false) }
     ensures unheard { IfOk result (λ how. has_run how ≡ false → HearsNothing (E.stands_for ear.old) (E.stands_for ear.new)) }
     ensures unlimited { IfOk result (λ how. how ≡ Ends.TimedOut → IsSome request.now.limit) }
+    ensures kept { E.kept ear.new ≡ E.kept ear.old }
 {
     let required = request.required.as_slice();
     if let Some(place) = first_missing(&mut RealFiles::new(rt), alloc, required)? {
@@ -106,5 +112,6 @@ fn run_program<E: Ear>(
     let limit = Limit::from_now(&rt, request.limit)?;
     let beside = is_beside(&rt, alloc, request)?;
     let child = command_of(alloc, request, beside)?.spawn(&rt)?;
-    attend(&rt, alloc, &limit, &mut Running::of(child)?, ear)
+    let mut kept = Spool::new(rt, alloc, MOST_IN_MEMORY);
+    attend(&rt, &limit, &mut Running::of(child)?, ear, &mut kept)
 }

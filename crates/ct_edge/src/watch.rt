@@ -1,17 +1,17 @@
-ghost use Rattle.std.specs.Prelude.{◌≡◌, ◌≢◌, false, IfOk, IfSome, IsOk, IsSome, None, OnOk, Some, true};
+ghost use Rattle.std.specs.Prelude.{◌≡◌, ◌≢◌, [], false, IfOk, IfSome, IsOk, IsSome, None, OnOk, Some, true};
 ghost use Rattle.std.specs.Io.KnownBytes.{IsAtEnd};
 ghost use Rattle.ct_core.specs.Gate.{is_not_started};
 ghost use Rattle.ct_verdict.specs.declared.attempt.How.TheVariants as Ends;
-ghost use Rattle.ct_edge.specs.Heard.{Hears, HearsBoth};
+ghost use Rattle.ct_edge.specs.Heard.{Hears, HearsBoth, known_beside};
 ghost use Rattle.ct_edge.specs.Process.{has_run, how_of_end};
-ghost use Rattle.ct_edge.specs.Transfer.{Moves};
+ghost use Rattle.ct_edge.specs.Transfer.{MovesTo};
 
 use crate::fault::StartFault;
+use crate::keep::Keep;
 use crate::limit::Limit;
 use crate::pipe::read_both;
-use ct_base::{Blob, Ear};
+use ct_base::Ear;
 use ct_verdict::How;
-use std::alloc::Global;
 use std::io::Read;
 use std::os::fd::AsRawFd;
 use std::process::{Child, ChildStderr, ChildStdout, ExitStatus};
@@ -87,41 +87,45 @@ impl Running<Child, ChildStdout, ChildStderr> {
 /// It returns when the program has ended and no process holds its outputs any more. Else
 /// it returns at the limit: it stops the program, and reads its outputs no further. A program
 /// that the system refuses to stop has timed out all the same, and runs on.
-pub fn attend<C: Clock, S: Started, O: Read + AsRawFd, P: Read + AsRawFd, E: Ear>(
+#[tactic(auto, using(crate::proofs::KeepLemmas::hears_both))]
+pub fn attend<C: Clock, S: Started, O: Read + AsRawFd, P: Read + AsRawFd, E: Ear, K: Keep>(
     clock: &C,
-    alloc: Global,
     limit: &Limit,
     program: &mut Running<S, O, P>,
     ear: &mut E,
+    kept: &mut K,
 ) -> Result<How, StartFault>
+    requires empty { IfSome (K.holds kept.old) (λ bytes. bytes ≡ []) }
     ensures heard { OnOk result (HearsBoth (O.remaining program.old.output) (O.remaining program.new.output)
-        (P.remaining program.old.errors) (P.remaining program.new.errors) (E.stands_for ear.old) (E.stands_for ear.new)) }
+        (known_beside (K.holds kept.old) (P.remaining program.old.errors)) (known_beside (K.holds kept.old) (P.remaining program.new.errors))
+        (E.stands_for ear.old) (E.stands_for ear.new)) }
+    ensures kept { E.kept ear.new ≡ E.kept ear.old }
     ensures output { IfOk result (λ how. how ≢ Ends.TimedOut → IsAtEnd (O.remaining program.new.output)) }
     ensures errors { IfOk result (λ how. how ≢ Ends.TimedOut → IsAtEnd (P.remaining program.new.errors)) }
     ensures ran { IfOk result (λ how. has_run how ≡ true) }
     ensures started { IfOk result (λ how. is_not_started how ≡ false) }
     ensures unlimited { IfOk result (λ how. how ≡ Ends.TimedOut → IsSome limit.now.micros) }
 {
-    let mut kept = Blob::new(alloc);
-    let ended = watch(clock, limit, program, ear, &mut kept);
+    let ended = watch(clock, limit, program, ear, kept);
     if !matches!(ended, Ok(Some(_))) {
         let _stopped = stop(&mut program.child);
     }
     let how = how_of(ended?);
-    ear.hear(kept.bytes());
+    kept.hand_on(ear)?;
     Ok(how)
 }
 
 /// Reads both outputs of a program to their ends and waits for its own end. `None` is the limit.
-fn watch<C: Clock, S: Started, O: Read + AsRawFd, P: Read + AsRawFd, E: Ear>(
+fn watch<C: Clock, S: Started, O: Read + AsRawFd, P: Read + AsRawFd, E: Ear, K: Keep>(
     clock: &C,
     limit: &Limit,
     program: &mut Running<S, O, P>,
     ear: &mut E,
-    kept: &mut Blob,
+    kept: &mut K,
 ) -> Result<Option<ExitStatus>, StartFault>
     ensures heard { OnOk result (Hears (O.remaining program.old.output) (O.remaining program.new.output) (E.stands_for ear.old) (E.stands_for ear.new)) }
-    ensures moved { OnOk result (Moves (P.remaining program.old.errors) kept.old (P.remaining program.new.errors) kept.new) }
+    ensures kept { E.kept ear.new ≡ E.kept ear.old }
+    ensures moved { OnOk result (MovesTo (P.remaining program.old.errors) (K.holds kept.old) (P.remaining program.new.errors) (K.holds kept.new)) }
     ensures output { IfOk result (λ ended. IfSome ended (λ _. IsAtEnd (O.remaining program.new.output))) }
     ensures errors { IfOk result (λ ended. IfSome ended (λ _. IsAtEnd (P.remaining program.new.errors))) }
     ensures unlimited { IfOk result (λ ended. ended ≡ None → IsSome limit.now.micros) }

@@ -2,7 +2,7 @@
 
 use crate::doubles::{Drip, Dummy, NoClock};
 use crate::rows::{asked_and_wanted, cell, expect, limit};
-use ct_base::{Collect, NoMemory};
+use ct_base::{Blob, Collect, NoMemory};
 use ct_edge::{Limit, Running, StartFault, attend};
 use ct_verdict::How;
 use std::alloc::Global;
@@ -59,7 +59,13 @@ fn ended<C: Clock>(
     };
     told_of(
         alloc,
-        attend(clock, alloc, limit, &mut program, &mut Collect::new(alloc)),
+        attend(
+            clock,
+            limit,
+            &mut program,
+            &mut Collect::new(alloc),
+            &mut Blob::new(alloc),
+        ),
     )
 }
 

@@ -4,7 +4,7 @@
 use crate::doubles::{Drip, Sip};
 use crate::rows::{asked_and_wanted, cell, expect, limit, names, number, text};
 use ct_base::{Blob, Collect, FilesFault, List, MemFiles, Name, NoMemory, Pair, Sink};
-use ct_edge::{Limit, RealSink, StartFault, first_missing, read_both, read_up_to};
+use ct_edge::{Keep, Limit, RealSink, Spool, StartFault, first_missing, read_both, read_up_to};
 use std::alloc::Global;
 use std::fs;
 use std::os::fd::{AsRawFd, RawFd};
@@ -40,6 +40,15 @@ const OUTPUTS: &str = "\
 9 dries 20000 is cut [hello] [no]
 3 ends none is a fault [hel] [no]
 1 ends none is a fault [h] [n]
+";
+
+/// How many bytes stay in memory, and the pieces that are kept; the others go to a file.
+const KEPT: &str = "\
+9 one,two
+4 one,two,three
+3 one,two,three
+0 one,two
+0 one
 ";
 
 /// The look that fails, and the required files, where only a and b are
@@ -158,6 +167,23 @@ fn told_read(
         Err(_) => "a fault",
     };
     Ok(format!(in alloc; "{end} [{}] [{}]", text(heard), text(kept))?)
+}
+
+#[test]
+fn hands_on_what_it_kept_in_order(rt: HostRuntime) -> Result<(), Fail> {
+    for row in KEPT.lines() {
+        let (most, pieces) = cell(row);
+        let mut spool = Spool::new(rt, rt.alloc(), number(most) as usize);
+        let mut wanted = String::new(rt.alloc());
+        for piece in pieces.split(',') {
+            spool.keep(piece.as_bytes())?;
+            wanted = format!(in rt.alloc(); "{wanted}{piece}")?;
+        }
+        let mut ear = Collect::new(rt.alloc());
+        spool.hand_on(&mut ear)?;
+        expect(row, text(ear.heard()), wanted.as_str())?;
+    }
+    Ok(())
 }
 
 #[test]

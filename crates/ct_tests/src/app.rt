@@ -1,12 +1,8 @@
 //! Whole runs over files, a gate and a sink in memory: what they ask for, what they write and how they end.
 
-ghost use Rattle.std.specs.Prelude.{None};
-
-use crate::calls::{Ran, asked, calls_of, ending, ending_with, report_on, requests, run_as_told};
-use ct_base::{Ear, NoMemory};
-use ct_core::{Ended, Gate, Request, Ticket};
-use ct_verdict::How;
-use std::alloc::{AllocError, Global};
+use crate::calls::{Ran, asked, ending, ending_with, requests, run_as_told};
+use ct_base::NoMemory;
+use std::alloc::Global;
 use std::str;
 use std::test::Fail;
 
@@ -391,20 +387,6 @@ add_test(c true)
 1/1 2/1 3/1 unstarted 1
 ";
 
-/// A run with one test, which writes a word.
-const WRITES: &str = "
-=== a word in two pieces
----
-add_test(t p)
-set_tests_properties(t PROPERTIES PASS_REGULAR_EXPRESSION \"^done$\")
->>>
-status 0
-Test project .
-1/1 Test #1: t ... Passed 0.00 sec
-
-100% tests passed, 0 tests failed out of 1
-";
-
 #[test]
 fn reports_what_the_tests_came_to(rt: HostRuntime) -> Result<(), Fail> {
     run_as_told(&rt, RUNS, ending)
@@ -444,38 +426,4 @@ fn asks_for_what_a_test_is_defined_with(rt: HostRuntime) -> Result<(), Fail> {
 #[test]
 fn counts_a_start_that_fails_and_goes_on(rt: HostRuntime) -> Result<(), Fail> {
     run_as_told(&rt, ASKED, asked)
-}
-
-/// A gate whose programs write `done` in two pieces. Its `tells` is empty.
-#[derive(Drop)]
-struct Halves;
-
-impl Gate for Halves {
-    ghost tells = { λ _. record { world = None; asked = None; sent = None; faults = 0 } };
-
-    fn run<E: Ear>(
-        &mut self,
-        _alloc: Global,
-        _ticket: &Ticket,
-        _request: &Request,
-        ear: &mut E,
-    ) -> Ended {
-        ear.hear(b"do");
-        ear.hear(b"ne");
-        Ended {
-            how: How::Exited(0),
-            micros: 0,
-        }
-    }
-}
-
-#[test]
-fn finds_a_pattern_that_is_cut_in_two(rt: HostRuntime) -> Result<(), Fail> {
-    for call in &calls_of(rt.alloc(), WRITES)? {
-        let mut gates = Vec::new(rt.alloc());
-        gates.push(Halves).map_err(AllocError::from)?;
-        let report = report_on(&rt, call, gates)?;
-        assert_eq!(rt; report.trim_end(), call.want, "{call}");
-    }
-    Ok(())
 }

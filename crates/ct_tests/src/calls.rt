@@ -253,7 +253,7 @@ pub(crate) fn sink_failing_at(alloc: Global, number: &str) -> Result<MemSink, No
 }
 
 /// Runs on these gates, with one variable in the environment.
-fn run_on<G: Gate + Send + Drop>(
+pub(crate) fn run_on<G: Gate + Send + Drop>(
     rt: &impl Machine,
     call: &Call<'_>,
     gates: Vec<G>,

@@ -16,6 +16,8 @@ mod lists;
 #[cfg(test)]
 mod load;
 #[cfg(test)]
+mod programs;
+#[cfg(test)]
 mod resources;
 #[cfg(test)]
 mod run_files;

@@ -1,6 +1,6 @@
 -- What the gate of a worker was asked, with one more attempt, and with entries that are not the worker's.
 use Rattle.std.proofs.Common.{◌≡◌, ◌∙◌, sym, ap, subst, Bool, true, false, ℕ, ◌+◌, ◌≤◌, List, [], ◌∷◌, ◌++◌, refl, arith, inl, inr, append_assoc}
-use Rattle.std.specs.Prelude.{◌⊎◌, Option, Some, None, IfSome, map, count_by, ◌==◌, ◌&&◌, ◌||◌, cond}
+use Rattle.std.specs.Prelude.{◌⊎◌, Option, Some, None, IfSome, map, count_by, not, ◌==◌, ◌&&◌, ◌||◌, cond}
 use Rattle.std.specs.List.{list_any, cons_option}
 use Rattle.std.proofs.lemmas.List.{append-nil, map-append}
 use Rattle.std.proofs.lemmas.List.Elements.{filter_map-append}
@@ -17,11 +17,11 @@ use Rattle.ct_history.proofs.BoolLemmas.{eq_same, or_left, or_right}
 use Rattle.ct_core.specs.declared.gate.Asked.{Asked}
 use Rattle.ct_core.specs.declared.gate.Request.{Request}
 use Rattle.ct_core.specs.declared.gate.Told.{Told}
-use Rattle.ct_core.specs.Gate.{GateTell, is_no_memory, is_not_started}
+use Rattle.ct_core.specs.Gate.{GateTell, asked_for, is_no_memory, is_not_started}
 use Rattle.ct_turn.specs.Seen.{is_by}
 use Rattle.ct_report.proofs.PutLemmas.{adds_none, adds_then_adds}
 use Rattle.ct_worker.specs.Attempt.{AsksNone, AsksOnce, RunsAttempt}
-use Rattle.ct_worker.specs.Gates.{AreRequests, SawAllTold, CountsUnstarted, IsAsked, MayMiss, SawTold, SeesTold, Sends, Terms, asked_run, ended_lacking, is_unstarted, is_unsure, lacks_for, started_by, starts_of, unstarted_count, unsure_count}
+use Rattle.ct_worker.specs.Gates.{AreRequests, SawAllTold, CountsUnstarted, IsAsked, MayMiss, SawTold, SeesTold, Sends, Terms, asked_run, ended_by, ended_lacking, ended_with_memory, is_unstarted, lacks_for, started_by, starts_of, unstarted_count}
 
 -- runs that may be missing may still be missing if more runs may be
 may_miss-more : (may also : Running → Bool) → ((run : Running) → may run ≡ true → also run ≡ true) → (runs kept : List Running) → MayMiss may runs kept → MayMiss also runs kept
@@ -78,8 +78,8 @@ told_then props None old w es more same one other = tt
 told_then props (Some world) old w es more same one other =
     are_told-append props world w es more one (subst (λ (o : Option (List Told)). IfSome o (λ x. SawAllTold props x w more)) same other)
 
-counts_then : (unstarted unsure others unknown start old new : ℕ) → CountsUnstarted unstarted unsure start old → CountsUnstarted others unknown old new → CountsUnstarted (unstarted + others) (unsure + unknown) start new
-counts_then unstarted unsure others unknown start old new first second =
+counts_then : (unstarted others start old new : ℕ) → CountsUnstarted unstarted start old → CountsUnstarted others old new → CountsUnstarted (unstarted + others) start new
+counts_then unstarted others start old new first second =
     let was_later : start ≤ old = first.later in
     let later : old ≤ new = second.later in
     let was = first.rose in
@@ -98,10 +98,13 @@ asked_then terms w start old new es more first second = record {
   asked = subst (λ (xs : List Asked). Becomes start.asked new.asked (Adds xs)) (sym (map-append asked_run first.runs second.runs)) (adds_then_adds start.asked old.asked new.asked (map asked_run first.runs) (map asked_run second.runs) first.asked second.asked);
   sent = sends_then terms start.sent old.sent new.sent first.runs second.runs first.sent second.sent;
   world = second.world ∙ first.world;
+  ended = map-append asked_run first.runs second.runs
+      ∙ ap (λ (xs : List Asked). xs ++ map asked_run second.runs) first.ended
+      ∙ ap (λ (xs : List Asked). ended_with_memory w es ++ xs) second.ended
+      ∙ sym (filter_map-append (ended_by w) es more);
   unstarted =
-      subst (λ (n : ℕ). CountsUnstarted n (unsure_count w (es ++ more)) start.faults new.faults) (sym (sum_by-append (λ (e : Entry). cond (is_unstarted w e) 1 0) es more))
-      (subst (λ (n : ℕ). CountsUnstarted (unstarted_count w es + unstarted_count w more) n start.faults new.faults) (sym (sum_by-append (λ (e : Entry). cond (is_unsure w e) 1 0) es more))
-      (counts_then (unstarted_count w es) (unsure_count w es) (unstarted_count w more) (unsure_count w more) start.faults old.faults new.faults first.unstarted second.unstarted));
+      subst (λ (n : ℕ). CountsUnstarted n start.faults new.faults) (sym (sum_by-append (λ (e : Entry). cond (is_unstarted w e) 1 0) es more))
+      (counts_then (unstarted_count w es) (unstarted_count w more) start.faults old.faults new.faults first.unstarted second.unstarted);
 }
 
 none_more : (m n : ℕ) → m ≡ n → 0 + m ≡ n
@@ -125,11 +128,15 @@ module _ (w : ℕ) where
   not_unstarted (Settle t c) is = refl
   not_unstarted Stop is = refl
 
-  not_unsure : (e : Entry) → is_by w e ≡ false → is_unsure w e ≡ false
-  not_unsure (Start t a v p) is = refl
-  not_unsure (End t a v s) is = ap (λ (b : Bool). b && (is_not_started s.how || is_no_memory s.how)) is
-  not_unsure (Settle t c) is = refl
-  not_unsure Stop is = refl
+  not_ended : (e : Entry) → is_by w e ≡ false → ended_by w e ≡ None
+  not_ended (Start t a v p) is = refl
+  not_ended (End t a v s) is = ap (λ (b : Bool). cond (b && not (is_no_memory s.how)) (Some (asked_for t a)) None) is
+  not_ended (Settle t c) is = refl
+  not_ended Stop is = refl
+
+  none_ended : (es : List Entry) → list_any (is_by w) es ≡ false → ended_with_memory w es ≡ []
+  none_ended [] is = refl
+  none_ended (e ∷ es) is = ap (λ (o : Option Asked). cons_option o (ended_with_memory w es)) (not_ended e (or_left (is_by w e) (list_any (is_by w) es) is)) ∙ none_ended es (or_right (is_by w e) (list_any (is_by w) es) is)
 
   none_counted : (counts : Entry → Bool) → ((e : Entry) → is_by w e ≡ false → counts e ≡ false) → (es : List Entry) → list_any (is_by w) es ≡ false → count_by counts es ≡ 0
   none_counted counts never [] is = refl
@@ -157,6 +164,7 @@ module _ (w : ℕ) where
     told = by_world tell.world;
     runs = [];
     kept = subst (λ (rs : List Running). MayMiss (ended_lacking es) rs []) (sym (no_starts es is)) refl;
+    ended = sym (none_ended es is);
     asked = adds_none tell.asked;
     sent = sends_these terms tell.sent tell.sent [] [] tt (adds_none tell.sent);
     world = refl;
@@ -167,11 +175,10 @@ module _ (w : ℕ) where
       by_world None = tt
       by_world (Some world) = told_none terms.props world es is
 
--- how one attempt raises the count, by whether it was not started and whether memory was wanting
-counts_one : (failed lacks : Bool) (old new : ℕ) → old ≤ new → (failed ≡ true → Rose old new) → (failed ≡ false → lacks ≡ false → new ≡ old) → CountsUnstarted (cond failed 1 0) (cond (failed || lacks) 1 0) old new
-counts_one true lacks old new later rose stays = record { later = later; rose = rose refl; stays = λ one. absurd (omega (arith, one)) }
-counts_one false true old new later rose stays = record { later = later; rose = omega (arith, later); stays = λ one. absurd (omega (arith, one)) }
-counts_one false false old new later rose stays = record { later = later; rose = omega (arith, later); stays = λ none. stays refl refl }
+-- how one attempt raises the count, by whether it was not started
+counts_one : (failed : Bool) (old new : ℕ) → old ≤ new → (failed ≡ true → Rose old new) → (failed ≡ false → new ≡ old) → CountsUnstarted (cond failed 1 0) old new
+counts_one true old new later rose stays = record { later = later; rose = rose refl; stays = λ one. absurd (omega (arith, one)) }
+counts_one false old new later rose stays = record { later = later; rose = omega (arith, later); stays = λ none. stays refl }
 
 -- an attempt that started and ended, with entries in between that are not the worker's
 module _ (t a w : ℕ) (p : Option Placement) (seen : Seen) (mid : List Entry) (others : list_any (is_by w) mid ≡ false) where
@@ -208,8 +215,16 @@ module _ (t a w : ℕ) (p : Option Placement) (seen : Seen) (mid : List Entry) (
   unstarted-one : unstarted_count w entries ≡ cond (is_not_started seen.how) 1 0
   unstarted-one = counted (is_unstarted w) (is_not_started seen.how) (not_unstarted w) refl (ap (λ (b : Bool). b && is_not_started seen.how) (eq_same w))
 
-  unsure-one : unsure_count w entries ≡ cond (is_not_started seen.how || is_no_memory seen.how) 1 0
-  unsure-one = counted (is_unsure w) (is_not_started seen.how || is_no_memory seen.how) (not_unsure w) refl (ap (λ (b : Bool). b && (is_not_started seen.how || is_no_memory seen.how)) (eq_same w))
+  ended-one : ended_with_memory w entries ≡ cond (not (is_no_memory seen.how)) (asked_run run ∷ []) []
+  ended-one =
+      filter_map-append (ended_by w) mid (End t a w seen ∷ [])
+      ∙ ap (λ (xs : List Asked). xs ++ ended_with_memory w (End t a w seen ∷ [])) (none_ended w mid others)
+      ∙ ap (λ (b : Bool). cons_option (cond (b && not (is_no_memory seen.how)) (Some (asked_for t a)) None) []) (eq_same w)
+      ∙ by_memory (not (is_no_memory seen.how))
+    where
+      by_memory : (b : Bool) → cons_option (cond b (Some (asked_for t a)) None) [] ≡ cond b (asked_run run ∷ []) []
+      by_memory true = refl
+      by_memory false = refl
 
   asked_one : (terms : Terms) (old new : GateTell) → RunsAttempt terms run seen old new → IsAsked terms w old new entries
   asked_one terms old new ran = by_calls ran.calls
@@ -218,26 +233,30 @@ module _ (t a w : ℕ) (p : Option Placement) (seen : Seen) (mid : List Entry) (
       by_world None says = tt
       by_world (Some world) says = (tt, are_told-append terms.props world w mid (End t a w seen ∷ []) (told_none w terms.props world mid others) (λ here memory. says memory, tt))
 
-      counts : CountsUnstarted (unstarted_count w entries) (unsure_count w entries) old.faults new.faults
+      counts : CountsUnstarted (unstarted_count w entries) old.faults new.faults
       counts =
-          subst (λ (n : ℕ). CountsUnstarted n (unsure_count w entries) old.faults new.faults) (sym unstarted-one)
-          (subst (λ (n : ℕ). CountsUnstarted (cond (is_not_started seen.how) 1 0) n old.faults new.faults) (sym unsure-one)
-          (counts_one (is_not_started seen.how) (is_no_memory seen.how) old.faults new.faults ran.cause.later ran.cause.failed ran.cause.unfailed))
+          subst (λ (n : ℕ). CountsUnstarted n old.faults new.faults) (sym unstarted-one)
+          (counts_one (is_not_started seen.how) old.faults new.faults ran.cause.later ran.cause.failed ran.cause.unfailed)
 
-      with_runs : (runs : List Running) (requests : List Request) → MayMiss (ended_lacking entries) (run ∷ []) runs → AreRequests terms runs requests → Becomes old.asked new.asked (Adds (map asked_run runs)) → Becomes old.sent new.sent (Adds requests) → IsAsked terms w old new entries
-      with_runs runs requests missed are asked sent = record {
+      with_runs : (runs : List Running) (requests : List Request) → MayMiss (ended_lacking entries) (run ∷ []) runs → map asked_run runs ≡ ended_with_memory w entries → AreRequests terms runs requests → Becomes old.asked new.asked (Adds (map asked_run runs)) → Becomes old.sent new.sent (Adds requests) → IsAsked terms w old new entries
+      with_runs runs requests missed ended are asked sent = record {
         told = by_world old.world ran.told;
         runs = runs;
         kept = subst (λ (rs : List Running). MayMiss (ended_lacking entries) rs runs) (sym starts-one) missed;
+        ended = ended;
         asked = asked;
         sent = sends_these terms old.sent new.sent runs requests are sent;
         world = ran.world;
         unstarted = counts;
       }
 
-      by_calls : (AsksOnce terms run old new ⊎ AsksNone seen.how old new) → IsAsked terms w old new entries
-      by_calls (inl once) = with_runs (run ∷ []) (once.request ∷ []) (inl (refl, refl)) (once.is, tt) once.asked once.sent
-      by_calls (inr none) = with_runs [] [] (lacking_now none.lacks, refl) tt none.asked none.sent
+      by_calls : (AsksOnce terms run seen.how old new ⊎ AsksNone seen.how old new) → IsAsked terms w old new entries
+      by_calls (inl once) =
+          let ended : asked_run run ∷ [] ≡ ended_with_memory w entries = sym (ended-one ∙ ap (λ (b : Bool). cond (not b) (asked_run run ∷ []) []) once.had) in
+          with_runs (run ∷ []) (once.request ∷ []) (inl (refl, refl)) ended (once.is, tt) once.asked once.sent
+      by_calls (inr none) =
+          let ended : [] ≡ ended_with_memory w entries = sym (ended-one ∙ ap (λ (b : Bool). cond (not b) (asked_run run ∷ []) []) none.lacks) in
+          with_runs [] [] (lacking_now none.lacks, refl) ended tt none.asked none.sent
 
 -- for no entries a gate is not asked
 pub asked_none : (terms : Terms) (w : ℕ) (tell : GateTell) → IsAsked terms w tell tell []

@@ -1,4 +1,5 @@
 -- What the functions' proofs rest on.
+pub mod ListenerLemmas
 pub mod AskLemmas
 pub mod GateLemmas
 pub mod StopLemmas

@@ -174,34 +174,36 @@ is_unstarted worker Stop = false
 abbrev pub unstarted_count : ℕ → List Entry → ℕ
 unstarted_count worker entries = count_by (is_unstarted worker) entries
 
--- the entry ends an attempt of the worker that could not be started, or for which memory was wanting
-abbrev pub is_unsure : ℕ → Entry → Bool
-is_unsure worker (Start t a w placement) = false
-is_unsure worker (End t a w seen) = w == worker && (is_not_started seen.how || is_no_memory seen.how)
-is_unsure worker (Settle t cause) = false
-is_unsure worker Stop = false
-
--- how many attempts of the worker could not be started, or lacked memory
-abbrev pub unsure_count : ℕ → List Entry → ℕ
-unsure_count worker entries = count_by (is_unsure worker) entries
-
--- a gate's count rose by at least the attempts that could not be started, up to its
--- last value. It stays if `unsure` is 0, which also counts attempts that lacked memory.
-pub record CountsUnstarted (unstarted unsure before now : ℕ) : Type 0 where
+-- a gate's count rose by at least the attempts that could not be
+-- started, up to its last value. If there was none, it stays.
+pub record CountsUnstarted (unstarted before now : ℕ) : Type 0 where
   pub later : before ≤ now
   pub rose : min (before + unstarted) (2 ^ 64 - 1) ≤ now
-  pub stays : unsure ≡ 0 → now ≡ before
+  pub stays : unstarted ≡ 0 → now ≡ before
 
--- a gate was asked for the attempts of its worker, but for some that
--- lacked memory, and the worker saw what the gate's world tells
+-- the attempt that an entry ends for a worker, if memory was there for it
+abbrev pub ended_by : ℕ → Entry → Option Asked
+ended_by worker (Start t a w placement) = None
+ended_by worker (End t a w seen) = if w == worker && not (is_no_memory seen.how) then Some (asked_for t a) else None
+ended_by worker (Settle t cause) = None
+ended_by worker Stop = None
+
+-- the attempts that a worker ended and for which memory was there, in the order of their Ends
+abbrev pub ended_with_memory : ℕ → List Entry → List Asked
+ended_with_memory worker entries = filter_map (ended_by worker) entries
+
+-- a gate was asked for the attempts of its worker, but for some that lacked memory,
+-- and the worker saw what the gate's world tells. Each attempt that the gate recorded
+-- ended with memory: once a gate has run a program, memory is not wanting for its End.
 pub record IsAsked (terms : Terms) (worker : ℕ) (before now : GateTell) (entries : List Entry) : Type 0 where
   pub told : IfSome before.world (λ world. SawAllTold terms.props world worker entries)
   pub runs : List Running
   pub kept : MayMiss (ended_lacking entries) (starts_of worker entries) runs
+  pub ended : map asked_run runs ≡ ended_with_memory worker entries
   pub asked : Becomes before.asked now.asked (Adds (map asked_run runs))
   pub sent : Becomes before.sent now.sent (Sends terms runs)
   pub world : now.world ≡ before.world
-  pub unstarted : CountsUnstarted (unstarted_count worker entries) (unsure_count worker entries) before.faults now.faults
+  pub unstarted : CountsUnstarted (unstarted_count worker entries) before.faults now.faults
 
 -- each of these gates was asked for the attempts of its worker: the
 -- first gate for this worker, each later gate for the next worker

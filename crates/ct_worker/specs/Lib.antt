@@ -1,5 +1,6 @@
 -- The definitions that contracts cite, in reading order.
 pub mod Gates
+pub mod Listener
 pub mod Attempt
 pub mod State
 pub mod Halted

@@ -3,21 +3,23 @@ ghost use Rattle.std.specs.Option.{option_copied};
 ghost use Rattle.ct_env.specs.Environment.{IsEnvironment};
 ghost use Rattle.ct_core.specs.Gate.{is_no_memory};
 ghost use Rattle.ct_core.specs.Ticket.{test_of};
-ghost use Rattle.ct_worker.specs.Attempt.{RunsAttempt, SeesEnd, run_of};
-ghost use Rattle.ct_worker.specs.Gates.{IsRequestOf, limit_of, placement_told, seen_of, some_hits, terms_of};
+ghost use Rattle.ct_worker.specs.Attempt.{RunsAttempt, run_of};
+ghost use Rattle.ct_worker.specs.Gates.{IsRequestOf, limit_of, placement_told, terms_of};
 
 use crate::Jobs;
+use crate::listener::Listener;
 use ct_alloc::Placement;
-use ct_base::{Collect, List, NoMemory, Pair, TestDef};
-use ct_core::{Ended, Gate, Request, Ticket, copy_names};
+use ct_base::{List, NoMemory, Pair, TestDef};
+use ct_core::{Gate, Request, Ticket, copy_names};
 use ct_env::environment;
 use ct_props::Props;
-use ct_regex::Regex;
 use ct_verdict::{How, Seen};
 use std::alloc::Global;
 
-/// Asks the gate to run the attempt of a ticket, and returns what is seen of it. If memory
-/// is wanting for the request, the gate is not asked. `lends` is whether resources are lent.
+/// Asks the gate to run the attempt of a ticket, and returns what is seen of it.
+///
+/// All memory that the attempt wants is taken first. If it is wanting, the
+/// gate is not asked. `lends` is whether resources are lent.
 pub(crate) fn ask<G: Gate>(
     alloc: Global,
     ticket: &Ticket,
@@ -32,14 +34,14 @@ pub(crate) fn ask<G: Gate>(
 {
     let def = jobs.def(ticket.test());
     let props = jobs.props(ticket.test());
-    match request(alloc, ticket, jobs, lends, def, props) {
-        Ok(request) => {
-            let mut ear = Collect::new(alloc);
-            let ended = gate.run(alloc, ticket, &request, &mut ear);
-            judged(alloc, props, &ear, ended)
-        }
-        Err(NoMemory) => unheard(0),
-    }
+    let Ok(request) = request(alloc, ticket, jobs, lends, def, props) else {
+        return unasked();
+    };
+    let Ok(mut ear) = Listener::new(alloc, props) else {
+        return unasked();
+    };
+    let ended = gate.run(alloc, ticket, &request, &mut ear);
+    ear.seen(ended)
 }
 
 /// Makes the request for the attempt of a ticket.
@@ -100,47 +102,8 @@ fn limit(timeout: Option<u64>, run_limit: u64) -> Option<u64>
     if micros == 0 { None } else { Some(micros) }
 }
 
-/// Returns what is seen of an attempt by an ear. If the ear is short, or memory
-/// is wanting to look for the patterns, then memory was wanting for the attempt.
-fn judged(alloc: Global, props: &Props, ear: &Collect, ended: Ended) -> Seen
-    ensures { SeesEnd props.now ear.now ended result }
-{
-    if ear.short() {
-        return unheard(ended.micros);
-    }
-    match seen(alloc, props, ear.heard().bytes(), ended) {
-        Ok(seen) => seen,
-        Err(NoMemory) => unheard(ended.micros),
-    }
-}
-
-/// Returns what is seen of an attempt of which this was heard.
-fn seen(alloc: Global, props: &Props, heard: &[u8], ended: Ended) -> Result<Seen, NoMemory>
-    ensures { IfOk result (λ seen. seen ≡ seen_of props.now heard.now ended) }
-{
-    Ok(Seen {
-        how: ended.how,
-        fail_hit: some_hits(alloc, props.fail.as_slice(), heard)?,
-        pass_hit: some_hits(alloc, props.pass.as_slice(), heard)?,
-        skip_hit: some_hits(alloc, props.skip.as_slice(), heard)?,
-        micros: ended.micros,
-    })
-}
-
-/// Tells whether some pattern hits the text.
-fn some_hits(alloc: Global, patterns: &[Regex], text: &[u8]) -> Result<bool, NoMemory>
-    ensures { IfOk result (λ found. found ≡ some_hits patterns.now text.now) }
-{
-    for pattern in patterns {
-        if pattern.hit(alloc, text)? {
-            return Ok(true);
-        }
-    }
-    Ok(false)
-}
-
-/// Returns what is seen of an attempt for which memory was wanting.
-fn unheard(micros: u64) -> Seen
+/// Returns what is seen of an attempt for which memory was wanting, so that its gate was not asked.
+fn unasked() -> Seen
     ensures { is_no_memory result.how ≡ true }
 {
     Seen {
@@ -148,6 +111,6 @@ fn unheard(micros: u64) -> Seen
         fail_hit: false,
         pass_hit: false,
         skip_hit: false,
-        micros,
+        micros: 0,
     }
 }

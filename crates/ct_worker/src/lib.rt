@@ -13,6 +13,7 @@ mod attempt;
 mod crew;
 mod jobs;
 mod lines;
+mod listener;
 mod state;
 mod worker;
 

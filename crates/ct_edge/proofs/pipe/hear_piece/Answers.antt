@@ -8,5 +8,5 @@ returns-clause-moved g c =
     record {
       heard = heard;
       moved = consumed (g.R.Read.remaining c.args.output.now) (g.R.Read.remaining c.read.new.self) heard c.in_ok-got.ensures.bytes.0;
-      said = c.hear.ensures;
+      said = c.hear.ensures.text;
     }

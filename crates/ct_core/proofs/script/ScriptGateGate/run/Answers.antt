@@ -7,10 +7,13 @@ pub returns-in-Ok : goal.returns-in-Ok
 returns-in-Ok g c =
     let same = ap (λ (s : ScriptValue). s.faults) c.in-Ok.ensures.ok in
     record {
-      told = search rules;
-      heard = search rules;
-      asked = search rules;
-      sent = search rules;
-      world = search rules;
-      cause = subst (λ (n : ℕ). HasStartCause n c.count.new.self.faults c.told_end-ended.result.how) same c.count.ensures.cause;
+      runs = record {
+        told = search rules;
+        heard = search rules;
+        asked = search rules;
+        sent = search rules;
+        world = search rules;
+        cause = subst (λ (n : ℕ). HasStartCause n c.count.new.self.faults c.told_end-ended.result.how) same c.count.ensures.cause;
+      };
+      kept = c.hear.ensures.kept;
     }
