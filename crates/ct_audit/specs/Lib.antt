@@ -1,0 +1,5 @@
+-- The definitions that contracts cite, in reading order.
+pub mod Course
+pub mod Places
+pub mod Seen
+pub mod Tells

@@ -1,0 +1,15 @@
+//! Checks a history in one pass, entry by entry, by the rules of ct_history.
+//!
+//! Hands up: `Audit::new`, `Audit::allows`, `Audit::note`, `Audit::is_at_end`. Shares no code with the scheduler.
+//! Stands on: ct_base, ct_alloc, ct_verdict, ct_history and `indexmap`.
+//! Read first: `specs/Tells.antt`, `specs/Seen.antt`.
+#![tactic(auto)]
+
+mod audit;
+mod course;
+mod open_start;
+mod placed;
+mod places;
+mod rules;
+
+pub use audit::Audit;
