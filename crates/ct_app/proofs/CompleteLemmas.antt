@@ -102,15 +102,15 @@ module _ (s : Sides) (can : IsListable s) where
   usage_never word kind usage = let is = can.words in let but = usage.words in absurd (cc)
 
   -- each reading of the test files for the words is Ok, with the same definitions
-  tree_same : (invocation : Invocation) → AskFor s.words invocation → (result : Result (List TestDef) ReadFault) → IfSome s.files_before.held (λ held. tree_of held invocation.wanted.dir invocation.config ≡ result) → result ≡ Ok can.defs
+  tree_same : (invocation : Invocation) → AskFor s.words invocation → (result : Result (List TestDef) ReadFault) → IfSome s.files.before.held (λ held. tree_of held invocation.wanted.dir invocation.config ≡ result) → result ≡ Ok can.defs
   tree_same invocation words result read =
       let same = same_asked s.words can.invocation invocation can.words words in
       let dir = ap (λ (v : InvocationValue). v.dir) same in
       let config = ap (λ (v : InvocationValue). v.config) same in
-      let here = of_told s.files_before.held can.held (λ held. tree_of held invocation.wanted.dir invocation.config ≡ result) can.told read in
+      let here = of_told s.files.before.held can.held (λ held. tree_of held invocation.wanted.dir invocation.config ≡ result) can.told read in
       sym here ∙ ap (λ (dir : List ℕ). tree_of can.held dir invocation.config) (sym dir) ∙ ap (tree_of can.held can.invocation.wanted.dir) (sym config) ∙ can.read.tree
 
-  reading_never : (invocation : Invocation) → AskFor s.words invocation → (refusal : Refusal) → RefusesReading s.files_before.held invocation refusal → ⊥
+  reading_never : (invocation : Invocation) → AskFor s.words invocation → (refusal : Refusal) → RefusesReading s.files.before.held invocation refusal → ⊥
   reading_never invocation words (TestFile file line kind) refused = let same = tree_same invocation words (Err (At file line kind)) refused in absurd (cc)
   reading_never invocation words (Prop test key kind) (defs, read, first) =
       let same = same_ok (Ok defs) defs can.defs refl (tree_same invocation words (Ok defs) read) in
@@ -158,7 +158,7 @@ module _ (s : Sides) (can : IsRunnable s) where
   undeclared_never TooManyEdges was = was.refused
 
   -- each source that is read for the words has the same links as the source with which the run can be made
-  module _ (invocation : Invocation) (words : AskFor s.words invocation) (source : Source) (read : IsSource s.files_before.held invocation source) where
+  module _ (invocation : Invocation) (words : AskFor s.words invocation) (source : Source) (read : IsSource s.files.before.held invocation source) where
     defs_same : source.defs ≡ can.source.defs
     defs_same = same_ok (Ok source.defs) source.defs can.source.defs refl (tree_same s listable invocation words (Ok source.defs) read.tests.tree)
 
@@ -225,7 +225,7 @@ module _ (s : Sides) (can : IsRunnable s) where
   run_by (Refused refusal) status answer calm = absurd (refusal_never refusal answer.0.names answer.0.refused)
   run_by (FilesFault path) status answer calm = absurd (files_fault_never calm path status answer)
   run_by OutputFault status answer calm =
-      absurd (ran_never (λ i p es. IsCutOff p es s.sink_before s.sink_now × FilesStay s.files_before s.files_now) (λ i p es was. calm.sink (was.0.put.bytes.cause.failed refl)) answer.0)
+      absurd (ran_never (λ i p es. IsCutOff p es s.sink.before s.sink.after × FilesStay s.files.before s.files.after) (λ i p es was. calm.sink (was.0.put.bytes.cause.failed refl)) answer.0)
   run_by Memory status answer calm = inr refl
 
 -- a list that can be made is put

@@ -48,8 +48,8 @@ pub ends_unwritten : (plan : PlanParts) (entries : List Entry) (costs : CostData
 ends_unwritten plan entries costs before now done (Fault.Failed path) outcome is fails = subst (λ (o : Outcome). EndsWithFiles plan entries costs before now (Ok done) (Err o)) (sym is) fails
 ends_unwritten plan entries costs before now done Fault.NoMemory outcome is part = subst (λ (o : Outcome). EndsWithFiles plan entries costs before now (Ok done) (Err o)) (sym is) part
 
-module _ (s : Sides) (invocation : Invocation) (between : FilesTell) (costs : CostData) (plan : PlanParts) (entries : List Entry) (read : IfSome s.files_before.held (λ held. costs ≡ last_costs plan.dir held)) (stay : FilesStay s.files_before between) where
-  early : (outcome : Outcome) → PlanEnds plan entries s.sink_before s.sink_now (Err outcome) → FilesStay s.files_before s.files_now → RunLeaves s invocation plan entries (Err outcome)
+module _ (s : Sides) (invocation : Invocation) (between : FilesTell) (costs : CostData) (plan : PlanParts) (entries : List Entry) (read : IfSome s.files.before.held (λ held. costs ≡ last_costs plan.dir held)) (stay : FilesStay s.files.before between) where
+  early : (outcome : Outcome) → PlanEnds plan entries s.sink.before s.sink.after (Err outcome) → FilesStay s.files.before s.files.after → RunLeaves s invocation plan entries (Err outcome)
   early Completed ends stays = ends
   early Listed ends stays = ends
   early (Usage word kind) ends stays = ends
@@ -58,21 +58,21 @@ module _ (s : Sides) (invocation : Invocation) (between : FilesTell) (costs : Co
   early OutputFault ends stays = (ends, stays)
   early Memory ends stays = inl (ends, stays)
 
-  pub run_leaves : (ended given : Result (Unit {0}) Outcome) → PlanEnds plan entries s.sink_before s.sink_now ended → EndsWithFiles plan entries costs between s.files_now ended given → RunLeaves s invocation plan entries (with_status invocation.empty_is_error plan entries given)
+  pub run_leaves : (ended given : Result (Unit {0}) Outcome) → PlanEnds plan entries s.sink.before s.sink.after ended → EndsWithFiles plan entries costs between s.files.after ended given → RunLeaves s invocation plan entries (with_status invocation.empty_is_error plan entries given)
   run_leaves (Ok done) (Ok left_so) ends left =
-      (ends, serves_with_last plan.dir (Leaves plan entries) (leaves_behind plan entries) costs s.files_before between s.files_now read stay left, refl)
+      (ends, serves_with_last plan.dir (Leaves plan entries) (leaves_behind plan entries) costs s.files.before between s.files.after read stay left, refl)
   run_leaves (Ok done) (Err Completed) ends left = left
   run_leaves (Ok done) (Err Listed) ends left = left
   run_leaves (Ok done) (Err (Usage word kind)) ends left = left
   run_leaves (Ok done) (Err (Refused refusal)) ends left = left
   run_leaves (Ok done) (Err (FilesFault path)) ends left =
-      ((left.0, fails_with_last plan.dir (LeavesTorn plan entries path) (leaves_torn_behind plan entries path) costs path s.files_before between s.files_now read stay left.1), ends)
+      ((left.0, fails_with_last plan.dir (LeavesTorn plan entries path) (leaves_torn_behind plan entries path) costs path s.files.before between s.files.after read stay left.1), ends)
   run_leaves (Ok done) (Err OutputFault) ends left = absurd left
   run_leaves (Ok done) (Err Memory) ends left =
-      inr (ends, serves_with_last plan.dir (LeavesPart plan entries) (leaves_part_behind plan entries) costs s.files_before between s.files_now read stay left)
+      inr (ends, serves_with_last plan.dir (LeavesPart plan entries) (leaves_part_behind plan entries) costs s.files.before between s.files.after read stay left)
   run_leaves (Err outcome) given ends left =
       subst (λ (o : Result (Unit {0}) Outcome). RunLeaves s invocation plan entries (with_status invocation.empty_is_error plan entries o)) (sym left.0)
-      (early outcome ends (subst (λ (f : FilesTell). FilesStay s.files_before f) (sym left.1) stay))
+      (early outcome ends (subst (λ (f : FilesTell). FilesStay s.files.before f) (sym left.1) stay))
 
 -- the terms of a run's attempts, from the plan, are the terms from the source of the plan
 pub terms_are : (own : List Pair) (s : Source) (limit : ℕ) (plan : PlanParts) → IsPlanOf s plan → (let t : Terms = record { own = own; defs = s.defs; props = s.props; limit = limit; lends = is_some plan.resources } in t) ≡ terms_from own s limit

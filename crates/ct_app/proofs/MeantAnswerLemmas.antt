@@ -121,7 +121,7 @@ seen_entries props world workers (e ∷ es) below had saw =
     )
 
 -- a completed run has the verdicts, status and texts that are meant in the world that its gates tell
-comes_as_meant : (s : Sides) (status : ℕ) (invocation : Invocation) (source : Source) (plan : PlanParts) (entries : List Entry) → IsRun s invocation source plan entries → IsCompleted s status invocation plan entries → (world : List Told) → AllTell world s.gates_before → ComesAsMeant invocation.empty_is_error plan (seen_in source.props world) entries status
+comes_as_meant : (s : Sides) (status : ℕ) (invocation : Invocation) (source : Source) (plan : PlanParts) (entries : List Entry) → IsRun s invocation source plan entries → IsCompleted s status invocation plan entries → (world : List Told) → AllTell world s.gates.before → ComesAsMeant invocation.empty_is_error plan (seen_in source.props world) entries status
 comes_as_meant s status invocation source plan entries run completed world all =
     let verdicts = are_meant plan (ranked s invocation source plan entries run) (seen_in source.props world) entries run.ran.legal completed.reported.complete.final are_seen in
     record {
@@ -132,8 +132,8 @@ comes_as_meant s status invocation source plan entries run completed world all =
   where
     are_seen : AreSeen (seen_in source.props world) entries
     are_seen =
-        seen_entries source.props world (min plan.level (length s.gates_before)) entries run.ran.workers completed.reported.memory
-        (λ worker less. told_by (terms_from s.env source invocation.timeout) world entries 0 s.gates_before s.gates_now run.ran.asked all worker (omega arith) (omega (arith, less)))
+        seen_entries source.props world (min plan.level (length s.gates.before)) entries run.ran.workers completed.reported.memory
+        (λ worker less. told_by (terms_from s.env source invocation.timeout) world entries 0 s.gates.before s.gates.after run.ran.asked all worker (omega arith) (omega (arith, less)))
 
 some_and : {A : Type 0} (P Q : A → Type 0) (o : Option A) → ((x : A) → P x → Q x) → IsSomeAnd o P → IsSomeAnd o Q
 some_and P Q None each is = absurd is

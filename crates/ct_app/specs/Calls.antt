@@ -18,16 +18,19 @@ use Rattle.ct_app.specs.declared.outcome.Refusal.{Refusal}
 use Rattle.ct_app.specs.Reading.{AreRead, AskFor, RefusesReading, RefusesSpec}
 use Rattle.ct_app.specs.RunFiles.{FilesFail, FilesStay}
 
--- the values before and after a call; plan and history are those that the call returns
+-- a value before a call and after it
+pub record BeforeAfter (T : Type 0) : Type 0 where
+  pub before : T
+  pub after : T
+
+-- the values of a call: its words and its environment, what is told of the files, the gates and the sink, and
+-- the plan and the history that it returns
 pub record Sides : Type 0 where
   pub words : List (List ℕ)
   pub env : List Pair
-  pub files_before : FilesTell
-  pub files_now : FilesTell
-  pub gates_before : List GateTell
-  pub gates_now : List GateTell
-  pub sink_before : SinkTell
-  pub sink_now : SinkTell
+  pub files : BeforeAfter FilesTell
+  pub gates : BeforeAfter (List GateTell)
+  pub sink : BeforeAfter SinkTell
   pub plan : Option PlanParts
   pub history : Option (List Entry)
 
@@ -36,12 +39,9 @@ abbrev pub sides : List (List ℕ) → List Pair → FilesTell → FilesTell →
 sides words env files_before files_now gates_before gates_now sink_before sink_now plan history = record {
   words = words;
   env = env;
-  files_before = files_before;
-  files_now = files_now;
-  gates_before = gates_before;
-  gates_now = gates_now;
-  sink_before = sink_before;
-  sink_now = sink_now;
+  files = record { before = files_before; after = files_now };
+  gates = record { before = gates_before; after = gates_now };
+  sink = record { before = sink_before; after = sink_now };
   plan = plan;
   history = history;
 }
@@ -63,7 +63,7 @@ Tries line before now = (result : Result (Unit {0}) SinkFault) × PutsLines (lin
 pub record IsUnrun (s : Sides) : Type 0 where
   pub no_plan : s.plan ≡ None
   pub no_history : s.history ≡ None
-  pub unasked : s.gates_now ≡ s.gates_before
+  pub unasked : s.gates.after ≡ s.gates.before
 
 -- a report was put, and behind it the line of an outcome
 pub record ThenLine (report : SinkTell → Type 0) (Line : SinkTell → Type 0) : Type 0 where
@@ -74,15 +74,15 @@ pub record ThenLine (report : SinkTell → Type 0) (Line : SinkTell → Type 0) 
 -- this word is the first that is refused, for this reason; the files stay, and nothing was run
 pub record IsUsage (s : Sides) (word : ℕ) (kind : UsageKind) : Type 0 where
   pub words : invocation_in s.words ≡ Err (At word kind)
-  pub files : FilesStay s.files_before s.files_now
+  pub files : FilesStay s.files.before s.files.after
   pub unrun : IsUnrun s
 
 -- a test file or a property is refused; the files stay, and nothing was run
 pub record IsUnreadable (s : Sides) (refusal : Refusal) : Type 0 where
   pub invocation : Invocation
   pub words : AskFor s.words invocation
-  pub refused : RefusesReading s.files_before.held invocation refusal
-  pub files : FilesStay s.files_before s.files_now
+  pub refused : RefusesReading s.files.before.held invocation refusal
+  pub files : FilesStay s.files.before s.files.after
   pub unrun : IsUnrun s
 
 -- the tests that the words ask for were read, and the file that declares the resources is refused;
@@ -92,9 +92,9 @@ pub record IsUndeclared (s : Sides) (refusal : Refusal) : Type 0 where
   pub words : AskFor s.words invocation
   pub defs : List TestDef
   pub props : List Props
-  pub read : AreRead s.files_before.held invocation defs props
-  pub refused : RefusesSpec s.files_before.held invocation refusal
-  pub files : FilesStay s.files_before s.files_now
+  pub read : AreRead s.files.before.held invocation defs props
+  pub refused : RefusesSpec s.files.before.held invocation refusal
+  pub files : FilesStay s.files.before s.files.after
   pub unrun : IsUnrun s
 
 -- reading failed at this path, which is one of what is read for the call; each path holds what it held,
@@ -102,6 +102,6 @@ pub record IsUndeclared (s : Sides) (refusal : Refusal) : Type 0 where
 pub record IsReadFault (s : Sides) (Asks : Option Held → Invocation → List ℕ → Type 0) (path : List ℕ) : Type 0 where
   pub invocation : Invocation
   pub words : AskFor s.words invocation
-  pub asked : Asks s.files_before.held invocation path
-  pub files : FilesFail path SameHeld s.files_before s.files_now
+  pub asked : Asks s.files.before.held invocation path
+  pub files : FilesFail path SameHeld s.files.before s.files.after
   pub unrun : IsUnrun s

@@ -18,7 +18,7 @@ pub record IsListable (s : Sides) : Type 0 where
   pub invocation : Invocation
   pub words : AskFor s.words invocation
   pub held : Held
-  pub told : s.files_before.held ≡ Some held
+  pub told : s.files.before.held ≡ Some held
   pub defs : List TestDef
   pub props : List Props
   pub read : AreRead (Some held) invocation defs props
@@ -31,7 +31,7 @@ pub record IsRunnable (s : Sides) : Type 0 where
   pub invocation : Invocation
   pub words : AskFor s.words invocation
   pub held : Held
-  pub told : s.files_before.held ≡ Some held
+  pub told : s.files.before.held ≡ Some held
   pub source : Source
   pub read : IsSource (Some held) invocation source
   pub few : edge_count source ≤ most_edges
@@ -39,8 +39,8 @@ pub record IsRunnable (s : Sides) : Type 0 where
 
 -- the fault counts of the files and of the sink did not rise; a count at its greatest value counts as risen
 pub record IsUnfailed (s : Sides) : Type 0 where
-  pub files : Rose s.files_before.faults s.files_now.faults → ⊥
-  pub sink : Rose s.sink_before.faults s.sink_now.faults → ⊥
+  pub files : Rose s.files.before.faults s.files.after.faults → ⊥
+  pub sink : Rose s.sink.before.faults s.sink.after.faults → ⊥
 
 -- a run that can be made is completed where no fault was counted, unless memory ran out
 abbrev pub CompletesRun : Sides → Outcome → Type 0

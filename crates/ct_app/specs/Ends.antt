@@ -52,14 +52,14 @@ ended_as (Err fault) = Err (outcome_of_sink fault)
 -- - the run is complete, and a write of a file failed, or memory ran out for the files;
 -- - the run ended early with a fault of the sink or out of memory, and the files stay
 abbrev pub RunLeaves : Sides → Invocation → PlanParts → List Entry → Result ℕ Outcome → Type 0
-RunLeaves s invocation plan entries (Ok status) = IsReported plan entries s.sink_before s.sink_now × FilesAreLeft s plan entries × (status ≡ status_of invocation.empty_is_error plan entries)
+RunLeaves s invocation plan entries (Ok status) = IsReported plan entries s.sink.before s.sink.after × FilesAreLeft s plan entries × (status ≡ status_of invocation.empty_is_error plan entries)
 RunLeaves s invocation plan entries (Err Completed) = ⊥
 RunLeaves s invocation plan entries (Err Listed) = ⊥
 RunLeaves s invocation plan entries (Err (Usage word kind)) = ⊥
 RunLeaves s invocation plan entries (Err (Refused refusal)) = ⊥
-RunLeaves s invocation plan entries (Err (FilesFault path)) = IsWriteFault s path plan entries × IsReported plan entries s.sink_before s.sink_now
-RunLeaves s invocation plan entries (Err OutputFault) = IsCutOff plan entries s.sink_before s.sink_now × FilesStay s.files_before s.files_now
-RunLeaves s invocation plan entries (Err Memory) = IsCutShort s plan entries s.sink_now
+RunLeaves s invocation plan entries (Err (FilesFault path)) = IsWriteFault s path plan entries × IsReported plan entries s.sink.before s.sink.after
+RunLeaves s invocation plan entries (Err OutputFault) = IsCutOff plan entries s.sink.before s.sink.after × FilesStay s.files.before s.files.after
+RunLeaves s invocation plan entries (Err Memory) = IsCutShort s plan entries s.sink.after
 
 -- what became of the files of a run with this end. A complete run wrote them, unless a write failed or memory
 -- ran out. A run that ended early left them as they were, and keeps its outcome.
@@ -142,11 +142,11 @@ EndsUnrun s names (Err (Usage word kind)) = IsUsage s word kind
 EndsUnrun s names (Err (Refused refusal)) = IsRefusal s refusal names
 EndsUnrun s names (Err (FilesFault path)) = IsReadFault s RunAsks path
 EndsUnrun s names (Err OutputFault) = ⊥
-EndsUnrun s names (Err Memory) = IsUnrun s × FilesStay s.files_before s.files_now
+EndsUnrun s names (Err Memory) = IsUnrun s × FilesStay s.files.before s.files.after
 
 -- how a run ended before the line of its outcome is put: a plan was run, or none was made and nothing was put
 abbrev pub Ends : Sides → List (List ℕ) → Result ℕ Outcome → Type 0
-Ends s names ended = HasRunWith s (λ invocation plan entries. RunLeaves s invocation plan entries ended) ⊎ (EndsUnrun s names ended × (s.sink_now ≡ s.sink_before))
+Ends s names ended = HasRunWith s (λ invocation plan entries. RunLeaves s invocation plan entries ended) ⊎ (EndsUnrun s names ended × (s.sink.after ≡ s.sink.before))
 
 -- how a run for an invocation ended, for all words that ask for this invocation
 abbrev pub EndsFor : Invocation → (List (List ℕ) → Sides) → List (List ℕ) → Result ℕ Outcome → Type 0
@@ -160,12 +160,12 @@ listed_as (Err fault) = outcome_of_sink fault
 -- how a list ended before the line of its outcome is put
 abbrev pub ListEnds : Sides → Outcome → Type 0
 ListEnds s Completed = ⊥
-ListEnds s Listed = HasList s (λ lines. PutsLines lines s.sink_before s.sink_now (Ok tt))
-ListEnds s (Usage word kind) = IsUsage s word kind × (s.sink_now ≡ s.sink_before)
-ListEnds s (Refused refusal) = IsUnreadable s refusal × (s.sink_now ≡ s.sink_before)
-ListEnds s (FilesFault path) = IsReadFault s ListAsks path × (s.sink_now ≡ s.sink_before)
-ListEnds s OutputFault = HasList s (λ lines. PutsLines lines s.sink_before s.sink_now (Err Sinks.Failed))
-ListEnds s Memory = IsUnrun s × FilesStay s.files_before s.files_now × ((s.sink_now ≡ s.sink_before) ⊎ HasList s (λ lines. PutsLines lines s.sink_before s.sink_now (Err Sinks.NoMemory)))
+ListEnds s Listed = HasList s (λ lines. PutsLines lines s.sink.before s.sink.after (Ok tt))
+ListEnds s (Usage word kind) = IsUsage s word kind × (s.sink.after ≡ s.sink.before)
+ListEnds s (Refused refusal) = IsUnreadable s refusal × (s.sink.after ≡ s.sink.before)
+ListEnds s (FilesFault path) = IsReadFault s ListAsks path × (s.sink.after ≡ s.sink.before)
+ListEnds s OutputFault = HasList s (λ lines. PutsLines lines s.sink.before s.sink.after (Err Sinks.Failed))
+ListEnds s Memory = IsUnrun s × FilesStay s.files.before s.files.after × ((s.sink.after ≡ s.sink.before) ⊎ HasList s (λ lines. PutsLines lines s.sink.before s.sink.after (Err Sinks.NoMemory)))
 
 -- how a list for an invocation ended, for all words that ask for this invocation
 abbrev pub ListEndsFor : Invocation → (List (List ℕ) → Sides) → Outcome → Type 0

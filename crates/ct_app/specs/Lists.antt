@@ -49,7 +49,7 @@ list_lines ListTests dir config defs props members = test_list dir (listed_tests
 list_lines ListLabels dir config defs props members = label_list (labels_among props members)
 list_lines ListJson dir config defs props members = info_text (info_value defs members config) ∷ []
 
--- the lines of the list that an invocation asks for, of those of these tests that a choice selects
+-- the lines of the list that an invocation asks for, of the tests that a choice selects
 abbrev pub asked_lines : Invocation → Choice → List TestDef → List Props → List (List ℕ)
 asked_lines invocation choice defs props = list_lines invocation.task invocation.wanted.dir invocation.config defs props (members_in choice defs props)
 
@@ -60,10 +60,10 @@ pub record HasList (s : Sides) (P : List (List ℕ) → Type 0) : Type 0 where
   pub words : AskFor s.words invocation
   pub defs : List TestDef
   pub props : List Props
-  pub read : AreRead s.files_before.held invocation defs props
+  pub read : AreRead s.files.before.held invocation defs props
   pub only : Option (List (List ℕ))
-  pub limits : AreOnly s.files_before.held invocation.rerun invocation.wanted.dir only
-  pub files : FilesStay s.files_before s.files_now
+  pub limits : AreOnly s.files.before.held invocation.rerun invocation.wanted.dir only
+  pub files : FilesStay s.files.before s.files.after
   pub unrun : IsUnrun s
   pub holds : P (asked_lines invocation (choice_of invocation only) defs props)
 
@@ -72,19 +72,19 @@ pub record HasList (s : Sides) (P : List (List ℕ) → Type 0) : Type 0 where
 abbrev pub IsShortList : Sides → Outcome → Type 0
 IsShortList s Completed = ⊥
 IsShortList s Listed = ⊥
-IsShortList s (Usage word kind) = IsUsage s word kind × PutsLines (fault_line [] (Usage word kind) ∷ []) s.sink_before s.sink_now (Err Sinks.NoMemory)
-IsShortList s (Refused refusal) = IsUnreadable s refusal × PutsLines (fault_line [] (Refused refusal) ∷ []) s.sink_before s.sink_now (Err Sinks.NoMemory)
-IsShortList s (FilesFault path) = IsReadFault s ListAsks path × PutsLines (fault_line [] (FilesFault path) ∷ []) s.sink_before s.sink_now (Err Sinks.NoMemory)
+IsShortList s (Usage word kind) = IsUsage s word kind × PutsLines (fault_line [] (Usage word kind) ∷ []) s.sink.before s.sink.after (Err Sinks.NoMemory)
+IsShortList s (Refused refusal) = IsUnreadable s refusal × PutsLines (fault_line [] (Refused refusal) ∷ []) s.sink.before s.sink.after (Err Sinks.NoMemory)
+IsShortList s (FilesFault path) = IsReadFault s ListAsks path × PutsLines (fault_line [] (FilesFault path) ∷ []) s.sink.before s.sink.after (Err Sinks.NoMemory)
 IsShortList s OutputFault = ⊥
-IsShortList s Memory = IsUnrun s × FilesStay s.files_before s.files_now × (Tries (fault_line [] Memory) s.sink_before s.sink_now ⊎ HasList s (λ lines. ThenLine (λ middle. PutsLines lines s.sink_before middle (Err Sinks.NoMemory)) (λ middle. Tries (fault_line [] Memory) middle s.sink_now)))
+IsShortList s Memory = IsUnrun s × FilesStay s.files.before s.files.after × (Tries (fault_line [] Memory) s.sink.before s.sink.after ⊎ HasList s (λ lines. ThenLine (λ middle. PutsLines lines s.sink.before middle (Err Sinks.NoMemory)) (λ middle. Tries (fault_line [] Memory) middle s.sink.after)))
 
 -- what each outcome and status of a list means. In each case what the files hold stays, and no plan is made
 -- or refused. Memory alone may come at any time.
 abbrev pub AnswersList : Sides → Outcome → ℕ → Type 0
 AnswersList s Completed status = ⊥
-AnswersList s Listed status = HasList s (λ lines. PutsLines lines s.sink_before s.sink_now (Ok tt)) × (status ≡ 0)
-AnswersList s (Usage word kind) status = IsUsage s word kind × PutsOrFails (fault_line [] (Usage word kind)) s.sink_before s.sink_now × (status ≡ 1)
-AnswersList s (Refused refusal) status = IsUnreadable s refusal × PutsOrFails (fault_line [] (Refused refusal)) s.sink_before s.sink_now × (status ≡ 2)
-AnswersList s (FilesFault path) status = IsReadFault s ListAsks path × PutsOrFails (fault_line [] (FilesFault path)) s.sink_before s.sink_now × (status ≡ 3)
-AnswersList s OutputFault status = HasList s (λ lines. PutsLines lines s.sink_before s.sink_now (Err Sinks.Failed)) × (status ≡ 4)
+AnswersList s Listed status = HasList s (λ lines. PutsLines lines s.sink.before s.sink.after (Ok tt)) × (status ≡ 0)
+AnswersList s (Usage word kind) status = IsUsage s word kind × PutsOrFails (fault_line [] (Usage word kind)) s.sink.before s.sink.after × (status ≡ 1)
+AnswersList s (Refused refusal) status = IsUnreadable s refusal × PutsOrFails (fault_line [] (Refused refusal)) s.sink.before s.sink.after × (status ≡ 2)
+AnswersList s (FilesFault path) status = IsReadFault s ListAsks path × PutsOrFails (fault_line [] (FilesFault path)) s.sink.before s.sink.after × (status ≡ 3)
+AnswersList s OutputFault status = HasList s (λ lines. PutsLines lines s.sink.before s.sink.after (Err Sinks.Failed)) × (status ≡ 4)
 AnswersList s Memory status = ((outcome : Outcome) × IsShortList s outcome) × (status ≡ 5)

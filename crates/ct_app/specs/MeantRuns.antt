@@ -19,7 +19,7 @@ pub record RanAsMeant (s : Sides) (status : ℕ) (plan : PlanParts) (entries : L
   pub source : Source
   pub run : IsRun s invocation source plan entries
   pub completed : IsCompleted s status invocation plan entries
-  pub meant : (world : List Told) → AllTell world s.gates_before → ComesAsMeant invocation.empty_is_error plan (seen_in source.props world) entries status
+  pub meant : (world : List Told) → AllTell world s.gates.before → ComesAsMeant invocation.empty_is_error plan (seen_in source.props world) entries status
 
 -- plan and history are there, of a run with the verdicts, status and texts that are meant
 abbrev pub HasRunAsMeant : Sides → ℕ → Type 0

@@ -44,8 +44,8 @@ pub record IsRunOf (env : List Pair) (source : Source) (limit : ℕ) (gates_befo
 -- the source that the words ask for was read, and its tests ran as far as the history goes
 pub record IsRun (s : Sides) (invocation : Invocation) (source : Source) (plan : PlanParts) (entries : List Entry) : Type 0 where
   pub words : AskFor s.words invocation
-  pub read : IsSource s.files_before.held invocation source
-  pub ran : IsRunOf s.env source invocation.timeout s.gates_before s.gates_now plan entries
+  pub read : IsSource s.files.before.held invocation source
+  pub ran : IsRunOf s.env source invocation.timeout s.gates.before s.gates.after plan entries
 
 -- the plan and the history are those of a run of the tests that were read, and `P` holds of them
 pub record RanWith (s : Sides) (P : Invocation → PlanParts → List Entry → Type 0) (plan : PlanParts) (entries : List Entry) : Type 0 where
@@ -78,9 +78,9 @@ pub record IsUnplannable (s : Sides) (refusal : Refusal) (names : List (List ℕ
   pub invocation : Invocation
   pub words : AskFor s.words invocation
   pub source : Source
-  pub read : IsSource s.files_before.held invocation source
+  pub read : IsSource s.files.before.held invocation source
   pub refused : RefusesPlan source refusal names
-  pub files : FilesStay s.files_before s.files_now
+  pub files : FilesStay s.files.before s.files.after
   pub unrun : IsUnrun s
 
 -- the tests, the specification or the plan is refused; the tests of a cycle have these names
@@ -95,26 +95,26 @@ pub record TellsRefusal (s : Sides) (refusal : Refusal) (Line : List ℕ → Typ
 
 -- the files of a complete run were written
 abbrev pub FilesAreLeft : Sides → PlanParts → List Entry → Type 0
-FilesAreLeft s plan entries = FilesServe (WithLast plan.dir (Leaves plan entries)) s.files_before s.files_now
+FilesAreLeft s plan entries = FilesServe (WithLast plan.dir (Leaves plan entries)) s.files.before s.files.after
 
 -- a write of a complete run failed at this path
 abbrev pub IsWriteFault : Sides → List ℕ → PlanParts → List Entry → Type 0
-IsWriteFault s path plan entries = IsWritten plan entries path × FilesFail path (WithLast plan.dir (LeavesTorn plan entries path)) s.files_before s.files_now
+IsWriteFault s path plan entries = IsWritten plan entries path × FilesFail path (WithLast plan.dir (LeavesTorn plan entries path)) s.files.before s.files.after
 
 -- memory ran out in a run: the run was given up and the files stay,
 -- or the run was reported and memory ran out for its files
 abbrev pub IsCutShort : Sides → PlanParts → List Entry → SinkTell → Type 0
-IsCutShort s plan entries middle = (IsGivenUp plan entries s.sink_before middle × FilesStay s.files_before s.files_now) ⊎ (IsReported plan entries s.sink_before middle × FilesServe (WithLast plan.dir (LeavesPart plan entries)) s.files_before s.files_now)
+IsCutShort s plan entries middle = (IsGivenUp plan entries s.sink.before middle × FilesStay s.files.before s.files.after) ⊎ (IsReported plan entries s.sink.before middle × FilesServe (WithLast plan.dir (LeavesPart plan entries)) s.files.before s.files.after)
 
 -- memory ran out without a plan: for the line of this outcome; or, with Memory, for a step before any line
 abbrev pub IsShort : Sides → Outcome → Type 0
 IsShort s Completed = ⊥
 IsShort s Listed = ⊥
-IsShort s (Usage word kind) = IsUsage s word kind × PutsLines (fault_line [] (Usage word kind) ∷ []) s.sink_before s.sink_now (Err Sinks.NoMemory)
-IsShort s (Refused refusal) = TellsRefusal s refusal (λ line. PutsLines (line ∷ []) s.sink_before s.sink_now (Err Sinks.NoMemory))
-IsShort s (FilesFault path) = IsReadFault s RunAsks path × PutsLines (fault_line [] (FilesFault path) ∷ []) s.sink_before s.sink_now (Err Sinks.NoMemory)
+IsShort s (Usage word kind) = IsUsage s word kind × PutsLines (fault_line [] (Usage word kind) ∷ []) s.sink.before s.sink.after (Err Sinks.NoMemory)
+IsShort s (Refused refusal) = TellsRefusal s refusal (λ line. PutsLines (line ∷ []) s.sink.before s.sink.after (Err Sinks.NoMemory))
+IsShort s (FilesFault path) = IsReadFault s RunAsks path × PutsLines (fault_line [] (FilesFault path) ∷ []) s.sink.before s.sink.after (Err Sinks.NoMemory)
 IsShort s OutputFault = ⊥
-IsShort s Memory = IsUnrun s × FilesStay s.files_before s.files_now × Tries (fault_line [] Memory) s.sink_before s.sink_now
+IsShort s Memory = IsUnrun s × FilesStay s.files.before s.files.after × Tries (fault_line [] Memory) s.sink.before s.sink.after
 
 -- memory ran out with a plan: for the line of a write that failed; or, with Memory,
 -- in the run or for its files
@@ -123,26 +123,26 @@ IsShortRun s Completed plan entries = ⊥
 IsShortRun s Listed plan entries = ⊥
 IsShortRun s (Usage word kind) plan entries = ⊥
 IsShortRun s (Refused refusal) plan entries = ⊥
-IsShortRun s (FilesFault path) plan entries = IsWriteFault s path plan entries × ThenLine (IsReported plan entries s.sink_before) (λ middle. PutsLines (fault_line [] (FilesFault path) ∷ []) middle s.sink_now (Err Sinks.NoMemory))
+IsShortRun s (FilesFault path) plan entries = IsWriteFault s path plan entries × ThenLine (IsReported plan entries s.sink.before) (λ middle. PutsLines (fault_line [] (FilesFault path) ∷ []) middle s.sink.after (Err Sinks.NoMemory))
 IsShortRun s OutputFault plan entries = ⊥
-IsShortRun s Memory plan entries = ThenLine (IsCutShort s plan entries) (λ middle. Tries (fault_line [] Memory) middle s.sink_now)
+IsShortRun s Memory plan entries = ThenLine (IsCutShort s plan entries) (λ middle. Tries (fault_line [] Memory) middle s.sink.after)
 
 -- a run was completed: it was reported, its files were written, and this is the status of the run
 pub record IsCompleted (s : Sides) (status : ℕ) (invocation : Invocation) (plan : PlanParts) (entries : List Entry) : Type 0 where
-  pub reported : IsReported plan entries s.sink_before s.sink_now
+  pub reported : IsReported plan entries s.sink.before s.sink.after
   pub left : FilesAreLeft s plan entries
   pub is : status ≡ status_of invocation.empty_is_error plan entries
 
 -- a write of a complete run failed at this path, and the line of the failure was put behind the whole report
 abbrev pub IsUnwritten : Sides → List ℕ → PlanParts → List Entry → Type 0
-IsUnwritten s path plan entries = IsWriteFault s path plan entries × ThenLine (IsReported plan entries s.sink_before) (λ middle. PutsOrFails (fault_line [] (FilesFault path)) middle s.sink_now)
+IsUnwritten s path plan entries = IsWriteFault s path plan entries × ThenLine (IsReported plan entries s.sink.before) (λ middle. PutsOrFails (fault_line [] (FilesFault path)) middle s.sink.after)
 
 -- what each outcome and status of a run means; Memory alone may come at any time
 abbrev pub AnswersRun : Sides → Outcome → ℕ → Type 0
 AnswersRun s Completed status = HasRunWith s (IsCompleted s status)
 AnswersRun s Listed status = ⊥
-AnswersRun s (Usage word kind) status = IsUsage s word kind × PutsOrFails (fault_line [] (Usage word kind)) s.sink_before s.sink_now × (status ≡ 1)
-AnswersRun s (Refused refusal) status = TellsRefusal s refusal (λ line. PutsOrFails line s.sink_before s.sink_now) × (status ≡ 2)
-AnswersRun s (FilesFault path) status = ((IsReadFault s RunAsks path × PutsOrFails (fault_line [] (FilesFault path)) s.sink_before s.sink_now) ⊎ HasRunWith s (λ invocation. IsUnwritten s path)) × (status ≡ 3)
-AnswersRun s OutputFault status = HasRunWith s (λ invocation plan entries. IsCutOff plan entries s.sink_before s.sink_now × FilesStay s.files_before s.files_now) × (status ≡ 4)
+AnswersRun s (Usage word kind) status = IsUsage s word kind × PutsOrFails (fault_line [] (Usage word kind)) s.sink.before s.sink.after × (status ≡ 1)
+AnswersRun s (Refused refusal) status = TellsRefusal s refusal (λ line. PutsOrFails line s.sink.before s.sink.after) × (status ≡ 2)
+AnswersRun s (FilesFault path) status = ((IsReadFault s RunAsks path × PutsOrFails (fault_line [] (FilesFault path)) s.sink.before s.sink.after) ⊎ HasRunWith s (λ invocation. IsUnwritten s path)) × (status ≡ 3)
+AnswersRun s OutputFault status = HasRunWith s (λ invocation plan entries. IsCutOff plan entries s.sink.before s.sink.after × FilesStay s.files.before s.files.after) × (status ≡ 4)
 AnswersRun s Memory status = ((outcome : Outcome) × (IsShort s outcome ⊎ HasRunWith s (λ invocation. IsShortRun s outcome))) × (status ≡ 5)

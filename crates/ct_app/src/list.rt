@@ -49,7 +49,7 @@ fn listed(ended: Result<(), SinkFault>) -> Outcome
     }
 }
 
-/// Puts the list of those of these tests that the choice selects.
+/// Puts the list of the tests that the choice selects.
 ///
 /// Source: CMake manual, ctest(1), --show-only, --print-labels, Show as JSON Object Model.
 fn put_list<S: Sink>(

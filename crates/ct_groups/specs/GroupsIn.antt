@@ -31,7 +31,7 @@ abbrev pub with_description : Groups → Description → Result Groups GroupsFau
 with_description groups d =
     if passes_limits groups d then Err TooMany else Ok (record { needs = groups.needs ++ needs_from groups.count d.count d.requirements; count = groups.count + d.count })
 
--- the groups followed by those of these descriptions, or the first fault;
+-- the groups with the groups of each of these descriptions behind them, or the first fault;
 -- the limits are checked after each description
 abbrev pub with_descriptions : Groups → List (List ℕ) → Result Groups GroupsFault
 with_descriptions groups [] = Ok groups
