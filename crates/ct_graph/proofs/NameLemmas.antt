@@ -2,13 +2,9 @@
 -- added, and what it finds by names.
 use Rattle.std.proofs.Common.{ℕ, ◌≡◌, Bool, true, false, cond, ◌&&◌, ◌||◌, bytes_eq, List, [], ◌∷◌, map, Option, Some, refl, sym, ap, ◌∙◌, eqb}
 use Rattle.std.specs.List.{list_any, dedup, dedup_from}
-use Rattle.std.specs.Map.{lookup}
-use Rattle.std.specs.BTreeMap.{BTreeMap, UpdatesBy}
-use Rattle.std.specs.Ordering.{nat_cmp, is_eq}
-use Rattle.std.specs.Cmp.Lexicographic.{slice_cmp}
 use Rattle.std.specs.Borrow.{Bor}
 use Rattle.std.specs.declared.vec.Vec.{Vec}
-use Rattle.std.proofs.lemmas.Map.Text.{is_eq-slice_cmp}
+use Rattle.indexmap.specs.IndexMap.{IndexMap, UpdatesBy, get_by}
 use Rattle.std.proofs.lemmas.Slice.Eq.{bytes_eq-Decides}
 use Rattle.ct_props.specs.Numbered.{is_in}
 use Rattle.ct_graph.specs.ByName.{or_none, tests_at}
@@ -30,11 +26,11 @@ abbrev key : List ℕ → Bor (List ℕ)
 key name = record { ref_ptr = (0, 0); now = name }
 
 -- what a map has once a name was given these tests
-pub tests_at-updated : {Y : Type 0} (name : Bor (List ℕ)) (before now : BTreeMap (Bor (List ℕ)) (Vec ℕ Y)) (tests : Vec ℕ Y) → UpdatesBy (λ (x y : Bor (List ℕ)). slice_cmp nat_cmp x.now y.now) (λ (k : Bor (List ℕ)). slice_cmp nat_cmp name.now k.now) before now (Some tests) → (other : List ℕ) → tests_at now.entries other ≡ cond (bytes_eq other name.now) tests.items (tests_at before.entries other)
+pub tests_at-updated : {Y S : Type 0} (name : Bor (List ℕ)) (before now : IndexMap (Bor (List ℕ)) (Vec ℕ Y) S) (tests : Vec ℕ Y) → UpdatesBy (λ (x y : Bor (List ℕ)). bytes_eq x.now y.now) (λ (k : Bor (List ℕ)). bytes_eq name.now k.now) before now (Some tests) → (other : List ℕ) → tests_at now other ≡ cond (bytes_eq other name.now) tests.items (tests_at before other)
 tests_at-updated name before now tests updates other =
     ap or_none (updates.0 (key other))
-    ∙ or_none-cond (is_eq (slice_cmp nat_cmp name.now other)) tests (lookup (λ (k : Bor (List ℕ)). is_eq (slice_cmp nat_cmp other k.now)) before.entries)
-    ∙ ap (λ b. cond b tests.items (tests_at before.entries other)) (is_eq-slice_cmp name.now other ∙ bytes_eq_comm name.now other)
+    ∙ or_none-cond (bytes_eq name.now other) tests (get_by (λ (k : Bor (List ℕ)). bytes_eq other k.now) before)
+    ∙ ap (λ b. cond b tests.items (tests_at before other)) (bytes_eq_comm name.now other)
 
 pub or_same : (b : Bool) → b ≡ (b || false)
 or_same true = refl

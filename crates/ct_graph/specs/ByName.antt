@@ -1,11 +1,9 @@
 -- The tests that are kept by names. This project's own.
-use Rattle.std.specs.Prelude.{ℕ, Bool, List, [], Option, Some, None}
+use Rattle.std.specs.Prelude.{ℕ, Bool, List, [], Option, Some, None, bytes_eq}
 use Rattle.std.specs.List.{list_any}
-use Rattle.std.specs.Map.{lookup}
-use Rattle.std.specs.Ordering.{nat_cmp, is_eq}
-use Rattle.std.specs.Cmp.Lexicographic.{slice_cmp}
 use Rattle.std.specs.Borrow.{Bor}
 use Rattle.std.specs.declared.vec.Vec.{Vec}
+use Rattle.indexmap.specs.IndexMap.{IndexMap, get_by}
 use Rattle.ct_props.specs.Numbered.{is_in}
 use Rattle.ct_graph.specs.declared.by_name.ByName.{ByName}
 
@@ -15,12 +13,12 @@ or_none None = []
 or_none (Some tests) = tests.items
 
 -- the tests that stand with a name in a map
-abbrev pub tests_at : {Y : Type 0} → List (Bor (List ℕ) × Vec ℕ Y) → List ℕ → List ℕ
-tests_at entries name = or_none (lookup (λ (key : Bor (List ℕ)). is_eq (slice_cmp nat_cmp name key.now)) entries)
+abbrev pub tests_at : {Y S : Type 0} → IndexMap (Bor (List ℕ)) (Vec ℕ Y) S → List ℕ → List ℕ
+tests_at tests name = or_none (get_by (λ (key : Bor (List ℕ)). bytes_eq name key.now) tests)
 
 -- the tests that are kept by a name
 abbrev pub tests_of : ByName → List ℕ → List ℕ
-tests_of kept name = tests_at kept.tests.entries name
+tests_of kept name = tests_at kept.tests name
 
 -- the test is found by one of these names
 abbrev pub is_found_in : (List ℕ → List ℕ) → List (List ℕ) → ℕ → Bool

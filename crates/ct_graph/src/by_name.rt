@@ -8,13 +8,13 @@ ghost use Rattle.ct_graph.specs.Found.{AreFound, IsEmpty, IsMarked, Knows, bytes
 use crate::found::Found;
 use crate::known::Known;
 use ct_base::{List, Name, NoMemory};
+use indexmap::IndexMap;
 use std::alloc::Global;
-use std::collections::BTreeMap;
 
 /// Numbers of tests by names.
 #[derive(Drop)]
 pub(crate) struct ByName<'a> {
-    tests: BTreeMap<&'a [u8], Vec<u32>>,
+    tests: IndexMap<&'a [u8], Vec<u32>>,
 }
 
 impl<'a> ByName<'a> {
@@ -23,7 +23,7 @@ impl<'a> ByName<'a> {
         ensures { (name : Bytes ℕ) → tests_of result name ≡ [] }
     {
         ByName {
-            tests: BTreeMap::new(alloc),
+            tests: IndexMap::new(alloc),
         }
     }
 
@@ -31,7 +31,7 @@ impl<'a> ByName<'a> {
     fn tests(&self, name: &'a [u8]) -> &[u32]
         ensures { result.now ≡ tests_of self.now name.now }
     {
-        match self.tests.get(&name) {
+        match self.tests.get(name) {
             Some(tests) => tests.as_slice(),
             None => &[],
         }
@@ -41,7 +41,7 @@ impl<'a> ByName<'a> {
     pub(crate) fn add(&mut self, alloc: Global, name: &'a [u8], test: u32) -> Result<(), NoMemory>
         ensures { OnOk result ((other : Bytes ℕ) (n : ℕ) → is_in (tests_of self.new other) n ≡ (is_in (tests_of self.old other) n || (bytes_eq other name.now && test == n))) }
     {
-        if let Some(tests) = self.tests.get_mut(&name) {
+        if let Some(tests) = self.tests.get_mut(name) {
             push_once(tests, test)?;
             return Ok(());
         }

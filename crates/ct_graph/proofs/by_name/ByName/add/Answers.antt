@@ -13,7 +13,7 @@ returns-in-Some c = λ other n.
     let updates = (c.get_mut.follows.holds tests).3 (ap is_some (sym c.in-Some.ensures.value)) in
     let found = ap or_none c.in-Some.ensures.value in
     ap (λ ts. is_in ts n) (tests_at-updated name old now tests updates other)
-    ∙ is_in-updated name.now other tests.items (tests_at old.entries name.now) (tests_at old.entries other) c.args.test n (λ same. ap (tests_at old.entries) same)
+    ∙ is_in-updated name.now other tests.items (tests_at old name.now) (tests_at old other) c.args.test n (λ same. ap (tests_at old) same)
     (c.in_ok-push_once.ensures n ∙ ap (λ ts. is_in ts n || eqb c.args.test n) found)
 
 pub returns : goal.returns
@@ -23,7 +23,7 @@ returns c = λ other n.
     let name = c.args.name in
     let none = ap or_none c.in_default.ensures.value in
     ap (λ ts. is_in ts n) (tests_at-updated name c.get_mut.follows.lender-at-none c.insert.new.self c.push.new.self c.in_ok-insert.ensures.updates other)
-    ∙ is_in-updated name.now other c.push.new.self.items (tests_at old.entries name.now) (tests_at c.get_mut.follows.lender-at-none.entries other) c.args.test n
-    (λ same. ap (tests_at old.entries) same ∙ ap (λ m. tests_at m.entries other) (sym c.get_mut.follows.holds-at-none))
+    ∙ is_in-updated name.now other c.push.new.self.items (tests_at old name.now) (tests_at c.get_mut.follows.lender-at-none other) c.args.test n
+    (λ same. ap (tests_at old) same ∙ ap (λ m. tests_at m other) (sym c.get_mut.follows.holds-at-none))
     (ap (λ ts. is_in ts n) pushed ∙ sym (or_same (eqb c.args.test n)) ∙ ap (λ ts. is_in ts n || eqb c.args.test n) none)
-    ∙ ap (λ m. is_in (tests_at m.entries other) n || (bytes_eq other name.now && eqb c.args.test n)) c.get_mut.follows.holds-at-none
+    ∙ ap (λ m. is_in (tests_at m other) n || (bytes_eq other name.now && eqb c.args.test n)) c.get_mut.follows.holds-at-none
