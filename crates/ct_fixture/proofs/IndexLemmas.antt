@@ -4,7 +4,8 @@ use Rattle.std.specs.Map.{AreApart, IsKeyTest, KeepsOthers, lookup}
 use Rattle.std.specs.declared.vec.Vec.{Vec}
 use Rattle.std.proofs.lemmas.List.Folds.{list_any-append}
 use Rattle.std.proofs.lemmas.Slice.Eq.{bytes_eq-Decides}
-use Rattle.indexmap.specs.IndexMap.{IndexMap, UpdatesBy}
+use Rattle.std.proofs.lemmas.List.{nil_from_length}
+use Rattle.indexmap.specs.IndexMap.{IndexMap, UpdatesBy, index_map_len}
 use Rattle.ct_props.specs.Numbered.{is_in}
 use Rattle.ct_fixture.specs.Kept.{found, tests_of}
 
@@ -16,6 +17,11 @@ or_nothing : (a b : Bool) → a ≡ (a || (b && false))
 or_nothing true b = refl
 or_nothing false true = refl
 or_nothing false false = refl
+
+-- a list that is empty stays as it is where it is taken out
+pub cond_same : (b : Bool) (tests : List ℕ) → tests ≡ [] → tests ≡ cond b [] tests
+cond_same true tests none = none
+cond_same false tests none = refl
 
 module _ {Y : Type 0} where
   key_test : (asked : List ℕ) → IsKeyTest (λ (one other : Vec ℕ Y). bytes_eq one.items other.items) (λ (name : Vec ℕ Y). bytes_eq asked name.items)
@@ -38,13 +44,17 @@ module _ {Y Z : Type 0} where
     pub updated : (before now : IndexMap (Vec ℕ Y) (Vec ℕ Z) S) (fixture : List ℕ) (tests : Option (Vec ℕ Z)) → UpdatesBy (λ (one other : Vec ℕ Y). bytes_eq one.items other.items) (λ (name : Vec ℕ Y). bytes_eq fixture name.items) before now tests → (asked : List ℕ) → tests_of now asked ≡ cond (bytes_eq asked fixture) (found tests) (tests_of before asked)
     updated before now fixture tests updates asked = updated_by before now fixture asked tests updates (bytes_eq asked fixture) refl
 
-    noted_by : (before rest now : IndexMap (Vec ℕ Y) (Vec ℕ Z) S) (fixture asked tests : List ℕ) (number test : ℕ) (is : Bool) → bytes_eq asked fixture ≡ is → tests_of rest asked ≡ cond is [] (tests_of before asked) → tests ≡ tests_of before fixture ++ number ∷ [] → tests_of now asked ≡ cond is tests (tests_of rest asked) → is_in (tests_of now asked) test ≡ (is_in (tests_of before asked) test || (eqb number test && is))
-    noted_by before rest now fixture asked tests number test true is out pushed put =
+    -- where no fixture has tests, none has
+    pub none_there : (tests : IndexMap (Vec ℕ Y) (Vec ℕ Z) S) → index_map_len tests ≡ 0 → (asked : List ℕ) → tests_of tests asked ≡ []
+    none_there tests none asked = ap (λ entries. found (lookup (λ (name : Vec ℕ Y). bytes_eq asked name.items) entries)) (nil_from_length tests.entries none)
+
+    noted_by : (before now : IndexMap (Vec ℕ Y) (Vec ℕ Z) S) (fixture asked tests : List ℕ) (number test : ℕ) (is : Bool) → bytes_eq asked fixture ≡ is → tests ≡ tests_of before fixture ++ number ∷ [] → tests_of now asked ≡ cond is tests (tests_of before asked) → is_in (tests_of now asked) test ≡ (is_in (tests_of before asked) test || (eqb number test && is))
+    noted_by before now fixture asked tests number test true is pushed put =
         ap (λ tests. is_in tests test) (put ∙ pushed ∙ ap (λ f. tests_of before f ++ number ∷ []) (sym ((bytes_eq-Decides asked fixture).0 is)))
         ∙ list_any-append (λ n. eqb n test) (tests_of before asked) (number ∷ [])
         ∙ ap (λ here. is_in (tests_of before asked) test || here) (and_all (eqb number test))
-    noted_by before rest now fixture asked tests number test false is out pushed put = ap (λ tests. is_in tests test) (put ∙ out) ∙ or_nothing (is_in (tests_of before asked) test) (eqb number test)
+    noted_by before now fixture asked tests number test false is pushed put = ap (λ tests. is_in tests test) put ∙ or_nothing (is_in (tests_of before asked) test) (eqb number test)
 
-    -- the tests of a fixture were taken out, and put back with one more
-    pub noted : (before rest now : IndexMap (Vec ℕ Y) (Vec ℕ Z) S) (fixture tests : List ℕ) (number : ℕ) → ((asked : List ℕ) → tests_of rest asked ≡ cond (bytes_eq asked fixture) [] (tests_of before asked)) → tests ≡ tests_of before fixture ++ number ∷ [] → ((asked : List ℕ) → tests_of now asked ≡ cond (bytes_eq asked fixture) tests (tests_of rest asked)) → (asked : List ℕ) (test : ℕ) → is_in (tests_of now asked) test ≡ (is_in (tests_of before asked) test || (eqb number test && bytes_eq asked fixture))
-    noted before rest now fixture tests number out pushed put asked test = noted_by before rest now fixture asked tests number test (bytes_eq asked fixture) refl (out asked) pushed (put asked)
+    -- a fixture has one test more
+    pub noted : (before now : IndexMap (Vec ℕ Y) (Vec ℕ Z) S) (fixture tests : List ℕ) (number : ℕ) → tests ≡ tests_of before fixture ++ number ∷ [] → ((asked : List ℕ) → tests_of now asked ≡ cond (bytes_eq asked fixture) tests (tests_of before asked)) → (asked : List ℕ) (test : ℕ) → is_in (tests_of now asked) test ≡ (is_in (tests_of before asked) test || (eqb number test && bytes_eq asked fixture))
+    noted before now fixture tests number pushed put asked test = noted_by before now fixture asked tests number test (bytes_eq asked fixture) refl pushed (put asked)

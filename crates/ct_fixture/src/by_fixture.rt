@@ -29,10 +29,18 @@ fn note(alloc: Global, tests: &mut ByFixture, fixture: &[u8], number: u32) -> Re
     ensures { OnOk result ((asked : List ℕ) (test : ℕ) → is_in (tests_of tests.new asked) test
         ≡ (is_in (tests_of tests.old asked) test || number == test && bytes_eq asked fixture.now)) }
 {
-    let mut here = take(alloc, tests, fixture);
-    here.push(number)?;
-    tests.insert(Vec::from_slice(alloc, fixture)?, here)?;
-    Ok(())
+    match tests.get_mut(fixture) {
+        Some(here) => {
+            here.push(number)?;
+            Ok(())
+        }
+        None => {
+            let mut first = Vec::new(alloc);
+            first.push(number)?;
+            tests.insert(Vec::from_slice(alloc, fixture)?, first)?;
+            Ok(())
+        }
+    }
 }
 
 /// Removes and returns the tests of a fixture, which then has none.
@@ -41,5 +49,8 @@ pub(crate) fn take(alloc: Global, tests: &mut ByFixture, fixture: &[u8]) -> Vec<
     ensures leaves { (asked : List ℕ) → tests_of tests.new asked
         ≡ (if bytes_eq asked fixture.now then [] else tests_of tests.old asked) }
 {
+    if tests.is_empty() {
+        return Vec::new(alloc);
+    }
     tests.swap_remove(fixture).unwrap_or(Vec::new(alloc))
 }
