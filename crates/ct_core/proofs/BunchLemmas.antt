@@ -1,8 +1,8 @@
--- Bunches of tests that wait for one lock: while the lock is taken, no test of
+-- Bunches of tests that wait for one lock: while the lock is closed, no test of
 -- the bunch can start. So the first test that may start is found by a look at
--- the first head of each bunch and, if the lock is free, at the heads behind it.
+-- the first head of each bunch and, if the lock is open, at the heads behind it.
 use Rattle.std.proofs.Common.{◌≡◌, ◌∙◌, sym, ap, subst, Bool, true, false, not, ◌&&◌, ◌||◌, ◌==◌, cond, ℕ, ◌+◌, ◌<◌, ◌≤◌, List, [], ◌∷◌, ◌++◌, All, length, length-append, take, get_or, slice_get, nat_le, nat_lt, refl, arith, inl, inr}
-use Rattle.std.specs.Prelude.{Option, Some, None, MatchOption, IfSome, option_and_then}
+use Rattle.std.specs.Prelude.{Option, Some, None, MatchOption, IfSome, option_and_then, option_map}
 use Rattle.std.specs.List.{list_any}
 use Rattle.std.specs.Option.{option_or}
 use Rattle.std.proofs.lemmas.Bool.{true≢false, and_from, cases_eq, cases_lt, eqb-true, or_right}
@@ -23,9 +23,11 @@ use Rattle.ct_queue.specs.Lines.{AreNumbered}
 use Rattle.ct_queue.specs.Ready.{ReadyValue, IsHead, IsNextHead, IsOfNewBunch, IsOfSeenBunch, NoHeadBehind}
 use Rattle.ct_core.specs.declared.choice.Startable.{Startable}
 use Rattle.ct_core.specs.declared.in_use.InUse.{InUse}
-use Rattle.ct_core.specs.Bunches.{AreBunchesOf, IsBefore, IsFirstOfBunch, NoneOfBunch, NoNewBunchTo, has_room_at, is_free_lock, key_at, lock_at, test_in_queue}
+use Rattle.ct_core.specs.declared.bunches.KeyPlace.{KeyPlace}
+use Rattle.ct_core.specs.declared.bunches.KeyPlace.TheVariants.{Alone, Shared}
+use Rattle.ct_core.specs.Bunches.{AreBunchesOf, IsBefore, IsFirstOfBunch, Key, NoneOfBunch, NoNewBunchTo, has_room_at, is_open_key, key_at, key_in, key_of, test_in_queue}
 use Rattle.ct_core.specs.Choice.{IsStartOf, IsStartable, NoneSettles, NoneStarts}
-use Rattle.ct_core.specs.InUse.{IsInUse, is_locked}
+use Rattle.ct_core.specs.InUse.{IsInUse, is_closed, is_excluded_beside, is_locked}
 use Rattle.ct_core.specs.Lines.{demand_at, demand_of_test}
 use Rattle.ct_core.specs.Locks.{is_held}
 use Rattle.ct_core.specs.Waiting.{IsDue, IsQueued}
@@ -34,22 +36,40 @@ use Rattle.ct_core.proofs.InUseLemmas.{room_beside}
 use Rattle.ct_core.proofs.LineLemmas.{demand_there, none_alike, none_headed}
 use Rattle.ct_core.proofs.PickLemmas.{member_may, none_before}
 
--- a test without needs that has this lock
-record HasKey (o : Option PlanTest) (lock : List ℕ) : Type 0 where
+-- a lock of this list is there
+record HasLock (locks : List (List ℕ)) (lock : List ℕ) : Type 0 where
+  pub at : ℕ
+  pub named : slice_get locks at ≡ Some lock
+
+-- a test without needs that has this key
+record HasKey (o : Option PlanTest) (key : Key) : Type 0 where
   pub test : PlanTest
   pub found : o ≡ Some test
   pub unplaced : (length test.needs == 0) ≡ true
-  pub at : ℕ
-  pub named : slice_get test.locks at ≡ Some lock
+  pub named : cond key.alone (HasLock test.locks key.lock) (HasLock test.shared key.lock)
 
-has_key : (o : Option PlanTest) (k : Option ℕ) (lock : List ℕ) → lock_at o k ≡ Some lock → HasKey o lock
-has_key None k lock is = absurd (none-some lock is)
-has_key (Some t) None lock is = absurd (none-some lock is)
-has_key (Some t) (Some at) lock is = by_needs (length t.needs == 0) refl is
+has_lock : (alone : Bool) (locks : List (List ℕ)) (at : ℕ) (o : Option (List ℕ)) (key : Key) → slice_get locks at ≡ o → option_map (λ (lock : List ℕ). record { lock = lock; alone = alone }) o ≡ Some key → HasLock locks key.lock × (key.alone ≡ alone)
+has_lock alone locks at None key there is = absurd (none-some key is)
+has_lock alone locks at (Some lock) key there is =
+    let same : record { lock = lock; alone = alone } ≡ key = same_Some (record { lock = lock; alone = alone }) key is in
+    (record { at = at; named = there ∙ ap (λ (k : Key). Some k.lock) same }, sym (ap (λ (k : Key). k.alone) same))
+
+has_key : (o : Option PlanTest) (k : Option KeyPlace) (key : Key) → key_of o k ≡ Some key → HasKey o key
+has_key None k key is = absurd (none-some key is)
+has_key (Some t) None key is = absurd (none-some key is)
+has_key (Some t) (Some place) key is = by_needs (length t.needs == 0) refl is
   where
-    by_needs : (b : Bool) → (length t.needs == 0) ≡ b → cond b (slice_get t.locks at) None ≡ Some lock → HasKey (Some t) lock
-    by_needs true none there = record { test = t; found = refl; unplaced = none; at = at; named = there }
-    by_needs false some there = absurd (none-some lock there)
+    named : (place : KeyPlace) → key_in t place ≡ Some key → cond key.alone (HasLock t.locks key.lock) (HasLock t.shared key.lock)
+    named (Alone at) there =
+        let has = has_lock true t.locks at (slice_get t.locks at) key refl there in
+        subst (λ (b : Bool). cond b (HasLock t.locks key.lock) (HasLock t.shared key.lock)) (sym has.1) has.0
+    named (Shared at) there =
+        let has = has_lock false t.shared at (slice_get t.shared at) key refl there in
+        subst (λ (b : Bool). cond b (HasLock t.locks key.lock) (HasLock t.shared key.lock)) (sym has.1) has.0
+
+    by_needs : (b : Bool) → (length t.needs == 0) ≡ b → cond b (key_in t place) None ≡ Some key → HasKey (Some t) key
+    by_needs true none there = record { test = t; found = refl; unplaced = none; named = named place there }
+    by_needs false some there = absurd (none-some key there)
 
 -- if the element at some position passes, then some element of the list passes
 any_at : (p : List ℕ → Bool) (names : List (List ℕ)) (at : ℕ) (name : List ℕ) → slice_get names at ≡ Some name → p name ≡ true → list_any p names ≡ true
@@ -58,17 +78,37 @@ any_at p names at name there is =
     let same : get_or names at name ≡ name = same_Some (get_or names at name) name (sym (slice_get-get_or names at name within) ∙ there) in
     list_any_at p names at name within (ap p same ∙ is)
 
+-- what is in use excludes a test to which a lock of its own is closed
+closed_excludes : (u : InUse) (t : PlanTest) (lock : List ℕ) (alone : Bool) → is_closed u alone lock ≡ true → cond alone (HasLock t.locks lock) (HasLock t.shared lock) → is_excluded_beside u t ≡ true
+closed_excludes u t lock true shut has =
+    let any = any_at (is_locked u) t.locks has.at lock has.named shut in
+    ap (λ (b : Bool). u.serial || t.serial && nat_lt 0 u.open_count || b || list_any (is_held u.locks) t.shared) any
+    ∙ ap (λ (b : Bool). b || list_any (is_held u.locks) t.shared) (or_right (u.serial || t.serial && nat_lt 0 u.open_count) true refl)
+closed_excludes u t lock false shut has =
+    let any = any_at (is_held u.locks) t.shared has.at lock has.named shut in
+    or_right (u.serial || t.serial && nat_lt 0 u.open_count || list_any (is_locked u) t.locks) (list_any (is_held u.locks) t.shared) any
+
 -- for a test without needs, no placement is the right one
 unplaced_fits : (resources : Option (List Resource)) (needs : List Need) (used : ℕ → ℕ) → (length needs == 0) ≡ true → is_placed resources needs used None ≡ true
 unplaced_fits None needs used none = refl
 unplaced_fits (Some rs) [] used none = refl
 unplaced_fits (Some rs) (need ∷ needs) used none = absurd (omega (arith, eqb-true (length (need ∷ needs)) 0 none))
 
+-- a key is there exactly if its lock is
+pub lock_there : (o : Option Key) → option_map (λ (k : Key). k.lock) o ≡ None → o ≡ None
+lock_there None none = refl
+lock_there (Some key) none = absurd (none-some key.lock (sym none))
+
+-- the lock in a key is the lock that it was made of
+pub lock_again : (alone : Bool) (o : Option (List ℕ)) → option_map (λ (k : Key). k.lock) (option_map (λ (lock : List ℕ). record { lock = lock; alone = alone }) o) ≡ o
+lock_again alone None = refl
+lock_again alone (Some lock) = refl
+
 module _ (plan : PlanParts) where
   queue_there : (place : ℕ) → place < length plan.queue → test_in_queue plan place ≡ test_at plan.tests (get_or plan.queue place 0)
   queue_there place within = ap (λ (o : Option ℕ). option_and_then (test_at plan.tests) o) (slice_get-get_or plan.queue place 0 within)
 
-module _ (plan : PlanParts) (keys : List (Option ℕ)) (bunches : List ℕ) (are : AreBunchesOf plan keys bunches) where
+module _ (plan : PlanParts) (keys : List (Option KeyPlace)) (bunches : List ℕ) (are : AreBunchesOf plan keys bunches) where
   pub bunches_numbered : AreNumbered bunches
   bunches_numbered = λ place within. let many = are.many in subst (λ (k : ℕ). get_or bunches place 0 < k) (sym many) (are.within place 0 within)
 
@@ -87,13 +127,13 @@ module _ (plan : PlanParts) (keys : List (Option ℕ)) (bunches : List ℕ) (are
       ∙ demand_there plan other inside
 
 -- the bunches of the places before `end` are right
-pub record AreBunchesTo (plan : PlanParts) (keys : List (Option ℕ)) (bunches : List ℕ) (end : ℕ) : Type 0 where
+pub record AreBunchesTo (plan : PlanParts) (keys : List (Option KeyPlace)) (bunches : List ℕ) (end : ℕ) : Type 0 where
   pub many : length bunches ≡ end
   pub within : All (λ bunch. bunch < length plan.queue) bunches
   pub locked : (place : ℕ) → place < end → key_at plan keys (get_or bunches place 0) ≡ key_at plan keys place
   pub alike : (place : ℕ) → place < end → key_at plan keys place ≡ None → demand_at plan (get_or bunches place 0) ≡ demand_at plan place
 
-module _ (plan : PlanParts) (keys : List (Option ℕ)) (bunches : List ℕ) (end : ℕ) (to : AreBunchesTo plan keys bunches end) where
+module _ (plan : PlanParts) (keys : List (Option KeyPlace)) (bunches : List ℕ) (end : ℕ) (to : AreBunchesTo plan keys bunches end) where
   -- one more place has its bunch
   pub bunches_more : (bunch : ℕ) → bunch < length plan.queue → key_at plan keys bunch ≡ key_at plan keys end → (key_at plan keys end ≡ None → demand_at plan bunch ≡ demand_at plan end) → AreBunchesTo plan keys (bunches ++ bunch ∷ []) (end + 1)
   bunches_more bunch within locked alike = record {
@@ -263,53 +303,50 @@ module _ (plan : PlanParts) (sound : IsSound plan) (es : List Entry) (r : ReadyV
           })
 
   -- the search through the heads of one bunch
-  module _ (keys : List (Option ℕ)) (are : AreBunchesOf plan keys r.bunches) (u : InUse) (in_use : IsInUse plan (open_starts es) u) (first : ℕ) (here : IsHead r first) where
+  module _ (keys : List (Option KeyPlace)) (are : AreBunchesOf plan keys r.bunches) (u : InUse) (in_use : IsInUse plan (open_starts es) u) (first : ℕ) (here : IsHead r first) where
     -- if the first head can't start, and the lock of the bunch is
-    -- taken or there is none, no other head of the bunch can start
-    pub closed_none : (end : Option ℕ) → (CanStart plan es (get_or plan.queue first 0) → ⊥) → is_free_lock (is_locked u) (key_at plan keys first) ≡ false → NoneOfBunch plan es r first end
+    -- closed or there is none, no other head of the bunch can start
+    pub closed_none : (end : Option ℕ) → (CanStart plan es (get_or plan.queue first 0) → ⊥) → is_open_key u (key_at plan keys first) ≡ false → NoneOfBunch plan es r first end
     closed_none end unable closed head behind inside same is =
         by_key (key_at plan keys first) refl
       where
         within : head < length plan.queue
         within = head_within head is
 
-        by_key : (k : Option (List ℕ)) → key_at plan keys first ≡ k → CanStart plan es (get_or plan.queue head 0) → ⊥
+        by_key : (k : Option Key) → key_at plan keys first ≡ k → CanStart plan es (get_or plan.queue head 0) → ⊥
         by_key None none =
             none_alike plan es (get_or plan.queue first 0) (get_or plan.queue head 0) (head_due first here)
             (one_demand plan keys r.bunches are first head (head_within first here) within (sym same) none) unable
-        by_key (Some lock) some =
-            let held : is_locked u lock ≡ true = held_lock (is_locked u lock) (sym (ap (λ (k : Option (List ℕ)). is_free_lock (is_locked u) k) some) ∙ closed) in
-            let has = has_key (test_in_queue plan head) (get_or keys head None) lock (one_key plan keys r.bunches are head first within (head_within first here) same ∙ some) in
+        by_key (Some key) some =
+            let shut : is_closed u key.alone key.lock ≡ true = shut_lock (is_closed u key.alone key.lock) (sym (ap (λ (k : Option Key). is_open_key u k) some) ∙ closed) in
+            let has = has_key (test_in_queue plan head) (get_or keys head None) key (one_key plan keys r.bunches are head first within (head_within first here) same ∙ some) in
             let t = has.test in
             let found : test_at plan.tests (get_or plan.queue head 0) ≡ Some t = sym (queue_there plan head within) ∙ has.found in
-            let any = any_at (is_locked u) t.locks has.at lock has.named held in
-            not_due plan es t (get_or plan.queue head 0) found (excluded t found any)
+            not_due plan es t (get_or plan.queue head 0) found (excluded t found (closed_excludes u t key.lock key.alone shut has.named))
           where
-            held_lock : (b : Bool) → not b ≡ false → b ≡ true
-            held_lock true is = refl
-            held_lock false is = absurd (true≢false is)
+            shut_lock : (b : Bool) → not b ≡ false → b ≡ true
+            shut_lock true is = refl
+            shut_lock false is = absurd (true≢false is)
 
-            excluded : (t : PlanTest) → test_at plan.tests (get_or plan.queue head 0) ≡ Some t → list_any (is_locked u) t.locks ≡ true → may_start_if_placed plan t es ≡ false
-            excluded t found any =
+            excluded : (t : PlanTest) → test_at plan.tests (get_or plan.queue head 0) ≡ Some t → is_excluded_beside u t ≡ true → may_start_if_placed plan t es ≡ false
+            excluded t found out =
                 let next = member_may plan sound es r q head on unsettled is.member in
                 let this : next.test ≡ t = same_Some next.test t (sym next.found ∙ found) in
                 subst (λ (v : PlanTest). may_start_if_placed plan v es ≡ has_room plan v es) this next.may
                 ∙ sym (room_beside plan es u t in_use)
-                ∙ ap (λ (b : Bool). nat_le (t.processors + u.processors) plan.level && not b)
-                (ap (λ (b : Bool). u.serial || t.serial && nat_lt 0 u.open_count || b || list_any (is_held u.locks) t.shared) any
-                ∙ ap (λ (b : Bool). b || list_any (is_held u.locks) t.shared) (or_right (u.serial || t.serial && nat_lt 0 u.open_count) true refl))
+                ∙ ap (λ (b : Bool). nat_le (t.processors + u.processors) plan.level && not b) out
                 ∙ and_no (nat_le (t.processors + u.processors) plan.level)
 
-    -- if the lock of the bunch is free, a head may start exactly if there is room for it
-    module _ (free : is_free_lock (is_locked u) (key_at plan keys first) ≡ true) (head : ℕ) (same : get_or r.bunches head 0 ≡ get_or r.bunches first 0) (is : IsHead r head) where
+    -- if the lock of the bunch is open, a head may start exactly if there is room for it
+    module _ (free : is_open_key u (key_at plan keys first) ≡ true) (head : ℕ) (same : get_or r.bunches head 0 ≡ get_or r.bunches first 0) (is : IsHead r head) where
       head_room : IsRoomFor plan es u head
       head_room = by_key (key_at plan keys first) refl
         where
-          by_key : (k : Option (List ℕ)) → key_at plan keys first ≡ k → IsRoomFor plan es u head
-          by_key None none = absurd (true≢false (sym free ∙ ap (λ (k : Option (List ℕ)). is_free_lock (is_locked u) k) none))
-          by_key (Some lock) some =
+          by_key : (k : Option Key) → key_at plan keys first ≡ k → IsRoomFor plan es u head
+          by_key None none = absurd (true≢false (sym free ∙ ap (λ (k : Option Key). is_open_key u k) none))
+          by_key (Some key) some =
               let within = head_within head is in
-              let has = has_key (test_in_queue plan head) (get_or keys head None) lock (one_key plan keys r.bunches are head first within (head_within first here) same ∙ some) in
+              let has = has_key (test_in_queue plan head) (get_or keys head None) key (one_key plan keys r.bunches are head first within (head_within first here) same ∙ some) in
               let t = has.test in
               let found : test_at plan.tests (get_or plan.queue head 0) ≡ Some t = sym (queue_there plan head within) ∙ has.found in
               let next = member_may plan sound es r q head on unsettled is.member in

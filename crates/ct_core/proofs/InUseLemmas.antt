@@ -22,7 +22,7 @@ use Rattle.ct_history.proofs.ExcludeLemmas.{exclude-sym}
 use Rattle.ct_history.proofs.MayLemmas.{may_start-parts}
 use Rattle.ct_history.proofs.PlanLemmas.{find_passes}
 use Rattle.ct_core.specs.Locks.{is_held, knows}
-use Rattle.ct_core.specs.Sharers.{sharers_of, counts_sharers, is_shared, one_if}
+use Rattle.ct_core.specs.Sharers.{counts_sharers, is_shared, one_if}
 use Rattle.ct_core.specs.Slots.{IsFreeBeside, used_of}
 use Rattle.ct_core.specs.declared.in_use.InUse.{InUse}
 use Rattle.ct_core.specs.InUse.{CanGive, CanTake, CountsSharers, Gives, IsInUse, KnowsLocks, Takes, has_room_beside, is_excluded_beside, is_locked}

@@ -1,6 +1,6 @@
 -- What the open starts of a run use together: processors, slots, locks. Source: CMake manual,
 -- cmake-properties(7), PROCESSORS, RESOURCE_LOCK, RUN_SERIAL; ctest(1), Resource Allocation.
-use Rattle.std.specs.Prelude.{◌≡◌, ℕ, ◌+◌, ◌-◌, ◌^◌, ◌<◌, ◌≤◌, Bool, true, not, ◌&&◌, ◌||◌, List, length, sum_by, Option, Some, None, All, nat_le, nat_lt}
+use Rattle.std.specs.Prelude.{◌≡◌, ℕ, ◌+◌, ◌-◌, ◌^◌, ◌<◌, ◌≤◌, Bool, true, not, ◌&&◌, ◌||◌, List, length, sum_by, Option, Some, None, All, nat_le, nat_lt, if◌then◌else◌}
 use Rattle.std.specs.List.{list_any, list_all}
 use Rattle.ct_alloc.specs.declared.placement.Placement.{Placement}
 use Rattle.ct_alloc.specs.Placement.{fits_beside, slots_at}
@@ -62,6 +62,11 @@ pub record Gives (t : PlanTest) (placement : Option Placement) (old new : InUse)
 -- some open test holds the lock alone or shares it
 abbrev pub is_locked : InUse → List ℕ → Bool
 is_locked u lock = is_held u.locks lock || is_shared u.sharers lock
+
+-- a lock is closed to those that want to hold it alone while some open test holds or shares it, and to those
+-- that want to share it while some open test holds it
+abbrev pub is_closed : InUse → Bool → List ℕ → Bool
+is_closed u alone lock = if alone then is_locked u lock else is_held u.locks lock
 
 -- some open test and this test exclude each other
 abbrev pub is_excluded_beside : InUse → PlanTest → Bool

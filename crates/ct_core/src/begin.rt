@@ -6,7 +6,7 @@ ghost use Rattle.ct_core.specs.Waiting.{AreSettleable, IsQueued};
 ghost use Rattle.ct_history.specs.Plan.{IsAscendingFrom, IsSound, test_at};
 ghost use Rattle.ct_queue.specs.Marks.{is_marked};
 
-use crate::bunches::{bunches_of, keys_of};
+use crate::bunches::{KeyPlace, bunches_of, keys_of};
 use crate::followers::followers;
 use crate::in_use::nothing;
 use crate::lines::lines_of;
@@ -67,7 +67,11 @@ fn first_state(test: &PlanTest) -> State
 
 /// Makes the ready set: each test of the queue with the
 /// number of its predecessors, its line and its bunch.
-fn first_ready(alloc: Global, plan: &PlanParts, keys: &[Option<u32>]) -> Result<Ready, NoMemory>
+fn first_ready(
+    alloc: Global,
+    plan: &PlanParts,
+    keys: &[Option<KeyPlace>],
+) -> Result<Ready, NoMemory>
     requires sound { IsSound plan.now }
     requires few { length plan.now.tests < 2 ^ 32 - 1 }
     ensures queued { IfOk result (λ ready. IsQueued plan.now [] [] ready) }

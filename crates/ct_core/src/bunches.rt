@@ -1,6 +1,6 @@
-ghost use Rattle.std.specs.Prelude.{◌≡◌, ◌<◌, ◌^◌, IfOk, IsTrue, None, Some, length, map};
+ghost use Rattle.std.specs.Prelude.{◌≡◌, ◌<◌, ◌^◌, IfOk, IsTrue, None, Some, is_some, length, map, option_map, slice_index_or, true};
 ghost use Rattle.std.specs.Option.{option_copied};
-ghost use Rattle.ct_core.specs.Bunches.{AreBunchesOf, key_at};
+ghost use Rattle.ct_core.specs.Bunches.{AreBunchesOf, is_alone, key_at, key_in};
 ghost use Rattle.ct_core.specs.Lines.{AreLinesOf, demand_at};
 ghost use Rattle.ct_history.specs.Plan.{IsAscendingFrom};
 
@@ -11,37 +11,52 @@ use ct_history::{PlanParts, PlanTest};
 use indexmap::IndexMap;
 use std::alloc::Global;
 
+/// Where the key of a test stands: the place, in its list, of a lock that it holds alone or shares.
+#[derive(Clone, Copy)]
+pub(crate) enum KeyPlace {
+    Alone(u32),
+    Shared(u32),
+}
+
 /// Chooses the key of each test of the queue: the lock that it waits for together with other tests.
 ///
-/// Any of the locks that it holds alone is right. The chosen one is the lock
-/// that the most tests name, which keeps bunches few.
-pub(crate) fn keys_of(alloc: Global, plan: &PlanParts) -> Result<Vec<Option<u32>>, NoMemory>
+/// Any of its locks is right. The chosen one is the lock that the most
+/// tests hold alone or share as it does, which keeps bunches few.
+pub(crate) fn keys_of(alloc: Global, plan: &PlanParts) -> Result<Vec<Option<KeyPlace>>, NoMemory>
     requires { IsAscendingFrom 1 (map (λ t. t.number) plan.now.tests) }
 {
     let tests = plan.tests.as_slice();
-    let counts = lock_counts(alloc, tests)?;
+    let mut alone = IndexMap::new(alloc);
+    let mut shared = IndexMap::new(alloc);
+    for test in tests {
+        count_locks(alloc, &mut alone, test.locks.as_slice())?;
+        count_locks(alloc, &mut shared, test.shared.as_slice())?;
+    }
     let mut keys = Vec::new(alloc);
     for number in plan.queue.as_slice() {
-        keys.push(key_of(&counts, tests, *number))?;
+        keys.push(key_of(&alone, &shared, tests, *number))?;
     }
     Ok(keys)
 }
 
 /// Chooses one of the locks of the test with this number, if it has any.
-fn key_of(counts: &IndexMap<Vec<u8>, u32>, tests: &[PlanTest], number: u32) -> Option<u32>
+fn key_of(
+    alone: &IndexMap<Vec<u8>, u32>,
+    shared: &IndexMap<Vec<u8>, u32>,
+    tests: &[PlanTest],
+    number: u32,
+) -> Option<KeyPlace>
     requires { IsAscendingFrom 1 (map (λ t. t.number) tests.now) }
 {
-    let place = place_of(tests, number)?;
-    most_named(counts, tests[place].locks.as_slice())
-}
-
-/// Counts how often each lock is named.
-fn lock_counts(alloc: Global, tests: &[PlanTest]) -> Result<IndexMap<Vec<u8>, u32>, NoMemory> {
-    let mut counts = IndexMap::new(alloc);
-    for test in tests {
-        count_locks(alloc, &mut counts, test.locks.as_slice())?;
+    let test = &tests[place_of(tests, number)?];
+    let held = most_named(alone, test.locks.as_slice());
+    let joined = most_named(shared, test.shared.as_slice());
+    match (held, joined) {
+        (Some((at, most)), Some((_, count))) if most >= count => Some(KeyPlace::Alone(at)),
+        (_, Some((at, _))) => Some(KeyPlace::Shared(at)),
+        (Some((at, _)), None) => Some(KeyPlace::Alone(at)),
+        (None, None) => None,
     }
-    Ok(counts)
 }
 
 fn count_locks(
@@ -60,32 +75,54 @@ fn count_of(counts: &IndexMap<Vec<u8>, u32>, lock: &Name) -> u32 {
     counts.get(lock.bytes()).copied().unwrap_or(0)
 }
 
-/// Finds the position of the lock with the greatest count, if there is a lock.
-fn most_named(counts: &IndexMap<Vec<u8>, u32>, locks: &[Name]) -> Option<u32> {
+/// Finds the position of the lock with the greatest count, and that count, if there is a lock.
+fn most_named(counts: &IndexMap<Vec<u8>, u32>, locks: &[Name]) -> Option<(u32, u32)> {
     let mut found = None;
     let mut most = 0;
     for (at, lock) in locks.iter().enumerate() {
         let count = count_of(counts, lock);
         if most < count {
             most = count;
-            found = u32::try_from(at).ok();
+            found = u32::try_from(at).ok().map(|at| (at, count));
         }
     }
     found
 }
 
-/// Lends the key of the test at a place of the queue: the
-/// lock that it waits for together with other tests.
-pub(crate) fn key_at<'a>(plan: &'a PlanParts, keys: &[Option<u32>], place: u32) -> Option<&'a Name>
+/// Lends the lock in the key of the test at a place of the queue.
+pub(crate) fn lock_at<'a>(
+    plan: &'a PlanParts,
+    keys: &[Option<KeyPlace>],
+    place: u32,
+) -> Option<&'a Name>
     requires { IsAscendingFrom 1 (map (λ t. t.number) plan.now.tests) }
-    ensures { option_copied result ≡ key_at plan.now keys.now place }
+    ensures { option_copied result ≡ option_map (λ k. k.lock) (key_at plan.now keys.now place) }
 {
     let test = test_in(plan, place)?;
     let at = (*keys.get(place as usize)?)?;
     if test.needs.is_empty() {
-        test.locks.get(at as usize)
+        lock_in(test, at)
     } else {
         None
+    }
+}
+
+fn lock_in(test: &PlanTest, at: KeyPlace) -> Option<&Name>
+    ensures { option_copied result ≡ option_map (λ k. k.lock) (key_in test.now at) }
+{
+    match at {
+        KeyPlace::Alone(at) => test.locks.get(at as usize),
+        KeyPlace::Shared(at) => test.shared.get(at as usize),
+    }
+}
+
+/// Tells whether the key of the test at a place of the queue is a lock that the test holds alone.
+pub(crate) fn is_alone_at(keys: &[Option<KeyPlace>], place: u32) -> bool
+    ensures { result ≡ is_alone (slice_index_or keys.now place None) }
+{
+    match keys.get(place as usize) {
+        Some(Some(KeyPlace::Alone(_))) => true,
+        _ => false,
     }
 }
 
@@ -94,7 +131,7 @@ pub(crate) fn key_at<'a>(plan: &'a PlanParts, keys: &[Option<u32>], place: u32) 
 pub(crate) fn bunches_of(
     alloc: Global,
     plan: &PlanParts,
-    keys: &[Option<u32>],
+    keys: &[Option<KeyPlace>],
     lines: &List<u32>,
 ) -> Result<List<u32>, NoMemory>
     requires ascends { IsAscendingFrom 1 (map (λ t. t.number) plan.now.tests) }
@@ -116,7 +153,7 @@ pub(crate) fn bunches_of(
 fn bunch_of(
     alloc: Global,
     plan: &PlanParts,
-    keys: &[Option<u32>],
+    keys: &[Option<KeyPlace>],
     known: &mut IndexMap<Vec<u8>, u32>,
     line: u32,
     place: u32,
@@ -129,21 +166,29 @@ fn bunch_of(
     ensures locked { IfOk result (λ bunch. key_at plan.now keys.now bunch ≡ key_at plan.now keys.now place) }
     ensures alike { IfOk result (λ bunch. key_at plan.now keys.now place ≡ None → demand_at plan.now bunch ≡ demand_at plan.now place) }
 {
-    let Some(lock) = key_at(plan, keys, place) else {
+    let Some(lock) = lock_at(plan, keys, place) else {
         return Ok(unlocked_bunch(plan, keys, line, place));
     };
-    if let Some(bunch) = known.get(lock.bytes()) {
-        if is_bunch_for(plan, keys, *bunch, lock) {
+    let text = text_of(alloc, lock, is_alone_at(keys, place))?;
+    if let Some(bunch) = known.get(text.as_slice()) {
+        if have_one_key(plan, keys, *bunch, place) {
             return Ok(*bunch);
         }
     }
-    known.insert(Vec::from_slice(alloc, lock.bytes())?, place)?;
+    known.insert(text, place)?;
     Ok(place)
+}
+
+/// Writes a key as a text, the same text for the same key.
+fn text_of(alloc: Global, lock: &Name, alone: bool) -> Result<Vec<u8>, NoMemory> {
+    let mut text = Vec::from_slice(alloc, lock.bytes())?;
+    text.push(u8::from(alone))?;
+    Ok(text)
 }
 
 /// Returns the bunch of a test without a key: its line if
 /// the test at that place has no key either, else its place.
-fn unlocked_bunch(plan: &PlanParts, keys: &[Option<u32>], line: u32, place: u32) -> u32
+fn unlocked_bunch(plan: &PlanParts, keys: &[Option<KeyPlace>], line: u32, place: u32) -> u32
     requires ascends { IsAscendingFrom 1 (map (λ t. t.number) plan.now.tests) }
     requires within { place < length plan.now.queue }
     requires line { line < length plan.now.queue }
@@ -153,19 +198,22 @@ fn unlocked_bunch(plan: &PlanParts, keys: &[Option<u32>], line: u32, place: u32)
     ensures unlocked { key_at plan.now keys.now result ≡ None }
     ensures alike { demand_at plan.now result ≡ demand_at plan.now place }
 {
-    match key_at(plan, keys, line) {
+    match lock_at(plan, keys, line) {
         Some(_) => place,
         None => line,
     }
 }
 
-/// Tells whether the lock is the key of the test at this place of the queue.
-fn is_bunch_for(plan: &PlanParts, keys: &[Option<u32>], bunch: u32, lock: &Name) -> bool
+/// Tells whether the tests at two places of the queue have the same key.
+fn have_one_key(plan: &PlanParts, keys: &[Option<KeyPlace>], one: u32, other: u32) -> bool
     requires { IsAscendingFrom 1 (map (λ t. t.number) plan.now.tests) }
-    ensures { IsTrue result → key_at plan.now keys.now bunch ≡ Some lock.now }
+    ensures there { IsTrue result → is_some (key_at plan.now keys.now one) ≡ true }
+    ensures same { IsTrue result → key_at plan.now keys.now one ≡ key_at plan.now keys.now other }
 {
-    match key_at(plan, keys, bunch) {
-        Some(other) => other.is(lock),
-        None => false,
+    match (lock_at(plan, keys, one), lock_at(plan, keys, other)) {
+        (Some(lock), Some(wanted)) => {
+            lock.is(wanted) && is_alone_at(keys, one) == is_alone_at(keys, other)
+        }
+        _ => false,
     }
 }

@@ -1,7 +1,6 @@
 ghost use Rattle.std.specs.Prelude.{◌≡◌, ◌↔◌, ◌<◌, find, length, not, slice_index, true, false, IfErr, IfOk, IsTrue, MatchOption, None, Some, if◌then◌else◌};
-ghost use Rattle.ct_core.specs.Bunches.{IsBefore, IsFirstOfBunch, IsNewBunchTo, NoNewBunchTo, NoneOfBunch, has_room_at, is_free_lock, key_at, test_in_queue};
+ghost use Rattle.ct_core.specs.Bunches.{IsBefore, IsFirstOfBunch, IsNewBunchTo, NoNewBunchTo, NoneOfBunch, has_room_at, is_open_key, key_at, test_in_queue};
 ghost use Rattle.ct_core.specs.Choice.{IsChoice, IsLeastToSettle, IsStartOf, IsStartable, NoneSettles, NoneStarts, SomeIsToPlace, TakesMemory, attempt_after, may_start_if_placed_at};
-ghost use Rattle.ct_core.specs.InUse.{is_locked};
 ghost use Rattle.ct_core.specs.Parts.{AreTold};
 ghost use Rattle.ct_core.specs.Run.{IsKeptRun, entries_of};
 ghost use Rattle.ct_core.specs.Waiting.{IsDue, cause_then};
@@ -12,7 +11,7 @@ ghost use Rattle.ct_history.specs.Verdicts.{verdict_of_test};
 ghost use Rattle.ct_queue.specs.Ready.{IsHead};
 ghost use Rattle.ct_verdict.specs.declared.verdict.Cause.TheVariants.{Stopped};
 
-use crate::bunches::key_at;
+use crate::bunches::{is_alone_at, lock_at};
 use crate::lines::test_in;
 use crate::places::{expect_place, place_of};
 use crate::run::Run;
@@ -132,7 +131,7 @@ impl Run {
     /// Finds the first test of the queue that may start, with its placement.
     ///
     /// Of each line it tries the first ready test alone: if that test can't start, no other of the
-    /// line can. Of a bunch whose lock is taken it tries only the first ready test of the first line.
+    /// line can. Of a bunch whose lock is closed it tries only the first ready test of the first line.
     fn first_to_start(&self, alloc: Global) -> Result<Option<Startable>, NoMemory>
         requires kept { IsKeptRun self.now }
         requires unsettled { NoneSettles self.now.plan (entries_of self.now) }
@@ -231,7 +230,7 @@ impl Run {
     /// Finds the first head of a bunch whose test may start,
     /// behind its first head, which can't, and in front of an end.
     ///
-    /// If the lock of the bunch is taken, none may start. If the bunch has
+    /// If the lock of the bunch is closed, none may start. If the bunch has
     /// no lock, none may either, since its tests have the same demand.
     fn first_of_bunch(&self, first: u32, end: Option<u32>) -> Option<u32>
         requires kept { IsKeptRun self.now }
@@ -258,14 +257,14 @@ impl Run {
         None
     }
 
-    /// Tells whether the bunch of the test at a place of the queue waits for a lock that no open test
-    /// holds or shares.
+    /// Tells whether the bunch of the test at a place of the queue waits for a lock that is open to it.
     fn is_open(&self, place: u32) -> bool
         requires { IsKeptRun self.now }
-        ensures { result ≡ is_free_lock (is_locked self.now.parts.in_use) (key_at self.now.plan self.now.parts.keys.items place) }
+        ensures { result ≡ is_open_key self.now.parts.in_use (key_at self.now.plan self.now.parts.keys.items place) }
     {
-        match key_at(self.plan.parts(), self.parts.keys.as_slice(), place) {
-            Some(lock) => !self.parts.in_use.is_locked(lock),
+        let keys = self.parts.keys.as_slice();
+        match lock_at(self.plan.parts(), keys, place) {
+            Some(lock) => !self.parts.in_use.is_closed(is_alone_at(keys, place), lock),
             None => false,
         }
     }

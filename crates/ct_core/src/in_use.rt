@@ -3,7 +3,7 @@ ghost use Rattle.std.specs.List.{list_any};
 ghost use Rattle.std.specs.Option.{option_copied};
 ghost use Rattle.ct_history.specs.History.{placed_slots};
 ghost use Rattle.ct_core.specs.Slots.{resources_of, used_of};
-ghost use Rattle.ct_core.specs.InUse.{CanGive, CanTake, Gives, HasFreeFor, HasTaken, IsInUse, Takes, has_room_beside, is_excluded_beside, is_locked};
+ghost use Rattle.ct_core.specs.InUse.{CanGive, CanTake, Gives, HasFreeFor, HasTaken, IsInUse, Takes, has_room_beside, is_closed, is_excluded_beside, is_locked};
 
 use crate::locks::{Locks, none_held};
 use crate::sharers::{Sharers, none_share};
@@ -95,8 +95,19 @@ impl InUse {
         locks.iter().any(|lock| self.is_locked(lock))
     }
 
+    /// Tells whether this lock is closed to a test that is to hold it alone, or else to share it.
+    pub(crate) fn is_closed(&self, alone: bool, lock: &Name) -> bool
+        ensures { result ≡ is_closed self.now alone lock.now }
+    {
+        if alone {
+            self.is_locked(lock)
+        } else {
+            self.locks.is_held(lock)
+        }
+    }
+
     /// Tells whether an open test holds this lock alone or shares it.
-    pub(crate) fn is_locked(&self, lock: &Name) -> bool
+    fn is_locked(&self, lock: &Name) -> bool
         ensures { result ≡ is_locked self.now lock.now }
     {
         self.locks.is_held(lock) || self.sharers.is_shared(lock)

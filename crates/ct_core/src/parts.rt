@@ -2,6 +2,7 @@ ghost use Rattle.std.specs.Prelude.{◌<◌, ◌≤◌, ◌≡◌, false, true, 
 ghost use Rattle.ct_core.specs.Parts.{GoesOn, IsSettled, IsStopped, is_pending_at_place};
 ghost use Rattle.ct_queue.specs.Ready.{StandsIn, is_out, is_ready};
 
+use crate::bunches::KeyPlace;
 use crate::in_use::InUse;
 use crate::state::State;
 use ct_base::List;
@@ -19,9 +20,9 @@ pub(crate) struct Parts {
     pub(crate) in_use: InUse,
     /// The tests that wait for each test, by its place in the plan.
     pub(crate) followers: Vec<List<u32>>,
-    /// The key of each test, by its place in the queue: the position, in the
-    /// test's list, of the lock that it waits for together with other tests.
-    pub(crate) keys: Vec<Option<u32>>,
+    /// The key of each test, by its place in the queue: where the lock
+    /// stands that it waits for together with other tests.
+    pub(crate) keys: Vec<Option<KeyPlace>>,
     /// The tests that are ready to start; right only while there is no Stop.
     pub(crate) ready: Ready,
     /// The places of the tests that may be settled.

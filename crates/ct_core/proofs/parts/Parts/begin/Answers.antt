@@ -1,8 +1,9 @@
 use Rattle.std.proofs.Common.{◌∙◌, ap, false, map, refl, subst, List}
 use Rattle.ct_history.specs.declared.plan.PlanTest.{PlanTest}
 use Rattle.ct_core.specs.declared.parts.Parts.{Parts}
-use Rattle.std.specs.Prelude.{ℕ, Option}
+use Rattle.std.specs.Prelude.{Option}
 use Rattle.ct_core.specs.Begin.{first_state}
+use Rattle.ct_core.specs.declared.bunches.KeyPlace.{KeyPlace}
 use Rattle.ct_core.specs.Bunches.{AreBunchesOf}
 use Rattle.ct_core.specs.Followers.{followers_of}
 use Rattle.ct_core.proofs.FirstLemmas.{begun}
@@ -23,5 +24,5 @@ returns c =
     } in
     begun c.args.plan.now parts c.requires (c.in_ok-first_states.ensures ∙ ap (λ (ts : List PlanTest). map first_state ts) tests) c.len.ensures c.in_ok-nothing.ensures
     (c.in_ok-followers.ensures ∙ ap (λ (ts : List PlanTest). map (λ (t : PlanTest). followers_of ts t.number) ts) tests) c.in_ok-first_ready.ensures.queued
-    (subst (λ (ks : List (Option ℕ)). AreBunchesOf c.args.plan.now ks c.in_ok-first_ready.field-0.bunches) c.as_slice.ensures.value c.in_ok-first_ready.ensures.bunches)
+    (subst (λ (ks : List (Option KeyPlace)). AreBunchesOf c.args.plan.now ks c.in_ok-first_ready.field-0.bunches) c.as_slice.ensures.value c.in_ok-first_ready.ensures.bunches)
     c.in_ok-first_settleable.ensures refl

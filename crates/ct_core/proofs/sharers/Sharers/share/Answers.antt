@@ -1,4 +1,4 @@
-use Rattle.std.proofs.Common.{◌≡◌, ◌∙◌, ap, arith, subst, sym, take, ℕ, List, ◌+◌}
+use Rattle.std.proofs.Common.{◌∙◌, ap, sym, take, ℕ, List, ◌+◌}
 use Rattle.ct_history.specs.Rules.{is_among}
 use Rattle.ct_core.specs.declared.sharers.Sharers.{Sharers}
 use Rattle.ct_core.specs.Sharers.{counts_sharers, one_if, sharers_of}
