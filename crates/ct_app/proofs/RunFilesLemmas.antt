@@ -19,7 +19,8 @@ use Rattle.ct_cost.specs.After.{failed_log_text, logged}
 use Rattle.ct_cost.specs.Costs.{costs_in}
 use Rattle.ct_app.specs.declared.run_files.RunFileFault.{RunFileFault}
 use Rattle.ct_app.specs.declared.run_files.RunFileFault.TheVariants as Fault
-use Rattle.ct_app.specs.RunFiles.{FilesFail, FilesServe, FilesStay, Leaves, LeavesBoth, LeavesFor, LeavesPart, LeavesTorn, WritesFiles, WritesText, costs_of, costs_path, last_costs, log_path, most_cost_bytes, new_costs}
+use Rattle.ct_app.specs.Rerun.{ReadsLog}
+use Rattle.ct_app.specs.RunFiles.{FilesFail, FilesServe, FilesStay, Leaves, LeavesBoth, LeavesFor, LeavesPart, LeavesTorn, ReadsCosts, WritesFiles, WritesText, costs_of, costs_path, fault_at, last_costs, log_path, most_cost_bytes, new_costs}
 use Rattle.ct_app.proofs.FrontLemmas.{made_of_front}
 use Rattle.ct_app.proofs.ChangeLemmas.{fails_as, fails_then, same_then_fails, same_then_same, same_then_writes, serves_as, serves_then, stays, writes_then_same}
 
@@ -40,6 +41,22 @@ module _ (path : List ℕ) (before now : FilesTell) (got : Option (List ℕ)) wh
 
   pub looked : LooksAt path before now (Ok got) → FilesStay before now
   looked looks = record { held = looks.kept; unrefused = looks.asks.unrefused no_fault; unfailed = looks.asks.cause.unfailed no_fault }
+
+-- a file was not read: the read failed, or memory ran out
+module _ {T : Type 0} (path : List ℕ) (before now : FilesTell) where
+  pub look_failed : LooksAt {T = T} path before now (Err Files.Failed) → FilesFail path SameHeld before now
+  look_failed looks = record { held = looks.kept; told = looks.asks.told; last = looks.asks.refused refl; rose = looks.asks.cause.failed refl }
+
+  pub look_lacked : LooksAt {T = T} path before now (Err Files.NoMemory) → FilesStay before now
+  look_lacked looks = record { held = looks.kept; unrefused = looks.asks.unrefused (λ e. cc); unfailed = looks.asks.cause.unfailed (λ e. cc) }
+
+  pub costs_unread : (dir : List ℕ) (fault : FilesFault) → path ≡ costs_path dir → LooksAt {T = T} path before now (Err fault) → ReadsCosts dir before now (Err (fault_at path fault))
+  costs_unread dir Files.Failed named looks = (named, look_failed looks)
+  costs_unread dir Files.NoMemory named looks = look_lacked looks
+
+  pub log_unread : (dir : List ℕ) (fault : FilesFault) → path ≡ log_path dir → LooksAt {T = T} path before now (Err fault) → ReadsLog dir before now (Err (fault_at path fault))
+  log_unread dir Files.Failed named looks = (named, look_failed looks)
+  log_unread dir Files.NoMemory named looks = look_lacked looks
 
 -- a write with an equal path and an equal text is the same write
 pub writes_as : (path other text given : List ℕ) (before now : FilesTell) (result : Result (Unit {0}) RunFileFault) → path ≡ other → text ≡ given → WritesText path text before now result → WritesText other given before now result

@@ -1,7 +1,7 @@
 use Rattle.std.proofs.Common.{◌∙◌, ap, ℕ, List}
 use Rattle.ct_base.specs.Path.{joined}
 use Rattle.ct_app.proofs.RerunLemmas.{reads_names}
-use Rattle.ct_app.proofs.RunFilesLemmas.{looked}
+use Rattle.ct_app.proofs.RunFilesLemmas.{log_unread, looked}
 use Rattle.ct_app.proofs.rerun.read_log.Goals as goal
 
 pub returns-in_ok-names_of-in-Ok : goal.returns-in_ok-names_of-in-Ok
@@ -10,3 +10,8 @@ returns-in_ok-names_of-in-Ok g c =
     let named = c.in_ok-path.ensures ∙ ap (λ (name : List ℕ). joined c.args.dir.now name) c.in_ok-of.ensures in
     let is = c.in_ok-names_of-in-Ok.ensures in
     (reads_names c.args.dir.now c.in_ok-path.path before.held c.in-Ok.held c.in_ok-names_of-in-Ok.field-0 named c.in-Ok.ensures.ok is, looked c.in_ok-path.path before (g.F.Files.tells c.read.new.self) c.in-Ok.held c.in-Ok.ensures.looks)
+
+pub returns-in-Err : goal.returns-in-Err
+returns-in-Err g c =
+    let named = c.in_ok-path.ensures ∙ ap (λ (name : List ℕ). joined c.args.dir.now name) c.in_ok-of.ensures in
+    rw c.fault_at.ensures (log_unread c.in_ok-path.path (g.F.Files.tells c.args.files.now) (g.F.Files.tells c.read.new.self) c.args.dir.now c.in-Err.fault named c.in-Err.ensures.looks)
