@@ -149,7 +149,7 @@ pub(crate) fn bunches_of(
 }
 
 /// Returns the bunch of the test at a place of this line: a bunch that
-/// is known by its lock, or a new one, which is known from then on.
+/// is known by its key, or a new one, which is known from then on.
 fn bunch_of(
     alloc: Global,
     plan: &PlanParts,
