@@ -2,14 +2,14 @@
 -- Of the promises, only what a scan stands for (Scan.antt) is stated by it.
 -- Ends.antt defines what a match is.
 use Rattle.std.specs.Prelude.{ℕ, ◌+◌, Bool, true, false, ◌&&◌, ◌||◌, List, [], ◌∷◌, ◌++◌, length, slice_index_or, slice_set}
-use Rattle.ct_regex.specs.Tree.{Test, takes, Tree, empty, never, start, end, one, sequence, choice, repeat}
+use Rattle.ct_regex.specs.Tree.{Test, any, same, takes, Tree, empty, never, start, end, one, sequence, choice, repeat}
 use Rattle.ct_regex.specs.Meaning.{byte_test}
 use Rattle.ct_regex.specs.declared.tree.Quantifier.TheVariants.{ZeroOrOne, ZeroOrMore, OneOrMore}
 use Rattle.ct_regex.specs.declared.walk.Flow.{Flow}
 use Rattle.ct_regex.specs.declared.walk.Branches.{Branches}
 use Rattle.ct_regex.specs.declared.walk.Step as step_type
 
--- one step of a walk, with the place of its mark; the variants are those of the code
+-- one step of a walk, with the place of its mark
 pub data Step : Type 0 where
   at_start : ℕ → Step
   at_end : Step
@@ -25,7 +25,9 @@ pub data Step : Type 0 where
 abbrev pub step_of : step_type.Step → Step
 step_of (step_type.TheVariants.Start at) = at_start at
 step_of step_type.TheVariants.End = at_end
-step_of (step_type.TheVariants.One at test) = of_one at (byte_test test)
+step_of (step_type.TheVariants.Any at) = of_one at any
+step_of (step_type.TheVariants.Same at byte) = of_one at (same byte)
+step_of (step_type.TheVariants.Tested at test) = of_one at (byte_test test)
 step_of step_type.TheVariants.Fork = fork
 step_of step_type.TheVariants.Maybe = maybe
 step_of step_type.TheVariants.Or = or_else

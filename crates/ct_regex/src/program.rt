@@ -2,7 +2,7 @@ ghost use Rattle.std.specs.Prelude.{◌≡◌, true, false, [], ◌∷◌, ◌++
 ghost use Rattle.ct_regex.specs.Tree.{repeat, sequence_of, choice_of};
 ghost use Rattle.ct_regex.specs.declared.tree.Quantifier.TheVariants.{OneOrMore};
 ghost use Rattle.ct_regex.specs.Meaning.{meaning, byte_test};
-ghost use Rattle.ct_regex.specs.Walk.{step_of, fork, or_else, join, no_marks, steps_of};
+ghost use Rattle.ct_regex.specs.Walk.{step_of, of_one as one_step, fork, or_else, join, no_marks, steps_of};
 
 use crate::tree::{ByteTest, Node, Quantifier};
 use crate::walk::Step;
@@ -73,8 +73,8 @@ fn add(alloc: Global, program: Program, node: &Node) -> Result<Program, NoMemory
         Node::Start => program.with_step(Step::Start(at))?.with_mark(true),
         Node::End => program.with_step(Step::End),
         Node::One(test) => {
-            let test = copied(alloc, test)?;
-            program.with_step(Step::One(at, test))?.with_mark(false)
+            let step = of_one(alloc, at, test)?;
+            program.with_step(step)?.with_mark(false)
         }
         Node::Sequence(parts) => add_parts(alloc, program, parts),
         Node::Choice(branches) => add_choice(alloc, program, branches),
@@ -151,13 +151,20 @@ fn add_branches(alloc: Global, program: Program, branches: &[Node]) -> Result<Pr
     all.with_step(Step::Join)
 }
 
-fn copied(alloc: Global, test: &ByteTest) -> Result<ByteTest, NoMemory>
-    ensures { IfOk result (λ copy. byte_test copy ≡ byte_test test.now) }
+/// Returns the step of an atom of one byte, whose mark stands at a place.
+fn of_one(alloc: Global, at: usize, test: &ByteTest) -> Result<Step, NoMemory>
+    ensures { IfOk result (λ step. step_of step ≡ one_step at (byte_test test.now)) }
 {
     match test {
-        ByteTest::Any => Ok(ByteTest::Any),
-        ByteTest::Same(byte) => Ok(ByteTest::Same(*byte)),
-        ByteTest::Inside(spans) => Ok(ByteTest::Inside(Vec::from_slice(alloc, spans)?)),
-        ByteTest::Outside(spans) => Ok(ByteTest::Outside(Vec::from_slice(alloc, spans)?)),
+        ByteTest::Any => Ok(Step::Any(at)),
+        ByteTest::Same(byte) => Ok(Step::Same(at, *byte)),
+        ByteTest::Inside(spans) => {
+            let spans = Vec::from_slice(alloc, spans)?;
+            Ok(Step::Tested(at, ByteTest::Inside(spans)))
+        }
+        ByteTest::Outside(spans) => {
+            let spans = Vec::from_slice(alloc, spans)?;
+            Ok(Step::Tested(at, ByteTest::Outside(spans)))
+        }
     }
 }

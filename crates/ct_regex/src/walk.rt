@@ -13,8 +13,12 @@ pub enum Step {
     Start(usize),
     /// `$`.
     End,
-    /// One byte: the mark says that a match has come behind it with the last byte.
-    One(usize, ByteTest),
+    /// `.`, any byte: the mark says that a match has come behind it with the last byte.
+    Any(usize),
+    /// That byte, with the same mark.
+    Same(usize, u8),
+    /// A byte that passes a test, with the same mark.
+    Tested(usize, ByteTest),
     /// Opens a choice.
     Fork,
     /// Opens a choice of which one branch is empty.
@@ -102,9 +106,6 @@ fn take(step: &Step, byte: u8, flow: Flow, marks: &mut [bool], opened: &mut Vec<
     ensures len { vec_len opened.new ≤ vec_len opened.old + 1 }
     ensures room { vec_capacity opened.new ≡ vec_capacity opened.old }
 {
-    if let Step::One(at, test) = step {
-        return at_one(*at, test, byte, flow, marks);
-    }
     match step {
         Step::Start(at) => at_start(flow, marks, *at),
         Step::End => Flow {
@@ -112,7 +113,9 @@ fn take(step: &Step, byte: u8, flow: Flow, marks: &mut [bool], opened: &mut Vec<
             next: false,
             last: flow.last,
         },
-        Step::One(at, test) => at_one(*at, test, byte, flow, marks),
+        Step::Any(at) => at_one(*at, true, flow, marks),
+        Step::Same(at, wanted) => at_one(*at, byte == *wanted, flow, marks),
+        Step::Tested(at, test) => at_one(*at, is_taken(test, byte), flow, marks),
         Step::Fork => open(opened, flow, nothing()),
         Step::Maybe => open(opened, flow, flow),
         Step::Or => next_branch(opened, flow),
@@ -129,15 +132,13 @@ fn take(step: &Step, byte: u8, flow: Flow, marks: &mut [bool], opened: &mut Vec<
     }
 }
 
-fn at_one(at: usize, test: &ByteTest, byte: u8, flow: Flow, marks: &mut [bool]) -> Flow
-    ensures flow { result ≡ behind_one (slice_index_or marks.old at false)
-        (flow.now && takes (byte_test test.now) byte) }
-    ensures marks { marks.new ≡ slice_set marks.old at
-        (flow.now && takes (byte_test test.now) byte) }
+/// Takes a byte or not. Whether the atom takes it is asked in any case, since a branch on the flow would
+/// often be predicted wrong.
+fn at_one(at: usize, is_taken: bool, flow: Flow, marks: &mut [bool]) -> Flow
+    ensures flow { result ≡ behind_one (slice_index_or marks.old at false) (flow.now && is_taken) }
+    ensures marks { marks.new ≡ slice_set marks.old at (flow.now && is_taken) }
 {
-    // The test comes first, since a branch on the flow would often be predicted wrong.
-    let taken = is_taken(test, byte);
-    let comes = flow.now && taken;
+    let comes = flow.now && is_taken;
     let came = exchange(marks, at, comes);
     behind(came, comes)
 }
@@ -268,9 +269,6 @@ fn merged(left: Flow, right: Flow) -> Flow
 fn is_taken(test: &ByteTest, byte: u8) -> bool
     ensures { result ≡ takes (byte_test test.now) byte }
 {
-    if let ByteTest::Any = test {
-        return true;
-    }
     match test {
         ByteTest::Any => true,
         ByteTest::Same(wanted) => byte == *wanted,
