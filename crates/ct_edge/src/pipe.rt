@@ -67,11 +67,7 @@ pub fn read_both<C: Clock, O: Read + AsRawFd, P: Read + AsRawFd, E: Ear, K: Keep
 }
 
 /// Hands what one read into this room returns to the ear, and tells whether more may come.
-fn hear_piece<R: Read, E: Ear>(
-    output: &mut R,
-    ear: &mut E,
-    room: &mut [u8],
-) -> io::Result<bool>
+fn hear_piece<R: Read, E: Ear>(output: &mut R, ear: &mut E, room: &mut [u8]) -> io::Result<bool>
     requires room { 0 < length room.old }
     ensures moved { OnOk result (Hears (R.remaining output.old) (R.remaining output.new) (E.stands_for ear.old) (E.stands_for ear.new)) }
     ensures kept { E.kept ear.new ≡ E.kept ear.old }
