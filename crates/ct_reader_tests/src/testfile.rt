@@ -316,10 +316,7 @@ fn file(alloc: Global, path: &str, text: &[u8]) -> Result<Pair, NoMemory> {
 }
 
 /// Reads 25 folders of 16,000 tests each, and behind them a folder with this test file.
-fn read_folders(
-    alloc: Global,
-    last: &[u8],
-) -> Result<Result<List<TestDef>, ReadFault>, NoMemory> {
+fn read_folders(alloc: Global, last: &[u8]) -> Result<Result<List<TestDef>, ReadFault>, NoMemory> {
     let mut tests = Vec::new(alloc);
     for _ in 0..16_000 {
         tests.extend_from_slice(b"add_test(a b)\n")?;
