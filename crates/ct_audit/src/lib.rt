@@ -1,6 +1,6 @@
 //! Checks a history in one pass, entry by entry, by the rules of ct_history.
 //!
-//! Hands up: `Audit::new`, `Audit::allows`, `Audit::note`, `Audit::is_at_end`. Shares no code with the scheduler.
+//! Hands up: `Audit` (`new`, `allows`, `note`, `is_at_end`), `planned_test`. It names no crate of the scheduler.
 //! Stands on: ct_base, ct_alloc, ct_verdict, ct_history and `indexmap`.
 //! Read first: `specs/Tells.antt`, `specs/Seen.antt`.
 #![tactic(auto)]
@@ -13,3 +13,4 @@ mod places;
 mod rules;
 
 pub use audit::Audit;
+pub use places::planned_test;

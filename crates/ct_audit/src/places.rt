@@ -3,7 +3,7 @@ ghost use Rattle.std.specs.Option.{option_copied};
 ghost use Rattle.ct_history.specs.Plan.{test_at};
 ghost use Rattle.ct_audit.specs.Places.{Ascend, IsPlaceOf};
 
-use ct_history::PlanTest;
+use ct_history::{Plan, PlanTest};
 
 /// Looks up a test by its number: at once where each lesser number is there, and else in a time that grows with the
 /// logarithm of the tests.
@@ -48,4 +48,11 @@ fn search(tests: &[PlanTest], number: u32) -> Option<usize>
     } else {
         None
     }
+}
+
+/// Looks up a test of a plan by its number, in a time that grows at most with the logarithm of the tests.
+pub fn planned_test(plan: &Plan, number: u32) -> Option<&PlanTest>
+    ensures { option_copied result ≡ test_at plan.now.tests number }
+{
+    planned(plan.parts().tests.as_slice(), number)
 }
