@@ -2,3 +2,5 @@
 pub mod Journal
 pub mod Completed
 pub mod Guess
+pub mod Checked
+pub mod Found
