@@ -7,6 +7,8 @@
 #![tactic(auto)]
 
 #[cfg(test)]
+mod checked;
+#[cfg(test)]
 mod cost;
 #[cfg(test)]
 mod journal;
