@@ -24,7 +24,7 @@ use Rattle.ct_app.specs.declared.run_files.RunFileFault.{RunFileFault}
 use Rattle.ct_app.specs.declared.run_files.RunFileFault.TheVariants as Fault
 use Rattle.ct_app.specs.Calls.{IsUnrun, Sides, sides}
 use Rattle.ct_app.specs.Runs.{IsRunOf}
-use Rattle.ct_app.specs.Ends.{Ends, EndsWithFiles, IsReadFolder, IsUnplanned, IsUnreadFolder, PlanEnds, RunLeaves, with_status}
+use Rattle.ct_app.specs.Ends.{EndsUnrun, Ends, EndsWithFiles, IsReadFolder, IsUnplanned, IsUnreadFolder, PlanEnds, RunLeaves, with_status}
 use Rattle.ct_app.specs.Outcome.{outcome_of_file}
 use Rattle.ct_app.specs.Rerun.{wanted_of}
 use Rattle.ct_app.specs.Reading.{AskFor, IsSource, most_edges}
@@ -80,7 +80,7 @@ terms_are own s limit plan is = ap (λ (x : Option (List Resource)). let t : Ter
 
 -- a folder was read for its run
 module _ (words : List (List ℕ)) (env : List Pair) (invocation : Invocation) (asked : AskFor words invocation) (files between files_now : FilesTell) (tests : Tests) (lent : Option (List Resource)) (costs : CostData) (only : Option (List (List ℕ))) (read : IsReadFolder invocation files between tests lent costs only) where
-  is_source : IsSource files.held invocation (source tests.defs tests.props (wanted_of invocation only) lent costs)
+  pub is_source : IsSource files.held invocation (source tests.defs tests.props (wanted_of invocation only) lent costs)
   is_source = record { tests = read.read.read; only = read.limits; wanted = refl; resources = read.lent; costs = read.last }
 
   -- the plan was run, and the files of the run were written where the run is complete
@@ -107,71 +107,62 @@ module _ (words : List (List ℕ)) (env : List Pair) (invocation : Invocation) (
       })
 
   -- the tests of the folder have no plan
-  pub unplanned_ends : (gates : List GateTell) (sink : SinkTell) (plan : Option PlanParts) (history : Option (List Entry)) (names : List (List ℕ)) (ended : Result ℕ Outcome) (fault : PlanFault) → plan ≡ None → history ≡ None → IsPlanAnswer most_edges (source tests.defs tests.props (wanted_of invocation only) lent costs) (Err fault) → IsUnplanned tests.defs fault names ended → Ends (sides words env files between gates gates sink sink plan history) names ended
-  unplanned_ends gates sink plan history names ended fault no_plan no_history answer unplanned = by fault answer unplanned
+  pub unplanned_unrun : (gates : List GateTell) (sink : SinkTell) (names : List (List ℕ)) (ended : Result ℕ Outcome) (fault : PlanFault) → IsPlanAnswer most_edges (source tests.defs tests.props (wanted_of invocation only) lent costs) (Err fault) → IsUnplanned tests.defs fault names ended → EndsUnrun (sides words env files between gates gates sink sink None None) names ended
+  unplanned_unrun gates sink names ended fault answer unplanned = by fault answer unplanned
     where
-      unrun : IsUnrun (sides words env files between gates gates sink sink plan history)
-      unrun = record { no_plan = no_plan; no_history = no_history; unasked = refl }
+      unrun : IsUnrun (sides words env files between gates gates sink sink None None)
+      unrun = record { no_plan = refl; no_history = refl; unasked = refl }
 
-      said : (other : Result ℕ Outcome) → ended ≡ other → Ends (sides words env files between gates gates sink sink plan history) names other → Ends (sides words env files between gates gates sink sink plan history) names ended
-      said other is ends = subst (λ (o : Result ℕ Outcome). Ends (sides words env files between gates gates sink sink plan history) names o) (sym is) ends
+      said : (other : Result ℕ Outcome) → ended ≡ other → EndsUnrun (sides words env files between gates gates sink sink None None) names other → EndsUnrun (sides words env files between gates gates sink sink None None) names ended
+      said other is ends = subst (λ (o : Result ℕ Outcome). EndsUnrun (sides words env files between gates gates sink sink None None) names o) (sym is) ends
 
-      by : (f : PlanFault) → IsPlanAnswer most_edges (source tests.defs tests.props (wanted_of invocation only) lent costs) (Err f) → IsUnplanned tests.defs f names ended → Ends (sides words env files between gates gates sink sink plan history) names ended
+      by : (f : PlanFault) → IsPlanAnswer most_edges (source tests.defs tests.props (wanted_of invocation only) lent costs) (Err f) → IsUnplanned tests.defs f names ended → EndsUnrun (sides words env files between gates gates sink sink None None) names ended
       by (Plans.Cycle cycle) refused (inl (is, named)) =
           said (Err (Refused (Cycle cycle))) is
-          (inr (
-            inr (inr (record {
-              invocation = invocation;
-              words = asked;
-              source = source tests.defs tests.props (wanted_of invocation only) lent costs;
-              read = is_source;
-              refused = (refused.0, refused.1, named);
-              files = read.read.files;
-              unrun = unrun;
-            })),
-            refl,
-          ))
-      by (Plans.Cycle cycle) refused (inr is) = said (Err Memory) is (inr ((unrun, read.read.files), refl))
+          (inr (inr (record {
+            invocation = invocation;
+            words = asked;
+            source = source tests.defs tests.props (wanted_of invocation only) lent costs;
+            read = is_source;
+            refused = (refused.0, refused.1, named);
+            files = read.read.files;
+            unrun = unrun;
+          })))
+      by (Plans.Cycle cycle) refused (inr is) = said (Err Memory) is (unrun, read.read.files)
       by Plans.TooManyEdges refused is =
           said (Err (Refused TooManyEdges)) is
-          (inr (
-            inr (inr (record {
-              invocation = invocation;
-              words = asked;
-              source = source tests.defs tests.props (wanted_of invocation only) lent costs;
-              read = is_source;
-              refused = refused;
-              files = read.read.files;
-              unrun = unrun;
-            })),
-            refl,
-          ))
-      by Plans.NoMemory refused is = said (Err Memory) is (inr ((unrun, read.read.files), refl))
+          (inr (inr (record {
+            invocation = invocation;
+            words = asked;
+            source = source tests.defs tests.props (wanted_of invocation only) lent costs;
+            read = is_source;
+            refused = refused;
+            files = read.read.files;
+            unrun = unrun;
+          })))
+      by Plans.NoMemory refused is = said (Err Memory) is (unrun, read.read.files)
 
 -- a folder was not read for its run
 module _ (words : List (List ℕ)) (env : List Pair) (invocation : Invocation) (asked : AskFor words invocation) (files files_now : FilesTell) (gates : List GateTell) (sink : SinkTell) (names : List (List ℕ)) where
   unrun_so : IsUnrun (sides words env files files_now gates gates sink sink None None)
   unrun_so = record { no_plan = refl; no_history = refl; unasked = refl }
 
-  pub unread_ends : (outcome : Outcome) → IsUnreadFolder invocation files files_now outcome → Ends (sides words env files files_now gates gates sink sink None None) names (Err outcome)
-  unread_ends Completed unread = absurd unread
-  unread_ends Listed unread = absurd unread
-  unread_ends (Usage word kind) unread = absurd unread
-  unread_ends (Refused refusal) (inl unread) = inr (inl (record { invocation = invocation; words = asked; refused = unread.0; files = unread.1; unrun = unrun_so }), refl)
-  unread_ends (Refused refusal) (inr bad) =
-      inr (
-        inr (inl (record {
-          invocation = invocation;
-          words = asked;
-          defs = bad.tests.defs;
-          props = bad.tests.props;
-          read = bad.read;
-          refused = bad.refused;
-          files = bad.files;
-          unrun = unrun_so;
-        })),
-        refl,
-      )
-  unread_ends (FilesFault path) unread = inr (record { invocation = invocation; words = asked; asked = unread.0; files = unread.1; unrun = unrun_so }, refl)
-  unread_ends OutputFault unread = absurd unread
-  unread_ends Memory unread = inr ((unrun_so, unread), refl)
+  pub unread_unrun : (outcome : Outcome) → IsUnreadFolder invocation files files_now outcome → EndsUnrun (sides words env files files_now gates gates sink sink None None) names (Err outcome)
+  unread_unrun Completed unread = absurd unread
+  unread_unrun Listed unread = absurd unread
+  unread_unrun (Usage word kind) unread = absurd unread
+  unread_unrun (Refused refusal) (inl unread) = inl (record { invocation = invocation; words = asked; refused = unread.0; files = unread.1; unrun = unrun_so })
+  unread_unrun (Refused refusal) (inr bad) =
+      inr (inl (record {
+        invocation = invocation;
+        words = asked;
+        defs = bad.tests.defs;
+        props = bad.tests.props;
+        read = bad.read;
+        refused = bad.refused;
+        files = bad.files;
+        unrun = unrun_so;
+      }))
+  unread_unrun (FilesFault path) unread = record { invocation = invocation; words = asked; asked = unread.0; files = unread.1; unrun = unrun_so }
+  unread_unrun OutputFault unread = absurd unread
+  unread_unrun Memory unread = (unrun_so, unread)

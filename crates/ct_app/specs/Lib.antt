@@ -17,3 +17,4 @@ pub mod Lists
 pub mod Answers
 pub mod Complete
 pub mod Ends
+pub mod Planning

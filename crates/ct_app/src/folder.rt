@@ -1,28 +1,22 @@
 ghost use Rattle.std.specs.Prelude.{◌≡◌, ◌==◌, ◌<◌, ◌≤◌, [], None, true, IfOk, IfErr, if◌then◌else◌, length, map, option_map, vec_len};
 ghost use Rattle.ct_args.specs.Invocation.{IsBounded};
 ghost use Rattle.ct_app.specs.Calls.{sides};
-ghost use Rattle.ct_app.specs.Ends.{EndsFor, EndsWithFiles, IsReadFolder, IsUnplanned, IsUnreadFolder, PlanEnds, ended_as, history_entries, with_status as ended_with};
+ghost use Rattle.ct_app.specs.Ends.{EndsFor, EndsWithFiles, PlanEnds, ended_as, history_entries, with_status as ended_with};
 ghost use Rattle.ct_app.specs.Run.{HasRun, OthersStay, RestStays};
 ghost use Rattle.ct_app.specs.RunFiles.{done_of};
 ghost use Rattle.ct_core.specs.Order.{FollowsQueue};
-ghost use Rattle.ct_history.specs.Plan.{IsSound};
 ghost use Rattle.ct_history.specs.Verdicts.{are_all_final};
 ghost use Rattle.ct_worker.specs.Work.{Reach, terms_in};
 
-use crate::props::Tests;
-use crate::reading::{names_at, read_tests};
-use crate::rerun::read_only;
+use crate::Outcome;
+use crate::planning::{PlannedFolder, Unplanned, hand_out_sound, plan_folder};
 use crate::run::{Reported, run};
-use crate::run_files::{read_costs, write_files};
-use crate::spec_file::read_spec;
-use crate::{Outcome, Refusal};
+use crate::run_files::write_files;
 use ct_args::Invocation;
-use ct_base::{Files, List, Name, NoMemory, Pair, Sink, SinkFault, TestDef};
+use ct_base::{Files, List, Name, Pair, Sink, SinkFault};
 use ct_core::{Core, Gate};
 use ct_cost::CostData;
 use ct_history::{History, Plan, PlanParts};
-use ct_plan::{PlanFault, plan};
-use ct_spec::Spec;
 use ct_worker::Jobs;
 use std::alloc::Global;
 use std::sync::Wait;
@@ -43,18 +37,6 @@ pub(crate) struct Ran<G, S> {
     pub(crate) sink: S,
 }
 
-/// What is read for an invocation before its tests are planned.
-#[derive(Drop)]
-struct Folder {
-    tests: Tests,
-    /// The resources that are lent, if the words name a specification.
-    spec: Option<Spec>,
-    /// The cost data of the last run.
-    costs: CostData,
-    /// The names that the run is limited to, if the words ask for the tests that failed last.
-    only: Option<List<Name>>,
-}
-
 /// How the run of a plan ended, before its files are written.
 #[derive(Drop)]
 struct PlanRun<G, S> {
@@ -72,7 +54,7 @@ struct PlanRun<G, S> {
 pub(crate) fn run_folder<R: Threads + Wait + Sync, F: Files, G: Gate + Send, S: Sink + Send>(
     rt: &R,
     alloc: Global,
-    mut invocation: Invocation,
+    invocation: Invocation,
     env: &[Pair],
     files: &mut F,
     gates: Vec<G>,
@@ -84,28 +66,17 @@ pub(crate) fn run_folder<R: Threads + Wait + Sync, F: Files, G: Gate + Send, S: 
     ensures all { vec_len result.gates ≡ vec_len gates }
     ensures others { OthersStay result.plan gates.items result.gates.items }
 {
-    let Folder {
-        tests,
-        spec,
-        costs,
-        only,
-    } = match read_folder(alloc, files, &invocation) {
+    let (timeout, empty_is_error) = (invocation.timeout, invocation.empty_is_error);
+    let PlannedFolder { tests, costs, plan } = match plan_folder(alloc, files, invocation) {
         Ok(folder) => folder,
-        Err(outcome) => return unplanned(alloc, outcome, gates, sink),
+        Err(bad) => return unrun(bad, gates, sink),
     };
-    invocation.wanted.choice.only = only;
-    let wanted = &invocation.wanted;
-    let spec = spec.as_ref();
-    let planned = match plan(alloc, &tests.defs, &tests.props, wanted, spec, &costs) {
-        Ok(planned) => planned,
-        Err(fault) => return refused(alloc, tests.defs.as_slice(), fault, gates, sink),
-    };
-    hand_out_sound(&planned);
+    hand_out_sound(&plan);
     let jobs = Jobs {
         own: env,
         defs: &tests.defs,
         props: &tests.props,
-        timeout: invocation.timeout,
+        timeout,
     };
     let PlanRun {
         ended,
@@ -113,8 +84,7 @@ pub(crate) fn run_folder<R: Threads + Wait + Sync, F: Files, G: Gate + Send, S: 
         history,
         gates,
         sink,
-    } = run_plan(rt, alloc, planned, &jobs, gates, sink);
-    let empty_is_error = invocation.empty_is_error;
+    } = run_plan(rt, alloc, plan, &jobs, gates, sink);
     let ended = leave_files(alloc, files, empty_is_error, &costs, &plan, &history, ended);
     Ran {
         ended,
@@ -126,11 +96,18 @@ pub(crate) fn run_folder<R: Threads + Wait + Sync, F: Files, G: Gate + Send, S: 
     }
 }
 
-/// States in its contract that each plan is sound; it changes nothing.
-fn hand_out_sound(plan: &Plan)
-    ensures { IsSound plan.now }
+/// Makes the end of a call whose folder has no plan.
+fn unrun<G, S>(bad: Unplanned, gates: Vec<G>, sink: S) -> Ran<G, S>
+    ensures { result ≡ record { ended = Err bad.outcome; names = bad.names; plan = None; history = None; gates = gates; sink = sink } }
 {
-    let _ = plan.parts();
+    Ran {
+        ended: Err(bad.outcome),
+        names: bad.names,
+        plan: None,
+        history: None,
+        gates,
+        sink,
+    }
 }
 
 /// Makes the end of a call that made no plan.
@@ -145,63 +122,6 @@ pub(crate) fn unplanned<G, S>(alloc: Global, outcome: Outcome, gates: Vec<G>, si
         gates,
         sink,
     }
-}
-
-/// Makes the end of a call whose tests have no plan.
-fn refused<G, S>(
-    alloc: Global,
-    defs: &[TestDef],
-    fault: PlanFault,
-    gates: Vec<G>,
-    sink: S,
-) -> Ran<G, S>
-    ensures why { IsUnplanned defs.now fault result.names result.ended }
-    ensures plan { result.plan ≡ None }
-    ensures history { result.history ≡ None }
-    ensures gates { result.gates ≡ gates }
-    ensures sink { result.sink ≡ sink }
-{
-    match fault {
-        PlanFault::Cycle(tests) => match names_at(alloc, defs, tests.as_slice()) {
-            Ok(names) => Ran {
-                ended: Err(Outcome::Refused(Refusal::Cycle(tests))),
-                names,
-                plan: None,
-                history: None,
-                gates,
-                sink,
-            },
-            Err(NoMemory) => unplanned(alloc, Outcome::Memory, gates, sink),
-        },
-        PlanFault::TooManyEdges => {
-            unplanned(alloc, Outcome::Refused(Refusal::TooManyEdges), gates, sink)
-        }
-        PlanFault::NoMemory => unplanned(alloc, Outcome::Memory, gates, sink),
-    }
-}
-
-/// Reads the tests of a folder, their properties, the named specification and the cost data.
-///
-/// Where the words ask for the tests that failed last, it reads the log too.
-#[tactic(auto, using(crate::proofs::ReadLemmas::read_folder, crate::proofs::ReadLemmas::unread_tests, crate::proofs::ReadLemmas::unread_spec, crate::proofs::ReadLemmas::unread_costs, crate::proofs::ReadLemmas::unread_log))]
-fn read_folder<F: Files>(
-    alloc: Global,
-    files: &mut F,
-    invocation: &Invocation,
-) -> Result<Folder, Outcome>
-    ensures ok { IfOk result (λ folder. IsReadFolder invocation.now (F.tells files.old) (F.tells files.new) folder.tests folder.spec folder.costs folder.only) }
-    ensures err { IfErr result (IsUnreadFolder invocation.now (F.tells files.old) (F.tells files.new)) }
-{
-    let tests = read_tests(alloc, files, invocation)?;
-    let spec = read_spec(alloc, files, invocation.spec_file.as_ref())?;
-    let costs = read_costs(alloc, files, &invocation.wanted.dir)?;
-    let only = read_only(alloc, files, invocation.rerun, &invocation.wanted.dir)?;
-    Ok(Folder {
-        tests,
-        spec,
-        costs,
-        only,
-    })
 }
 
 /// Runs a plan with its report.

@@ -1,20 +1,22 @@
 //! The top calls of ctest. They turn the words of a command line into a run with a report, an exit
 //! status and two files, or into a list.
 //!
-//! Hands up: `ctest_main`, which does all that the program does, and `list_main`, which lists alone.
+//! Hands up: `ctest_main`, which does all that the program does, `list_main`, which lists alone, and
+//! `plan_main`, which makes the plan of a run alone.
 //! Stands on: ct_base, ct_testfile, ct_regex, ct_groups, ct_props, ct_env, ct_select, ct_fixture,
 //! ct_graph, ct_alloc, ct_verdict, ct_history, ct_core, ct_cost, ct_spec, ct_plan, ct_report,
 //! ct_info, ct_turn, ct_worker, ct_args.
 //! Read first: `specs/Reading.antt`, `specs/SpecFile.antt`, `specs/Run.antt`, `specs/Stops.antt`,
 //! `specs/RunFiles.antt`, `specs/Rerun.antt`, `specs/Answers.antt`, `specs/Lists.antt`,
 //! `specs/Complete.antt`, then `top.rt`, and the steps of a call: `words.rt`, `reading.rt`,
-//! `spec_file.rt`, `folder.rt`, `run.rt`, `run_files.rt`, `rerun.rt`, and `list.rt`.
+//! `spec_file.rt`, `planning.rt`, `folder.rt`, `run.rt`, `run_files.rt`, `rerun.rt`, and `list.rt`.
 #![tactic(auto)]
 
 mod fault;
 mod folder;
 mod list;
 mod outcome;
+mod planning;
 mod props;
 mod reading;
 mod rerun;
@@ -28,4 +30,5 @@ pub use ct_args::UsageKind;
 pub use ct_props::PropKind;
 pub use ct_spec::SpecFault;
 pub use outcome::{Finished, Listed, Outcome, Refusal, SpecRefusal};
+pub use planning::{Unplanned, plan_main, plan_words};
 pub use top::{ctest_main, list_main};

@@ -1,0 +1,169 @@
+ghost use Rattle.std.specs.Prelude.{◌≡◌, ◌<◌, ◌-◌, ◌^◌, IfOk, IfErr, [], Err, length};
+ghost use Rattle.ct_args.specs.Invocation.{IsBounded};
+ghost use Rattle.ct_history.specs.Plan.{IsSound};
+ghost use Rattle.ct_app.specs.Ends.{IsReadFolder, IsUnplanned, IsUnreadFolder};
+ghost use Rattle.ct_app.specs.Planning.{HasNoPlan, HasPlan, HasSomeReason, IsPlannedFolder, IsUnplannedFolder};
+
+use crate::props::Tests;
+use crate::reading::{names_at, read_tests};
+use crate::rerun::read_only;
+use crate::run_files::read_costs;
+use crate::spec_file::read_spec;
+use crate::{Outcome, Refusal};
+use ct_args::{Invocation, read_words};
+use ct_base::{Files, List, Name, NoMemory, TestDef};
+use ct_cost::CostData;
+use ct_history::Plan;
+use ct_plan::{PlanFault, plan};
+use ct_spec::Spec;
+use std::alloc::Global;
+
+/// What is planned for an invocation, and what its run needs besides.
+#[derive(Drop)]
+pub(crate) struct PlannedFolder {
+    pub(crate) tests: Tests,
+    /// The cost data of the last run.
+    pub(crate) costs: CostData,
+    pub(crate) plan: Plan,
+}
+
+/// Why there is no plan.
+#[derive(Debug, Drop)]
+pub struct Unplanned {
+    pub outcome: Outcome,
+    /// The names of the tests of a cycle, if a cycle is refused; else empty.
+    pub names: List<Name>,
+}
+
+/// What is read for an invocation before its tests are planned.
+#[derive(Drop)]
+struct Folder {
+    tests: Tests,
+    /// The resources that are lent, if the words name a specification.
+    spec: Option<Spec>,
+    /// The cost data of the last run.
+    costs: CostData,
+    /// The names that the run is limited to, if the words ask for the tests that failed last.
+    only: Option<List<Name>>,
+}
+
+/// Makes the plan of the run that the words ask for, as `ctest_main` does, whatever their task is.
+///
+/// It reads the words, the test files, the specification and the cost data. It writes nothing.
+///
+/// Source: CMake manual, ctest(1), Run Tests.
+pub fn plan_main<F: Files>(alloc: Global, words: &[Name], files: &mut F) -> Result<Plan, Outcome>
+    requires few { length words.now < 2 ^ 32 - 1 }
+    ensures ok { IfOk result (λ plan. HasPlan words.now (F.tells files.old) (F.tells files.new) plan) }
+    ensures err { IfErr result (λ outcome. HasSomeReason words.now (F.tells files.old) (F.tells files.new) outcome) }
+{
+    match plan_words(alloc, words, files) {
+        Ok(plan) => Ok(plan),
+        Err(bad) => Err(bad.outcome),
+    }
+}
+
+/// The same, with the names of the tests of a cycle where a cycle is refused.
+pub fn plan_words<F: Files>(alloc: Global, words: &[Name], files: &mut F) -> Result<Plan, Unplanned>
+    requires few { length words.now < 2 ^ 32 - 1 }
+    ensures ok { IfOk result (λ plan. HasPlan words.now (F.tells files.old) (F.tells files.new) plan) }
+    ensures err { IfErr result (λ bad. HasNoPlan words.now (F.tells files.old) (F.tells files.new) bad.names bad.outcome) }
+{
+    match read_words(alloc, words) {
+        Ok(invocation) => match plan_folder(alloc, files, invocation) {
+            Ok(folder) => {
+                hand_out_sound(&folder.plan);
+                Ok(folder.plan)
+            }
+            Err(bad) => Err(bad),
+        },
+        Err(fault) => Err(unread(alloc, Outcome::from(fault))),
+    }
+}
+
+/// Reads the folder of a run and plans its tests.
+///
+/// Where the words ask for the tests that failed last, the choice is limited to the names in the log.
+pub(crate) fn plan_folder<F: Files>(
+    alloc: Global,
+    files: &mut F,
+    mut invocation: Invocation,
+) -> Result<PlannedFolder, Unplanned>
+    requires bounded { IsBounded invocation }
+    ensures ok { IfOk result (λ folder. IsPlannedFolder invocation (F.tells files.old) (F.tells files.new) folder.tests folder.costs folder.plan) }
+    ensures err { IfErr result (λ bad. IsUnplannedFolder invocation (F.tells files.old) (F.tells files.new) bad.names bad.outcome) }
+{
+    let Folder {
+        tests,
+        spec,
+        costs,
+        only,
+    } = match read_folder(alloc, files, &invocation) {
+        Ok(folder) => folder,
+        Err(outcome) => return Err(unread(alloc, outcome)),
+    };
+    invocation.wanted.choice.only = only;
+    let wanted = &invocation.wanted;
+    let spec = spec.as_ref();
+    match plan(alloc, &tests.defs, &tests.props, wanted, spec, &costs) {
+        Ok(plan) => Ok(PlannedFolder { tests, costs, plan }),
+        Err(fault) => Err(refused(alloc, tests.defs.as_slice(), fault)),
+    }
+}
+
+fn unread(alloc: Global, outcome: Outcome) -> Unplanned
+    ensures { result ≡ record { outcome = outcome; names = [] } }
+{
+    Unplanned {
+        outcome,
+        names: List::new(alloc),
+    }
+}
+
+/// Says why these tests have no plan.
+fn refused(alloc: Global, defs: &[TestDef], fault: PlanFault) -> Unplanned
+    ensures { IsUnplanned defs.now fault result.names (Err result.outcome) }
+{
+    match fault {
+        PlanFault::Cycle(tests) => match names_at(alloc, defs, tests.as_slice()) {
+            Ok(names) => Unplanned {
+                outcome: Outcome::Refused(Refusal::Cycle(tests)),
+                names,
+            },
+            Err(NoMemory) => unread(alloc, Outcome::Memory),
+        },
+        PlanFault::TooManyEdges => unread(alloc, Outcome::Refused(Refusal::TooManyEdges)),
+        PlanFault::NoMemory => unread(alloc, Outcome::Memory),
+    }
+}
+
+/// States in its contract that each plan is sound; it changes nothing.
+pub(crate) fn hand_out_sound(plan: &Plan)
+    ensures { IsSound plan.now }
+{
+    let _ = plan.parts();
+}
+
+/// Reads the tests of a folder, their properties, the named specification and the cost data.
+///
+/// Where the words ask for the tests that failed last, it reads the log too.
+#[tactic(auto, using(crate::proofs::ReadLemmas::read_folder, crate::proofs::ReadLemmas::unread_tests, crate::proofs::ReadLemmas::unread_spec, crate::proofs::ReadLemmas::unread_costs, crate::proofs::ReadLemmas::unread_log))]
+fn read_folder<F: Files>(
+    alloc: Global,
+    files: &mut F,
+    invocation: &Invocation,
+) -> Result<Folder, Outcome>
+    ensures ok { IfOk result (λ folder. IsReadFolder invocation.now (F.tells files.old) (F.tells files.new) folder.tests folder.spec folder.costs folder.only) }
+    ensures err { IfErr result (IsUnreadFolder invocation.now (F.tells files.old) (F.tells files.new)) }
+{
+    let tests = read_tests(alloc, files, invocation)?;
+    let spec = read_spec(alloc, files, invocation.spec_file.as_ref())?;
+    let costs = read_costs(alloc, files, &invocation.wanted.dir)?;
+    let only = read_only(alloc, files, invocation.rerun, &invocation.wanted.dir)?;
+    Ok(Folder {
+        tests,
+        spec,
+        costs,
+        only,
+    })
+}
