@@ -88,7 +88,7 @@ module _ (plan : PlanParts) (sound : IsSound plan) (es : List Entry) where
   flipped : (m n : ℕ) → (m == n) ≡ false → (n == m) ≡ false
   flipped m n other = grind (arith, nat_tests)
 
-  -- some test has a failing verdict behind an allowed entry exactly where some had one, or the entry's test has one
+  -- some test has a failing verdict behind an allowed entry exactly where one had, or the entry's test has one
   pub failing_more : (e : Entry) → is_allowed plan es e ≡ true → has_failing plan (es ++ e ∷ []) ≡ (has_failing plan es || has_failed_in plan (es ++ e ∷ []) (test_of e))
   failing_more (Start n a w p) allowed = by_before (Start n a w p) _ allowed (λ none. failing_one (Start n a w p) n (λ u other. flipped u n other) none)
   failing_more (End n a w s) allowed = by_before (End n a w s) _ allowed (λ none. failing_one (End n a w s) n (λ u other. flipped u n other) none)

@@ -1,5 +1,5 @@
--- The rules of a run, by the open starts and how each test has fared. Each is equal to the rule over the list of
--- entries. This project's own.
+-- The rules of a run, by the open starts and how each test has fared. Each is equal to the rule over the
+-- list of entries. This project's own.
 use Rattle.std.specs.Prelude.{ℕ, ◌+◌, min, Bool, true, false, not, ◌&&◌, List, find, sum_by, nat_le, Option, Some, None, option_map, is_some, is_none, ◌==◌, if◌then◌else◌}
 use Rattle.std.specs.List.{list_any, list_all}
 use Rattle.ct_alloc.specs.declared.placement.Placement.{Placement}
@@ -116,7 +116,8 @@ abbrev pub settles_by : PlanParts → List Running → (ℕ → Course) → Bool
 settles_by plan starts courses stopped cause None = false
 settles_by plan starts courses stopped cause (Some t) = same_cause cause (cause_by plan starts courses stopped t)
 
--- the entry is allowed, by the open starts, how each test has fared, whether there is a Stop and whether one is due
+-- the entry is allowed, by the open starts, how each test has fared, whether there is a Stop, and
+-- whether one is due
 abbrev pub is_allowed_by : PlanParts → List Running → (ℕ → Course) → Bool → Bool → Entry → Bool
 is_allowed_by plan starts courses stopped due (Start t a w p) = not due && starts_by plan starts courses stopped a p (test_at plan.tests t) && not (is_busy_with w starts)
 is_allowed_by plan starts courses stopped due (End t a w seen) = not due && has_start t a w starts

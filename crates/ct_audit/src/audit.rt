@@ -17,8 +17,8 @@ use std::alloc::Global;
 
 /// A check of a history that takes its entries one by one, and keeps no entry.
 ///
-/// It keeps the open starts, and of each test its cause, how many of its attempts have ended and what was seen of the
-/// last one. So an entry costs the same wherever it stands.
+/// It keeps the open starts, and of each test its cause, how many of its attempts have ended and
+/// what was seen of the last one. So an entry costs the same wherever it stands.
 ///
 /// Source: this project's choice.
 #[derive(Drop)]

@@ -1,6 +1,7 @@
 //! Checks a history in one pass, entry by entry, by the rules of ct_history.
 //!
-//! Hands up: `Audit` (`new`, `allows`, `note`, `is_at_end`), `planned_test`. It names no crate of the scheduler.
+//! Hands up: `Audit` (`new`, `allows`, `note`, `is_at_end`), `planned_test`.
+//! It names no crate of the scheduler.
 //! Stands on: ct_base, ct_alloc, ct_verdict, ct_history and `indexmap`.
 //! Read first: `specs/Tells.antt`, `specs/Seen.antt`.
 #![tactic(auto)]

@@ -5,8 +5,8 @@ ghost use Rattle.ct_audit.specs.Places.{Ascend, IsPlaceOf};
 
 use ct_history::{Plan, PlanTest};
 
-/// Looks up a test by its number: at once where each lesser number is there, and else in a time that grows with the
-/// logarithm of the tests.
+/// Looks up a test by its number: at once where each lesser number is there, and else in a time
+/// that grows with the logarithm of the tests.
 pub(crate) fn planned(tests: &[PlanTest], number: u32) -> Option<&PlanTest>
     requires { Ascend tests.now }
     ensures { option_copied result ≡ test_at tests.now number }

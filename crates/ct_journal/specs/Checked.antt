@@ -1,5 +1,4 @@
--- Whether a text is the journal of a complete legal history, and else which of its lines is the first that is not
--- good. This project's own.
+-- What a line of a journal does behind the lines in front of it. This project's own.
 use Rattle.std.specs.Prelude.{ℕ, ◌≡◌, ◌↔◌, ⊤, true, false, List, [], ◌∷◌, ◌++◌, length, Option, Some, None, IsSomeAnd}
 use Rattle.ct_base.specs.declared.defs.Resource.{Resource}
 use Rattle.ct_alloc.specs.declared.placement.Placement.{Placement}
@@ -30,7 +29,7 @@ HasPlacement plan (Happened.End t a w seen) = ⊤
 HasPlacement plan (Happened.Settle t cause) = ⊤
 HasPlacement plan Happened.Stop = ⊤
 
--- an entry is found exactly where the line is that entry's, and its placement is one for the needs of its test
+-- an entry is found exactly where the line is that entry's, and its placement is one for its test's needs
 abbrev pub FindsEntry : PlanParts → EntryLine → Option Entry → Type 0
 FindsEntry plan line found = (e : Entry) → (found ≡ Some e) ↔ ((line ≡ noted e) × HasPlacement plan e)
 

@@ -1,5 +1,5 @@
--- Whether a text is the journal of a complete legal history, and else which of its lines is the first that is not
--- good. This project's own.
+-- Whether a text is the journal of a complete legal history, and else which of its lines is the first that
+-- is not good. This project's own.
 use Rattle.std.specs.Prelude.{ℕ, ◌+◌, ◌≤◌, ◌≡◌, ◌⊎◌, ⊤, true, false, List, [], ◌∷◌, ◌++◌, length, drop, Option, Some, None, ◌==◌}
 use Rattle.std.specs.List.{list_any}
 use Rattle.ct_history.specs.declared.plan.PlanParts.{PlanParts}
@@ -22,14 +22,14 @@ pub record IsAccepted (plan : PlanParts) (text : List ℕ) : Type 0 where
 abbrev pub IsOneLine : List ℕ → Type 0
 IsOneLine line = list_any (λ (byte : ℕ). byte == 10) line ≡ false
 
--- the line, with the rest of the text behind it, is not good behind these entries: it lacks its line feed; or it is
--- neither the line of an allowed entry nor the last line of a history at its end, with nothing behind
+-- the line, with the rest of the text behind it, is not good behind these entries: it lacks its line feed;
+-- or it is neither the line of an allowed entry, nor the last line of a history at its end and of the text
 abbrev pub IsBadLine : PlanParts → List Entry → List ℕ → List ℕ → Type 0
 IsBadLine plan entries line [] = ⊤
 IsBadLine plan entries line (byte ∷ rest) =
     (byte ≡ 10) × IsNoEntry plan entries line × (line ≡ line_text (Line.Done (length entries)) → is_at_end plan entries ≡ true → rest ≡ [] → ⊥)
 
--- the text is the lines of these entries, each of them allowed behind those in front, then this line, then the rest
+-- the text is the lines of these entries, each allowed behind those in front, then this line, then the rest
 pub record StandsAt (plan : PlanParts) (text : List ℕ) (entries : List Entry) (line rest : List ℕ) : Type 0 where
   pub allowed : is_allowed_so_far plan entries ≡ true
   pub text_is : text ≡ entry_lines entries ++ (line ++ rest)

@@ -15,8 +15,8 @@ const FIRST_LEN: usize = 13;
 
 /// Checks a text in one pass: whether it is the journal of a complete legal history for a plan.
 ///
-/// Returns the number of the first line that is not good, from 1. Where the text ends too early, this is one more
-/// than the number of its lines. Returns `None` where the text is accepted.
+/// Returns the number of the first line that is not good, from 1. Where the text ends too early,
+/// this is one more than the number of its lines. Returns `None` where the text is accepted.
 ///
 /// Source: this project's choice.
 pub fn check_text(alloc: Global, plan: &Plan, text: &[u8]) -> Result<Option<u64>, NoMemory>
