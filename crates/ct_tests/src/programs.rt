@@ -9,34 +9,59 @@ use ct_verdict::How;
 use std::alloc::{AllocError, Global};
 use std::test::Fail;
 
-/// A run of tests that write 64 MiB of `x` and then `done`, the last word in two pieces.
-const WRITES: &str = "
-=== a pattern at the end, one at the beginning, and one across pieces
+/// A run of a test that writes 64 MiB of `x` and then `done`, the last word in two pieces.
+const ENDS: &str = "
+=== a pattern at the end
 ---
-add_test(a p)
-add_test(b p)
-add_test(c p)
-set_tests_properties(a PROPERTIES PASS_REGULAR_EXPRESSION \"done$\")
-set_tests_properties(b PROPERTIES PASS_REGULAR_EXPRESSION \"^done\")
-set_tests_properties(c PROPERTIES FAIL_REGULAR_EXPRESSION \"xdo\")
+add_test(t p)
+set_tests_properties(t PROPERTIES PASS_REGULAR_EXPRESSION \"done$\")
+>>>
+Completed, status 0
+Start 1/1
+End 1/1
+Test project .
+1/1 Test #1: t ... Passed 0.00 sec
+
+100% tests passed, 0 tests failed out of 1
+";
+
+/// A run of the same test with another pattern.
+const BEGINS: &str = "
+=== a pattern at the beginning
+---
+add_test(t p)
+set_tests_properties(t PROPERTIES PASS_REGULAR_EXPRESSION \"^done\")
 >>>
 Completed, status 8
 Start 1/1
 End 1/1
-Start 2/1
-End 2/1
-Start 3/1
-End 3/1
 Test project .
-1/3 Test #1: a ... Passed 0.00 sec
-2/3 Test #2: b ... ***Failed 0.00 sec
-3/3 Test #3: c ... ***Failed 0.00 sec
+1/1 Test #1: t ... ***Failed 0.00 sec
 
-33% tests passed, 2 tests failed out of 3
+0% tests passed, 1 tests failed out of 1
 
 The following tests FAILED:
-\t2 - b (Failed)
-\t3 - c (Failed)
+\t1 - t (Failed)
+Errors while running CTest
+";
+
+/// A run of the same test with a third pattern.
+const ACROSS: &str = "
+=== a pattern across two pieces
+---
+add_test(t p)
+set_tests_properties(t PROPERTIES FAIL_REGULAR_EXPRESSION \"xdo\")
+>>>
+Completed, status 8
+Start 1/1
+End 1/1
+Test project .
+1/1 Test #1: t ... ***Failed 0.00 sec
+
+0% tests passed, 1 tests failed out of 1
+
+The following tests FAILED:
+\t1 - t (Failed)
 Errors while running CTest
 ";
 
@@ -156,17 +181,33 @@ fn report<G: Gate + Send + Drop>(
     Ok(format!(in alloc; "{name}, status {}\n{happened}{text}", ran.status)?)
 }
 
-#[test]
-fn finds_patterns_in_what_comes_in_pieces(rt: HostRuntime) -> Result<(), Fail> {
-    for call in &calls_of(rt.alloc(), WRITES)? {
-        let report = report(&rt, call, Writes { pieces: PIECES })?;
-        assert_eq!(rt; report.trim_end(), call.want, "{call}");
-    }
-    for call in &calls_of(rt.alloc(), HALVES)? {
-        let report = report(&rt, call, Writes { pieces: 0 })?;
+/// Compares the reports of the calls of a table, whose programs write this many pieces of `x` first.
+fn writes_as_told(rt: &impl Machine, table: &str, pieces: u32) -> Result<(), Fail> {
+    for call in &calls_of(rt.alloc(), table)? {
+        let report = report(rt, call, Writes { pieces })?;
         assert_eq!(rt; report.trim_end(), call.want, "{call}");
     }
     Ok(())
+}
+
+#[test]
+fn finds_a_pattern_at_the_end_of_much(rt: HostRuntime) -> Result<(), Fail> {
+    writes_as_told(&rt, ENDS, PIECES)
+}
+
+#[test]
+fn finds_no_beginning_behind_much(rt: HostRuntime) -> Result<(), Fail> {
+    writes_as_told(&rt, BEGINS, PIECES)
+}
+
+#[test]
+fn finds_a_pattern_across_pieces_behind_much(rt: HostRuntime) -> Result<(), Fail> {
+    writes_as_told(&rt, ACROSS, PIECES)
+}
+
+#[test]
+fn finds_a_pattern_of_all_that_comes_in_two_pieces(rt: HostRuntime) -> Result<(), Fail> {
+    writes_as_told(&rt, HALVES, 0)
 }
 
 #[test]
