@@ -1,6 +1,6 @@
 -- What a line of a journal does behind the entries in front of it.
-use Rattle.std.proofs.Common.{◌≡◌, ◌∙◌, sym, ap, subst, ℕ, ◌<◌, ◌^◌, arith, Bool, true, false, not, ◌&&◌, List, [], ◌∷◌, ◌++◌, length, refl, Option, Some, None, option_map}
-use Rattle.std.specs.Prelude.{◌↔◌, ◌==◌, IsSomeAnd, if◌then◌else◌}
+use Rattle.std.proofs.Common.{◌≡◌, ◌∙◌, sym, ap, subst, ℕ, ◌<◌, ◌^◌, arith, Bool, true, false, not, ◌&&◌, List, [], ◌∷◌, length, refl, Option, Some, None}
+use Rattle.std.specs.Prelude.{◌==◌, if◌then◌else◌}
 use Rattle.std.proofs.lemmas.Bool.{and_parts}
 use Rattle.std.proofs.lemmas.Bool.Decides.{nat_tests}
 use Rattle.ct_history.proofs.BoolLemmas.{eq_is}
@@ -18,16 +18,13 @@ use Rattle.ct_history.specs.Rules.{is_placed}
 use Rattle.ct_history.specs.Legal.{is_allowed, is_stop_due, starts}
 use Rattle.ct_history.proofs.MayLemmas.{starts-parts}
 use Rattle.ct_audit.specs.declared.audit.Audit.{Audit}
-use Rattle.ct_audit.specs.Tells.{Tells, is_at_end}
+use Rattle.ct_audit.specs.Tells.{is_at_end}
 use Rattle.ct_journal.specs.declared.check.Step.{Step}
 use Rattle.ct_journal.specs.declared.check.Step.TheVariants.{GoesOn, Ends, IsBad}
 use Rattle.ct_journal.specs.declared.lines.EntryLine.{EntryLine}
-use Rattle.ct_journal.specs.declared.lines.EntryLine.TheVariants.{Start, End, Settle, Stop}
-use Rattle.ct_journal.specs.declared.lines.JournalLine.{JournalLine}
 use Rattle.ct_journal.specs.declared.lines.JournalLine.TheVariants as Line
-use Rattle.ct_journal.specs.Journal.{EntryFits, Fits, Says, line_text, noted, places_of}
-use Rattle.ct_journal.specs.Completed.{Completes}
-use Rattle.ct_journal.specs.Checked.{FindsEntry, FindsPlacement, HasPlacement, IsPlacementFor, IsDone, NotesEntry, Takes, TakesEntryOr}
+use Rattle.ct_journal.specs.Journal.{Says, line_text, noted}
+use Rattle.ct_journal.specs.Checked.{FindsEntry, HasPlacement, IsPlacementFor, IsDone, NotesEntry, Takes, TakesEntryOr}
 
 placed_for : (resources : Option (List Resource)) (t : PlanTest) (used : ℕ → ℕ) (p : Placement) → is_placed resources t.needs used (Some p) ≡ true → IsPlacementFor resources (Some t) p
 placed_for None t used p placed = cc

@@ -1,8 +1,8 @@
 -- A text that is read line by line: what was read so far, and what the last line says of it.
-use Rattle.std.proofs.Common.{◌≡◌, ◌∙◌, sym, ap, subst, ℕ, ◌+◌, ◌<◌, ◌≤◌, ◌^◌, Bool, true, false, not, ◌&&◌, List, [], ◌∷◌, ◌++◌, length, get_or, drop, inl, inr, length-append, append_assoc, refl, arith, Option, Some, None}
-use Rattle.std.specs.Prelude.{◌==◌, ◌||◌, flat_map, codes, if◌then◌else◌}
+use Rattle.std.proofs.Common.{◌≡◌, ◌∙◌, sym, ap, subst, ℕ, ◌+◌, ◌<◌, ◌^◌, Bool, true, false, not, ◌&&◌, List, [], ◌∷◌, ◌++◌, length, get_or, drop, inr, length-append, append_assoc, refl, arith, Option, Some, None}
+use Rattle.std.specs.Prelude.{◌==◌, ◌||◌, if◌then◌else◌}
 use Rattle.std.specs.List.{list_any}
-use Rattle.std.proofs.lemmas.Bool.{and_parts, and_from, not-true}
+use Rattle.std.proofs.lemmas.Bool.{and_parts, and_from}
 use Rattle.std.proofs.lemmas.Bool.Decides.{nat_tests}
 use Rattle.std.proofs.lemmas.Grind.{flat_map-append}
 use Rattle.std.proofs.lemmas.List.{append-nil, drop_all, drop_more, length-drop}
@@ -17,12 +17,11 @@ use Rattle.ct_history.proofs.LegalLemmas.{allowed-snoc}
 use Rattle.ct_audit.specs.declared.audit.Audit.{Audit}
 use Rattle.ct_audit.specs.Tells.{Tells, is_at_end}
 use Rattle.ct_journal.specs.declared.check.Step.TheVariants.{GoesOn, Ends, IsBad}
-use Rattle.ct_journal.specs.declared.lines.JournalLine.{JournalLine}
 use Rattle.ct_journal.specs.declared.lines.JournalLine.TheVariants as Line
 use Rattle.ct_journal.specs.Guess.{guess_in}
-use Rattle.ct_journal.specs.Journal.{Fits, entry_lines, full_line, journal_of, line_text, noted}
+use Rattle.ct_journal.specs.Journal.{entry_lines, full_line, line_text, noted}
 use Rattle.ct_journal.specs.Checked.{IsNoEntry, Takes}
-use Rattle.ct_journal.specs.Found.{Finds, FindsBehind, IsAccepted, IsAcceptedBehind, IsBadLine, IsOneLine, IsReading, IsRefusedBehind, LacksFirst, StandsAt}
+use Rattle.ct_journal.specs.Found.{Finds, FindsBehind, IsReading, StandsAt}
 use Rattle.ct_journal.proofs.LineLemmas.{line_again}
 
 idle_closed : (rs : List Running) → not (list_any (λ (r : Running). true) rs) ≡ true → rs ≡ []

@@ -1,4 +1,4 @@
-use Rattle.std.proofs.Common.{◌≡◌, ◌∙◌, ◌++◌, ◌∷◌, [], ◌-◌, ◌≤◌, List, ℕ, take, drop, length, sym, ap, rules, arith}
+use Rattle.std.proofs.Common.{◌≡◌, ◌∙◌, ◌++◌, ◌∷◌, [], ◌-◌, List, ℕ, take, drop, length, sym, ap, rules}
 use Rattle.std.proofs.lemmas.List.{take-append-drop, take_rest}
 use Rattle.ct_journal.proofs.text.behind_first.Goals as goal
 

@@ -1,4 +1,4 @@
-use Rattle.std.proofs.Common.{◌≡◌, ◌∙◌, ◌<◌, ◌^◌, ◌+◌, ◌++◌, ◌∷◌, [], ℕ, List, length, get_or, arith, refl, rules, sym, ap, subst}
+use Rattle.std.proofs.Common.{◌≡◌, ◌∙◌, ◌<◌, ◌^◌, ◌+◌, ◌++◌, ◌∷◌, [], ℕ, List, length, get_or, refl, rules, sym, ap, subst}
 use Rattle.ct_audit.specs.declared.audit.Audit.{Audit}
 use Rattle.ct_journal.specs.declared.check.Step.{Step}
 use Rattle.ct_journal.specs.declared.check.Step.TheVariants.{GoesOn, Ends, IsBad}
