@@ -10,15 +10,16 @@ use Rattle.ct_history.proofs.LegalLemmas.{legal_allowed}
 use Rattle.ct_history.proofs.WithinLemmas.{stays_within}
 use Rattle.ct_core.specs.CoreValue.{CoreValue}
 use Rattle.ct_core.specs.Gate.{GateTell}
+use Rattle.ct_history.specs.History.{open_starts}
 use Rattle.ct_history.specs.Verdicts.{are_all_final}
 use Rattle.ct_report.specs.PutLines.{PutsLines}
 use Rattle.ct_report.specs.Report.{header_line, summary_lines, test_lines}
-use Rattle.ct_worker.specs.Gates.{Terms, are_below}
+use Rattle.ct_worker.specs.Gates.{Terms, are_below, had_memory}
 use Rattle.ct_worker.specs.Halted.{IsHalted}
 use Rattle.ct_worker.specs.Pool.{IsPooled}
 use Rattle.ct_worker.specs.declared.state.Halt.{Halt}
 use Rattle.ct_worker.specs.State.{StateValue, base_of, core_of, opened_with, put_of}
-use Rattle.ct_app.specs.Run.{HasRun, RestStays, lines_of_run}
+use Rattle.ct_app.specs.Run.{HasRun, RestStays, RunEnds, lines_of_run}
 use Rattle.ct_app.specs.Stops.{StopsAt, StopsBehind}
 use Rattle.ct_app.proofs.ReportLemmas.{lines_fail, summary_puts}
 
@@ -80,6 +81,17 @@ module _ (terms : Terms) (count : ℕ) (start core : CoreValue) (sink : SinkTell
           by : (r : Result (Unit {0}) SinkFault) → PutsLines (summary_lines core.plan core.entries) mid after r → IfErr r (λ fault. StopsBehind fault core.plan core.entries sink after)
           by (Ok done) put = tt
           by (Err fault) put = inr (record { final = final; middle = mid; lines = whole; cut = put })
+
+      -- the run is complete where its summary was put, and memory was not wanting
+      pub summary_ends : (new.halt ≡ None → had_memory new.entries ≡ true) → RunEnds core.plan core.entries result
+      summary_ends memory = by result
+        where
+          by : (r : Result (Unit {0}) SinkFault) → RunEnds core.plan core.entries r
+          by (Ok done) = (
+            record { final = final; closed = ap (λ (c : CoreValue). open_starts c.entries) is ∙ pooled.closed },
+            ap (λ (c : CoreValue). had_memory c.entries) is ∙ memory going,
+          )
+          by (Err fault) = tt
 
     -- a halt is set
     module _ (fault : SinkFault) (gave : put_of halt ≡ Err fault) (now : SinkTell) (same : now ≡ new.sink) where

@@ -128,7 +128,7 @@ module _ (invocation : Invocation) (before between : FilesTell) (tests : Tests) 
   pub unread_log : (behind beyond now : FilesTell) (lent : Option (List Resource)) (costs : CostData) (fault : RunFileFault) (outcome : Outcome) → outcome ≡ outcome_of_file fault → ReadsSpec invocation.spec_file between behind (Ok lent) → ReadsCosts invocation.wanted.dir behind beyond (Ok costs) → ReadsOnly invocation.rerun invocation.wanted.dir beyond now (Err fault) → IsUnreadFolder invocation before now outcome
   unread_log behind beyond now lent costs (Fault.Failed path) outcome is named last fails =
       subst (λ (o : Outcome). IsUnreadFolder invocation before now o) (sym is)
-      (inl (inr (fails.0, fails.1.0)), fails_then SameHeld SameHeld SameHeld same_then_same path before beyond now (then_stay before behind beyond (then_stay before between behind read.files named.1) last.1) fails.1.1)
+      (inl (inr (fails.0, fails.1)), fails_then SameHeld SameHeld SameHeld same_then_same path before beyond now (then_stay before behind beyond (then_stay before between behind read.files named.1) last.1) fails.2)
   unread_log behind beyond now lent costs Fault.NoMemory outcome is named last stays =
       subst (λ (o : Outcome). IsUnreadFolder invocation before now o) (sym is)
       (then_stay before beyond now (then_stay before behind beyond (then_stay before between behind read.files named.1) last.1) stays)
@@ -136,7 +136,7 @@ module _ (invocation : Invocation) (before between : FilesTell) (tests : Tests) 
   -- the log was not read, so the tests of the list were not
   pub unread_only : (now : FilesTell) (fault : RunFileFault) (outcome : Outcome) → outcome ≡ outcome_of_file fault → ReadsOnly invocation.rerun invocation.wanted.dir between now (Err fault) → IsUnread invocation before now outcome
   unread_only now (Fault.Failed path) outcome is fails =
-      subst (λ (o : Outcome). IsUnread invocation before now o) (sym is) (inr (fails.0, fails.1.0), fails_then SameHeld SameHeld SameHeld same_then_same path before between now read.files fails.1.1)
+      subst (λ (o : Outcome). IsUnread invocation before now o) (sym is) (inr (fails.0, fails.1), fails_then SameHeld SameHeld SameHeld same_then_same path before between now read.files fails.2)
   unread_only now Fault.NoMemory outcome is stays =
       subst (λ (o : Outcome). IsUnread invocation before now o) (sym is) (then_stay before between now read.files stays)
 

@@ -22,7 +22,7 @@ reads_names dir path (Some held) got names named read is = is ∙ ap names_of re
 
 -- where the names of the log are asked for and the log was not read, the limit was not read
 pub only_unread : (dir : List ℕ) (before now : FilesTell) (fault : RunFileFault) → ReadsLog dir before now (Err fault) → ReadsOnly true dir before now (Err fault)
-only_unread dir before now (Fault.Failed path) fails = (refl, fails)
+only_unread dir before now (Fault.Failed path) fails = (refl, fails.0, fails.1)
 only_unread dir before now Fault.NoMemory stays = stays
 
 -- the names that a choice is limited to are the same for the same held files

@@ -6,9 +6,9 @@ use Rattle.ct_core.specs.CoreValue.{CoreValue}
 use Rattle.ct_report.specs.PutLines.{PutsLines}
 use Rattle.ct_worker.specs.State.{StateValue, put_of}
 use Rattle.ct_worker.specs.Work.{terms_in}
-use Rattle.ct_app.specs.Run.{HasRun, lines_of_run}
+use Rattle.ct_app.specs.Run.{HasRun, RunEnds, lines_of_run}
 use Rattle.ct_app.specs.Stops.{StopsBehind}
-use Rattle.ct_app.proofs.PoolLemmas.{given_up_behind, given_up_stops, pooled_run, rest_stays, summary_behind, summary_stops}
+use Rattle.ct_app.proofs.PoolLemmas.{given_up_behind, given_up_stops, pooled_run, rest_stays, summary_behind, summary_ends, summary_stops}
 use Rattle.ct_app.proofs.run.run_tests.Goals as goal
 use Rattle.ct_app.proofs.run.run_tests.Goals.{in-None, in-Some}
 
@@ -39,6 +39,21 @@ returns-clause-puts g c =
           c.halt-halt.result c.halt-halt.ensures w.fault_of.result (ap put_of w.in-Some.is ∙ w.fault_of.ensures) (g.S.Sink.tells c.into_parts-core.result.1) c.into_parts-core.ensures.sink in
           subst (λ (r : Result (Unit {0}) SinkFault). PutsLines (lines_of_run core.plan core.entries) (g.S.Sink.tells c.args.sink) (g.S.Sink.tells c.match-halt.sink) r) (sym w.ended-is)
           (subst (λ (s : g.row.S.Denot). PutsLines (lines_of_run core.plan core.entries) (g.S.Sink.tells c.args.sink) (g.S.Sink.tells s) (Err w.fault_of.result)) (sym w.sink-is) puts)
+    ]
+
+pub returns-clause-ends : goal.returns-clause-ends
+returns-clause-ends g c =
+    let core = c.into_parts-core.result.0 in
+    let gates = map g.G.Gate.tells c.args.gates.items in
+    let gates_now = map g.G.Gate.tells c.pool-state.result.gates.items in
+    let terms = terms_in c.args.jobs.now c.open.result.plan in
+    elim c.match-halt.branch [
+      | in-None w ↦
+          let ends = summary_ends terms c.worker_count-workers.result c.args.core core (g.S.Sink.tells c.args.sink) c.open.result c.pool-state.result.state gates gates_now c.open.ensures c.pool-state.ensures.pooled c.into_parts-core.ensures.core
+          c.halt-halt.result c.halt-halt.ensures w.in-None.is (g.S.Sink.tells c.into_parts-core.result.1) (g.S.Sink.tells w.put_summary-ended.new.sink) w.put_summary-ended.result c.into_parts-core.ensures.sink w.put_summary-ended.ensures c.into_parts-core.ensures.memory in
+          subst (λ (r : Result (Unit {0}) SinkFault). RunEnds core.plan core.entries r) (sym w.ended-is) ends
+      | in-Some w ↦
+          subst (λ (r : Result (Unit {0}) SinkFault). RunEnds core.plan core.entries r) (sym w.ended-is) tt
     ]
 
 pub returns-clause-stops : goal.returns-clause-stops
