@@ -86,7 +86,7 @@ pub(crate) struct Dummy {
 }
 
 impl Dummy {
-    fn answer<T>(&self, call: &str, answer: T) -> io::Result<T> {
+    fn answer<T: Drop>(&self, call: &str, answer: T) -> io::Result<T> {
         if self.fails == call {
             return Err(io::Error::from(ErrorKind::Other));
         }
