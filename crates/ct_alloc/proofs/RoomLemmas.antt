@@ -6,7 +6,7 @@ use Rattle.std.proofs.Math.ListN.{set}
 use Rattle.std.proofs.lemmas.Bool.{and_parts, and_from}
 use Rattle.std.proofs.lemmas.Bool.Decides.{nat_tests}
 use Rattle.std.proofs.lemmas.List.{length-map}
-use Rattle.ct_alloc.specs.Packing.{load, IsNext, IsPacking, LiesBelow}
+use Rattle.ct_alloc.specs.Packing.{load, IsNextCard, IsPacking, LiesBelow}
 use Rattle.ct_alloc.proofs.PackLemmas.{IsHopeless, left, packing-less, packing-more, remove-length, share}
 use Rattle.ct_alloc.proofs.TwinLemmas.{hopeless-twin}
 
@@ -203,13 +203,13 @@ lies-all free sizes card size last limit there all = λ cards at packs inside sa
         omega (arith, all on, get_or-set_other free card on (get_or free card 0 - size) 0 apart)
 
 -- if the size does not fill the chosen card, that card is the roomiest with less room than the limit
-chosen-most : (free : List ℕ) (size below card : ℕ) → IsNext free size below card → get_or free card 0 ≢ size → (get_or free card 0 < below) × ((other : ℕ) → other < length free → get_or free other 0 < below → get_or free other 0 ≤ get_or free card 0)
+chosen-most : (free : List ℕ) (size below card : ℕ) → IsNextCard free size below card → get_or free card 0 ≢ size → (get_or free card 0 < below) × ((other : ℕ) → other < length free → get_or free other 0 < below → get_or free other 0 ≤ get_or free card 0)
 chosen-most free size below card next apart = ⊎_elim (λ full. absurd (apart full)) (λ most. most) next.chosen
 
-pub chosen-less : (free : List ℕ) (size below card : ℕ) → IsNext free size below card → get_or free card 0 ≢ size → get_or free card 0 < below
+pub chosen-less : (free : List ℕ) (size below card : ℕ) → IsNextCard free size below card → get_or free card 0 ≢ size → get_or free card 0 < below
 chosen-less free size below card next apart = (chosen-most free size below card next apart).0
 
-pub lies-next : (free before sizes : List ℕ) (k below card size : ℕ) → IsTriedFrom free before sizes k below → IsNext free size below card → get_or sizes k 0 ≡ size → get_or free card 0 ≢ size → LiesBelow (left free card size) (remove sizes k) size (get_or free card 0 + 1)
+pub lies-next : (free before sizes : List ℕ) (k below card size : ℕ) → IsTriedFrom free before sizes k below → IsNextCard free size below card → get_or sizes k 0 ≡ size → get_or free card 0 ≢ size → LiesBelow (left free card size) (remove sizes k) size (get_or free card 0 + 1)
 lies-next free before sizes k below card size tried next is apart =
     lies-rest free sizes k card size next.there is next.fits (λ other inside more. by_test other inside more (nat_lt (get_or free other 0) below) refl)
   where
@@ -220,7 +220,7 @@ lies-next free before sizes k below card size tried next is apart =
         absurd (omega (arith, le, more))
     by_test other inside more false t = tried.1 other inside (grind (arith, nat_tests))
 
-pub tried-on : (before free now sizes : List ℕ) (k below card room : ℕ) → IsTriedFrom free before sizes k below → now ≡ free → IsNext free (get_or sizes k 0) below card → get_or free card 0 ≢ get_or sizes k 0 → IsHopeless free sizes k card → room ≡ get_or free card 0 → IsTriedFrom now before sizes k room
+pub tried-on : (before free now sizes : List ℕ) (k below card room : ℕ) → IsTriedFrom free before sizes k below → now ≡ free → IsNextCard free (get_or sizes k 0) below card → get_or free card 0 ≢ get_or sizes k 0 → IsHopeless free sizes k card → room ≡ get_or free card 0 → IsTriedFrom now before sizes k room
 tried-on before free now sizes k below card room tried same next apart here is = (
   same ∙ tried.0,
   subst (λ (f : List ℕ). (other : ℕ) → other < length f → room ≤ get_or f other 0 → IsHopeless f sizes k other) (sym same)

@@ -6,13 +6,13 @@ use Rattle.ct_base.specs.declared.defs.Resource.{Resource}
 use Rattle.ct_alloc.specs.Spread.{cards_from}
 
 -- the places that a look-up found; none if it found nothing
-abbrev pub found : {Z : Type 0} → Option (Vec ℕ Z) → List ℕ
-found None = []
-found (Some places) = places.items
+abbrev pub found_places : {Z : Type 0} → Option (Vec ℕ Z) → List ℕ
+found_places None = []
+found_places (Some places) = places.items
 
 -- the places that are kept for a kind
 abbrev pub places_for : {Y Z S : Type 0} → IndexMap (Vec ℕ Y) (Vec ℕ Z) S → List ℕ → List ℕ
-places_for {Y} by_kind kind = found (get_by (λ (name : Vec ℕ Y). bytes_eq kind name.items) by_kind)
+places_for {Y} by_kind kind = found_places (get_by (λ (name : Vec ℕ Y). bytes_eq kind name.items) by_kind)
 
 -- the map has for each kind the places of its resources, in order
 abbrev pub AreByKind : {Y Z S : Type 0} → List Resource → IndexMap (Vec ℕ Y) (Vec ℕ Z) S → Type 0

@@ -25,14 +25,19 @@ CannotPack free sizes = CanPack free sizes → ⊥
 
 -- in each packing, each size equal to `size` is on a card with fewer free slots than `room`
 abbrev pub LiesBelow : List ℕ → List ℕ → ℕ → ℕ → Type 0
-LiesBelow free sizes size room = (cards : List ℕ) (at : ℕ) → IsPacking free sizes cards → at < length sizes → slice_index sizes at ≡ size → slice_index free (slice_index cards at) < room
+LiesBelow free sizes size room =
+    (cards : List ℕ) (at : ℕ) → IsPacking free sizes cards → at < length sizes → slice_index sizes at ≡ size
+    → slice_index free (slice_index cards at) < room
 
 -- the card has room for the size. It has exactly the size free,
 -- or it has the most free of all cards with less than `room`.
-pub record IsNext (free : List ℕ) (size room card : ℕ) : Type 0 where
+pub record IsNextCard (free : List ℕ) (size room card : ℕ) : Type 0 where
   pub there : card < length free
   pub fits : size ≤ slice_index free card
-  pub chosen : (slice_index free card ≡ size) ⊎ ((slice_index free card < room) × ((other : ℕ) → other < length free → slice_index free other < room → slice_index free other ≤ slice_index free card))
+  pub chosen : (slice_index free card ≡ size)
+      ⊎ ((slice_index free card < room)
+      × ((other : ℕ) → other < length free → slice_index free other < room
+      → slice_index free other ≤ slice_index free card))
 
 -- the amount, if it is at least the bound, else 0
 abbrev pub reaching : ℕ → ℕ → ℕ

@@ -13,14 +13,18 @@ names_resource pick (Some resource) = bytes_eq resource.kind pick.kind && bytes_
 -- the pick meets the need: the same group, kind and slots, on a resource that is there and that it names
 abbrev pub meets : List Resource → Need → Pick → Bool
 meets resources need pick =
-    need.group == pick.group && bytes_eq need.kind pick.kind && need.slots == pick.slots && names_resource pick (slice_get resources pick.resource)
+    need.group == pick.group
+    && bytes_eq need.kind pick.kind
+    && need.slots == pick.slots
+    && names_resource pick (slice_get resources pick.resource)
 
 -- the picks are a placement for the needs: one pick for each need, in order
 abbrev pub is_placement : List Resource → List Need → List Pick → Bool
 is_placement resources [] [] = true
 is_placement resources [] (pick ∷ picks) = false
 is_placement resources (need ∷ needs) [] = false
-is_placement resources (need ∷ needs) (pick ∷ picks) = meets resources need pick && is_placement resources needs picks
+is_placement resources (need ∷ needs) (pick ∷ picks) =
+    meets resources need pick && is_placement resources needs picks
 
 -- the slots that these picks take together of the resource at a place
 abbrev pub slots_at : ℕ → List Pick → ℕ
@@ -30,7 +34,8 @@ slots_at place picks = sum_by (λ (p : Pick). p.slots) (filter (λ (p : Pick). p
 -- the slots of the picks are together at most its slots
 abbrev pub fits_from : ℕ → List Resource → (ℕ → ℕ) → List Pick → Bool
 fits_from place [] used picks = true
-fits_from place (resource ∷ resources) used picks = nat_le (used place + slots_at place picks) resource.slots && fits_from (place + 1) resources used picks
+fits_from place (resource ∷ resources) used picks =
+    nat_le (used place + slots_at place picks) resource.slots && fits_from (place + 1) resources used picks
 
 -- the picks fit: the used slots and the slots of the picks
 -- are together at most the slots of each resource

@@ -16,7 +16,8 @@ abbrev pub are_of_kind : List Resource → List Need → List ℕ → Bool
 are_of_kind resources [] [] = true
 are_of_kind resources [] (place ∷ places) = false
 are_of_kind resources (need ∷ needs) [] = false
-are_of_kind resources (need ∷ needs) (place ∷ places) = is_of_kind need.kind (slice_get resources place) && are_of_kind resources needs places
+are_of_kind resources (need ∷ needs) (place ∷ places) =
+    is_of_kind need.kind (slice_get resources place) && are_of_kind resources needs places
 
 -- the slots of each need
 abbrev pub sizes_of : List Need → List ℕ
@@ -48,10 +49,15 @@ asks_other kind need = not (asks_kind kind need)
 abbrev pub cards_from : ℕ → List ℕ → List Resource → List ℕ
 cards_from place kind [] = []
 cards_from place kind (resource ∷ resources) =
-    if bytes_eq resource.kind kind then place ∷ cards_from (place + 1) kind resources else cards_from (place + 1) kind resources
+    if bytes_eq resource.kind kind
+    then place ∷ cards_from (place + 1) kind resources
+    else cards_from (place + 1) kind resources
 
 -- the places for the needs of one kind and the places for
 -- all other needs, merged in the order of the needs
 abbrev pub interleaved : List ℕ → List Need → List ℕ → List ℕ → List ℕ
 interleaved kind [] here rest = []
-interleaved kind (need ∷ needs) here rest = if asks_kind kind need then slice_index here 0 ∷ interleaved kind needs (drop 1 here) rest else slice_index rest 0 ∷ interleaved kind needs here (drop 1 rest)
+interleaved kind (need ∷ needs) here rest =
+    if asks_kind kind need
+    then slice_index here 0 ∷ interleaved kind needs (drop 1 here) rest
+    else slice_index rest 0 ∷ interleaved kind needs here (drop 1 rest)

@@ -2,7 +2,6 @@
 //!
 //! Hands up: `Free`, which places needs beside what is used;
 //! `Placement`, which a start carries, with its `Pick`s.
-//! Stands on: ct_base and `indexmap`.
 //! Read first: `specs/Placement.antt`, `specs/Free.antt`, then `free.rt`.
 #![tactic(auto)]
 

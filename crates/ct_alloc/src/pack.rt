@@ -1,5 +1,5 @@
 ghost use Rattle.std.specs.Prelude.{◌≡◌, ◌<◌, ◌≤◌, ℕ, ⊤, slice_index, IfOk, OnOk, MatchOption, length};
-ghost use Rattle.ct_alloc.specs.Packing.{CannotPack, IsNext, IsPacking, LiesBelow};
+ghost use Rattle.ct_alloc.specs.Packing.{CannotPack, IsNextCard, IsPacking, LiesBelow};
 
 use crate::bound::is_overfull;
 use ct_base::NoMemory;
@@ -92,7 +92,7 @@ fn above_all(free: &[u32]) -> u64
 /// Finds the card to try for a size: a card with just its
 /// room, else the roomiest with less room than a limit.
 fn next_card(free: &[u32], size: u32, below: u64) -> Option<usize>
-    ensures { MatchOption result ((card : ℕ) → card < length free.now → size ≤ slice_index free.now card → below ≤ slice_index free.now card) (λ card. IsNext free.now size below card) }
+    ensures { MatchOption result ((card : ℕ) → card < length free.now → size ≤ slice_index free.now card → below ≤ slice_index free.now card) (λ card. IsNextCard free.now size below card) }
 {
     match filled_card(free, size) {
         Some(card) => Some(card),
@@ -114,7 +114,7 @@ fn filled_card(free: &[u32], size: u32) -> Option<usize>
 
 /// Finds the roomiest card that has room for a size, among the cards with less room than a limit.
 fn roomiest(free: &[u32], size: u32, below: u64) -> Option<usize>
-    ensures { MatchOption result ((card : ℕ) → card < length free.now → size ≤ slice_index free.now card → below ≤ slice_index free.now card) (λ card. IsNext free.now size below card) }
+    ensures { MatchOption result ((card : ℕ) → card < length free.now → size ≤ slice_index free.now card → below ≤ slice_index free.now card) (λ card. IsNextCard free.now size below card) }
 {
     let mut best: Option<usize> = None;
     for (card, room) in free.iter().enumerate() {

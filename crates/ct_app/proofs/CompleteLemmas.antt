@@ -32,7 +32,7 @@ use Rattle.ct_app.specs.Calls.{IsReadFault, IsUndeclared, IsUnreadable, IsUsage,
 use Rattle.ct_app.specs.Complete.{Completes, CompletesList, IsListable, IsRunnable, IsUnfailed}
 use Rattle.ct_app.specs.Lists.{AnswersList}
 use Rattle.ct_app.specs.Reading.{AskFor, IsSource, ListAsks, RefusesReading, RunAsks}
-use Rattle.ct_app.specs.Rerun.{AreOnly, choice_of}
+use Rattle.ct_app.specs.Rerun.{AreOnly, choice_for}
 use Rattle.ct_app.specs.RunFiles.{FilesStay}
 use Rattle.ct_app.specs.Runs.{AnswersRun, HasRunWith, IsCutOff, IsRefusal, IsUnplannable, IsUnwritten, RanWith}
 use Rattle.ct_app.specs.SpecFile.{AreLent, RefusesFile, declared_in}
@@ -82,7 +82,7 @@ lent_unrefused held (Some path) (Some resources) why is refused = not_both (decl
 same_asked : (words : List (List ℕ)) (one other : Invocation) → AskFor words one → AskFor words other → invocation_seen one ≡ invocation_seen other
 same_asked words one other is also = same_ok (invocation_in words) (invocation_seen one) (invocation_seen other) is also
 
-same_choice : (one other : Invocation) (names others : Option (List (List ℕ))) → invocation_seen one ≡ invocation_seen other → names ≡ others → IsSameChoice (choice_of one names) (choice_of other others)
+same_choice : (one other : Invocation) (names others : Option (List (List ℕ))) → invocation_seen one ≡ invocation_seen other → names ≡ others → IsSameChoice (choice_for one names) (choice_for other others)
 same_choice one other names others same limited = record {
   name = ap (λ (v : InvocationValue). v.name) same;
   not_name = ap (λ (v : InvocationValue). v.not_name) same;
@@ -176,7 +176,7 @@ module _ (s : Sides) (can : IsRunnable s) where
     choice_same : IsSameChoice source.wanted.choice can.source.wanted.choice
     choice_same =
         subst (λ (w : Wanted). IsSameChoice w.choice can.source.wanted.choice) (sym read.wanted)
-        (subst (λ (w : Wanted). IsSameChoice (choice_of invocation source.wanted.choice.only) w.choice) (sym can.read.wanted) (same_choice invocation can.invocation source.wanted.choice.only can.source.wanted.choice.only same names_same))
+        (subst (λ (w : Wanted). IsSameChoice (choice_for invocation source.wanted.choice.only) w.choice) (sym can.read.wanted) (same_choice invocation can.invocation source.wanted.choice.only can.source.wanted.choice.only same names_same))
 
     have : HaveProps can.source.defs source.props
     have = subst (λ (ds : List TestDef). HaveProps ds source.props) defs_same read.tests.have

@@ -18,18 +18,18 @@ use Rattle.ct_app.specs.Ends.{EndsList, IsReadList, IsUnread, ListEnds, Tells, T
 use Rattle.ct_app.specs.Lists.{AnswersList, HasList, IsShortList, asked_lines}
 use Rattle.ct_app.specs.Outcome.{fault_line, fault_status}
 use Rattle.ct_app.specs.Reading.{AskFor, ListAsks}
-use Rattle.ct_app.specs.Rerun.{choice_of}
+use Rattle.ct_app.specs.Rerun.{choice_for}
 use Rattle.ct_app.proofs.AnswerLemmas.{tried}
 
 -- the tests of a list were read, and the list was put or its put failed
 module _ (words : List (List ℕ)) (invocation : Invocation) (asked : AskFor words invocation) (files files_now : FilesTell) (sink sink_now : SinkTell) where
-  pub read_list : (tests : Tests) (only : Option (List (List ℕ))) (result : Result (Unit {0}) SinkFault) → IsReadList invocation files files_now tests only → PutsLines (asked_lines invocation (choice_of invocation only) tests.defs tests.props) sink sink_now result → ListEnds (list_sides words files files_now sink sink_now) (listed_as result)
+  pub read_list : (tests : Tests) (only : Option (List (List ℕ))) (result : Result (Unit {0}) SinkFault) → IsReadList invocation files files_now tests only → PutsLines (asked_lines invocation (choice_for invocation only) tests.defs tests.props) sink sink_now result → ListEnds (list_sides words files files_now sink sink_now) (listed_as result)
   read_list tests only result read puts = by result puts
     where
       unrun : IsUnrun (list_sides words files files_now sink sink_now)
       unrun = record { no_plan = refl; no_history = refl; unasked = refl }
 
-      has : (P : List (List ℕ) → Type 0) → P (asked_lines invocation (choice_of invocation only) tests.defs tests.props) → HasList (list_sides words files files_now sink sink_now) P
+      has : (P : List (List ℕ) → Type 0) → P (asked_lines invocation (choice_for invocation only) tests.defs tests.props) → HasList (list_sides words files files_now sink sink_now) P
       has P holds = record {
         invocation = invocation;
         words = asked;
@@ -43,7 +43,7 @@ module _ (words : List (List ℕ)) (invocation : Invocation) (asked : AskFor wor
         holds = holds;
       }
 
-      by : (r : Result (Unit {0}) SinkFault) → PutsLines (asked_lines invocation (choice_of invocation only) tests.defs tests.props) sink sink_now r → ListEnds (list_sides words files files_now sink sink_now) (listed_as r)
+      by : (r : Result (Unit {0}) SinkFault) → PutsLines (asked_lines invocation (choice_for invocation only) tests.defs tests.props) sink sink_now r → ListEnds (list_sides words files files_now sink sink_now) (listed_as r)
       by (Ok tt) put = has (λ lines. PutsLines lines sink sink_now (Ok tt)) put
       by (Err Sinks.Failed) put = has (λ lines. PutsLines lines sink sink_now (Err Sinks.Failed)) put
       by (Err Sinks.NoMemory) put = (unrun, read.read.files, inr (has (λ lines. PutsLines lines sink sink_now (Err Sinks.NoMemory)) put))
@@ -73,7 +73,7 @@ module _ (words : List (List ℕ)) (env : List Pair) (files files_now : FilesTel
     limits = has.limits;
     files = has.files;
     unrun = unrun;
-    holds = each (asked_lines has.invocation (choice_of has.invocation has.only) has.defs has.props) has.holds;
+    holds = each (asked_lines has.invocation (choice_for has.invocation has.only) has.defs has.props) has.holds;
   }
 
   answer_as : (o outcome : Outcome) (status : ℕ) → outcome ≡ o → status ≡ fault_status outcome → AnswersList (sides words env files files_now gates gates_now sink now plan history) o (fault_status o) → AnswersList (sides words env files files_now gates gates_now sink now plan history) outcome status

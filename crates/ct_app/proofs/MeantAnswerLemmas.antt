@@ -31,7 +31,7 @@ use Rattle.ct_app.specs.Calls.{Sides}
 use Rattle.ct_worker.specs.Gates.{AreAsked, SawAllTold, SawTold, Terms, are_below, had_memory, is_below, lacks_memory, seen_of}
 use Rattle.ct_app.specs.Meant.{AreSeen, IsSeen}
 use Rattle.ct_app.specs.MeantRuns.{AnswersAsMeant, HasRunAsMeant, RanAsMeant}
-use Rattle.ct_app.specs.MeantTold.{AllTell, ComesAsMeant, seen_as_told, seen_in}
+use Rattle.ct_app.specs.MeantTold.{AllTell, ComesAsMeant, seen_as_told, seen_in_world}
 use Rattle.ct_app.specs.Reading.{ask_for_list}
 use Rattle.ct_app.specs.Runs.{HasRunWith, IsCompleted, IsRun, RanWith}
 use Rattle.ct_app.specs.Tests.{terms_from}
@@ -100,7 +100,7 @@ told_by terms world entries first (before ∷ befores) (now ∷ nows) asked all 
       told_by terms world entries (first + 1) befores nows asked.1 all.1 worker (omega (arith, less)) (omega (arith, high))
 ]
 
-seen_entry : (props : List Props) (world : List Told) (workers : ℕ) (e : Entry) → is_below workers e ≡ true → not (lacks_memory e) ≡ true → ((worker : ℕ) → worker < workers → SawTold props world worker e) → IsSeen (seen_in props world) e
+seen_entry : (props : List Props) (world : List Told) (workers : ℕ) (e : Entry) → is_below workers e ≡ true → not (lacks_memory e) ≡ true → ((worker : ℕ) → worker < workers → SawTold props world worker e) → IsSeen (seen_in_world props world) e
 seen_entry props world workers (Start t a w p) below had saw = tt
 seen_entry props world workers (End t a w seen) below had saw = by_props (at_number props t) (saw w (ltb-true w workers below) refl (not-true (is_no_memory seen.how) had))
   where
@@ -111,7 +111,7 @@ seen_entry props world workers (Settle t c) below had saw = tt
 seen_entry props world workers Stop below had saw = tt
 
 -- the workers saw what is seen in the world
-seen_entries : (props : List Props) (world : List Told) (workers : ℕ) (entries : List Entry) → are_below workers entries ≡ true → had_memory entries ≡ true → ((worker : ℕ) → worker < workers → SawAllTold props world worker entries) → AreSeen (seen_in props world) entries
+seen_entries : (props : List Props) (world : List Told) (workers : ℕ) (entries : List Entry) → are_below workers entries ≡ true → had_memory entries ≡ true → ((worker : ℕ) → worker < workers → SawAllTold props world worker entries) → AreSeen (seen_in_world props world) entries
 seen_entries props world workers [] below had saw = tt
 seen_entries props world workers (e ∷ es) below had saw =
     let few = and_parts (is_below workers e) (are_below workers es) below in
@@ -121,16 +121,16 @@ seen_entries props world workers (e ∷ es) below had saw =
     )
 
 -- a completed run has the verdicts, status and texts that are meant in the world that its gates tell
-comes_as_meant : (s : Sides) (status : ℕ) (invocation : Invocation) (source : Source) (plan : PlanParts) (entries : List Entry) → IsRun s invocation source plan entries → IsCompleted s status invocation plan entries → (world : List Told) → AllTell world s.gates.before → ComesAsMeant invocation.empty_is_error plan (seen_in source.props world) entries status
+comes_as_meant : (s : Sides) (status : ℕ) (invocation : Invocation) (source : Source) (plan : PlanParts) (entries : List Entry) → IsRun s invocation source plan entries → IsCompleted s status invocation plan entries → (world : List Told) → AllTell world s.gates.before → ComesAsMeant invocation.empty_is_error plan (seen_in_world source.props world) entries status
 comes_as_meant s status invocation source plan entries run completed world all =
-    let verdicts = are_meant plan (ranked s invocation source plan entries run) (seen_in source.props world) entries run.ran.legal completed.reported.complete.final are_seen in
+    let verdicts = are_meant plan (ranked s invocation source plan entries run) (seen_in_world source.props world) entries run.ran.legal completed.reported.complete.final are_seen in
     record {
       verdicts = verdicts;
       is = completed.is ∙ ap (λ (b : Bool). if (if length plan.tests == 0 then invocation.empty_is_error else b) then 8 else 0) verdicts.failing;
-      texts = λ off. has_meant_texts plan (ranked s invocation source plan entries run) (seen_in source.props world) off entries run.ran.legal completed.reported.complete.final are_seen;
+      texts = λ off. has_meant_texts plan (ranked s invocation source plan entries run) (seen_in_world source.props world) off entries run.ran.legal completed.reported.complete.final are_seen;
     }
   where
-    are_seen : AreSeen (seen_in source.props world) entries
+    are_seen : AreSeen (seen_in_world source.props world) entries
     are_seen =
         seen_entries source.props world (min plan.level (length s.gates.before)) entries run.ran.workers completed.reported.memory
         (λ worker less. told_by (terms_from s.env source invocation.timeout) world entries 0 s.gates.before s.gates.after run.ran.asked all worker (omega arith) (omega (arith, less)))

@@ -22,7 +22,7 @@ use Rattle.ct_app.specs.declared.spec_file.SpecFileFault.{SpecFileFault}
 use Rattle.ct_app.specs.declared.spec_file.SpecFileFault.TheVariants as Named
 use Rattle.ct_app.specs.Ends.{HasTests, IsReadFolder, IsReadList, IsUnread, IsUnreadFolder}
 use Rattle.ct_app.specs.Outcome.{outcome_of, outcome_of_file, outcome_of_spec}
-use Rattle.ct_app.specs.Rerun.{AreOnly, ReadsOnly, last_failed, names_of}
+use Rattle.ct_app.specs.Rerun.{AreOnly, ReadsOnly, last_failed, names_in_text}
 use Rattle.ct_app.specs.RunFiles.{FilesStay, ReadsCosts, costs_of, costs_path, last_costs, log_path}
 use Rattle.ct_app.specs.SpecFile.{AreLent, ReadsSpec, RefusesFile, declared_in}
 use Rattle.ct_app.specs.Tests.{RefusesTests}
@@ -60,7 +60,7 @@ same_last dir costs (Some x) (Some y) same read = read ∙ ap costs_of (same (co
 same_log : (dir : List ℕ) (names : List (List ℕ)) (before between : Option Held) → Becomes before between SameHeld → IfSome between (λ held. names ≡ last_failed dir held) → IfSome before (λ held. names ≡ last_failed dir held)
 same_log dir names None between same read = tt
 same_log dir names (Some x) None same read = absurd same
-same_log dir names (Some x) (Some y) same read = read ∙ ap names_of (same (log_path dir))
+same_log dir names (Some x) (Some y) same read = read ∙ ap names_in_text (same (log_path dir))
 
 same_only : (rerun : Bool) (dir : List ℕ) (only : Option (List (List ℕ))) (before between : Option Held) → Becomes before between SameHeld → AreOnly between rerun dir only → AreOnly before rerun dir only
 same_only false dir only before between same is = is

@@ -6,19 +6,19 @@ use Rattle.ct_base.specs.Outside.{FilesTell, Held}
 use Rattle.ct_select.specs.FailedLog.{failed_in}
 use Rattle.ct_app.specs.declared.run_files.RunFileFault.{RunFileFault}
 use Rattle.ct_app.specs.declared.run_files.RunFileFault.TheVariants as Fault
-use Rattle.ct_app.specs.Rerun.{AreOnly, ReadsLog, ReadsOnly, last_failed, most_log_bytes, names_of}
+use Rattle.ct_app.specs.Rerun.{AreOnly, ReadsLog, ReadsOnly, last_failed, most_log_bytes, names_in_text}
 use Rattle.ct_app.specs.RunFiles.{log_path}
 use Rattle.ct_app.proofs.FrontLemmas.{made_of_front}
 
 -- a log and its first bytes, one more than the limit, have the same names
-names_of_front : (held : Option (List ℕ)) → names_of (option_map (take (most_log_bytes + 1)) held) ≡ names_of held
+names_of_front : (held : Option (List ℕ)) → names_in_text (option_map (take (most_log_bytes + 1)) held) ≡ names_in_text held
 names_of_front None = refl
 names_of_front (Some text) = made_of_front failed_in [] most_log_bytes text
 
 -- the names that are read from the first bytes of the log are the names of the tests that failed last
-pub reads_names : (dir path : List ℕ) (told : Option Held) (got : Option (List ℕ)) (names : List (List ℕ)) → path ≡ log_path dir → IfSome told (λ held. got ≡ option_map (take (most_log_bytes + 1)) (held path)) → names ≡ names_of got → IfSome told (λ held. names ≡ last_failed dir held)
+pub reads_names : (dir path : List ℕ) (told : Option Held) (got : Option (List ℕ)) (names : List (List ℕ)) → path ≡ log_path dir → IfSome told (λ held. got ≡ option_map (take (most_log_bytes + 1)) (held path)) → names ≡ names_in_text got → IfSome told (λ held. names ≡ last_failed dir held)
 reads_names dir path None got names named read is = tt
-reads_names dir path (Some held) got names named read is = is ∙ ap names_of read ∙ names_of_front (held path) ∙ ap (λ (p : List ℕ). names_of (held p)) named
+reads_names dir path (Some held) got names named read is = is ∙ ap names_in_text read ∙ names_of_front (held path) ∙ ap (λ (p : List ℕ). names_in_text (held p)) named
 
 -- where the names of the log are asked for and the log was not read, the limit was not read
 pub only_unread : (dir : List ℕ) (before now : FilesTell) (fault : RunFileFault) → ReadsLog dir before now (Err fault) → ReadsOnly true dir before now (Err fault)

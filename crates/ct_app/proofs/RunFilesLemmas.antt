@@ -20,7 +20,7 @@ use Rattle.ct_cost.specs.Costs.{costs_in}
 use Rattle.ct_app.specs.declared.run_files.RunFileFault.{RunFileFault}
 use Rattle.ct_app.specs.declared.run_files.RunFileFault.TheVariants as Fault
 use Rattle.ct_app.specs.Rerun.{ReadsLog}
-use Rattle.ct_app.specs.RunFiles.{FilesFail, FilesServe, FilesStay, Leaves, LeavesBoth, LeavesFor, LeavesPart, LeavesTorn, ReadsCosts, WritesFiles, WritesText, costs_of, costs_path, fault_at, last_costs, log_path, most_cost_bytes, new_costs}
+use Rattle.ct_app.specs.RunFiles.{FilesFail, FilesServe, FilesStay, Leaves, LeavesBoth, LeavesFor, LeavesPart, LeavesTorn, ReadsCosts, WritesFiles, WritesText, costs_of, costs_path, file_fault_at, last_costs, log_path, most_cost_bytes, new_costs}
 use Rattle.ct_app.proofs.FrontLemmas.{made_of_front}
 use Rattle.ct_app.proofs.ChangeLemmas.{fails_as, fails_then, same_then_fails, same_then_same, same_then_writes, serves_as, serves_then, stays, writes_then_same}
 
@@ -50,11 +50,11 @@ module _ {T : Type 0} (path : List ℕ) (before now : FilesTell) where
   pub look_lacked : LooksAt {T = T} path before now (Err Files.NoMemory) → FilesStay before now
   look_lacked looks = record { held = looks.kept; unrefused = looks.asks.unrefused (λ e. cc); unfailed = looks.asks.cause.unfailed (λ e. cc) }
 
-  pub costs_unread : (dir : List ℕ) (fault : FilesFault) → path ≡ costs_path dir → LooksAt {T = T} path before now (Err fault) → ReadsCosts dir before now (Err (fault_at path fault))
+  pub costs_unread : (dir : List ℕ) (fault : FilesFault) → path ≡ costs_path dir → LooksAt {T = T} path before now (Err fault) → ReadsCosts dir before now (Err (file_fault_at path fault))
   costs_unread dir Files.Failed named looks = (named, look_failed looks)
   costs_unread dir Files.NoMemory named looks = look_lacked looks
 
-  pub log_unread : (dir : List ℕ) (fault : FilesFault) → path ≡ log_path dir → LooksAt {T = T} path before now (Err fault) → ReadsLog dir before now (Err (fault_at path fault))
+  pub log_unread : (dir : List ℕ) (fault : FilesFault) → path ≡ log_path dir → LooksAt {T = T} path before now (Err fault) → ReadsLog dir before now (Err (file_fault_at path fault))
   log_unread dir Files.Failed named looks = (named, look_failed looks)
   log_unread dir Files.NoMemory named looks = look_lacked looks
 

@@ -35,7 +35,9 @@ pub record Sides : Type 0 where
   pub history : Option (List Entry)
 
 -- the values of a call, as one record
-abbrev pub sides : List (List ℕ) → List Pair → FilesTell → FilesTell → List GateTell → List GateTell → SinkTell → SinkTell → Option PlanParts → Option (List Entry) → Sides
+abbrev pub sides : List (List ℕ)
+    → List Pair → FilesTell → FilesTell → List GateTell → List GateTell → SinkTell → SinkTell
+    → Option PlanParts → Option (List Entry) → Sides
 sides words env files_before files_now gates_before gates_now sink_before sink_now plan history = record {
   words = words;
   env = env;
@@ -48,11 +50,13 @@ sides words env files_before files_now gates_before gates_now sink_before sink_n
 
 -- the values of a call that lists: no environment, no gate, no plan, no history
 abbrev pub list_sides : List (List ℕ) → FilesTell → FilesTell → SinkTell → SinkTell → Sides
-list_sides words files_before files_now sink_before sink_now = sides words [] files_before files_now [] [] sink_before sink_now None None
+list_sides words files_before files_now sink_before sink_now =
+    sides words [] files_before files_now [] [] sink_before sink_now None None
 
 -- a line was put whole by one put, or the put failed and a beginning of the line was written
 abbrev pub PutsOrFails : List ℕ → SinkTell → SinkTell → Type 0
-PutsOrFails line before now = PutsLines (line ∷ []) before now (Ok tt) ⊎ PutsLines (line ∷ []) before now (Err Sinks.Failed)
+PutsOrFails line before now =
+    PutsLines (line ∷ []) before now (Ok tt) ⊎ PutsLines (line ∷ []) before now (Err Sinks.Failed)
 
 -- a line was put whole by one put, or the put failed or ran out of memory and a beginning of the
 -- line was written
@@ -99,7 +103,8 @@ pub record IsUndeclared (s : Sides) (refusal : Refusal) : Type 0 where
 
 -- reading failed at this path, which is one of what is read for the call; each path holds what it held,
 -- and nothing was run
-pub record IsReadFault (s : Sides) (Asks : Option Held → Invocation → List ℕ → Type 0) (path : List ℕ) : Type 0 where
+pub record IsReadFault (s : Sides) (Asks : Option Held → Invocation → List ℕ → Type 0) (path : List ℕ)
+    : Type 0 where
   pub invocation : Invocation
   pub words : AskFor s.words invocation
   pub asked : Asks s.files.before.held invocation path

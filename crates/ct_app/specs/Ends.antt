@@ -63,7 +63,9 @@ RunLeaves s invocation plan entries (Err Memory) = IsCutShort s plan entries s.s
 
 -- what became of the files of a run with this end. A complete run wrote them, unless a write failed or memory
 -- ran out. A run that ended early left them as they were, and keeps its outcome.
-abbrev pub EndsWithFiles : PlanParts → List Entry → CostData → FilesTell → FilesTell → Result (Unit {0}) Outcome → Result (Unit {0}) Outcome → Type 0
+abbrev pub EndsWithFiles : PlanParts
+    → List Entry → CostData → FilesTell → FilesTell → Result (Unit {0}) Outcome → Result (Unit {0}) Outcome
+    → Type 0
 EndsWithFiles plan entries costs before now (Err outcome) ended = (ended ≡ Err outcome) × (now ≡ before)
 EndsWithFiles plan entries costs before now (Ok done) (Ok left) = FilesServe (Leaves plan entries costs) before now
 EndsWithFiles plan entries costs before now (Ok done) (Err Completed) = ⊥
@@ -91,8 +93,10 @@ abbrev pub IsUnread : Invocation → FilesTell → FilesTell → Outcome → Typ
 IsUnread invocation before now Completed = ⊥
 IsUnread invocation before now Listed = ⊥
 IsUnread invocation before now (Usage word kind) = ⊥
-IsUnread invocation before now (Refused refusal) = RefusesReading before.held invocation refusal × FilesStay before now
-IsUnread invocation before now (FilesFault path) = ListAsks before.held invocation path × FilesFail path SameHeld before now
+IsUnread invocation before now (Refused refusal) =
+    RefusesReading before.held invocation refusal × FilesStay before now
+IsUnread invocation before now (FilesFault path) =
+    ListAsks before.held invocation path × FilesFail path SameHeld before now
 IsUnread invocation before now OutputFault = ⊥
 IsUnread invocation before now Memory = FilesStay before now
 
@@ -107,12 +111,16 @@ pub record HasBadSpec (invocation : Invocation) (before now : FilesTell) (refusa
 -- why the folder of a run was not read: a test file, a property or the specification is refused, the files
 -- failed at a path, or memory ran out
 abbrev pub IsUnreadFolder : Invocation → FilesTell → FilesTell → Outcome → Type 0
-IsUnreadFolder invocation before now (Refused refusal) = IsUnread invocation before now (Refused refusal) ⊎ HasBadSpec invocation before now refusal
-IsUnreadFolder invocation before now (FilesFault path) = RunAsks before.held invocation path × FilesFail path SameHeld before now
+IsUnreadFolder invocation before now (Refused refusal) =
+    IsUnread invocation before now (Refused refusal) ⊎ HasBadSpec invocation before now refusal
+IsUnreadFolder invocation before now (FilesFault path) =
+    RunAsks before.held invocation path × FilesFail path SameHeld before now
 IsUnreadFolder invocation before now outcome = IsUnread invocation before now outcome
 
 -- the tests of a list were read, and the names that the list is limited to, if any
-pub record IsReadList (invocation : Invocation) (before now : FilesTell) (tests : Tests) (only : Option (List (List ℕ))) : Type 0 where
+pub record IsReadList
+    (invocation : Invocation) (before now : FilesTell) (tests : Tests) (only : Option (List (List ℕ)))
+    : Type 0 where
   pub read : HasTests invocation before now tests
   pub limits : AreOnly before.held invocation.rerun invocation.wanted.dir only
 
@@ -120,7 +128,9 @@ pub record IsReadList (invocation : Invocation) (before now : FilesTell) (tests 
 -- - the tests, and the resources that are lent;
 -- - the cost data of the last run;
 -- - the names that the run is limited to, if any
-pub record IsReadFolder (invocation : Invocation) (before now : FilesTell) (tests : Tests) (resources : Option (List Resource)) (costs : CostData) (only : Option (List (List ℕ))) : Type 0 where
+pub record IsReadFolder
+    (invocation : Invocation) (before now : FilesTell) (tests : Tests) (resources : Option (List Resource))
+    (costs : CostData) (only : Option (List (List ℕ))) : Type 0 where
   pub read : HasTests invocation before now tests
   pub lent : AreLent before.held invocation.spec_file resources
   pub last : IfSome before.held (λ held. costs ≡ last_costs invocation.wanted.dir held)
@@ -129,7 +139,8 @@ pub record IsReadFolder (invocation : Invocation) (before now : FilesTell) (test
 -- why the tests of a folder have no plan, with the names of the tests of a cycle;
 -- memory may run out for the names
 abbrev pub IsUnplanned : List TestDef → PlanFault → List (List ℕ) → Result ℕ Outcome → Type 0
-IsUnplanned defs (Plans.Cycle tests) names ended = ((ended ≡ Err (Refused (Cycle tests))) × (names ≡ names_at defs tests)) ⊎ (ended ≡ Err Memory)
+IsUnplanned defs (Plans.Cycle tests) names ended =
+    ((ended ≡ Err (Refused (Cycle tests))) × (names ≡ names_at defs tests)) ⊎ (ended ≡ Err Memory)
 IsUnplanned defs Plans.TooManyEdges names ended = ended ≡ Err (Refused TooManyEdges)
 IsUnplanned defs Plans.NoMemory names ended = ended ≡ Err Memory
 
@@ -146,11 +157,14 @@ EndsUnrun s names (Err Memory) = IsUnrun s × FilesStay s.files.before s.files.a
 
 -- how a run ended before the line of its outcome is put: a plan was run, or none was made and nothing was put
 abbrev pub Ends : Sides → List (List ℕ) → Result ℕ Outcome → Type 0
-Ends s names ended = HasRunWith s (λ invocation plan entries. RunLeaves s invocation plan entries ended) ⊎ (EndsUnrun s names ended × (s.sink.after ≡ s.sink.before))
+Ends s names ended =
+    HasRunWith s (λ invocation plan entries. RunLeaves s invocation plan entries ended)
+    ⊎ (EndsUnrun s names ended × (s.sink.after ≡ s.sink.before))
 
 -- how a run for an invocation ended, for all words that ask for this invocation
 abbrev pub EndsFor : Invocation → (List (List ℕ) → Sides) → List (List ℕ) → Result ℕ Outcome → Type 0
-EndsFor invocation sides_of names ended = (words : List (List ℕ)) → AskFor words invocation → Ends (sides_of words) names ended
+EndsFor invocation sides_of names ended =
+    (words : List (List ℕ)) → AskFor words invocation → Ends (sides_of words) names ended
 
 -- the outcome of a call whose list ended with this result
 abbrev pub listed_as : Result (Unit {0}) SinkFault → Outcome
@@ -165,11 +179,16 @@ ListEnds s (Usage word kind) = IsUsage s word kind × (s.sink.after ≡ s.sink.b
 ListEnds s (Refused refusal) = IsUnreadable s refusal × (s.sink.after ≡ s.sink.before)
 ListEnds s (FilesFault path) = IsReadFault s ListAsks path × (s.sink.after ≡ s.sink.before)
 ListEnds s OutputFault = HasList s (λ lines. PutsLines lines s.sink.before s.sink.after (Err Sinks.Failed))
-ListEnds s Memory = IsUnrun s × FilesStay s.files.before s.files.after × ((s.sink.after ≡ s.sink.before) ⊎ HasList s (λ lines. PutsLines lines s.sink.before s.sink.after (Err Sinks.NoMemory)))
+ListEnds s Memory =
+    IsUnrun s
+    × FilesStay s.files.before s.files.after
+    × ((s.sink.after ≡ s.sink.before)
+    ⊎ HasList s (λ lines. PutsLines lines s.sink.before s.sink.after (Err Sinks.NoMemory)))
 
 -- how a list for an invocation ended, for all words that ask for this invocation
 abbrev pub ListEndsFor : Invocation → (List (List ℕ) → Sides) → Outcome → Type 0
-ListEndsFor invocation sides_of outcome = (words : List (List ℕ)) → AskFor words invocation → ListEnds (sides_of words) outcome
+ListEndsFor invocation sides_of outcome =
+    (words : List (List ℕ)) → AskFor words invocation → ListEnds (sides_of words) outcome
 
 -- the result is the outcome of a list, and there are no names of a cycle
 abbrev pub EndsList : Sides → List (List ℕ) → Result ℕ Outcome → Type 0
@@ -179,7 +198,9 @@ EndsList s names (Err outcome) = ListEnds s outcome × (names ≡ [])
 -- the line of an outcome was put or its put failed,
 -- or memory ran out for the line and the outcome told is Memory
 abbrev pub Told : List (List ℕ) → Outcome → Outcome → SinkTell → SinkTell → Type 0
-Told names outcome told before now = ((told ≡ outcome) × PutsOrFails (fault_line names outcome) before now) ⊎ ((told ≡ Memory) × PutsLines (fault_line names outcome ∷ []) before now (Err Sinks.NoMemory))
+Told names outcome told before now =
+    ((told ≡ outcome) × PutsOrFails (fault_line names outcome) before now)
+    ⊎ ((told ≡ Memory) × PutsLines (fault_line names outcome ∷ []) before now (Err Sinks.NoMemory))
 
 -- how a call tells an outcome. Where the sink has failed or a list was put, it puts no line and returns the
 -- outcome. Else it puts the line, as in `Told`.
@@ -192,4 +213,5 @@ Tells names outcome told before now = Told names outcome told before now
 -- told, with the status of that outcome
 abbrev pub TellsEnd : List (List ℕ) → Result ℕ Outcome → Outcome → ℕ → SinkTell → SinkTell → Type 0
 TellsEnd names (Ok status) outcome told before now = (outcome ≡ Completed) × (told ≡ status) × (now ≡ before)
-TellsEnd names (Err fault) outcome told before now = Tells names fault outcome before now × (told ≡ fault_status outcome)
+TellsEnd names (Err fault) outcome told before now =
+    Tells names fault outcome before now × (told ≡ fault_status outcome)

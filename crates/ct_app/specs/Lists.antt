@@ -19,18 +19,20 @@ use Rattle.ct_app.specs.declared.outcome.Outcome.TheVariants.{Completed, Listed,
 use Rattle.ct_app.specs.Calls.{IsReadFault, IsUnreadable, IsUnrun, IsUsage, PutsOrFails, Sides, ThenLine, Tries}
 use Rattle.ct_app.specs.Outcome.{fault_line}
 use Rattle.ct_app.specs.Reading.{AreRead, AskFor, ListAsks}
-use Rattle.ct_app.specs.Rerun.{AreOnly, choice_of}
+use Rattle.ct_app.specs.Rerun.{AreOnly, choice_for}
 use Rattle.ct_app.specs.RunFiles.{FilesStay}
 
 -- the test that was looked up by this number as a list shows it, if its definition and properties are there
 abbrev pub listed_there : ℕ → Option TestDef → Option Props → Option Line
 listed_there number None props = None
 listed_there number (Some def) None = None
-listed_there number (Some def) (Some props) = Some (record { number = number; name = def.name; disabled = props.disabled })
+listed_there number (Some def) (Some props) =
+    Some (record { number = number; name = def.name; disabled = props.disabled })
 
 -- the tests with these numbers as a list shows them, in order
 abbrev pub listed_tests : List TestDef → List Props → List ℕ → List Line
-listed_tests defs props numbers = filter_map (λ number. listed_there number (at_number defs number) (at_number props number)) numbers
+listed_tests defs props numbers =
+    filter_map (λ number. listed_there number (at_number defs number) (at_number props number)) numbers
 
 -- the labels of a test that was looked up; a disabled test has none here
 abbrev pub labels_there : Option Props → List (List ℕ)
@@ -51,7 +53,9 @@ list_lines ListJson dir config defs props members = info_text (info_value defs m
 
 -- the lines of the list that an invocation asks for, of the tests that a choice selects
 abbrev pub asked_lines : Invocation → Choice → List TestDef → List Props → List (List ℕ)
-asked_lines invocation choice defs props = list_lines invocation.task invocation.wanted.dir invocation.config defs props (members_in choice defs props)
+asked_lines invocation choice defs props =
+    list_lines invocation.task invocation.wanted.dir invocation.config defs props
+    (members_in choice defs props)
 
 -- the words were read, and the tests that they ask for, and the names that the list is limited to, if any.
 -- `P` holds of the lines of the list, the files stay, and nothing was run.
@@ -65,7 +69,7 @@ pub record HasList (s : Sides) (P : List (List ℕ) → Type 0) : Type 0 where
   pub limits : AreOnly s.files.before.held invocation.rerun invocation.wanted.dir only
   pub files : FilesStay s.files.before s.files.after
   pub unrun : IsUnrun s
-  pub holds : P (asked_lines invocation (choice_of invocation only) defs props)
+  pub holds : P (asked_lines invocation (choice_for invocation only) defs props)
 
 -- memory ran out for a list: for the line of this outcome; or, with Memory,
 -- before any line or behind a beginning of the list

@@ -28,11 +28,13 @@ first_verdicts rules seen count = map (λ attempt. verdict_of rules (seen attemp
 -- the last attempt of a test: the first attempt behind which the test is over, at the latest the attempt
 -- whose number is the times of the repeat
 abbrev pub last_attempt : Repeat → Rules → (ℕ → Seen) → Option ℕ
-last_attempt repeat rules seen = find (λ attempt. is_over repeat (first_verdicts rules seen attempt)) (range_with_len 1 repeat.times)
+last_attempt repeat rules seen =
+    find (λ attempt. is_over repeat (first_verdicts rules seen attempt)) (range_with_len 1 repeat.times)
 
 -- the verdict that the attempts of a test are meant to have: the verdict of the last attempt
 abbrev pub meant_of_attempts : Repeat → Rules → (ℕ → Seen) → Option Verdict
-meant_of_attempts repeat rules seen = option_map (λ attempt. verdict_of rules (seen attempt)) (last_attempt repeat rules seen)
+meant_of_attempts repeat rules seen =
+    option_map (λ attempt. verdict_of rules (seen attempt)) (last_attempt repeat rules seen)
 
 -- the least setup of a test that is not meant to pass, where `meant` tells the verdict of each setup;
 -- `setups` ascends
@@ -49,13 +51,16 @@ meant_cause meant t = cause_behind (first_unpassed_setup meant t) t.fixed
 abbrev pub meant_by_setups : Repeat → (ℕ → ℕ → Seen) → (ℕ → Option Verdict) → Option PlanTest → Option Verdict
 meant_by_setups repeat seen meant None = None
 meant_by_setups repeat seen meant (Some t) =
-    if t.disabled then Some Disabled else settled_or (meant_cause meant t) (meant_of_attempts repeat t.rules (seen t.number))
+    if t.disabled
+    then Some Disabled
+    else settled_or (meant_cause meant t) (meant_of_attempts repeat t.rules (seen t.number))
 
 -- the verdict that the test with this number is meant to have,
 -- with setups of setups followed for this many steps
 abbrev pub meant_within : PlanParts → (ℕ → ℕ → Seen) → ℕ → ℕ → Option Verdict
 meant_within plan seen zero number = None
-meant_within plan seen (suc steps) number = meant_by_setups plan.repeat seen (meant_within plan seen steps) (test_at plan.tests number)
+meant_within plan seen (suc steps) number =
+    meant_by_setups plan.repeat seen (meant_within plan seen steps) (test_at plan.tests number)
 
 -- the verdict that the test with this number is meant to have, where `seen` tells what is seen of each
 -- attempt. Setups make no cycle, so a chain of setups has at most as many steps as there are tests.
@@ -81,11 +86,13 @@ AreSeen seen (entry ∷ entries) = IsSeen seen entry × AreSeen seen entries
 -- a test has its meant verdict, or the history has a Stop and the test was not run for it
 abbrev pub IsMeant : PlanParts → (ℕ → ℕ → Seen) → List Entry → ℕ → Type 0
 IsMeant plan seen entries number =
-    (verdict_of_test plan entries number ≡ meant_verdict plan seen number) ⊎ ((has_stop entries ≡ true) × (verdict_of_test plan entries number ≡ Some (NotRun Stopped)))
+    (verdict_of_test plan entries number ≡ meant_verdict plan seen number)
+    ⊎ ((has_stop entries ≡ true) × (verdict_of_test plan entries number ≡ Some (NotRun Stopped)))
 
 -- each test has its meant verdict or was not run for a Stop. Without --stop-on-failure each test has its
 -- meant verdict. Some verdict is of the failing class exactly where some meant verdict is.
 pub record AreMeant (plan : PlanParts) (seen : ℕ → ℕ → Seen) (entries : List Entry) : Type 0 where
   pub verdicts : (number : ℕ) → IsMeant plan seen entries number
-  pub unstopped : plan.stop_on_failure ≡ false → (number : ℕ) → verdict_of_test plan entries number ≡ meant_verdict plan seen number
+  pub unstopped : plan.stop_on_failure ≡ false → (number : ℕ)
+      → verdict_of_test plan entries number ≡ meant_verdict plan seen number
   pub failing : has_failing plan entries ≡ is_meant_to_fail plan seen

@@ -22,4 +22,6 @@ pub record HaveSameTexts (plan : PlanParts) (one other : List Entry) : Type 0 wh
 -- this history has the same texts as each other legal history in which each test is final and `seen` tells
 -- what was seen of each attempt
 abbrev pub HasMeantTexts : PlanParts → (ℕ → ℕ → Seen) → List Entry → Type 0
-HasMeantTexts plan seen entries = (other : List Entry) → is_legal plan other ≡ true → are_all_final plan other ≡ true → AreSeen seen other → HaveSameTexts plan entries other
+HasMeantTexts plan seen entries =
+    (other : List Entry) → is_legal plan other ≡ true → are_all_final plan other ≡ true → AreSeen seen other
+    → HaveSameTexts plan entries other

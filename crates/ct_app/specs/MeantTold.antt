@@ -16,11 +16,17 @@ use Rattle.ct_app.specs.MeantTexts.{HasMeantTexts}
 -- without properties no pattern hits
 abbrev pub seen_as_told : Option Props → Told → Seen
 seen_as_told (Some props) attempt = seen_of props attempt.heard attempt.ended
-seen_as_told None attempt = record { how = attempt.ended.how; fail_hit = false; pass_hit = false; skip_hit = false; micros = attempt.ended.micros }
+seen_as_told None attempt = record {
+  how = attempt.ended.how;
+  fail_hit = false;
+  pass_hit = false;
+  skip_hit = false;
+  micros = attempt.ended.micros;
+}
 
 -- what is seen of each attempt of each test in a world
-abbrev pub seen_in : List Props → List Told → ℕ → ℕ → Seen
-seen_in props world test attempt = seen_as_told (at_number props test) (told world test attempt)
+abbrev pub seen_in_world : List Props → List Told → ℕ → ℕ → Seen
+seen_in_world props world test attempt = seen_as_told (at_number props test) (told world test attempt)
 
 -- each of these gates tells this world
 abbrev pub AllTell : List Told → List GateTell → Type 0
@@ -30,7 +36,8 @@ AllTell world (gate ∷ gates) = (gate.world ≡ Some world) × AllTell world ga
 -- a run is meant to fail: some meant verdict is of the failing class,
 -- or there is no test and that is an error
 abbrev pub is_meant_failed : Bool → PlanParts → (ℕ → ℕ → Seen) → Bool
-is_meant_failed empty_is_error plan seen = if length plan.tests == 0 then empty_is_error else is_meant_to_fail plan seen
+is_meant_failed empty_is_error plan seen =
+    if length plan.tests == 0 then empty_is_error else is_meant_to_fail plan seen
 
 -- the status that a run is meant to have: 8 where it is meant to fail, else 0
 abbrev pub meant_status : Bool → PlanParts → (ℕ → ℕ → Seen) → ℕ
@@ -38,7 +45,9 @@ meant_status empty_is_error plan seen = if is_meant_failed empty_is_error plan s
 
 -- the verdicts of a history, in the sense of `AreMeant`, and the status are the meant ones. Without
 -- --stop-on-failure the texts are the same as in each complete history of the plan in which the same is seen.
-pub record ComesAsMeant (empty_is_error : Bool) (plan : PlanParts) (seen : ℕ → ℕ → Seen) (entries : List Entry) (status : ℕ) : Type 0 where
+pub record ComesAsMeant
+    (empty_is_error : Bool) (plan : PlanParts) (seen : ℕ → ℕ → Seen) (entries : List Entry) (status : ℕ)
+    : Type 0 where
   pub verdicts : AreMeant plan seen entries
   pub is : status ≡ meant_status empty_is_error plan seen
   pub texts : plan.stop_on_failure ≡ false → HasMeantTexts plan seen entries

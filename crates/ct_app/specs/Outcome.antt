@@ -72,7 +72,8 @@ outcome_of_sink Sinks.NoMemory = Memory
 
 -- a completed run failed: some verdict is of the failing class, or there is no test and that is an error
 abbrev pub is_failed : Bool → PlanParts → List Entry → Bool
-is_failed empty_is_error plan entries = if length plan.tests == 0 then empty_is_error else has_failing plan entries
+is_failed empty_is_error plan entries =
+    if length plan.tests == 0 then empty_is_error else has_failing plan entries
 
 -- the status of a completed run: 8 where it failed, else 0
 abbrev pub status_of : Bool → PlanParts → List Entry → ℕ
@@ -158,8 +159,10 @@ cycle_text (first ∷ others) = codes "cycle: " ++ first ++ arrows_to others ++ 
 
 -- what is refused, and why; the text of a cycle has these names
 abbrev pub refusal_text : List (List ℕ) → Refusal → List ℕ
-refusal_text names (TestFile file line kind) = file ++ codes ":" ++ decimal line ++ codes ": " ++ kind_text kind
-refusal_text names (Prop test key kind) = codes "test " ++ decimal test ++ codes ": " ++ key ++ codes ": " ++ prop_text kind
+refusal_text names (TestFile file line kind) =
+    file ++ codes ":" ++ decimal line ++ codes ": " ++ kind_text kind
+refusal_text names (Prop test key kind) =
+    codes "test " ++ decimal test ++ codes ": " ++ key ++ codes ": " ++ prop_text kind
 refusal_text names (Spec why) = codes "resource specification: " ++ spec_text why
 refusal_text names (Cycle tests) = cycle_text names
 refusal_text names TooManyEdges = codes "too many dependencies"

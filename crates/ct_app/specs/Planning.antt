@@ -19,16 +19,22 @@ use Rattle.ct_app.specs.Rerun.{wanted_of}
 use Rattle.ct_app.specs.RunFiles.{FilesStay}
 
 -- the folder was read for an invocation, and this is a plan of its tests
-pub record IsPlannedFolder (invocation : Invocation) (before now : FilesTell) (tests : Tests) (costs : CostData) (plan : PlanParts) : Type 0 where
+pub record IsPlannedFolder
+    (invocation : Invocation) (before now : FilesTell) (tests : Tests) (costs : CostData) (plan : PlanParts)
+    : Type 0 where
   pub resources : Option (List Resource)
   pub only : Option (List (List ℕ))
   pub read : IsReadFolder invocation before now tests resources costs only
-  pub answer : IsPlanAnswer most_edges (source tests.defs tests.props (wanted_of invocation only) resources costs) (Ok plan)
+  pub answer :
+      IsPlanAnswer most_edges (source tests.defs tests.props (wanted_of invocation only) resources costs)
+      (Ok plan)
 
 -- the folder has no plan for an invocation, and this outcome says why; the tests of a cycle have these names
 abbrev pub IsUnplannedFolder : Invocation → FilesTell → FilesTell → List (List ℕ) → Outcome → Type 0
 IsUnplannedFolder invocation before now names outcome =
-    (words : List (List ℕ)) (env : List Pair) (gates : List GateTell) (sink : SinkTell) → AskFor words invocation → EndsUnrun (sides words env before now gates gates sink sink None None) names (Err outcome)
+    (words : List (List ℕ)) (env : List Pair) (gates : List GateTell) (sink : SinkTell)
+    → AskFor words invocation
+    → EndsUnrun (sides words env before now gates gates sink sink None None) names (Err outcome)
 
 -- the words ask for a run of this plan:
 -- - the source that they ask for was read, and the files stay;
@@ -45,7 +51,8 @@ pub record HasPlan (words : List (List ℕ)) (before now : FilesTell) (plan : Pl
 
 -- the words have no plan, and this outcome says why, as for a run; the tests of a cycle have these names
 abbrev pub HasNoPlan : List (List ℕ) → FilesTell → FilesTell → List (List ℕ) → Outcome → Type 0
-HasNoPlan words before now names outcome = (sink : SinkTell) → EndsUnrun (list_sides words before now sink sink) names (Err outcome)
+HasNoPlan words before now names outcome =
+    (sink : SinkTell) → EndsUnrun (list_sides words before now sink sink) names (Err outcome)
 
 -- the same, with some names
 abbrev pub HasSomeReason : List (List ℕ) → FilesTell → FilesTell → Outcome → Type 0

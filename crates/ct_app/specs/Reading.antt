@@ -43,7 +43,8 @@ abbrev pub AskFor : List (List ℕ) → Invocation → Type 0
 AskFor words invocation = invocation_in words ≡ Ok (invocation_seen invocation)
 
 -- these are the tests of the folder in the configuration, with their properties
-pub record AreRead (told : Option Held) (invocation : Invocation) (defs : List TestDef) (props : List Props) : Type 0 where
+pub record AreRead (told : Option Held) (invocation : Invocation) (defs : List TestDef) (props : List Props)
+    : Type 0 where
   pub tree : IfSome told (λ held. tree_of held invocation.wanted.dir invocation.config ≡ Ok defs)
   pub have : HaveProps defs props
 
@@ -65,13 +66,18 @@ ListAsks told invocation path =
 -- what is read for a run is at this path: as for a list, or the specification that is named, or the cost data
 abbrev pub RunAsks : Option Held → Invocation → List ℕ → Type 0
 RunAsks told invocation path =
-    ListAsks told invocation path ⊎ (invocation.spec_file ≡ Some path) ⊎ (path ≡ costs_path invocation.wanted.dir)
+    ListAsks told invocation path
+    ⊎ (invocation.spec_file ≡ Some path)
+    ⊎ (path ≡ costs_path invocation.wanted.dir)
 
 -- a test file is refused; or all test files are read, and the first test with a bad property is refused
 abbrev pub RefusesReading : Option Held → Invocation → Refusal → Type 0
-RefusesReading told invocation (TestFile file line kind) = IfSome told (λ held. tree_of held invocation.wanted.dir invocation.config ≡ Err (Read.At file line kind))
+RefusesReading told invocation (TestFile file line kind) =
+    IfSome told (λ held. tree_of held invocation.wanted.dir invocation.config ≡ Err (Read.At file line kind))
 RefusesReading told invocation (Prop test key kind) =
-    (defs : List TestDef) × IfSome told (λ held. tree_of held invocation.wanted.dir invocation.config ≡ Ok defs) × RefusesFirst defs test key kind
+    (defs : List TestDef)
+    × IfSome told (λ held. tree_of held invocation.wanted.dir invocation.config ≡ Ok defs)
+    × RefusesFirst defs test key kind
 RefusesReading told invocation (Spec why) = ⊥
 RefusesReading told invocation (Cycle tests) = ⊥
 RefusesReading told invocation TooManyEdges = ⊥
@@ -93,5 +99,8 @@ abbrev pub RefusesPlan : Source → Refusal → List (List ℕ) → Type 0
 RefusesPlan source (TestFile file line kind) names = ⊥
 RefusesPlan source (Prop test key kind) names = ⊥
 RefusesPlan source (Spec why) names = ⊥
-RefusesPlan source (Cycle tests) names = (edge_count source ≤ most_edges) × (is_cycle (members_before source) tests ≡ true) × (names ≡ names_at source.defs tests)
+RefusesPlan source (Cycle tests) names =
+    (edge_count source ≤ most_edges)
+    × (is_cycle (members_before source) tests ≡ true)
+    × (names ≡ names_at source.defs tests)
 RefusesPlan source TooManyEdges names = most_edges < edge_count source

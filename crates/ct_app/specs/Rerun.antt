@@ -16,13 +16,13 @@ abbrev pub most_log_bytes : ℕ
 most_log_bytes = 67108864
 
 -- the names in the text at a path; none where the text is absent or too long
-abbrev pub names_of : Option (List ℕ) → List (List ℕ)
-names_of None = []
-names_of (Some text) = if nat_le (length text) most_log_bytes then failed_in text else []
+abbrev pub names_in_text : Option (List ℕ) → List (List ℕ)
+names_in_text None = []
+names_in_text (Some text) = if nat_le (length text) most_log_bytes then failed_in text else []
 
 -- the names of the tests that failed last in a folder, read from its log
 abbrev pub last_failed : List ℕ → Held → List (List ℕ)
-last_failed dir held = names_of (held (log_path dir))
+last_failed dir held = names_in_text (held (log_path dir))
 
 -- the names that a choice is limited to: with --rerun-failed the names in the log of the folder,
 -- else no limit
@@ -31,22 +31,25 @@ AreOnly told false dir only = only ≡ None
 AreOnly told true dir only = IsSomeAnd only (λ names. IfSome told (λ held. names ≡ last_failed dir held))
 
 -- the choice that an invocation asks for, limited to these names, if any
-abbrev pub choice_of : Invocation → Option (List (List ℕ)) → Choice
-choice_of invocation only = record invocation.wanted.choice { only = only }
+abbrev pub choice_for : Invocation → Option (List (List ℕ)) → Choice
+choice_for invocation only = record invocation.wanted.choice { only = only }
 
 -- what an invocation wants of a run, with its choice limited to these names, if any
 abbrev pub wanted_of : Invocation → Option (List (List ℕ)) → Wanted
-wanted_of invocation only = record invocation.wanted { choice = choice_of invocation only }
+wanted_of invocation only = record invocation.wanted { choice = choice_for invocation only }
 
 -- the limit of the choice was read, or the log could not be read or memory ran out;
 -- each path holds what it held
-abbrev pub ReadsOnly : Bool → List ℕ → FilesTell → FilesTell → Result (Option (List (List ℕ))) RunFileFault → Type 0
+abbrev pub ReadsOnly : Bool
+    → List ℕ → FilesTell → FilesTell → Result (Option (List (List ℕ))) RunFileFault → Type 0
 ReadsOnly rerun dir before now (Ok only) = AreOnly before.held rerun dir only × FilesStay before now
-ReadsOnly rerun dir before now (Err (Fault.Failed path)) = (rerun ≡ true) × (path ≡ log_path dir) × FilesFail path SameHeld before now
+ReadsOnly rerun dir before now (Err (Fault.Failed path)) =
+    (rerun ≡ true) × (path ≡ log_path dir) × FilesFail path SameHeld before now
 ReadsOnly rerun dir before now (Err Fault.NoMemory) = FilesStay before now
 
 -- the log of a folder was read, or could not be read or memory ran out; each path holds what it held
 abbrev pub ReadsLog : List ℕ → FilesTell → FilesTell → Result (List (List ℕ)) RunFileFault → Type 0
-ReadsLog dir before now (Ok names) = IfSome before.held (λ held. names ≡ last_failed dir held) × FilesStay before now
+ReadsLog dir before now (Ok names) =
+    IfSome before.held (λ held. names ≡ last_failed dir held) × FilesStay before now
 ReadsLog dir before now (Err (Fault.Failed path)) = (path ≡ log_path dir) × FilesFail path SameHeld before now
 ReadsLog dir before now (Err Fault.NoMemory) = FilesStay before now

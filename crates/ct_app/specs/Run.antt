@@ -16,7 +16,9 @@ use Rattle.ct_worker.specs.Gates.{AreAsked, Terms, are_below, had_memory}
 -- - it is legal, leaves no start open, and stays within the limits of the plan at each moment;
 -- - its workers are at most as many as the level and the gates;
 -- - it agrees with what the gates were asked and told
-pub record HasRun (terms : Terms) (gates_before gates_now : List GateTell) (plan : PlanParts) (entries : List Entry) : Type 0 where
+pub record HasRun
+    (terms : Terms) (gates_before gates_now : List GateTell) (plan : PlanParts) (entries : List Entry)
+    : Type 0 where
   pub legal : is_legal plan entries ≡ true
   pub within : StaysWithin plan entries
   pub closed : open_starts entries ≡ []
@@ -31,20 +33,26 @@ RunEnds plan entries (Err fault) = ⊤
 -- the lines behind the header of a run that has tests: those of the tests and,
 -- where all tests are final, the summary
 abbrev pub lines_of_run : PlanParts → List Entry → List (List ℕ)
-lines_of_run plan entries = test_lines plan entries ++ (if are_all_final plan entries then summary_lines plan entries else [])
+lines_of_run plan entries =
+    test_lines plan entries ++ (if are_all_final plan entries then summary_lines plan entries else [])
 
 -- the report was begun, with one put for each line:
 -- - for a plan with tests the header was put;
 -- - for a plan without tests the whole report was put;
 -- - with a fault a beginning of the report was put
-abbrev pub Begins : PlanParts → SinkTell → SinkTell → Result Bool SinkFault → Type 0
-Begins plan before now (Ok true) = PutsLines (header_line plan ∷ []) before now (Ok tt) × ((length plan.tests == 0) ≡ false)
-Begins plan before now (Ok false) = ((entries : List Entry) → PutsLines (report_lines plan entries) before now (Ok tt)) × ((length plan.tests == 0) ≡ true)
-Begins plan before now (Err fault) = (entries : List Entry) → PutsLines (report_lines plan entries) before now (Err fault)
+abbrev pub BeginsReport : PlanParts → SinkTell → SinkTell → Result Bool SinkFault → Type 0
+BeginsReport plan before now (Ok true) =
+    PutsLines (header_line plan ∷ []) before now (Ok tt) × ((length plan.tests == 0) ≡ false)
+BeginsReport plan before now (Ok false) =
+    ((entries : List Entry) → PutsLines (report_lines plan entries) before now (Ok tt))
+    × ((length plan.tests == 0) ≡ true)
+BeginsReport plan before now (Err fault) =
+    (entries : List Entry) → PutsLines (report_lines plan entries) before now (Err fault)
 
 -- the gates that no worker of the plan uses came back as they were
 abbrev pub RestStays : {G : Type 0} → PlanParts → List G → List G → Type 0
-RestStays plan before now = drop (min plan.level (length before)) now ≡ drop (min plan.level (length before)) before
+RestStays plan before now =
+    drop (min plan.level (length before)) now ≡ drop (min plan.level (length before)) before
 
 -- the gates that no worker uses came back as they were; without a plan, all gates
 abbrev pub OthersStay : {G : Type 0} → Option PlanParts → List G → List G → Type 0

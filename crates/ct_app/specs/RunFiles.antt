@@ -61,10 +61,13 @@ new_costs plan entries costs = costs_text (costs_after plan entries costs)
 
 -- the cost file holds the cost data after the run. The log holds the tests of the failing class if there are
 -- any, else what it held. Each other path holds what it held.
-pub record LeavesBoth (plan : PlanParts) (entries : List Entry) (costs : CostData) (before now : Held) : Type 0 where
+pub record LeavesBoth (plan : PlanParts) (entries : List Entry) (costs : CostData) (before now : Held)
+    : Type 0 where
   pub cost_file : now (costs_path plan.dir) ≡ Some (new_costs plan entries costs)
-  pub log : now (log_path plan.dir) ≡ (if has_failing plan entries then Some (failed_log_text plan entries) else before (log_path plan.dir))
-  pub others : (path : List ℕ) → path ≢ costs_path plan.dir → path ≢ log_path plan.dir → now path ≡ before path
+  pub log : now (log_path plan.dir)
+      ≡ (if has_failing plan entries then Some (failed_log_text plan entries) else before (log_path plan.dir))
+  pub others :
+      (path : List ℕ) → path ≢ costs_path plan.dir → path ≢ log_path plan.dir → now path ≡ before path
 
 -- what a completed run of these tests of a plan leaves; without tests each path holds what it held
 abbrev pub LeavesFor : List PlanTest → PlanParts → List Entry → CostData → Held → Held → Type 0
@@ -76,12 +79,16 @@ abbrev pub Leaves : PlanParts → List Entry → CostData → Held → Held → 
 Leaves plan entries costs before now = LeavesFor plan.tests plan entries costs before now
 
 -- the path is the cost file's, the write of the cost file failed, and no other path changed
-pub record TearsCosts (plan : PlanParts) (entries : List Entry) (path : List ℕ) (costs : CostData) (before now : Held) : Type 0 where
+pub record TearsCosts
+    (plan : PlanParts) (entries : List Entry) (path : List ℕ) (costs : CostData) (before now : Held)
+    : Type 0 where
   pub named : path ≡ costs_path plan.dir
   pub torn : FailsToWrite path (new_costs plan entries costs) before now
 
 -- some test failed, the cost file was written, then the write of the log failed, and no other path changed
-pub record TearsLog (plan : PlanParts) (entries : List Entry) (path : List ℕ) (costs : CostData) (before now : Held) : Type 0 where
+pub record TearsLog
+    (plan : PlanParts) (entries : List Entry) (path : List ℕ) (costs : CostData) (before now : Held)
+    : Type 0 where
   pub named : path ≡ log_path plan.dir
   pub due : has_failing plan entries ≡ true
   pub between : Held
@@ -91,37 +98,47 @@ pub record TearsLog (plan : PlanParts) (entries : List Entry) (path : List ℕ) 
 -- a complete run writes the file at this path: the cost file, if the plan has tests; or the log,
 -- if a test failed
 abbrev pub IsWritten : PlanParts → List Entry → List ℕ → Type 0
-IsWritten plan entries path = ((path ≡ costs_path plan.dir) × (0 < length plan.tests)) ⊎ ((path ≡ log_path plan.dir) × (has_failing plan entries ≡ true))
+IsWritten plan entries path =
+    ((path ≡ costs_path plan.dir) × (0 < length plan.tests))
+    ⊎ ((path ≡ log_path plan.dir) × (has_failing plan entries ≡ true))
 
 -- the write of one of the two files failed, in a run that has tests
 abbrev pub LeavesTorn : PlanParts → List Entry → List ℕ → CostData → Held → Held → Type 0
-LeavesTorn plan entries path costs before now = (0 < length plan.tests) × (TearsCosts plan entries path costs before now ⊎ TearsLog plan entries path costs before now)
+LeavesTorn plan entries path costs before now =
+    (0 < length plan.tests)
+    × (TearsCosts plan entries path costs before now ⊎ TearsLog plan entries path costs before now)
 
 -- memory ran out for the two files: each path holds what it held,
 -- or only the cost file was written though a test failed
 abbrev pub LeavesPart : PlanParts → List Entry → CostData → Held → Held → Type 0
-LeavesPart plan entries costs before now = SameHeld before now ⊎ ((has_failing plan entries ≡ true) × Writes (costs_path plan.dir) (new_costs plan entries costs) before now)
+LeavesPart plan entries costs before now =
+    SameHeld before now
+    ⊎ ((has_failing plan entries ≡ true)
+    × Writes (costs_path plan.dir) (new_costs plan entries costs) before now)
 
 -- `Change` holds for the cost data that the last run left in this folder
 abbrev pub WithLast : List ℕ → (CostData → Held → Held → Type 0) → Held → Held → Type 0
 WithLast dir Change before now = Change (last_costs dir before) before now
 
 -- the fault of a call on the files about this path
-abbrev pub fault_at : List ℕ → FilesFault → RunFileFault
-fault_at path Files.Failed = Fault.Failed path
-fault_at path Files.NoMemory = Fault.NoMemory
+abbrev pub file_fault_at : List ℕ → FilesFault → RunFileFault
+file_fault_at path Files.Failed = Fault.Failed path
+file_fault_at path Files.NoMemory = Fault.NoMemory
 
 -- the cost data of the last run was read, or could not be read or memory ran out;
 -- each path holds what it held
 abbrev pub ReadsCosts : List ℕ → FilesTell → FilesTell → Result CostData RunFileFault → Type 0
-ReadsCosts dir before now (Ok costs) = IfSome before.held (λ held. costs ≡ last_costs dir held) × FilesStay before now
-ReadsCosts dir before now (Err (Fault.Failed path)) = (path ≡ costs_path dir) × FilesFail path SameHeld before now
+ReadsCosts dir before now (Ok costs) =
+    IfSome before.held (λ held. costs ≡ last_costs dir held) × FilesStay before now
+ReadsCosts dir before now (Err (Fault.Failed path)) =
+    (path ≡ costs_path dir) × FilesFail path SameHeld before now
 ReadsCosts dir before now (Err Fault.NoMemory) = FilesStay before now
 
 -- a text was written to a path; or the write failed there; or memory ran out and each path holds what it held
 abbrev pub WritesText : List ℕ → List ℕ → FilesTell → FilesTell → Result (Unit {0}) RunFileFault → Type 0
 WritesText path text before now (Ok done) = FilesServe (Writes path text) before now
-WritesText path text before now (Err (Fault.Failed failed)) = (failed ≡ path) × FilesFail failed (FailsToWrite path text) before now
+WritesText path text before now (Err (Fault.Failed failed)) =
+    (failed ≡ path) × FilesFail failed (FailsToWrite path text) before now
 WritesText path text before now (Err Fault.NoMemory) = FilesStay before now
 
 -- the result of a call without its value: success, or the fault
@@ -130,7 +147,10 @@ done_of (Ok given) = Ok tt
 done_of (Err fault) = Err fault
 
 -- the files of a run were written, or the write of one failed, or memory ran out
-abbrev pub WritesFiles : PlanParts → List Entry → CostData → FilesTell → FilesTell → Result (Unit {0}) RunFileFault → Type 0
+abbrev pub WritesFiles : PlanParts
+    → List Entry → CostData → FilesTell → FilesTell → Result (Unit {0}) RunFileFault → Type 0
 WritesFiles plan entries costs before now (Ok done) = FilesServe (Leaves plan entries costs) before now
-WritesFiles plan entries costs before now (Err (Fault.Failed path)) = IsWritten plan entries path × FilesFail path (LeavesTorn plan entries path costs) before now
-WritesFiles plan entries costs before now (Err Fault.NoMemory) = FilesServe (LeavesPart plan entries costs) before now
+WritesFiles plan entries costs before now (Err (Fault.Failed path)) =
+    IsWritten plan entries path × FilesFail path (LeavesTorn plan entries path costs) before now
+WritesFiles plan entries costs before now (Err Fault.NoMemory) =
+    FilesServe (LeavesPart plan entries costs) before now

@@ -31,7 +31,8 @@ use Rattle.ct_app.specs.Calls.{IsReadFault, IsUndeclared, IsUnreadable, IsUnrun,
 -- - each test was started or settled when it was the next by the queue;
 -- - its workers are at most as many as the level and the gates;
 -- - it agrees with what the gates were asked and told
-pub record IsRunOf (env : List Pair) (source : Source) (limit : ℕ) (gates_before gates_now : List GateTell) (plan : PlanParts) (entries : List Entry) : Type 0 where
+pub record IsRunOf (env : List Pair) (source : Source) (limit : ℕ) (gates_before gates_now : List GateTell)
+    (plan : PlanParts) (entries : List Entry) : Type 0 where
   pub few : edge_count source ≤ most_edges
   pub planned : IsPlanOf source plan
   pub legal : is_legal plan entries ≡ true
@@ -42,13 +43,17 @@ pub record IsRunOf (env : List Pair) (source : Source) (limit : ℕ) (gates_befo
   pub asked : AreAsked (terms_from env source limit) 0 gates_before gates_now entries
 
 -- the source that the words ask for was read, and its tests ran as far as the history goes
-pub record IsRun (s : Sides) (invocation : Invocation) (source : Source) (plan : PlanParts) (entries : List Entry) : Type 0 where
+pub record IsRun
+    (s : Sides) (invocation : Invocation) (source : Source) (plan : PlanParts) (entries : List Entry)
+    : Type 0 where
   pub words : AskFor s.words invocation
   pub read : IsSource s.files.before.held invocation source
   pub ran : IsRunOf s.env source invocation.timeout s.gates.before s.gates.after plan entries
 
 -- the plan and the history are those of a run of the tests that were read, and `P` holds of them
-pub record RanWith (s : Sides) (P : Invocation → PlanParts → List Entry → Type 0) (plan : PlanParts) (entries : List Entry) : Type 0 where
+pub record RanWith
+    (s : Sides) (P : Invocation → PlanParts → List Entry → Type 0) (plan : PlanParts) (entries : List Entry)
+    : Type 0 where
   pub invocation : Invocation
   pub source : Source
   pub run : IsRun s invocation source plan entries
@@ -95,16 +100,22 @@ pub record TellsRefusal (s : Sides) (refusal : Refusal) (Line : List ℕ → Typ
 
 -- the files of a complete run were written
 abbrev pub FilesAreLeft : Sides → PlanParts → List Entry → Type 0
-FilesAreLeft s plan entries = FilesServe (WithLast plan.dir (Leaves plan entries)) s.files.before s.files.after
+FilesAreLeft s plan entries =
+    FilesServe (WithLast plan.dir (Leaves plan entries)) s.files.before s.files.after
 
 -- a write of a complete run failed at this path
 abbrev pub IsWriteFault : Sides → List ℕ → PlanParts → List Entry → Type 0
-IsWriteFault s path plan entries = IsWritten plan entries path × FilesFail path (WithLast plan.dir (LeavesTorn plan entries path)) s.files.before s.files.after
+IsWriteFault s path plan entries =
+    IsWritten plan entries path
+    × FilesFail path (WithLast plan.dir (LeavesTorn plan entries path)) s.files.before s.files.after
 
 -- memory ran out in a run: the run was given up and the files stay,
 -- or the run was reported and memory ran out for its files
 abbrev pub IsCutShort : Sides → PlanParts → List Entry → SinkTell → Type 0
-IsCutShort s plan entries middle = (IsGivenUp plan entries s.sink.before middle × FilesStay s.files.before s.files.after) ⊎ (IsReported plan entries s.sink.before middle × FilesServe (WithLast plan.dir (LeavesPart plan entries)) s.files.before s.files.after)
+IsCutShort s plan entries middle =
+    (IsGivenUp plan entries s.sink.before middle × FilesStay s.files.before s.files.after)
+    ⊎ (IsReported plan entries s.sink.before middle
+    × FilesServe (WithLast plan.dir (LeavesPart plan entries)) s.files.before s.files.after)
 
 -- memory ran out without a plan: for the line of this outcome; or, with Memory, for a step before any line
 abbrev pub IsShort : Sides → Outcome → Type 0
@@ -123,19 +134,28 @@ IsShortRun s Completed plan entries = ⊥
 IsShortRun s Listed plan entries = ⊥
 IsShortRun s (Usage word kind) plan entries = ⊥
 IsShortRun s (Refused refusal) plan entries = ⊥
-IsShortRun s (FilesFault path) plan entries = IsWriteFault s path plan entries × ThenLine (IsReported plan entries s.sink.before) (λ middle. PutsLines (fault_line [] (FilesFault path) ∷ []) middle s.sink.after (Err Sinks.NoMemory))
+IsShortRun s (FilesFault path) plan entries =
+    IsWriteFault s path plan entries
+    × ThenLine (IsReported plan entries s.sink.before) (λ middle.
+    PutsLines (fault_line [] (FilesFault path) ∷ []) middle s.sink.after (Err Sinks.NoMemory))
 IsShortRun s OutputFault plan entries = ⊥
-IsShortRun s Memory plan entries = ThenLine (IsCutShort s plan entries) (λ middle. Tries (fault_line [] Memory) middle s.sink.after)
+IsShortRun s Memory plan entries =
+    ThenLine (IsCutShort s plan entries) (λ middle. Tries (fault_line [] Memory) middle s.sink.after)
 
 -- a run was completed: it was reported, its files were written, and this is the status of the run
-pub record IsCompleted (s : Sides) (status : ℕ) (invocation : Invocation) (plan : PlanParts) (entries : List Entry) : Type 0 where
+pub record IsCompleted
+    (s : Sides) (status : ℕ) (invocation : Invocation) (plan : PlanParts) (entries : List Entry)
+    : Type 0 where
   pub reported : IsReported plan entries s.sink.before s.sink.after
   pub left : FilesAreLeft s plan entries
   pub is : status ≡ status_of invocation.empty_is_error plan entries
 
 -- a write of a complete run failed at this path, and the line of the failure was put behind the whole report
 abbrev pub IsUnwritten : Sides → List ℕ → PlanParts → List Entry → Type 0
-IsUnwritten s path plan entries = IsWriteFault s path plan entries × ThenLine (IsReported plan entries s.sink.before) (λ middle. PutsOrFails (fault_line [] (FilesFault path)) middle s.sink.after)
+IsUnwritten s path plan entries =
+    IsWriteFault s path plan entries
+    × ThenLine (IsReported plan entries s.sink.before) (λ middle.
+    PutsOrFails (fault_line [] (FilesFault path)) middle s.sink.after)
 
 -- what each outcome and status of a run means; Memory alone may come at any time
 abbrev pub AnswersRun : Sides → Outcome → ℕ → Type 0

@@ -29,7 +29,8 @@ declared_in (Some text) = if nat_le (length text) most_spec_bytes then declared_
 -- the resources that are lent: what the named file declares; none where no file is named
 abbrev pub AreLent : Option Held → Option (List ℕ) → Option (List Resource) → Type 0
 AreLent told None lent = lent ≡ None
-AreLent told (Some path) lent = IsSomeAnd lent (λ resources. IfSome told (λ held. declared_in (held path) ≡ Ok resources))
+AreLent told (Some path) lent =
+    IsSomeAnd lent (λ resources. IfSome told (λ held. declared_in (held path) ≡ Ok resources))
 
 -- a file is named, and refused for this reason
 abbrev pub RefusesFile : Option Held → Option (List ℕ) → SpecRefusal → Type 0
@@ -45,14 +46,17 @@ Declares held (Err NoMemory) = ⊤
 -- the file at a path was read, is refused or could not be read, or memory ran out;
 -- each path holds what it held
 abbrev pub ReadsPath : List ℕ → FilesTell → FilesTell → Result (List Resource) SpecFileFault → Type 0
-ReadsPath path before now (Ok resources) = IfSome before.held (λ held. declared_in (held path) ≡ Ok resources) × FilesStay before now
-ReadsPath path before now (Err (Refused why)) = IfSome before.held (λ held. declared_in (held path) ≡ Err why) × FilesStay before now
+ReadsPath path before now (Ok resources) =
+    IfSome before.held (λ held. declared_in (held path) ≡ Ok resources) × FilesStay before now
+ReadsPath path before now (Err (Refused why)) =
+    IfSome before.held (λ held. declared_in (held path) ≡ Err why) × FilesStay before now
 ReadsPath path before now (Err (Failed failed)) = (failed ≡ path) × FilesFail failed SameHeld before now
 ReadsPath path before now (Err NoMemory) = FilesStay before now
 
 -- the named file, if any, was read, is refused or could not be read, or memory ran out;
 -- each path holds what it held
-abbrev pub ReadsSpec : Option (List ℕ) → FilesTell → FilesTell → Result (Option (List Resource)) SpecFileFault → Type 0
+abbrev pub ReadsSpec : Option (List ℕ)
+    → FilesTell → FilesTell → Result (Option (List Resource)) SpecFileFault → Type 0
 ReadsSpec file before now (Ok lent) = AreLent before.held file lent × FilesStay before now
 ReadsSpec file before now (Err (Refused why)) = RefusesFile before.held file why × FilesStay before now
 ReadsSpec file before now (Err (Failed path)) = (file ≡ Some path) × FilesFail path SameHeld before now

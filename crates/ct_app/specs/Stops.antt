@@ -10,7 +10,8 @@ use Rattle.ct_report.specs.Report.{header_line, report_lines, summary_lines, tes
 use Rattle.ct_worker.specs.Halted.{IsHalted}
 
 -- each test is final, the lines of the tests were put, and then a beginning of the summary
-pub record StopsAtSummary (fault : SinkFault) (plan : PlanParts) (entries : List Entry) (before now : SinkTell) : Type 0 where
+pub record StopsAtSummary
+    (fault : SinkFault) (plan : PlanParts) (entries : List Entry) (before now : SinkTell) : Type 0 where
   pub final : are_all_final plan entries ≡ true
   pub middle : SinkTell
   pub lines : PutsLines (test_lines plan entries) before middle (Ok tt)
@@ -18,10 +19,12 @@ pub record StopsAtSummary (fault : SinkFault) (plan : PlanParts) (entries : List
 
 -- the run was given up among its tests, or stopped at its summary
 abbrev pub StopsBehind : SinkFault → PlanParts → List Entry → SinkTell → SinkTell → Type 0
-StopsBehind fault plan entries before now = IsHalted fault plan entries before now ⊎ StopsAtSummary fault plan entries before now
+StopsBehind fault plan entries before now =
+    IsHalted fault plan entries before now ⊎ StopsAtSummary fault plan entries before now
 
 -- the header was put, and then the run stopped
-pub record StopsInRun (fault : SinkFault) (plan : PlanParts) (entries : List Entry) (before now : SinkTell) : Type 0 where
+pub record StopsInRun (fault : SinkFault) (plan : PlanParts) (entries : List Entry) (before now : SinkTell)
+    : Type 0 where
   pub middle : SinkTell
   pub header : PutsLines (header_line plan ∷ []) before middle (Ok tt)
   pub stops : StopsBehind fault plan entries middle now
@@ -31,6 +34,7 @@ abbrev pub StopsAt : SinkFault → PlanParts → List Entry → SinkTell → Sin
 StopsAt fault plan entries before now = (entries ≡ []) ⊎ StopsInRun fault plan entries before now
 
 -- a beginning of the report was put, and the run stopped where this beginning ends
-pub record StopsSo (fault : SinkFault) (plan : PlanParts) (entries : List Entry) (before now : SinkTell) : Type 0 where
+pub record StopsSo (fault : SinkFault) (plan : PlanParts) (entries : List Entry) (before now : SinkTell)
+    : Type 0 where
   pub put : PutsLines (report_lines plan entries) before now (Err fault)
   pub at : StopsAt fault plan entries before now

@@ -16,7 +16,13 @@ use Rattle.ct_app.specs.declared.outcome.Refusal.TheVariants.{TestFile, Prop, Sp
 -- the terms of a run's attempts: its own environment, the tests and properties of the source, and the time
 -- limit of a test without a limit of its own. Slots are lent where the source has resources.
 abbrev pub terms_from : List Pair → Source → ℕ → Terms
-terms_from own source limit = record { own = own; defs = source.defs; props = source.props; limit = limit; lends = is_some source.resources }
+terms_from own source limit = record {
+  own = own;
+  defs = source.defs;
+  props = source.props;
+  limit = limit;
+  lends = is_some source.resources;
+}
 
 -- no property of the test is refused
 abbrev pub IsUnrefused : TestDef → Type 0

@@ -3,9 +3,6 @@
 //!
 //! Hands up: `ctest_main`, which does all that the program does, `list_main`, which lists alone, and
 //! `plan_main`, which makes the plan of a run alone.
-//! Stands on: ct_base, ct_testfile, ct_regex, ct_groups, ct_props, ct_env, ct_select, ct_fixture,
-//! ct_graph, ct_alloc, ct_verdict, ct_history, ct_core, ct_cost, ct_spec, ct_plan, ct_report,
-//! ct_info, ct_turn, ct_worker, ct_args.
 //! Read first: `specs/Reading.antt`, `specs/SpecFile.antt`, `specs/Run.antt`, `specs/Stops.antt`,
 //! `specs/RunFiles.antt`, `specs/Rerun.antt`, `specs/Answers.antt`, `specs/Lists.antt`,
 //! `specs/Complete.antt`, then `top.rt`, and the steps of a call: `words.rt`, `reading.rt`,

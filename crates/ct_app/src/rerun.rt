@@ -1,5 +1,5 @@
 ghost use Rattle.std.specs.Prelude.{◌≡◌, IfOk};
-ghost use Rattle.ct_app.specs.Rerun.{ReadsLog, ReadsOnly, names_of};
+ghost use Rattle.ct_app.specs.Rerun.{ReadsLog, ReadsOnly, names_in_text};
 
 use crate::run_files::{LOG, RunFileFault, fault_at};
 use ct_base::{Blob, Files, List, Name, NoMemory, join_path};
@@ -44,7 +44,7 @@ fn read_log<F: Files>(alloc: Global, files: &mut F, dir: &Name) -> Result<List<N
 
 /// Reads the names in the text at a path, cut at most one byte behind the limit.
 fn names_of(alloc: Global, held: Option<Blob>) -> Result<List<Name>, NoMemory>
-    ensures { IfOk result (λ names. names ≡ names_of held) }
+    ensures { IfOk result (λ names. names ≡ names_in_text held) }
 {
     match held {
         Some(text) if text.bytes().len() as u64 <= MOST_LOG_BYTES => {

@@ -1,5 +1,5 @@
 ghost use Rattle.std.specs.Prelude.{◌≡◌, ◌<◌, ◌≤◌, min, [], IfErr, Err, Some, false, true, map, vec_len};
-ghost use Rattle.ct_app.specs.Run.{Begins, HasRun, RestStays, RunEnds, lines_of_run};
+ghost use Rattle.ct_app.specs.Run.{BeginsReport, HasRun, RestStays, RunEnds, lines_of_run};
 ghost use Rattle.ct_app.specs.Stops.{StopsAt, StopsBehind};
 ghost use Rattle.ct_history.specs.Verdicts.{are_all_final};
 ghost use Rattle.ct_report.specs.PutLines.{PutsLines};
@@ -67,7 +67,7 @@ pub(crate) fn run<R: Threads + Wait + Sync, G: Gate + Send, S: Sink + Send>(
 
 /// Puts the header and, for a plan without tests, its line; tells whether there are tests.
 fn begin<S: Sink>(alloc: Global, core: &Core, sink: &mut S) -> Result<bool, SinkFault>
-    ensures { Begins core.now.plan (S.tells sink.old) (S.tells sink.new) result }
+    ensures { BeginsReport core.now.plan (S.tells sink.old) (S.tells sink.new) result }
 {
     header(alloc, sink, core.plan())?;
     if core.plan().parts().tests.is_empty() {

@@ -2,7 +2,7 @@ ghost use Rattle.std.specs.Prelude.{◌≡◌, ◌∷◌, true, IfOk, codes};
 ghost use Rattle.ct_base.specs.Path.{joined};
 ghost use Rattle.ct_history.specs.Legal.{has_failing};
 ghost use Rattle.ct_history.specs.Verdicts.{are_all_final};
-ghost use Rattle.ct_app.specs.RunFiles.{ReadsCosts, WritesFiles, WritesText, costs_of, done_of, fault_at as fault_of_files};
+ghost use Rattle.ct_app.specs.RunFiles.{ReadsCosts, WritesFiles, WritesText, costs_of, done_of, file_fault_at as fault_of_files};
 ghost use Rattle.ct_app.specs.declared.run_files.RunFileFault.TheVariants as Cause;
 
 use ct_base::{Blob, Files, FilesFault, Name, NoMemory, join_path};

@@ -13,7 +13,7 @@ use Rattle.ct_args.specs.declared.option.CommandOption.TheVariants.{Parallel, Re
 use Rattle.ct_args.specs.declared.usage.UsageKind.{UsageKind}
 use Rattle.ct_args.specs.declared.usage.UsageKind.TheVariants.{BadNumber}
 use Rattle.ct_args.specs.declared.usage.UsageFault.{UsageFault}
-use Rattle.ct_args.specs.Given.{Value, Given, options_in, is_of, value_by, value_for, value_of}
+use Rattle.ct_args.specs.Given.{Value, Given, options_in, is_of, value_by, given_value, option_value}
 use Rattle.ct_args.specs.Values.{then_read, level_of, level_in, mode_in, times_of, times_in, repeat_at, repeat_in}
 use Rattle.ct_args.specs.Fault.{faults_in}
 use Rattle.ct_args.specs.declared.invocation.Invocation.{Invocation}
@@ -40,10 +40,10 @@ first-promised P None others x here later e = later e
 first-promised P (Some y) others x here later e = here x e
 
 -- the value of an option meets what its rule promises
-promised : {X : Type 0} (rule : List ℕ → Result X UsageKind) (P : X → Type 0) (own : CommandOption) → Promises rule P → (given : List Given) (x : X) → value_of rule own given ≡ Some x → P x
+promised : {X : Type 0} (rule : List ℕ → Result X UsageKind) (P : X → Type 0) (own : CommandOption) → Promises rule P → (given : List Given) (x : X) → option_value rule own given ≡ Some x → P x
 promised rule P own promises [] x e = cc
 promised rule P own promises (one ∷ others) x e =
-    first-promised P (value_for rule own one) (filter_map (value_for rule own) others) x
+    first-promised P (given_value rule own one) (filter_map (given_value rule own) others) x
     (λ y found. given-promised rule P one.value (is_of own one) y promises found)
     (promised rule P own promises others x) e
 
@@ -118,7 +118,7 @@ bounded words made e =
     let given = options_in words in
     let same : invocation_of given ≡ invocation_seen made = accepted (faults_in words) (invocation_of given) (invocation_seen made) e in
     let level : IsWithin 1 65535 made.wanted.level =
-    subst (λ (value : InvocationValue). IsWithin 1 65535 value.level) same (level-usual (value_of level_in Parallel given) (λ n found. promised level_in (IsWithin 1 65535) Parallel level-bounded given n found)) in
+    subst (λ (value : InvocationValue). IsWithin 1 65535 value.level) same (level-usual (option_value level_in Parallel given) (λ n found. promised level_in (IsWithin 1 65535) Parallel level-bounded given n found)) in
     let repeat : HasTimes made.wanted.repeat =
-    subst (λ (value : InvocationValue). HasTimes value.repeat) same (repeat-usual (value_of repeat_in RepeatOption given) (λ r found. promised repeat_in HasTimes RepeatOption repeat-bounded given r found)) in
+    subst (λ (value : InvocationValue). HasTimes value.repeat) same (repeat-usual (option_value repeat_in RepeatOption given) (λ r found. promised repeat_in HasTimes RepeatOption repeat-bounded given r found)) in
     record { some_level = level.some; most_level = level.few; some_times = repeat.some; most_times = repeat.few }

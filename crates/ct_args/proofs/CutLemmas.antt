@@ -10,7 +10,7 @@ use Rattle.ct_args.specs.declared.spelling.ValuePlace.{ValuePlace}
 use Rattle.ct_args.specs.declared.spelling.ValuePlace.TheVariants.{Nowhere, NextWord, Behind}
 use Rattle.ct_args.specs.declared.spelling.Said.{Said}
 use Rattle.ct_args.specs.Spelling.{said_of}
-use Rattle.ct_args.specs.Given.{Given, value_at, given_by, is_next, takes_next, options_from, end_by, end_of}
+use Rattle.ct_args.specs.Given.{Given, value_at, given_by, is_next, takes_next, options_from, end_by, last_word_of}
 
 -- the word that a reference lends, where it lends the one at a place
 pub lent_word : (words : List (List ℕ)) (at : ℕ) (lent : Option (Bor (List ℕ))) → IsItemAt words at lent → option_copied lent ≡ slice_get words at
@@ -56,20 +56,20 @@ options-with : (number : ℕ) (word : List ℕ) (rest : List (List ℕ)) → opt
 options-with number word [] = refl
 options-with number word (next ∷ others) = refl
 
-cut-said : (said : Option Said) (number : ℕ) (word : List ℕ) (rest words : List (List ℕ)) → drop number words ≡ rest → options_with said number word rest ≡ given_by said number word (slice_get rest 0) ∷ options_from (end_of (given_by said number word (slice_get rest 0)) + 1) (drop (end_of (given_by said number word (slice_get rest 0))) words)
+cut-said : (said : Option Said) (number : ℕ) (word : List ℕ) (rest words : List (List ℕ)) → drop number words ≡ rest → options_with said number word rest ≡ given_by said number word (slice_get rest 0) ∷ options_from (last_word_of (given_by said number word (slice_get rest 0)) + 1) (drop (last_word_of (given_by said number word (slice_get rest 0))) words)
 cut-said None number word [] words e = ap (λ others. given_by None number word None ∷ others) (others-place Nowhere number word [] words e)
 cut-said None number word (next ∷ others) words e = ap (λ others. given_by None number word None ∷ others) (others-place Nowhere number word (next ∷ others) words e)
 cut-said (Some said) number word [] words e = ap (λ others. given_by (Some said) number word None ∷ others) (others-place said.value number word [] words e)
 cut-said (Some said) number word (next ∷ others) words e = ap (λ behind. given_by (Some said) number word (Some next) ∷ behind) (others-place said.value number word (next ∷ others) words e)
 
 -- the option behind so many words is cut off
-pub cuts : (words : List (List ℕ)) (count : ℕ) (word : List ℕ) (given : Given) → count < length words → word ≡ get_or words count word → given ≡ given_by (said_of word) (count + 1) word (slice_get words (count + 1)) → options_from (count + 1) (drop count words) ≡ given ∷ options_from (end_of given + 1) (drop (end_of given) words)
+pub cuts : (words : List (List ℕ)) (count : ℕ) (word : List ℕ) (given : Given) → count < length words → word ≡ get_or words count word → given ≡ given_by (said_of word) (count + 1) word (slice_get words (count + 1)) → options_from (count + 1) (drop count words) ≡ given ∷ options_from (last_word_of given + 1) (drop (last_word_of given) words)
 cuts words count word given within is same =
     let there : drop count words ≡ word ∷ drop (count + 1) words = drop_more words count word within ∙ ap (λ w. w ∷ drop (count + 1) words) (sym is) in
     let next : given ≡ given_by (said_of word) (count + 1) word (slice_get (drop (count + 1) words) 0) = same ∙ ap (given_by (said_of word) (count + 1) word) (get-drop words (count + 1)) in
     ap (options_from (count + 1)) there ∙ options-with (count + 1) word (drop (count + 1) words)
     ∙ cut-said (said_of word) (count + 1) word (drop (count + 1) words) words refl
-    ∙ ap (λ g. g ∷ options_from (end_of g + 1) (drop (end_of g) words)) (sym next)
+    ∙ ap (λ g. g ∷ options_from (last_word_of g + 1) (drop (last_word_of g) words)) (sym next)
 
 end_place : (place : ValuePlace) (number : ℕ) (word : List ℕ) (next : Option (List ℕ)) → number ≤ end_by number (value_at place number word next)
 end_place Nowhere number word next = omega arith
@@ -77,14 +77,14 @@ end_place (Behind count) number word next = omega arith
 end_place NextWord number word None = omega arith
 end_place NextWord number word (Some other) = omega arith
 
-end_said : (said : Option Said) (number : ℕ) (word : List ℕ) (next : Option (List ℕ)) → number ≤ end_of (given_by said number word next)
+end_said : (said : Option Said) (number : ℕ) (word : List ℕ) (next : Option (List ℕ)) → number ≤ last_word_of (given_by said number word next)
 end_said None number word next = omega arith
 end_said (Some said) number word next = end_place said.value number word next
 
 -- the option behind so many words ends behind them
-pub end_grows : (count : ℕ) (word : List ℕ) (given : Given) (next : Option (List ℕ)) → given ≡ given_by (said_of word) (count + 1) word next → count < end_of given
+pub end_grows : (count : ℕ) (word : List ℕ) (given : Given) (next : Option (List ℕ)) → given ≡ given_by (said_of word) (count + 1) word next → count < last_word_of given
 end_grows count word given next same =
-    let behind : count + 1 ≤ end_of given = rw same (end_said (said_of word) (count + 1) word next) in
+    let behind : count + 1 ≤ last_word_of given = rw same (end_said (said_of word) (count + 1) word next) in
     omega arith
 
 end_place_within : (place : ValuePlace) (number : ℕ) (word : List ℕ) (words : List (List ℕ)) (next : Option (List ℕ)) → number ≤ length words → slice_get words number ≡ next → end_by number (value_at place number word next) ≤ length words
@@ -95,12 +95,12 @@ end_place_within NextWord number word words (Some other) within e =
     let below : number < length words = slice_get_within words number other e in
     omega arith
 
-end_said_within : (said : Option Said) (number : ℕ) (word : List ℕ) (words : List (List ℕ)) → number ≤ length words → end_of (given_by said number word (slice_get words number)) ≤ length words
+end_said_within : (said : Option Said) (number : ℕ) (word : List ℕ) (words : List (List ℕ)) → number ≤ length words → last_word_of (given_by said number word (slice_get words number)) ≤ length words
 end_said_within None number word words within = within
 end_said_within (Some said) number word words within = end_place_within said.value number word words (slice_get words number) within refl
 
 -- the option behind so many words ends within them
-pub end_within : (words : List (List ℕ)) (count : ℕ) (word : List ℕ) (given : Given) → count < length words → given ≡ given_by (said_of word) (count + 1) word (slice_get words (count + 1)) → end_of given ≤ length words
+pub end_within : (words : List (List ℕ)) (count : ℕ) (word : List ℕ) (given : Given) → count < length words → given ≡ given_by (said_of word) (count + 1) word (slice_get words (count + 1)) → last_word_of given ≤ length words
 end_within words count word given within same =
     let here : count + 1 ≤ length words = omega arith in
     rw same (end_said_within (said_of word) (count + 1) word words here)

@@ -14,12 +14,12 @@ use Rattle.ct_args.specs.declared.usage.UsageKind.{UsageKind}
 use Rattle.ct_args.specs.declared.usage.UsageKind.TheVariants.{UnknownOption, NoValue, Twice}
 use Rattle.ct_args.specs.declared.usage.UsageFault.{UsageFault}
 use Rattle.ct_args.specs.declared.usage.UsageFault.TheVariants.{At, NoMemory}
-use Rattle.ct_args.specs.Given.{Value, Given, options_in, is_same, is_of, is_given, value_by, value_for, values_of, value_of}
+use Rattle.ct_args.specs.Given.{Value, Given, options_in, is_same, is_of, is_given, value_by, given_value, option_values, option_value}
 use Rattle.ct_args.specs.Values.{text_in, pattern_in, numbers_in, level_in, limit_in, repeat_in, is_error_in}
-use Rattle.ct_args.specs.Fault.{takes_value, may_repeat, why_refused, fault_of_value, fault_of, faults_behind}
+use Rattle.ct_args.specs.Fault.{takes_value, may_be_given_again, why_refused, fault_of_value, repeat_fault, faults_behind}
 use Rattle.ct_args.specs.Invocation.{InvocationValue, invocation_of, unless_refused, invocation_in}
 use Rattle.ct_args.specs.Read.{IsFirstFault}
-use Rattle.ct_args.specs.Slots.{Slots, no_slots, is_full, filled, lengthened, with_text, with_flag, unless_bad, after_value, after_given, then_slots, slots_behind, made_of}
+use Rattle.ct_args.specs.Slots.{Slots, no_slots, is_slot_full, filled, lengthened, with_text, with_flag, unless_bad, after_value, after_given, then_slots, slots_behind, made_of}
 
 not-itself : (b : Bool) → b ≡ not b → ⊥
 not-itself true e = cc
@@ -64,8 +64,8 @@ differs : (own option : CommandOption) (b : Bool) → takes_value own ≡ b → 
 differs own option b p q = differs-if own option b (is_same own option) refl p q
 
 -- what one more option adds to the values and to what is given
-values-more : {X : Type 0} (rule : List ℕ → Result X UsageKind) (own : CommandOption) (before : List Given) (given : Given) → values_of rule own (before ++ given ∷ []) ≡ values_of rule own before ++ option_to_list (value_for rule own given)
-values-more rule own before given = filter_map-append (value_for rule own) before (given ∷ []) ∙ ap (λ l. values_of rule own before ++ l) (one_option (value_for rule own given))
+values-more : {X : Type 0} (rule : List ℕ → Result X UsageKind) (own : CommandOption) (before : List Given) (given : Given) → option_values rule own (before ++ given ∷ []) ≡ option_values rule own before ++ option_to_list (given_value rule own given)
+values-more rule own before given = filter_map-append (given_value rule own) before (given ∷ []) ∙ ap (λ l. option_values rule own before ++ l) (one_option (given_value rule own given))
 
 given-more : (own : CommandOption) (before : List Given) (given : Given) → is_given own (before ++ given ∷ []) ≡ (is_given own before || is_of own given)
 given-more own before given = list_any-append (is_of own) before (given ∷ []) ∙ ap (λ b. is_given own before || b) (or-false (is_of own given))
@@ -76,12 +76,12 @@ taken word option value = record { word = word; option = Some option; value = va
 
 -- the slot of an option that takes a value holds what was given of it
 record IsSlot {X : Type 0} (rule : List ℕ → Result X UsageKind) (own : CommandOption) (before : List Given) (slot : Option X) : Type 0 where
-  values : values_of rule own before ≡ option_to_list slot
+  values : option_values rule own before ≡ option_to_list slot
   full : is_given own before ≡ is_some slot
 
 other-slot : {X : Type 0} (rule : List ℕ → Result X UsageKind) (own : CommandOption) (before : List Given) (slot : Option X) (given : Given) → IsSlot rule own before slot → is_of own given ≡ false → IsSlot rule own (before ++ given ∷ []) slot
 other-slot rule own before slot given kept other = record {
-  values = values-more rule own before given ∙ ap (λ b. values_of rule own before ++ option_to_list (cond b (value_by rule given.value) None)) other ∙ append-nil (values_of rule own before) ∙ kept.values;
+  values = values-more rule own before given ∙ ap (λ b. option_values rule own before ++ option_to_list (cond b (value_by rule given.value) None)) other ∙ append-nil (option_values rule own before) ∙ kept.values;
   full = given-more own before given ∙ ap (λ b. is_given own before || b) other ∙ or-false (is_given own before) ∙ kept.full;
 }
 
@@ -89,18 +89,18 @@ text_slot-if : {X : Type 0} (rule : List ℕ → Result X UsageKind) (own : Comm
 text_slot-if rule own before slot word option value kept empty good false e = other-slot rule own before slot (taken word option (Some value)) kept e
 text_slot-if rule own before slot word option value kept empty good true e =
     let none : slot ≡ None = none_there slot (empty e) in
-    let nothing : values_of rule own before ≡ [] = kept.values ∙ ap option_to_list none in
-    let here : value_for rule own (taken word option (Some value)) ≡ result_ok (rule value.text) = ap (λ b. cond b (result_ok (rule value.text)) None) e in
+    let nothing : option_values rule own before ≡ [] = kept.values ∙ ap option_to_list none in
+    let here : given_value rule own (taken word option (Some value)) ≡ result_ok (rule value.text) = ap (λ b. cond b (result_ok (rule value.text)) None) e in
     record {
-      values = values-more rule own before (taken word option (Some value)) ∙ ap (λ l. l ++ option_to_list (value_for rule own (taken word option (Some value)))) nothing ∙ ap option_to_list here;
+      values = values-more rule own before (taken word option (Some value)) ∙ ap (λ l. l ++ option_to_list (given_value rule own (taken word option (Some value)))) nothing ∙ ap option_to_list here;
       full = given-more own before (taken word option (Some value)) ∙ ap (λ b. is_given own before || b) e ∙ or-true (is_given own before) ∙ sym (good_there (rule value.text) (good e));
     }
 
 -- the slot of an option behind a text that is given as the value of one that was not full, and is not refused
-text_slot : {X : Type 0} (rule : List ℕ → Result X UsageKind) (own : CommandOption) (before : List Given) (slots : Slots) (slot : Option X) (word : ℕ) (option : CommandOption) (value : Value) → IsSlot rule own before slot → is_full slots own ≡ is_some slot → why_refused own value.text ≡ result_err (rule value.text) → is_full slots option ≡ false → why_refused option value.text ≡ None → IsSlot rule own (before ++ taken word option (Some value) ∷ []) (filled rule own option value.text slot)
+text_slot : {X : Type 0} (rule : List ℕ → Result X UsageKind) (own : CommandOption) (before : List Given) (slots : Slots) (slot : Option X) (word : ℕ) (option : CommandOption) (value : Value) → IsSlot rule own before slot → is_slot_full slots own ≡ is_some slot → why_refused own value.text ≡ result_err (rule value.text) → is_slot_full slots option ≡ false → why_refused option value.text ≡ None → IsSlot rule own (before ++ taken word option (Some value) ∷ []) (filled rule own option value.text slot)
 text_slot rule own before slots slot word option value kept is_slot by_rule empty good =
     text_slot-if rule own before slot word option value kept
-    (λ e. sym is_slot ∙ ap (is_full slots) (same_true the_type tt own option e) ∙ empty)
+    (λ e. sym is_slot ∙ ap (is_slot_full slots) (same_true the_type tt own option e) ∙ empty)
     (λ e. sym by_rule ∙ ap (λ o. why_refused o value.text) (same_true the_type tt own option e) ∙ good)
     (is_same own option) refl
 
@@ -108,20 +108,20 @@ text_slot rule own before slots slot word option value kept is_slot by_rule empt
 flag_slot : {X : Type 0} (rule : List ℕ → Result X UsageKind) (own : CommandOption) (before : List Given) (slot : Option X) (word : ℕ) (option : CommandOption) (value : Option Value) → IsSlot rule own before slot → takes_value own ≡ true → takes_value option ≡ false → IsSlot rule own (before ++ taken word option value ∷ []) slot
 flag_slot rule own before slot word option value kept asks asks_not = other-slot rule own before slot (taken word option value) kept (differs own option true asks asks_not)
 
-text_list-if : {X : Type 0} (rule : List ℕ → Result X UsageKind) (own : CommandOption) (before : List Given) (list : List X) (word : ℕ) (option : CommandOption) (value : Value) → values_of rule own before ≡ list → (same : Bool) → is_same own option ≡ same → values_of rule own (before ++ taken word option (Some value) ∷ []) ≡ cond same (list ++ option_to_list (result_ok (rule value.text))) list
+text_list-if : {X : Type 0} (rule : List ℕ → Result X UsageKind) (own : CommandOption) (before : List Given) (list : List X) (word : ℕ) (option : CommandOption) (value : Value) → option_values rule own before ≡ list → (same : Bool) → is_same own option ≡ same → option_values rule own (before ++ taken word option (Some value) ∷ []) ≡ cond same (list ++ option_to_list (result_ok (rule value.text))) list
 text_list-if rule own before list word option value kept false e =
-    values-more rule own before (taken word option (Some value)) ∙ ap (λ b. values_of rule own before ++ option_to_list (cond b (result_ok (rule value.text)) None)) e ∙ append-nil (values_of rule own before) ∙ kept
+    values-more rule own before (taken word option (Some value)) ∙ ap (λ b. option_values rule own before ++ option_to_list (cond b (result_ok (rule value.text)) None)) e ∙ append-nil (option_values rule own before) ∙ kept
 text_list-if rule own before list word option value kept true e =
-    values-more rule own before (taken word option (Some value)) ∙ ap (λ b. values_of rule own before ++ option_to_list (cond b (result_ok (rule value.text)) None)) e ∙ ap (λ l. l ++ option_to_list (result_ok (rule value.text))) kept
+    values-more rule own before (taken word option (Some value)) ∙ ap (λ b. option_values rule own before ++ option_to_list (cond b (result_ok (rule value.text)) None)) e ∙ ap (λ l. l ++ option_to_list (result_ok (rule value.text))) kept
 
 -- the list of an option behind a text that is given as the value of one
-text_list : {X : Type 0} (rule : List ℕ → Result X UsageKind) (own : CommandOption) (before : List Given) (list : List X) (word : ℕ) (option : CommandOption) (value : Value) → values_of rule own before ≡ list → values_of rule own (before ++ taken word option (Some value) ∷ []) ≡ lengthened rule own option value.text list
+text_list : {X : Type 0} (rule : List ℕ → Result X UsageKind) (own : CommandOption) (before : List Given) (list : List X) (word : ℕ) (option : CommandOption) (value : Value) → option_values rule own before ≡ list → option_values rule own (before ++ taken word option (Some value) ∷ []) ≡ lengthened rule own option value.text list
 text_list rule own before list word option value kept = text_list-if rule own before list word option value kept (is_same own option) refl
 
 -- the list of an option behind one that takes no value
-flag_list : {X : Type 0} (rule : List ℕ → Result X UsageKind) (own : CommandOption) (before : List Given) (list : List X) (word : ℕ) (option : CommandOption) (value : Option Value) → values_of rule own before ≡ list → takes_value own ≡ true → takes_value option ≡ false → values_of rule own (before ++ taken word option value ∷ []) ≡ list
+flag_list : {X : Type 0} (rule : List ℕ → Result X UsageKind) (own : CommandOption) (before : List Given) (list : List X) (word : ℕ) (option : CommandOption) (value : Option Value) → option_values rule own before ≡ list → takes_value own ≡ true → takes_value option ≡ false → option_values rule own (before ++ taken word option value ∷ []) ≡ list
 flag_list rule own before list word option value kept asks asks_not =
-    values-more rule own before (taken word option value) ∙ ap (λ b. values_of rule own before ++ option_to_list (cond b (value_by rule value) None)) (differs own option true asks asks_not) ∙ append-nil (values_of rule own before) ∙ kept
+    values-more rule own before (taken word option value) ∙ ap (λ b. option_values rule own before ++ option_to_list (cond b (value_by rule value) None)) (differs own option true asks asks_not) ∙ append-nil (option_values rule own before) ∙ kept
 
 -- the mark of an option behind another one, of which one alone takes a value
 other_mark : (own : CommandOption) (before : List Given) (mark : Bool) (word : ℕ) (option : CommandOption) (value : Option Value) (asks : Bool) → is_given own before ≡ mark → takes_value own ≡ asks → takes_value option ≡ not asks → is_given own (before ++ taken word option value ∷ []) ≡ mark
@@ -137,8 +137,8 @@ more_mark own before mark word option value kept =
 record Keeps (before : List Given) (slots : Slots) : Type 0 where
   name : IsSlot pattern_in TestsRegex before slots.name
   not_name : IsSlot pattern_in ExcludeRegex before slots.not_name
-  labels : values_of pattern_in LabelRegex before ≡ slots.labels
-  not_labels : values_of pattern_in LabelExclude before ≡ slots.not_labels
+  labels : option_values pattern_in LabelRegex before ≡ slots.labels
+  not_labels : option_values pattern_in LabelExclude before ≡ slots.not_labels
   numbers : IsSlot numbers_in TestsInformation before slots.numbers
   union : is_given Union before ≡ slots.union
   keep_any : IsSlot pattern_in FixtureExcludeAny before slots.keep_any
@@ -182,7 +182,7 @@ keeps_nothing = record {
   rerun = refl;
 }
 
-keeps_text : (before : List Given) (slots : Slots) (word : ℕ) (option : CommandOption) (value : Value) → Keeps before slots → is_full slots option ≡ false → takes_value option ≡ true → why_refused option value.text ≡ None → Keeps (before ++ taken word option (Some value) ∷ []) (with_text option value.text slots)
+keeps_text : (before : List Given) (slots : Slots) (word : ℕ) (option : CommandOption) (value : Value) → Keeps before slots → is_slot_full slots option ≡ false → takes_value option ≡ true → why_refused option value.text ≡ None → Keeps (before ++ taken word option (Some value) ∷ []) (with_text option value.text slots)
 keeps_text before slots word option value kept empty asks good = record {
   name = text_slot pattern_in TestsRegex before slots slots.name word option value kept.name refl refl empty good;
   not_name = text_slot pattern_in ExcludeRegex before slots slots.not_name word option value kept.not_name refl refl empty good;
@@ -233,7 +233,7 @@ keeps_flag before slots word option value kept asks_not = record {
 }
 
 -- an option is given twice where its slot is full
-twice-full : (before : List Given) (slots : Slots) (option : CommandOption) → Keeps before slots → (not (may_repeat option) && is_given option before) ≡ is_full slots option
+twice-full : (before : List Given) (slots : Slots) (option : CommandOption) → Keeps before slots → (not (may_be_given_again option) && is_given option before) ≡ is_slot_full slots option
 twice-full before slots TestsRegex kept = kept.name.full
 twice-full before slots ExcludeRegex kept = kept.not_name.full
 twice-full before slots LabelRegex kept = refl
@@ -257,7 +257,7 @@ twice-full before slots PrintLabels kept = refl
 twice-full before slots RerunFailed kept = refl
 twice-full before slots Verbosity kept = refl
 
-slot-value : {X : Type 0} (rule : List ℕ → Result X UsageKind) (own : CommandOption) (before : List Given) (slot : Option X) → IsSlot rule own before slot → value_of rule own before ≡ slot
+slot-value : {X : Type 0} (rule : List ℕ → Result X UsageKind) (own : CommandOption) (before : List Given) (slot : Option X) → IsSlot rule own before slot → option_value rule own before ≡ slot
 slot-value rule own before slot kept = ap (λ l. slice_get l 0) kept.values ∙ first_option slot
 
 made : (before : List Given) (slots : Slots) → Keeps before slots → made_of slots ≡ invocation_of before
@@ -279,19 +279,19 @@ made before slots kept =
 
 -- what one more option comes to: its fault, or slots that hold it too
 data Steps (before : List Given) (slots : Slots) (given : Given) : Type 0 where
-  stops : (fault : UsageFault) → fault_of before given ≡ Some fault → after_given slots given ≡ Err fault → Steps before slots given
-  goes : (next : Slots) → fault_of before given ≡ None → after_given slots given ≡ Ok next → Keeps (before ++ given ∷ []) next → Steps before slots given
+  stops : (fault : UsageFault) → repeat_fault before given ≡ Some fault → after_given slots given ≡ Err fault → Steps before slots given
+  goes : (next : Slots) → repeat_fault before given ≡ None → after_given slots given ≡ Ok next → Keeps (before ++ given ∷ []) next → Steps before slots given
 
 -- of an option that is not given twice its value is asked
-asked : (before : List Given) (slots : Slots) (word : ℕ) (option : CommandOption) (value : Option Value) (asks : Bool) → Keeps before slots → is_full slots option ≡ false → takes_value option ≡ asks → fault_of before (taken word option value) ≡ cond asks (fault_of_value word option value) None
+asked : (before : List Given) (slots : Slots) (word : ℕ) (option : CommandOption) (value : Option Value) (asks : Bool) → Keeps before slots → is_slot_full slots option ≡ false → takes_value option ≡ asks → repeat_fault before (taken word option value) ≡ cond asks (fault_of_value word option value) None
 asked before slots word option value asks kept empty e =
     ap (λ b. cond b (Some (At word Twice)) (cond (takes_value option) (fault_of_value word option value) None)) (twice-full before slots option kept ∙ empty) ∙ ap (λ b. cond b (fault_of_value word option value) None) e
 
-asked_slots : (slots : Slots) (word : ℕ) (option : CommandOption) (value : Option Value) (asks : Bool) → is_full slots option ≡ false → takes_value option ≡ asks → after_given slots (taken word option value) ≡ cond asks (after_value slots word option value) (Ok (with_flag option slots))
+asked_slots : (slots : Slots) (word : ℕ) (option : CommandOption) (value : Option Value) (asks : Bool) → is_slot_full slots option ≡ false → takes_value option ≡ asks → after_given slots (taken word option value) ≡ cond asks (after_value slots word option value) (Ok (with_flag option slots))
 asked_slots slots word option value asks empty e =
     ap (λ b. cond b (Err (At word Twice)) (cond (takes_value option) (after_value slots word option value) (Ok (with_flag option slots)))) empty ∙ ap (λ b. cond b (after_value slots word option value) (Ok (with_flag option slots))) e
 
-steps-why : (before : List Given) (slots : Slots) (word : ℕ) (option : CommandOption) (value : Value) → Keeps before slots → is_full slots option ≡ false → takes_value option ≡ true → (why : Option UsageKind) → why_refused option value.text ≡ why → Steps before slots (taken word option (Some value))
+steps-why : (before : List Given) (slots : Slots) (word : ℕ) (option : CommandOption) (value : Value) → Keeps before slots → is_slot_full slots option ≡ false → takes_value option ≡ true → (why : Option UsageKind) → why_refused option value.text ≡ why → Steps before slots (taken word option (Some value))
 steps-why before slots word option value kept empty asks None good =
     goes (with_text option value.text slots)
     (asked before slots word option (Some value) true kept empty asks ∙ ap (option_map (At value.word)) good)
@@ -302,7 +302,7 @@ steps-why before slots word option value kept empty asks (Some kind) bad =
     (asked before slots word option (Some value) true kept empty asks ∙ ap (option_map (At value.word)) bad)
     (asked_slots slots word option (Some value) true empty asks ∙ ap (λ why. unless_bad why value.word (with_text option value.text slots)) bad)
 
-steps-asks : (before : List Given) (slots : Slots) (word : ℕ) (option : CommandOption) (value : Option Value) → Keeps before slots → is_full slots option ≡ false → (asks : Bool) → takes_value option ≡ asks → Steps before slots (taken word option value)
+steps-asks : (before : List Given) (slots : Slots) (word : ℕ) (option : CommandOption) (value : Option Value) → Keeps before slots → is_slot_full slots option ≡ false → (asks : Bool) → takes_value option ≡ asks → Steps before slots (taken word option value)
 steps-asks before slots word option value kept empty false e =
     goes (with_flag option slots) (asked before slots word option value false kept empty e) (asked_slots slots word option value false empty e) (keeps_flag before slots word option value kept e)
 steps-asks before slots word option None kept empty true e =
@@ -310,7 +310,7 @@ steps-asks before slots word option None kept empty true e =
 steps-asks before slots word option (Some value) kept empty true e =
     steps-why before slots word option value kept empty e (why_refused option value.text) refl
 
-steps-full : (before : List Given) (slots : Slots) (word : ℕ) (option : CommandOption) (value : Option Value) → Keeps before slots → (full : Bool) → is_full slots option ≡ full → Steps before slots (taken word option value)
+steps-full : (before : List Given) (slots : Slots) (word : ℕ) (option : CommandOption) (value : Option Value) → Keeps before slots → (full : Bool) → is_slot_full slots option ≡ full → Steps before slots (taken word option value)
 steps-full before slots word option value kept false e = steps-asks before slots word option value kept e (takes_value option) refl
 steps-full before slots word option value kept true e =
     stops (At word Twice)
@@ -319,7 +319,7 @@ steps-full before slots word option value kept true e =
 
 steps-option : (before : List Given) (slots : Slots) (word : ℕ) (option : Option CommandOption) (value : Option Value) → Keeps before slots → Steps before slots (record { word = word; option = option; value = value })
 steps-option before slots word None value kept = stops (At word UnknownOption) refl refl
-steps-option before slots word (Some option) value kept = steps-full before slots word option value kept (is_full slots option) refl
+steps-option before slots word (Some option) value kept = steps-full before slots word option value kept (is_slot_full slots option) refl
 
 -- the answer of the reader with these slots
 abbrev answer : Result Slots UsageFault → Result InvocationValue UsageFault

@@ -16,7 +16,8 @@ pub record Value : Type 0 where
   pub word : ℕ
   pub text : List ℕ
 
--- what a word gives: its number; the option that it names, if any; and the value of the option, if there is one
+-- what a word gives: its number; the option that it names, if any; and the value of the option, if there is
+-- one
 pub record Given : Type 0 where
   pub word : ℕ
   pub option : Option CommandOption
@@ -31,7 +32,11 @@ value_at NextWord word text next = option_map (λ other. record { word = word + 
 -- what a word with this number and text gives, by what it says and by the next word
 abbrev pub given_by : Option Said → ℕ → List ℕ → Option (List ℕ) → Given
 given_by None word text next = record { word = word; option = None; value = None }
-given_by (Some said) word text next = record { word = word; option = Some said.option; value = value_at said.value word text next }
+given_by (Some said) word text next = record {
+  word = word;
+  option = Some said.option;
+  value = value_at said.value word text next;
+}
 
 -- the value of an option is the next word
 abbrev pub is_next : ValuePlace → Bool
@@ -49,7 +54,10 @@ abbrev pub options_from : ℕ → List (List ℕ) → List Given
 options_from number [] = []
 options_from number (word ∷ []) = given_by (said_of word) number word None ∷ []
 options_from number (word ∷ next ∷ others) =
-    given_by (said_of word) number word (Some next) ∷ (if takes_next (said_of word) then options_from (number + 2) others else options_from (number + 1) (next ∷ others))
+    given_by (said_of word) number word (Some next)
+    ∷ (if takes_next (said_of word)
+    then options_from (number + 2) others
+    else options_from (number + 1) (next ∷ others))
 
 -- the options that the words of a command line are
 abbrev pub options_in : List (List ℕ) → List Given
@@ -60,13 +68,13 @@ abbrev pub is_same : CommandOption → CommandOption → Bool
 is_same option other = sameb the_type option other
 
 -- it is this option
-abbrev pub names : CommandOption → Option CommandOption → Bool
-names option None = false
-names option (Some other) = is_same option other
+abbrev pub names_option : CommandOption → Option CommandOption → Bool
+names_option option None = false
+names_option option (Some other) = is_same option other
 
 -- whether this is the option that is given
 abbrev pub is_of : CommandOption → Given → Bool
-is_of option given = names option given.option
+is_of option given = names_option option given.option
 
 -- whether the option is given
 abbrev pub is_given : CommandOption → List Given → Bool
@@ -78,16 +86,16 @@ value_by rule None = None
 value_by rule (Some value) = result_ok (rule value.text)
 
 -- what is given as the value of this option, by the option's rule
-abbrev pub value_for : {X : Type 0} → (List ℕ → Result X UsageKind) → CommandOption → Given → Option X
-value_for rule option given = if is_of option given then value_by rule given.value else None
+abbrev pub given_value : {X : Type 0} → (List ℕ → Result X UsageKind) → CommandOption → Given → Option X
+given_value rule option given = if is_of option given then value_by rule given.value else None
 
 -- what the values of the option say by the option's rule, in order
-abbrev pub values_of : {X : Type 0} → (List ℕ → Result X UsageKind) → CommandOption → List Given → List X
-values_of rule option given = filter_map (value_for rule option) given
+abbrev pub option_values : {X : Type 0} → (List ℕ → Result X UsageKind) → CommandOption → List Given → List X
+option_values rule option given = filter_map (given_value rule option) given
 
 -- what the value of the option says by the option's rule, where it is given
-abbrev pub value_of : {X : Type 0} → (List ℕ → Result X UsageKind) → CommandOption → List Given → Option X
-value_of rule option given = slice_get (values_of rule option given) 0
+abbrev pub option_value : {X : Type 0} → (List ℕ → Result X UsageKind) → CommandOption → List Given → Option X
+option_value rule option given = slice_get (option_values rule option given) 0
 
 -- the number of the last word that belongs to an option in the word with this number, by its value
 abbrev pub end_by : ℕ → Option Value → ℕ
@@ -95,5 +103,5 @@ end_by word None = word
 end_by word (Some value) = value.word
 
 -- the number of the last word that belongs to what is given
-abbrev pub end_of : Given → ℕ
-end_of given = end_by given.word given.value
+abbrev pub last_word_of : Given → ℕ
+last_word_of given = end_by given.word given.value

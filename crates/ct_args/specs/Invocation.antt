@@ -11,7 +11,7 @@ use Rattle.ct_args.specs.declared.usage.UsageFault.{UsageFault}
 use Rattle.ct_args.specs.declared.invocation.Task.{Task}
 use Rattle.ct_args.specs.declared.invocation.Task.TheVariants.{Run, ListTests, ListLabels, ListJson}
 use Rattle.ct_args.specs.declared.invocation.Invocation.{Invocation}
-use Rattle.ct_args.specs.Given.{Given, options_in, is_given, value_of, values_of}
+use Rattle.ct_args.specs.Given.{Given, options_in, is_given, option_value, option_values}
 use Rattle.ct_args.specs.Values.{text_in, pattern_in, numbers_in, level_in, limit_in, repeat_in, is_error_in}
 use Rattle.ct_args.specs.Fault.{faults_in}
 
@@ -38,9 +38,11 @@ pub record InvocationValue : Type 0 where
   pub empty_is_error : Bool
   pub rerun : Bool
 
--- what the program is asked to do: --print-labels is stronger than --show-only=json-v1, which is stronger than -N
+-- what the program is asked to do: --print-labels is stronger than --show-only=json-v1, which is stronger
+-- than -N
 abbrev pub task_by : Bool → Bool → Bool → Task
-task_by labels json tests = if labels then ListLabels else (if json then ListJson else (if tests then ListTests else Run))
+task_by labels json tests =
+    if labels then ListLabels else (if json then ListJson else (if tests then ListTests else Run))
 
 -- each test is tried once
 abbrev pub once : Repeat
@@ -58,24 +60,24 @@ usual_limit = 1500000000
 abbrev pub invocation_of : List Given → InvocationValue
 invocation_of given = record {
   task = task_by (is_given PrintLabels given) (is_given ShowOnlyAs given) (is_given ShowOnly given);
-  dir = unwrap_or (value_of text_in TestDir given) here;
-  name = value_of pattern_in TestsRegex given;
-  not_name = value_of pattern_in ExcludeRegex given;
-  labels = values_of pattern_in LabelRegex given;
-  not_labels = values_of pattern_in LabelExclude given;
-  numbers = value_of numbers_in TestsInformation given;
+  dir = unwrap_or (option_value text_in TestDir given) here;
+  name = option_value pattern_in TestsRegex given;
+  not_name = option_value pattern_in ExcludeRegex given;
+  labels = option_values pattern_in LabelRegex given;
+  not_labels = option_values pattern_in LabelExclude given;
+  numbers = option_value numbers_in TestsInformation given;
   union = is_given Union given;
-  keep_any = value_of pattern_in FixtureExcludeAny given;
-  keep_setup = value_of pattern_in FixtureExcludeSetup given;
-  keep_cleanup = value_of pattern_in FixtureExcludeCleanup given;
+  keep_any = option_value pattern_in FixtureExcludeAny given;
+  keep_setup = option_value pattern_in FixtureExcludeSetup given;
+  keep_cleanup = option_value pattern_in FixtureExcludeCleanup given;
   only = None;
-  level = unwrap_or (value_of level_in Parallel given) 1;
-  repeat = unwrap_or (value_of repeat_in RepeatOption given) once;
+  level = unwrap_or (option_value level_in Parallel given) 1;
+  repeat = unwrap_or (option_value repeat_in RepeatOption given) once;
   stop_on_failure = is_given StopOnFailure given;
-  config = unwrap_or (value_of text_in BuildConfig given) [];
-  timeout = unwrap_or (value_of limit_in Timeout given) usual_limit;
-  spec_file = value_of text_in ResourceSpecFile given;
-  empty_is_error = unwrap_or (value_of is_error_in NoTests given) false;
+  config = unwrap_or (option_value text_in BuildConfig given) [];
+  timeout = unwrap_or (option_value limit_in Timeout given) usual_limit;
+  spec_file = option_value text_in ResourceSpecFile given;
+  empty_is_error = unwrap_or (option_value is_error_in NoTests given) false;
   rerun = is_given RerunFailed given;
 }
 
@@ -113,7 +115,8 @@ invocation_seen made = record {
   rerun = made.rerun;
 }
 
--- what holds of all that words ask for: the level is from 1 to 65,535, and a test is tried at most 1 to 99,999 times
+-- what holds of all that words ask for: the level is from 1 to 65,535, and a test is tried at most 1 to
+-- 99,999 times
 pub record IsBounded (made : Invocation) : Type 0 where
   pub some_level : 1 ≤ made.wanted.level
   pub most_level : made.wanted.level ≤ 65535

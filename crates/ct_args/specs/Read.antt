@@ -17,14 +17,14 @@ IsValue view says (Ok x) = says ≡ Ok (view x)
 IsValue view says (Err fault) = IsRefusedFor says fault
 
 -- the fault of the word with this number, for the fault of the value that it holds
-abbrev pub fault_at : ℕ → ValueFault → UsageFault
-fault_at word (Bad kind) = At word kind
-fault_at word NoMemory = NoMemoryThere
+abbrev pub usage_fault_at : ℕ → ValueFault → UsageFault
+usage_fault_at word (Bad kind) = At word kind
+usage_fault_at word NoMemory = NoMemoryThere
 
 -- the value is refused for this kind; want of memory is free
-abbrev pub IsRefused : Option UsageKind → ValueFault → Type 0
-IsRefused why NoMemory = ⊤
-IsRefused why (Bad kind) = why ≡ Some kind
+abbrev pub IsRefusedAs : Option UsageKind → ValueFault → Type 0
+IsRefusedAs why NoMemory = ⊤
+IsRefusedAs why (Bad kind) = why ≡ Some kind
 
 -- the fault is the first one; want of memory is free
 abbrev pub IsFirstFault : {Y : Type 0} → Result Y UsageFault → UsageFault → Type 0

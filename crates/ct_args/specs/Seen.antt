@@ -12,7 +12,11 @@ value_seen value = record { word = value.word; text = value.text.now }
 
 -- what is given as it is seen
 abbrev pub given_seen : GivenLent → Given
-given_seen given = record { word = given.word; option = given.option; value = option_map value_seen given.value }
+given_seen given = record {
+  word = given.word;
+  option = given.option;
+  value = option_map value_seen given.value;
+}
 
 -- a place in a word of so many bytes stands within it
 abbrev pub FitsIn : ℕ → ValuePlace → Type 0

@@ -1,4 +1,5 @@
--- What the reader keeps of the options in front of a word. proofs/ shows that it gives what the options ask for, or the
+-- What the reader keeps of the options in front of a word. proofs/ shows that it gives what the options ask
+-- for, or the
 -- first fault. This project's own.
 use Rattle.std.specs.Prelude.{ℕ, Bool, false, ◌||◌, List, [], ◌∷◌, ◌++◌, map, Option, Some, None, is_some, unwrap_or, option_map, option_to_list, Result, Ok, Err, if◌then◌else◌}
 use Rattle.std.specs.Result.{result_ok}
@@ -18,7 +19,8 @@ use Rattle.ct_args.specs.Values.{text_in, pattern_in, numbers_in, level_in, limi
 use Rattle.ct_args.specs.Fault.{why_refused, takes_value}
 use Rattle.ct_args.specs.Invocation.{InvocationValue, task_by, once, here, usual_limit}
 
--- a slot for each option that may be given once, a list for each of those of labels, and a mark for each other one
+-- a slot for each option that may be given once, a list for each of those of labels, and a mark for each
+-- other one
 pub record Slots : Type 0 where
   pub name : Option Tree
   pub not_name : Option Tree
@@ -69,29 +71,32 @@ no_slots = record {
 }
 
 -- the slot of an option is full; an option that may be given several times has none
-abbrev pub is_full : Slots → CommandOption → Bool
-is_full slots TestsRegex = is_some slots.name
-is_full slots ExcludeRegex = is_some slots.not_name
-is_full slots FixtureExcludeAny = is_some slots.keep_any
-is_full slots FixtureExcludeSetup = is_some slots.keep_setup
-is_full slots FixtureExcludeCleanup = is_some slots.keep_cleanup
-is_full slots TestsInformation = is_some slots.numbers
-is_full slots Parallel = is_some slots.level
-is_full slots BuildConfig = is_some slots.config
-is_full slots TestDir = is_some slots.dir
-is_full slots ResourceSpecFile = is_some slots.spec_file
-is_full slots Timeout = is_some slots.timeout
-is_full slots RepeatOption = is_some slots.repeat
-is_full slots NoTests = is_some slots.empty_is_error
-is_full slots option = false
+abbrev pub is_slot_full : Slots → CommandOption → Bool
+is_slot_full slots TestsRegex = is_some slots.name
+is_slot_full slots ExcludeRegex = is_some slots.not_name
+is_slot_full slots FixtureExcludeAny = is_some slots.keep_any
+is_slot_full slots FixtureExcludeSetup = is_some slots.keep_setup
+is_slot_full slots FixtureExcludeCleanup = is_some slots.keep_cleanup
+is_slot_full slots TestsInformation = is_some slots.numbers
+is_slot_full slots Parallel = is_some slots.level
+is_slot_full slots BuildConfig = is_some slots.config
+is_slot_full slots TestDir = is_some slots.dir
+is_slot_full slots ResourceSpecFile = is_some slots.spec_file
+is_slot_full slots Timeout = is_some slots.timeout
+is_slot_full slots RepeatOption = is_some slots.repeat
+is_slot_full slots NoTests = is_some slots.empty_is_error
+is_slot_full slots option = false
 
 -- the slot of an option behind a text that is given as the value of this one
-abbrev pub filled : {X : Type 0} → (List ℕ → Result X UsageKind) → CommandOption → CommandOption → List ℕ → Option X → Option X
+abbrev pub filled : {X : Type 0}
+    → (List ℕ → Result X UsageKind) → CommandOption → CommandOption → List ℕ → Option X → Option X
 filled rule own option text slot = if is_same own option then result_ok (rule text) else slot
 
 -- the list of an option behind a text that is given as a value of this one
-abbrev pub lengthened : {X : Type 0} → (List ℕ → Result X UsageKind) → CommandOption → CommandOption → List ℕ → List X → List X
-lengthened rule own option text list = if is_same own option then list ++ option_to_list (result_ok (rule text)) else list
+abbrev pub lengthened : {X : Type 0}
+    → (List ℕ → Result X UsageKind) → CommandOption → CommandOption → List ℕ → List X → List X
+lengthened rule own option text list =
+    if is_same own option then list ++ option_to_list (result_ok (rule text)) else list
 
 -- the slots behind a text that is given as the value of an option
 abbrev pub with_text : CommandOption → List ℕ → Slots → Slots
@@ -137,13 +142,14 @@ unless_bad (Some kind) holder slots = Err (At holder kind)
 -- the slots behind an option that takes a value, or its fault
 abbrev pub after_value : Slots → ℕ → CommandOption → Option Value → Result Slots UsageFault
 after_value slots word option None = Err (At word NoValue)
-after_value slots word option (Some value) = unless_bad (why_refused option value.text) value.word (with_text option value.text slots)
+after_value slots word option (Some value) =
+    unless_bad (why_refused option value.text) value.word (with_text option value.text slots)
 
 -- the slots behind an option, or its fault
 abbrev pub after_option : Slots → ℕ → Option CommandOption → Option Value → Result Slots UsageFault
 after_option slots word None value = Err (At word UnknownOption)
 after_option slots word (Some option) value =
-    if is_full slots option then Err (At word Twice)
+    if is_slot_full slots option then Err (At word Twice)
     else (if takes_value option then after_value slots word option value else Ok (with_flag option slots))
 
 -- the slots behind what is given, or its fault
@@ -151,7 +157,8 @@ abbrev pub after_given : Slots → Given → Result Slots UsageFault
 after_given slots given = after_option slots given.word given.option given.value
 
 -- goes on with the slots, or passes the fault on
-abbrev pub then_slots : {X : Type 0} → Result Slots UsageFault → (Slots → Result X UsageFault) → Result X UsageFault
+abbrev pub then_slots : {X : Type 0}
+    → Result Slots UsageFault → (Slots → Result X UsageFault) → Result X UsageFault
 then_slots (Ok slots) next = next slots
 then_slots (Err fault) next = Err fault
 
@@ -186,8 +193,8 @@ made_of slots = record {
 }
 
 -- the settings as slots, with the trees of patterns in place of the patterns
-abbrev pub slots_of : Settings → Slots
-slots_of settings = record {
+abbrev pub slots_of_settings : Settings → Slots
+slots_of_settings settings = record {
   name = option_map regex_tree settings.choice.name;
   not_name = option_map regex_tree settings.choice.not_name;
   labels = map regex_tree settings.choice.labels;

@@ -29,10 +29,14 @@ spellings =
     spelled (codes "-E") ExcludeRegex Short ∷ spelled (codes "--exclude-regex") ExcludeRegex Long ∷
     spelled (codes "-L") LabelRegex Short ∷ spelled (codes "--label-regex") LabelRegex Long ∷
     spelled (codes "-LE") LabelExclude Short ∷ spelled (codes "--label-exclude") LabelExclude Long ∷
-    spelled (codes "-FA") FixtureExcludeAny Short ∷ spelled (codes "--fixture-exclude-any") FixtureExcludeAny Long ∷
-    spelled (codes "-FS") FixtureExcludeSetup Short ∷ spelled (codes "--fixture-exclude-setup") FixtureExcludeSetup Long ∷
-    spelled (codes "-FC") FixtureExcludeCleanup Short ∷ spelled (codes "--fixture-exclude-cleanup") FixtureExcludeCleanup Long ∷
-    spelled (codes "-I") TestsInformation Short ∷ spelled (codes "--tests-information") TestsInformation Long ∷
+    spelled (codes "-FA") FixtureExcludeAny Short
+    ∷ spelled (codes "--fixture-exclude-any") FixtureExcludeAny Long ∷
+    spelled (codes "-FS") FixtureExcludeSetup Short
+    ∷ spelled (codes "--fixture-exclude-setup") FixtureExcludeSetup Long ∷
+    spelled (codes "-FC") FixtureExcludeCleanup Short
+    ∷ spelled (codes "--fixture-exclude-cleanup") FixtureExcludeCleanup Long ∷
+    spelled (codes "-I") TestsInformation Short
+    ∷ spelled (codes "--tests-information") TestsInformation Long ∷
     spelled (codes "-U") Union Flag ∷ spelled (codes "--union") Union Flag ∷
     spelled (codes "-j") Parallel Digits ∷ spelled (codes "--parallel") Parallel Long ∷
     spelled (codes "-C") BuildConfig Short ∷ spelled (codes "--build-config") BuildConfig Long ∷
@@ -57,31 +61,35 @@ abbrev pub equals : ℕ
 equals = 61
 
 -- the place, where nothing stands behind the name
-abbrev pub at_end : ValuePlace → List ℕ → Option ValuePlace
-at_end place [] = Some place
-at_end place (byte ∷ bytes) = None
+abbrev pub place_at_end : ValuePlace → List ℕ → Option ValuePlace
+place_at_end place [] = Some place
+place_at_end place (byte ∷ bytes) = None
 
 -- the value stands behind the name and a `=`
 abbrev pub behind_equals : List ℕ → List ℕ → Option ValuePlace
 behind_equals name [] = None
 behind_equals name (byte ∷ bytes) = if byte == equals then Some (Behind (length name + 1)) else None
 
--- where the value stands, by the form and by what stands behind the name in the same word; none where that is not of the form
+-- where the value stands, by the form and by what stands behind the name in the same word; none where that is
+-- not of the form
 abbrev pub place_behind : Form → List ℕ → List ℕ → Option ValuePlace
-place_behind Flag name rest = at_end Nowhere rest
-place_behind Short name rest = at_end NextWord rest
-place_behind Long name rest = option_or (at_end NextWord rest) (behind_equals name rest)
-place_behind Digits name rest = option_or (at_end NextWord rest) (if is_numeral rest then Some (Behind (length name)) else None)
+place_behind Flag name rest = place_at_end Nowhere rest
+place_behind Short name rest = place_at_end NextWord rest
+place_behind Long name rest = option_or (place_at_end NextWord rest) (behind_equals name rest)
+place_behind Digits name rest =
+    option_or (place_at_end NextWord rest) (if is_numeral rest then Some (Behind (length name)) else None)
 place_behind Inside name rest = behind_equals name rest
 
 -- where the value stands in a word that begins with the name
 abbrev pub place_in_word : Form → List ℕ → List ℕ → Option ValuePlace
-place_in_word form name word = if starts_with nat_eq word name then place_behind form name (drop (length name) word) else None
+place_in_word form name word =
+    if starts_with nat_eq word name then place_behind form name (drop (length name) word) else None
 
 -- what a word says by a spelling, where it is the spelling's word
 abbrev pub said_by : List ℕ → Spelling → Option Said
 said_by word spelling =
-    option_map (λ place. record { option = spelling.option; value = place }) (place_in_word spelling.form spelling.name word)
+    option_map (λ place.
+    record { option = spelling.option; value = place }) (place_in_word spelling.form spelling.name word)
 
 -- what a word says by the first of some spellings whose word it is
 abbrev pub first_said : List ℕ → List Spelling → Option Said

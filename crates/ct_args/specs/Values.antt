@@ -56,7 +56,8 @@ times_in text = then_read (ok_or (number_in text) BadNumber) times_of
 abbrev pub repeat_at : List ℕ → Option ℕ → Result Repeat UsageKind
 repeat_at text None = Err BadMode
 repeat_at text (Some at) =
-    then_read (mode_in (take at text)) (λ mode. then_read (times_in (drop (at + 1) text)) (λ times. Ok (record { mode = mode; times = times })))
+    then_read (mode_in (take at text)) (λ mode.
+    then_read (times_in (drop (at + 1) text)) (λ times. Ok (record { mode = mode; times = times })))
 
 -- --repeat: a mode, a `:` and how often
 unfoldable pub repeat_in : List ℕ → Result Repeat UsageKind
@@ -65,11 +66,13 @@ repeat_in text = repeat_at text (position (λ byte. byte == colon) text)
 -- --no-tests: whether it is an error that no test is found
 unfoldable pub is_error_in : List ℕ → Result Bool UsageKind
 is_error_in text =
-    if bytes_eq text (codes "error") then Ok true else (if bytes_eq text (codes "ignore") then Ok false else Err BadMode)
+    if bytes_eq text (codes "error")
+    then Ok true
+    else (if bytes_eq text (codes "ignore") then Ok false else Err BadMode)
 
 -- --show-only=: the one form of the list that can be named
-unfoldable pub json_in : List ℕ → Result (Unit {0}) UsageKind
-json_in text = if bytes_eq text (codes "json-v1") then Ok tt else Err BadMode
+unfoldable pub list_form_in : List ℕ → Result (Unit {0}) UsageKind
+list_form_in text = if bytes_eq text (codes "json-v1") then Ok tt else Err BadMode
 
 -- the greatest number of a test that -I can name
 abbrev pub most_number : ℕ
@@ -78,12 +81,14 @@ most_number = 2 ^ 32 - 1
 -- an entry of -I: digits, or nothing; a number above 4,294,967,295 is taken as that
 abbrev pub entry_in : List ℕ → Result (Option ℕ) UsageKind
 entry_in [] = Ok None
-entry_in (byte ∷ bytes) = then_read (ok_or (number_in (byte ∷ bytes)) BadNumber) (λ number. Ok (Some (min number most_number)))
+entry_in (byte ∷ bytes) =
+    then_read (ok_or (number_in (byte ∷ bytes)) BadNumber) (λ number. Ok (Some (min number most_number)))
 
 -- the entries in these texts
 abbrev pub entries_in : List (List ℕ) → Result (List (Option ℕ)) UsageKind
 entries_in [] = Ok []
-entries_in (text ∷ texts) = then_read (entry_in text) (λ entry. then_read (entries_in texts) (λ entries. Ok (entry ∷ entries)))
+entries_in (text ∷ texts) =
+    then_read (entry_in text) (λ entry. then_read (entries_in texts) (λ entries. Ok (entry ∷ entries)))
 
 -- the pieces of a text between its commas
 abbrev pub pieces_between : List ℕ → List (List ℕ)

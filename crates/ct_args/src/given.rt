@@ -1,7 +1,7 @@
 ghost use Rattle.std.specs.Prelude.{◌≡◌, ◌+◌, ◌-◌, ◌^◌, ◌<◌, ◌≤◌, ◌∷◌, drop, length, option_map};
 ghost use Rattle.std.specs.Option.{ForSome};
 ghost use Rattle.std.specs.Option.{option_copied};
-ghost use Rattle.ct_args.specs.Given.{options_from, end_of, given_by, value_at as value_by};
+ghost use Rattle.ct_args.specs.Given.{options_from, last_word_of, given_by, value_at as value_by};
 ghost use Rattle.ct_args.specs.Seen.{given_seen, value_seen, FitsIn};
 ghost use Rattle.ct_args.specs.Spelling.{said_of};
 
@@ -33,9 +33,9 @@ impl<'a> Given<'a> {
     pub fn behind(words: &'a [Name], count: usize) -> Given<'a>
         requires few { length words.now < 2 ^ 32 - 1 }
         requires within { count < length words.now }
-        ensures cut { options_from (count + 1) (drop count words.now) ≡ given_seen result ∷ options_from (end_of (given_seen result) + 1) (drop (end_of (given_seen result)) words.now) }
-        ensures grows { count < end_of (given_seen result) }
-        ensures within { end_of (given_seen result) ≤ length words.now }
+        ensures cut { options_from (count + 1) (drop count words.now) ≡ given_seen result ∷ options_from (last_word_of (given_seen result) + 1) (drop (last_word_of (given_seen result)) words.now) }
+        ensures grows { count < last_word_of (given_seen result) }
+        ensures within { last_word_of (given_seen result) ≤ length words.now }
     {
         let text = words[count].bytes();
         Given::by(Said::by(text), count as u32 + 1, text, words.get(count + 1))
@@ -63,7 +63,7 @@ impl<'a> Given<'a> {
 
     /// The number of the last word that belongs to the option.
     pub fn end(&self) -> u32
-        ensures { result ≡ end_of (given_seen self.now) }
+        ensures { result ≡ last_word_of (given_seen self.now) }
     {
         match self.value {
             None => self.word,

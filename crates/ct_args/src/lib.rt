@@ -1,7 +1,6 @@
 //! The words of the command line.
 //!
 //! Hands up: `read_words` reads them as an `Invocation`, or finds the first word that is refused.
-//! Stands on: ct_base, ct_regex, ct_groups, ct_props and ct_verdict.
 //! Read first: `specs/Spelling.antt`, `specs/Given.antt`, `specs/Fault.antt`, then `words.rt`.
 #![tactic(auto)]
 

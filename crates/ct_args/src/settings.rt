@@ -2,10 +2,10 @@ ghost use Rattle.std.specs.Prelude.{◌≡◌, ◌^◌, ◌-◌, ◌<◌, length
 ghost use Rattle.ct_args.specs.Fault.{why_refused};
 ghost use Rattle.ct_args.specs.Given.{options_in};
 ghost use Rattle.ct_args.specs.Invocation.{invocation_seen, task_by};
-ghost use Rattle.ct_args.specs.Read.{IsRefused, IsRead};
+ghost use Rattle.ct_args.specs.Read.{IsRefusedAs, IsRead};
 ghost use Rattle.ct_args.specs.declared.usage.UsageFault.TheVariants.{At as refused_at};
 ghost use Rattle.ct_args.specs.Seen.{given_seen};
-ghost use Rattle.ct_args.specs.Slots.{slots_of, no_slots, is_full as is_slot_full, with_text, with_flag, after_given, slots_behind, made_of};
+ghost use Rattle.ct_args.specs.Slots.{slots_of_settings, no_slots, is_slot_full, with_text, with_flag, after_given, slots_behind, made_of};
 
 use crate::given::Given;
 use crate::invocation::{Invocation, Task};
@@ -41,7 +41,7 @@ pub struct Settings {
 
 impl Settings {
     fn nothing(alloc: Global) -> Settings
-        ensures { slots_of result ≡ no_slots }
+        ensures { slots_of_settings result ≡ no_slots }
     {
         Settings {
             choice: Choice {
@@ -75,7 +75,7 @@ impl Settings {
     #[tactic(auto, using(crate::proofs::LoopLemmas::option_taken, crate::proofs::LoopLemmas::option_refused, crate::proofs::LoopLemmas::all_taken))]
     pub fn read(alloc: Global, words: &[Name]) -> Result<Settings, UsageFault>
         requires few { length words.now < 2 ^ 32 - 1 }
-        ensures { IsRead slots_of (slots_behind no_slots (options_in words.now)) result }
+        ensures { IsRead slots_of_settings (slots_behind no_slots (options_in words.now)) result }
     {
         let mut settings = Settings::nothing(alloc);
         let mut count = 0;
@@ -89,7 +89,7 @@ impl Settings {
 
     /// Makes the invocation, with the usual value in place of each that was not given.
     pub fn into_invocation(self, alloc: Global) -> Result<Invocation, NoMemory>
-        ensures { IfOk result (λ made. invocation_seen made ≡ made_of (slots_of self)) }
+        ensures { IfOk result (λ made. invocation_seen made ≡ made_of (slots_of_settings self)) }
     {
         let task = self.task();
         let choice = self.choice;
@@ -133,7 +133,7 @@ impl Settings {
 
     /// Takes one option. The checks are, in order: given twice, no value, bad value.
     fn take(&mut self, alloc: Global, given: &Given) -> Result<(), UsageFault>
-        ensures { IsRead (λ done. slots_of self.new) (after_given (slots_of self.old) (given_seen given.now)) result }
+        ensures { IsRead (λ done. slots_of_settings self.new) (after_given (slots_of_settings self.old) (given_seen given.now)) result }
     {
         let word = given.word;
         let Some(option) = given.option else {
@@ -157,7 +157,7 @@ impl Settings {
 
     /// Tells whether the slot of an option is full.
     fn is_full(&self, option: CommandOption) -> bool
-        ensures { result ≡ is_slot_full (slots_of self.now) option }
+        ensures { result ≡ is_slot_full (slots_of_settings self.now) option }
     {
         match option {
             CommandOption::TestsRegex => self.choice.name.is_some(),
@@ -187,7 +187,7 @@ impl Settings {
 
     /// Takes an option without a value.
     fn raise(&mut self, option: CommandOption)
-        ensures { slots_of self.new ≡ with_flag option (slots_of self.old) }
+        ensures { slots_of_settings self.new ≡ with_flag option (slots_of_settings self.old) }
     {
         match option {
             CommandOption::Union => self.choice.union = true,
@@ -202,8 +202,8 @@ impl Settings {
     /// Reads the value of an option into its slot.
     fn fill(&mut self, alloc: Global, option: CommandOption, text: &[u8]) -> Result<(), ValueFault>
         ensures good { OnOk result (why_refused option text.now ≡ None) }
-        ensures ok { OnOk result (slots_of self.new ≡ with_text option text.now (slots_of self.old)) }
-        ensures bad { IfErr result (λ fault. IsRefused (why_refused option text.now) fault) }
+        ensures ok { OnOk result (slots_of_settings self.new ≡ with_text option text.now (slots_of_settings self.old)) }
+        ensures bad { IfErr result (λ fault. IsRefusedAs (why_refused option text.now) fault) }
     {
         match option {
             CommandOption::TestsRegex => self.choice.name = Some(pattern(alloc, text)?),

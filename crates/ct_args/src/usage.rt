@@ -51,11 +51,11 @@ pub enum ValueFault {
 
 impl ValueFault {
     ghost use Rattle.std.specs.Prelude.{◌≡◌};
-    ghost use Rattle.ct_args.specs.Read.{fault_at};
+    ghost use Rattle.ct_args.specs.Read.{usage_fault_at};
 
     /// The fault of the word that holds the value.
     pub fn at(self, word: u32) -> UsageFault
-        ensures { result ≡ fault_at word self }
+        ensures { result ≡ usage_fault_at word self }
     {
         match self {
             ValueFault::Bad(kind) => UsageFault::At { word, kind },

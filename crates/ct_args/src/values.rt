@@ -1,6 +1,6 @@
 ghost use Rattle.std.specs.Prelude.{◌≡◌};
 ghost use Rattle.ct_regex.specs.TreeOf.{regex_tree};
-ghost use Rattle.ct_args.specs.Values.{pattern_in, level_in, level_of as level_by, limit_in, repeat_in, mode_in as mode_named, times_in as times_by, times_of as times_from, is_error_in, json_in};
+ghost use Rattle.ct_args.specs.Values.{pattern_in, level_in, level_of as level_by, limit_in, repeat_in, mode_in as mode_named, times_in as times_by, times_of as times_from, is_error_in, list_form_in};
 ghost use Rattle.ct_args.specs.Read.{IsValue};
 
 use crate::usage::{UsageKind, ValueFault};
@@ -115,9 +115,9 @@ pub fn is_error(text: &[u8]) -> Result<bool, UsageKind>
 }
 
 /// Reads the value of --show-only: the one form of the list that can be named.
-#[tactic(auto, unfolding(crate::specs::Values::json_in))]
+#[tactic(auto, unfolding(crate::specs::Values::list_form_in))]
 pub fn json(text: &[u8]) -> Result<(), UsageKind>
-    ensures { result ≡ json_in text.now }
+    ensures { result ≡ list_form_in text.now }
 {
     if text == b"json-v1".as_slice() {
         Ok(())

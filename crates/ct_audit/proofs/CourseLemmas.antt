@@ -19,8 +19,8 @@ use Rattle.ct_history.specs.Verdicts.{first_of_list, is_over, last_behind, last_
 use Rattle.ct_history.specs.Endings.{first_there, seen_at_end}
 use Rattle.ct_history.proofs.AttemptLemmas.{repeated_few}
 use Rattle.ct_audit.specs.declared.course.Ended.{Ended}
-use Rattle.ct_audit.specs.Course.{course_after, course_in, ended_after, ended_in, ended_with, most, seens_of}
-use Rattle.ct_audit.specs.Seen.{attempted_by, next_attempt, verdict_by}
+use Rattle.ct_audit.specs.Course.{course_after, course_in, ended_after, ended_in, ended_with, most_attempts_seen, seens_of}
+use Rattle.ct_audit.specs.Seen.{attempted_by, next_attempt, verdict_in_course}
 
 first_snoc : {A : Type 0} (xs : List A) (o : Option A) → first_of_list (xs ++ cons_option o []) ≡ first_there (first_of_list xs) o
 first_snoc [] None = refl
@@ -44,15 +44,15 @@ made n seen = record { earlier = n; last = seen }
 
 ended_one : (seens : List Seen) (seen : Seen) → ended_in (seens ++ seen ∷ []) ≡ Some (ended_after (ended_in seens) seen)
 ended_one [] seen =
-    let none : min (length (seen ∷ []) - 1) most ≡ 0 = omega arith in
+    let none : min (length (seen ∷ []) - 1) most_attempts_seen ≡ 0 = omega arith in
     ap (λ (n : ℕ). Some (made n seen)) none
 ended_one (x ∷ xs) seen =
     let found = last_there x xs in
     let count : length (x ∷ xs ++ seen ∷ []) ≡ length (x ∷ xs) + 1 = length-append (x ∷ xs) (seen ∷ []) in
-    let same : min (length (x ∷ xs ++ seen ∷ []) - 1) most ≡ min (min (length (x ∷ xs) - 1) most + 1) most = omega (arith, count) in
-    ap (λ (o : Option Seen). option_map (λ (s : Seen). made (min (length (x ∷ xs ++ seen ∷ []) - 1) most) s) o) (last_one (Some x) xs seen)
+    let same : min (length (x ∷ xs ++ seen ∷ []) - 1) most_attempts_seen ≡ min (min (length (x ∷ xs) - 1) most_attempts_seen + 1) most_attempts_seen = omega (arith, count) in
+    ap (λ (o : Option Seen). option_map (λ (s : Seen). made (min (length (x ∷ xs ++ seen ∷ []) - 1) most_attempts_seen) s) o) (last_one (Some x) xs seen)
     ∙ ap (λ (n : ℕ). Some (made n seen)) same
-    ∙ sym (ap (λ (o : Option Seen). Some (ended_after (option_map (λ (s : Seen). made (min (length (x ∷ xs) - 1) most) s) o) seen)) (found.1))
+    ∙ sym (ap (λ (o : Option Seen). Some (ended_after (option_map (λ (s : Seen). made (min (length (x ∷ xs) - 1) most_attempts_seen) s) o) seen)) (found.1))
 
 ended_option : (seens : List Seen) (o : Option Seen) → ended_in (seens ++ cons_option o []) ≡ ended_with (ended_in seens) o
 ended_option seens None = ap ended_in (append-nil seens)
@@ -87,14 +87,14 @@ attempted_is repeat rules (x ∷ xs) opened small =
     let vs = map (verdict_of rules) (x ∷ xs) in
     let last : last_of_list vs ≡ Some v = last_map (verdict_of rules) (Some x) xs ∙ ap (option_map (verdict_of rules)) (found.1) in
     let count : length vs ≡ length (x ∷ xs) = length-map (x ∷ xs) (verdict_of rules) in
-    let few : min (min (length (x ∷ xs) - 1) most + 1) most ≡ min (length vs) most = omega (arith, count) in
-    ap (λ (o : Option Seen). attempted_by repeat rules opened (option_map (λ (s : Seen). made (min (length (x ∷ xs) - 1) most) s) o)) (found.1)
+    let few : min (min (length (x ∷ xs) - 1) most_attempts_seen + 1) most_attempts_seen ≡ min (length vs) most_attempts_seen = omega (arith, count) in
+    ap (λ (o : Option Seen). attempted_by repeat rules opened (option_map (λ (s : Seen). made (min (length (x ∷ xs) - 1) most_attempts_seen) s) o)) (found.1)
     ∙ ap (λ (n : ℕ). if not opened && not (is_repeated repeat n (Some v)) then Some v else None) few
     ∙ ap (λ (b : Bool). if not opened && not b then Some v else None) (repeated_few repeat (length vs) (Some v) small)
     ∙ sym (ap (λ (o : Option Verdict). if not opened && not (is_repeated repeat (length vs) o) then o else None) last)
 
 -- the verdict of a test, by the open starts and how it has fared
-pub verdict_is : (repeat : Repeat) (t : PlanTest) (es : List Entry) → repeat.times < 2 ^ 32 → verdict_by repeat (open_starts es) (course_in es) t ≡ verdict_in repeat t es
+pub verdict_is : (repeat : Repeat) (t : PlanTest) (es : List Entry) → repeat.times < 2 ^ 32 → verdict_in_course repeat (open_starts es) (course_in es) t ≡ verdict_in repeat t es
 verdict_is repeat t es small =
     ap (λ (o : Option Verdict). if t.disabled then Some Disabled else settled_or (settled_cause t.number es) o)
     (attempted_is repeat t.rules (seens_of t.number es) (is_open_in t.number es) small
@@ -104,10 +104,10 @@ next_by : (seens : List Seen) (attempt : ℕ) → attempt < 2 ^ 32 → (attempt 
 next_by [] attempt small = refl
 next_by (x ∷ xs) attempt small =
     let found = last_there x xs in
-    ap (λ (o : Option Seen). attempt == next_attempt (option_map (λ (s : Seen). made (min (length (x ∷ xs) - 1) most) s) o)) (found.1)
+    ap (λ (o : Option Seen). attempt == next_attempt (option_map (λ (s : Seen). made (min (length (x ∷ xs) - 1) most_attempts_seen) s) o)) (found.1)
     ∙ either (length xs) (length (x ∷ xs)) (omega arith)
   where
-    either : (m n : ℕ) → n ≡ m + 1 → (attempt == min (n - 1) most + 2) ≡ (attempt == n + 1)
+    either : (m n : ℕ) → n ≡ m + 1 → (attempt == min (n - 1) most_attempts_seen + 2) ≡ (attempt == n + 1)
     either m n is = grind (arith, nat_tests, small, is)
 
 -- the number of the next attempt

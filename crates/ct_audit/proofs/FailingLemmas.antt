@@ -13,7 +13,7 @@ use Rattle.ct_history.specs.Plan.{IsAscendingFrom, IsSound, test_at}
 use Rattle.ct_history.specs.Verdicts.{is_failing_in, verdict_at, verdict_in, verdict_of_test}
 use Rattle.ct_history.specs.Legal.{has_failing, is_allowed, is_stop_due}
 use Rattle.ct_history.proofs.LegalLemmas.{due-snoc, failing_stays}
-use Rattle.ct_audit.specs.Seen.{test_of}
+use Rattle.ct_audit.specs.Seen.{test_of_entry}
 use Rattle.ct_audit.proofs.OtherLemmas.{is_about, verdict_other}
 
 -- in the empty history no test has failed
@@ -89,7 +89,7 @@ module _ (plan : PlanParts) (sound : IsSound plan) (es : List Entry) where
   flipped m n other = grind (arith, nat_tests)
 
   -- some test has a failing verdict behind an allowed entry exactly where one had, or the entry's test has one
-  pub failing_more : (e : Entry) → is_allowed plan es e ≡ true → has_failing plan (es ++ e ∷ []) ≡ (has_failing plan es || has_failed_in plan (es ++ e ∷ []) (test_of e))
+  pub failing_more : (e : Entry) → is_allowed plan es e ≡ true → has_failing plan (es ++ e ∷ []) ≡ (has_failing plan es || has_failed_in plan (es ++ e ∷ []) (test_of_entry e))
   failing_more (Start n a w p) allowed = by_before (Start n a w p) _ allowed (λ none. failing_one (Start n a w p) n (λ u other. flipped u n other) none)
   failing_more (End n a w s) allowed = by_before (End n a w s) _ allowed (λ none. failing_one (End n a w s) n (λ u other. flipped u n other) none)
   failing_more (Settle n c) allowed = by_before (Settle n c) _ allowed (λ none. failing_one (Settle n c) n (λ u other. flipped u n other) none)
@@ -97,11 +97,11 @@ module _ (plan : PlanParts) (sound : IsSound plan) (es : List Entry) where
       by_before Stop false allowed (λ none. (λ i. list_any (λ (u : PlanTest). is_failing_in (verdict_other plan.repeat u es Stop refl i)) plan.tests) ∙ none)
 
   -- a Stop is due behind an allowed entry exactly where the entry's test is the first with a failing verdict
-  pub due_more : (e : Entry) → is_allowed plan es e ≡ true → is_stop_due plan (es ++ e ∷ []) ≡ (plan.stop_on_failure && has_failed_in plan (es ++ e ∷ []) (test_of e) && not (has_failing plan es))
+  pub due_more : (e : Entry) → is_allowed plan es e ≡ true → is_stop_due plan (es ++ e ∷ []) ≡ (plan.stop_on_failure && has_failed_in plan (es ++ e ∷ []) (test_of_entry e) && not (has_failing plan es))
   due_more e allowed =
       due-snoc plan es e
       ∙ ap (λ (b : Bool). plan.stop_on_failure && (b && not (has_failing plan es))) (failing_more e allowed)
-      ∙ by_tests plan.stop_on_failure (has_failing plan es) (has_failed_in plan (es ++ e ∷ []) (test_of e))
+      ∙ by_tests plan.stop_on_failure (has_failing plan es) (has_failed_in plan (es ++ e ∷ []) (test_of_entry e))
     where
       by_tests : (on was now : Bool) → (on && ((was || now) && not was)) ≡ (on && now && not was)
       by_tests false was now = refl

@@ -7,7 +7,7 @@ use Rattle.std.proofs.lemmas.Option.{slice_get-get_or}
 use Rattle.ct_history.specs.declared.plan.PlanTest.{PlanTest}
 use Rattle.ct_history.specs.Plan.{IsAscendingFrom, test_at}
 use Rattle.ct_history.proofs.PlanLemmas.{contained_at}
-use Rattle.ct_audit.specs.Places.{IsPlaceOf}
+use Rattle.ct_audit.specs.Places.{IsPlaceInPlan}
 
 -- the numbers of tests, in order
 abbrev pub numbers : List PlanTest → List ℕ
@@ -55,7 +55,7 @@ pub number_here : (tests : List PlanTest) (place : ℕ) (t : PlanTest) → place
 number_here tests place t lt is = get_or-map (λ (x : PlanTest). x.number) tests place t 0 lt ∙ ap (λ (x : PlanTest). x.number) (sym is)
 
 -- the place of the test with this number is the place where the test was found
-pub place_here : (tests : List PlanTest) (number place : ℕ) (t : PlanTest) → IsAscendingFrom 1 (numbers tests) → place < length tests → t ≡ get_or tests place t → t.number ≡ number → IsPlaceOf tests number place
+pub place_here : (tests : List PlanTest) (number place : ℕ) (t : PlanTest) → IsAscendingFrom 1 (numbers tests) → place < length tests → t ≡ get_or tests place t → t.number ≡ number → IsPlaceInPlan tests number place
 place_here tests number place t ascends lt is same = record {
   within = lt;
   there =

@@ -15,7 +15,7 @@ use Rattle.ct_history.specs.Verdicts.{are_all_final, is_failing_in, is_passed_ve
 use Rattle.ct_history.specs.Rules.{cause_behind, first_unpassed, follows_finals, has_room, is_pending, is_placed, may_start, settle_cause}
 use Rattle.ct_history.specs.Legal.{is_allowed, is_next_attempt, is_stop_due, same_cause, settles, starts}
 use Rattle.ct_audit.specs.Course.{course_in}
-use Rattle.ct_audit.specs.Seen.{cause_by, follows_by, has_failed_by, is_allowed_by, is_pending_by, may_start_by, next_attempt, settles_by, starts_by, unpassed_by, verdict_by, verdict_by_lookup, verdict_by_number}
+use Rattle.ct_audit.specs.Seen.{cause_by, follows_by, has_failed_by, is_allowed_by, is_pending_by, may_start_by, next_attempt, settles_by, starts_by, unpassed_by, verdict_in_course, verdict_by_lookup, verdict_by_number}
 use Rattle.ct_audit.specs.Tells.{HasShortAttempt}
 use Rattle.ct_audit.proofs.CourseLemmas.{next_is, verdict_is}
 use Rattle.ct_audit.proofs.FailingLemmas.{has_failed_in}
@@ -64,5 +64,5 @@ module _ (plan : PlanParts) (small : plan.repeat.times < 2 ^ 32) (es : List Entr
   failed_is None = refl
   failed_is (Some n) = ap is_failing_in (number_verdict n)
 
-  pub final_is : list_all (λ (t : PlanTest). is_some (verdict_by plan.repeat (open_starts es) (course_in es) t)) plan.tests ≡ are_all_final plan es
+  pub final_is : list_all (λ (t : PlanTest). is_some (verdict_in_course plan.repeat (open_starts es) (course_in es) t)) plan.tests ≡ are_all_final plan es
   final_is = λ i. list_all (λ (t : PlanTest). is_some (verdict_is plan.repeat t es small i)) plan.tests

@@ -4,7 +4,7 @@ use Rattle.ct_history.specs.declared.plan.PlanTest.{PlanTest}
 use Rattle.ct_history.specs.Plan.{IsAscendingFrom, test_at}
 
 -- the test with this number stands at this place, counted from 0
-pub record IsPlaceOf (tests : List PlanTest) (number place : ℕ) : Type 0 where
+pub record IsPlaceInPlan (tests : List PlanTest) (number place : ℕ) : Type 0 where
   pub within : place < length tests
   pub there : slice_get tests place ≡ test_at tests number
 

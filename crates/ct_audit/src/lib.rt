@@ -2,7 +2,6 @@
 //!
 //! Hands up: `Audit` (`new`, `allows`, `note`, `is_at_end`), `planned_test`.
 //! It names no crate of the scheduler.
-//! Stands on: ct_base, ct_alloc, ct_verdict, ct_history and `indexmap`.
 //! Read first: `specs/Tells.antt`, `specs/Seen.antt`.
 #![tactic(auto)]
 

@@ -1,7 +1,7 @@
 ghost use Rattle.std.specs.Prelude.{◌≡◌, None, MatchOption};
 ghost use Rattle.std.specs.Option.{option_copied};
 ghost use Rattle.ct_history.specs.Plan.{test_at};
-ghost use Rattle.ct_audit.specs.Places.{Ascend, IsPlaceOf};
+ghost use Rattle.ct_audit.specs.Places.{Ascend, IsPlaceInPlan};
 
 use ct_history::{Plan, PlanTest};
 
@@ -19,7 +19,7 @@ pub(crate) fn planned(tests: &[PlanTest], number: u32) -> Option<&PlanTest>
 
 fn place_of(tests: &[PlanTest], number: u32) -> Option<usize>
     requires { Ascend tests.now }
-    ensures { MatchOption result (test_at tests.now number ≡ None) (λ place. IsPlaceOf tests.now number place) }
+    ensures { MatchOption result (test_at tests.now number ≡ None) (λ place. IsPlaceInPlan tests.now number place) }
 {
     let least = number.wrapping_sub(1) as usize;
     if least < tests.len() && tests[least].number == number {
@@ -31,7 +31,7 @@ fn place_of(tests: &[PlanTest], number: u32) -> Option<usize>
 /// Finds the place of a test by its number, by halves.
 fn search(tests: &[PlanTest], number: u32) -> Option<usize>
     requires { Ascend tests.now }
-    ensures { MatchOption result (test_at tests.now number ≡ None) (λ place. IsPlaceOf tests.now number place) }
+    ensures { MatchOption result (test_at tests.now number ≡ None) (λ place. IsPlaceInPlan tests.now number place) }
 {
     let mut low = 0;
     let mut high = tests.len();

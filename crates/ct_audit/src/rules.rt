@@ -187,7 +187,7 @@ impl Audit {
 
     /// Returns the verdict of a test of the plan, if it is final.
     pub(crate) fn verdict(&self, plan: &PlanParts, test: &PlanTest) -> Option<Verdict>
-        ensures { result ≡ Seen.verdict_by plan.now.repeat (runs self.now.running.items) (course_at self.now.courses) test.now }
+        ensures { result ≡ Seen.verdict_in_course plan.now.repeat (runs self.now.running.items) (course_at self.now.courses) test.now }
     {
         let is_open = is_open(&self.running, test.number);
         let course = course_at(&self.courses, test.number);

@@ -30,7 +30,9 @@ abbrev pub parts_of : List ℕ → List (List ℕ)
 parts_of [] = [] ∷ []
 parts_of (byte ∷ []) = parts_with byte ([] ∷ [])
 parts_of (byte ∷ next ∷ rest) =
-    if is_escape (byte ∷ next ∷ rest) then with_front (semicolon ∷ []) (parts_of rest) else parts_with byte (parts_of (next ∷ rest))
+    if is_escape (byte ∷ next ∷ rest)
+    then with_front (semicolon ∷ []) (parts_of rest)
+    else parts_with byte (parts_of (next ∷ rest))
 
 -- the part is an entry: it is not empty
 abbrev pub is_entry : List ℕ → Bool

@@ -4,3 +4,4 @@ pub mod Path
 pub mod Entries
 pub mod Seconds
 pub mod Memory
+pub mod Names

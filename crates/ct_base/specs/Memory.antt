@@ -10,7 +10,8 @@ use Rattle.ct_base.specs.Outside.{FilesTell, Held, SinkTell}
 
 -- what the pairs hold: for each path the value of its last pair, and nothing for a path without a pair
 abbrev pub held_by : List Pair → Held
-held_by pairs path = option_map (λ (pair : Pair). pair.value) (find (λ (pair : Pair). bytes_eq pair.name path) (reverse pairs))
+held_by pairs path =
+    option_map (λ (pair : Pair). pair.value) (find (λ (pair : Pair). bytes_eq pair.name path) (reverse pairs))
 
 -- the count plus 1; at its greatest value, 2^64 - 1, it stays
 abbrev pub counted : ℕ → ℕ
@@ -46,7 +47,11 @@ pub record MemFilesValue : Type 0 where
 
 -- what files in memory tell: all three parts
 abbrev pub told_by : MemFilesValue → FilesTell
-told_by files = record { held = Some (held_by files.pairs); refused = Some files.refused; faults = files.counts.faults }
+told_by files = record {
+  held = Some (held_by files.pairs);
+  refused = Some files.refused;
+  faults = files.counts.faults;
+}
 
 -- the pairs with one more at the end, which then counts for its path
 abbrev pub with_pair : List Pair → List ℕ → List ℕ → List Pair
@@ -64,7 +69,8 @@ pub record PassesWith (pairs : List Pair) (before now : MemFilesValue) : Type 0 
 
 -- a call on files in memory: it fails exactly where it is due to, and is counted;
 -- where memory is wanting, nothing changes
-pub record IsCall {T : Type 0} (path : List ℕ) (pairs : List Pair) (before now : MemFilesValue) (result : Result T FilesFault) : Type 0 where
+pub record IsCall {T : Type 0} (path : List ℕ) (pairs : List Pair) (before now : MemFilesValue)
+    (result : Result T FilesFault) : Type 0 where
   pub passes : OnOk result (PassesWith pairs before now)
   pub fails : IsErrOf result Files.Failed → FailsAsDue path before now
   pub unchanged : IsErrOf result Files.NoMemory → now ≡ before
@@ -87,11 +93,13 @@ pub record PutFailsAsDue (before now : MemSinkValue) : Type 0 where
 -- the put was not due to fail; it was counted, and the piece was written
 pub record PutPasses (piece : List ℕ) (before now : MemSinkValue) : Type 0 where
   pub not_due : is_due before.counts ≡ false
-  pub is : now ≡ record before { written = before.written ++ piece; pieces = before.pieces ++ piece ∷ []; counts = passed before.counts }
+  pub is : now
+      ≡ record before { written = before.written ++ piece; pieces = before.pieces ++ piece ∷ []; counts = passed before.counts }
 
 -- a put into a sink in memory: it fails exactly where it is due to, and is counted;
 -- where memory is wanting, nothing changes
-pub record IsPut (piece : List ℕ) (before now : MemSinkValue) (result : Result (Unit {0}) SinkFault) : Type 0 where
+pub record IsPut (piece : List ℕ) (before now : MemSinkValue) (result : Result (Unit {0}) SinkFault)
+    : Type 0 where
   pub passes : OnOk result (PutPasses piece before now)
   pub fails : IsErrOf result Sinks.Failed → PutFailsAsDue before now
   pub unchanged : IsErrOf result Sinks.NoMemory → now ≡ before

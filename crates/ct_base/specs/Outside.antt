@@ -61,20 +61,23 @@ pub record FilesTell : Type 0 where
 
 -- every call on files: on Failed, its path is the refused path, where that is told, and the count rose;
 -- on any other answer both stay. Files that tell the refused path go on telling it
-pub record Asks {T : Type 0} (path : List ℕ) (before now : FilesTell) (result : Result T FilesFault) : Type 0 where
+pub record Asks {T : Type 0} (path : List ℕ) (before now : FilesTell) (result : Result T FilesFault)
+    : Type 0 where
   pub told : Becomes before.refused now.refused (λ was last. ⊤)
   pub refused : IsErrOf result Files.Failed → IfSome now.refused (λ last. last ≡ Some path)
   pub unrefused : (IsErrOf result Files.Failed → ⊥) → now.refused ≡ before.refused
   pub cause : HasCause Files.Failed before.faults now.faults result
 
 -- a call that looks at a path: each path holds what it held
-pub record LooksAt {T : Type 0} (path : List ℕ) (before now : FilesTell) (result : Result T FilesFault) : Type 0 where
+pub record LooksAt {T : Type 0} (path : List ℕ) (before now : FilesTell) (result : Result T FilesFault)
+    : Type 0 where
   pub asks : Asks path before now result
   pub kept : Becomes before.held now.held SameHeld
 
 -- a call that writes bytes to a path, by its outcome:
 -- the path holds the bytes; or the write failed; or memory was wanting and no path changed
-pub record WritesTo (path bytes : List ℕ) (before now : FilesTell) (result : Result (Unit {0}) FilesFault) : Type 0 where
+pub record WritesTo (path bytes : List ℕ) (before now : FilesTell) (result : Result (Unit {0}) FilesFault)
+    : Type 0 where
   pub asks : Asks path before now result
   pub ok : OnOk result (Becomes before.held now.held (Writes path bytes))
   pub failed : IsErrOf result Files.Failed → Becomes before.held now.held (FailsToWrite path bytes)
@@ -93,6 +96,7 @@ pub record Puts (text : List ℕ) (before now : SinkTell) (result : Result (Unit
   pub cause : HasCause Sinks.Failed before.faults now.faults result
 
 -- calls that put lines, each line as one put: an Ok adds all of them, an Err adds some first lines whole
-pub record PutsEach (lines : List (List ℕ)) (before now : SinkTell) (result : Result (Unit {0}) SinkFault) : Type 0 where
+pub record PutsEach (lines : List (List ℕ)) (before now : SinkTell) (result : Result (Unit {0}) SinkFault)
+    : Type 0 where
   pub ok : OnOk result (Becomes before.pieces now.pieces (Adds lines))
   pub err : OnErr result (Becomes before.pieces now.pieces (AddsPrefix lines))

@@ -41,7 +41,9 @@ micros_of_digits whole decimals = min (digits_value 10 (whole ++ six_decimals de
 abbrev pub micros_with_point : List ℕ → Option ℕ → Option ℕ
 micros_with_point text None = if is_numeral text then Some (micros_of_digits text []) else None
 micros_with_point text (Some at) =
-    if is_numeral (take at text) && is_numeral (drop (at + 1) text) then Some (micros_of_digits (take at text) (drop (at + 1) text)) else None
+    if is_numeral (take at text) && is_numeral (drop (at + 1) text)
+    then Some (micros_of_digits (take at text) (drop (at + 1) text))
+    else None
 
 -- the microseconds of a text without a sign: digits, or digits on both sides of a point
 abbrev pub plain_micros : List ℕ → Option ℕ
@@ -50,4 +52,5 @@ plain_micros text = micros_with_point text (position (λ byte. byte == point) te
 -- the microseconds of a text of seconds; a time with a `-` in front is 0
 abbrev pub micros_in : List ℕ → Option ℕ
 micros_in [] = None
-micros_in (first ∷ rest) = if first == minus then option_map (λ micros. 0) (plain_micros rest) else plain_micros (first ∷ rest)
+micros_in (first ∷ rest) =
+    if first == minus then option_map (λ micros. 0) (plain_micros rest) else plain_micros (first ∷ rest)

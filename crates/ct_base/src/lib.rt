@@ -1,7 +1,6 @@
 //! Lists, names and bytes, and the traits of the outside with their forms in memory.
 //!
 //! Hands up: `Name`, `Blob`, `List`, the records of a test file, and `Files`, `Sink`, `Ear`.
-//! Stands on: std alone.
 //! Read first: `specs/Outside.antt`, then `files.rt`, `sink.rt` and `ear.rt`.
 #![tactic(auto)]
 

@@ -14,7 +14,7 @@ use Rattle.ct_history.specs.Plan.{IsSound, has_sound_links, is_before_rank, test
 use Rattle.ct_history.specs.Verdicts.{is_over, verdict_at, verdict_in, verdict_of_test}
 use Rattle.ct_history.specs.Rules.{cause_behind, is_pending, is_passed_verdict}
 use Rattle.ct_history.proofs.ProgressLemmas.{all_found}
-use Rattle.ct_queue.specs.Ready.{StandsIn, count_of, none_out, place_of}
+use Rattle.ct_queue.specs.Ready.{StandsIn, predecessors_left, none_out, place_of}
 use Rattle.ct_queue.specs.Marks.{is_marked}
 use Rattle.ct_queue.proofs.CallerLemmas.{test_at_place}
 use Rattle.ct_core.specs.Lines.{AreLinesOf}
@@ -86,7 +86,7 @@ settles_at_first plan t linked =
     by_parts false false c f same = refl
 
 module _ (plan : PlanParts) (sound : IsSound plan) where
-  count_first : (lines bunches : List ℕ) (n : ℕ) → StandsIn plan.queue n → count_of (none_out plan.queue (first_counts plan) lines bunches) n ≡ count_before (test_at plan.tests n)
+  count_first : (lines bunches : List ℕ) (n : ℕ) → StandsIn plan.queue n → predecessors_left (none_out plan.queue (first_counts plan) lines bunches) n ≡ count_before (test_at plan.tests n)
   count_first lines bunches n stands =
       get_or-map (λ (k : ℕ). count_before (test_at plan.tests k)) plan.queue (place_of plan.queue n) 0 0 stands
       ∙ ap (λ (k : ℕ). count_before (test_at plan.tests k)) (test_at_place plan.queue n stands)

@@ -15,7 +15,7 @@ use Rattle.ct_history.specs.Verdicts.{verdict_at, verdict_of_test}
 use Rattle.ct_history.specs.Rules.{first_unpassed, follows_finals, is_ready}
 use Rattle.ct_history.specs.Legal.{is_allowed, is_allowed_so_far}
 use Rattle.ct_history.proofs.FinalLemmas.{verdict_stays}
-use Rattle.ct_core.specs.Standing.{open_start}
+use Rattle.ct_core.specs.Standing.{open_start_of_test}
 use Rattle.ct_core.proofs.AllowedLemmas.{allowed_induction, attempts-snoc, attempts_other, end_holds, is_about, number_at, start_begins}
 use Rattle.ct_core.proofs.OpenStartLemmas.{opens_settle}
 use Rattle.ct_core.proofs.PredecessorLemmas.{all_stay, passed_stay}
@@ -23,7 +23,7 @@ use Rattle.ct_core.proofs.StateLemmas.{open_other}
 
 -- an attempt of the test is open, or one has ended
 abbrev pub has_begun : PlanTest → List Entry → Bool
-has_begun t entries = is_some (open_start t.number entries) || nat_lt 0 (length (attempts_of t.number t.rules entries))
+has_begun t entries = is_some (open_start_of_test t.number entries) || nat_lt 0 (length (attempts_of t.number t.rules entries))
 
 -- the verdict of the test with a number stays when an allowed entry follows
 pub verdict_kept : (plan : PlanParts) (es : List Entry) (e : Entry) → is_allowed plan es e ≡ true → (j : ℕ) (v : Verdict) → verdict_of_test plan es j ≡ Some v → verdict_of_test plan (es ++ e ∷ []) j ≡ Some v
@@ -60,10 +60,10 @@ module _ (plan : PlanParts) (t : PlanTest) (found : test_at plan.tests t.number 
   IsReadyOnce es = has_begun t es ≡ true → is_ready plan t es ≡ true
 
   -- if the open start and the attempts stay, whether the test has begun stays
-  begun_same : (es more : List Entry) → open_start t.number more ≡ open_start t.number es → attempts_of t.number t.rules more ≡ attempts_of t.number t.rules es → has_begun t more ≡ has_begun t es
+  begun_same : (es more : List Entry) → open_start_of_test t.number more ≡ open_start_of_test t.number es → attempts_of t.number t.rules more ≡ attempts_of t.number t.rules es → has_begun t more ≡ has_begun t es
   begun_same es more opens attempts =
       ap (λ (o : Option Running). is_some o || nat_lt 0 (length (attempts_of t.number t.rules more))) opens
-      ∙ ap (λ (vs : List Verdict). is_some (open_start t.number es) || nat_lt 0 (length vs)) attempts
+      ∙ ap (λ (vs : List Verdict). is_some (open_start_of_test t.number es) || nat_lt 0 (length vs)) attempts
 
   begun_other : (es : List Entry) (e : Entry) → is_about t.number e ≡ false → has_begun t (es ++ e ∷ []) ≡ has_begun t es
   begun_other es e other = begun_same es (es ++ e ∷ []) (open_other t.number es e other) (attempts_other t.number t.rules es e other)
@@ -81,7 +81,7 @@ module _ (plan : PlanParts) (t : PlanTest) (found : test_at plan.tests t.number 
   ready-snoc es (End n a w s) allowed before begun = elim (cases_Bool (n == t.number)) [
     | inl here ↦
         let this : n ≡ t.number = grind (arith, nat_tests) in
-        let open_one : is_some (open_start t.number es) ≡ true = ap (λ (m : ℕ). is_some (open_start m es)) (sym this) ∙ held_found n a w (open_starts es) (end_holds plan es n a w s allowed) in
+        let open_one : is_some (open_start_of_test t.number es) ≡ true = ap (λ (m : ℕ). is_some (open_start_of_test m es)) (sym this) ∙ held_found n a w (open_starts es) (end_holds plan es n a w s allowed) in
         ready_kept plan es (End n a w s) allowed t (before (ap (λ (b : Bool). b || nat_lt 0 (length (attempts_of t.number t.rules es))) open_one))
     | inr other ↦ ready_kept plan es (End n a w s) allowed t (before (sym (begun_other es (End n a w s) other) ∙ begun))
   ]
@@ -99,14 +99,14 @@ module _ (plan : PlanParts) (es : List Entry) (so_far : is_allowed_so_far plan e
   found_itself = ap (λ (m : ℕ). test_at plan.tests m) (number_at plan.tests n t found) ∙ found
 
   -- an open test is ready
-  pub open_is_ready : (r : Running) → open_start n es ≡ Some r → is_ready plan t es ≡ true
+  pub open_is_ready : (r : Running) → open_start_of_test n es ≡ Some r → is_ready plan t es ≡ true
   open_is_ready r is =
-      let opens : is_some (open_start t.number es) ≡ true = ap (λ (m : ℕ). is_some (open_start m es)) (number_at plan.tests n t found) ∙ ap is_some is in
+      let opens : is_some (open_start_of_test t.number es) ≡ true = ap (λ (m : ℕ). is_some (open_start_of_test m es)) (number_at plan.tests n t found) ∙ ap is_some is in
       begun_is_ready plan t found_itself es so_far (ap (λ (b : Bool). b || nat_lt 0 (length (attempts_of t.number t.rules es))) opens)
 
   -- a test of which an attempt has ended is ready
   pub tried_is_ready : 0 < length (attempts_of t.number t.rules es) → is_ready plan t es ≡ true
-  tried_is_ready tried = begun_is_ready plan t found_itself es so_far (by_open (is_some (open_start t.number es)) (nat_lt 0 (length (attempts_of t.number t.rules es))) (lt_true 0 (length (attempts_of t.number t.rules es)) tried))
+  tried_is_ready tried = begun_is_ready plan t found_itself es so_far (by_open (is_some (open_start_of_test t.number es)) (nat_lt 0 (length (attempts_of t.number t.rules es))) (lt_true 0 (length (attempts_of t.number t.rules es)) tried))
     where
       by_open : (a b : Bool) → b ≡ true → (a || b) ≡ true
       by_open true b is = refl

@@ -23,11 +23,11 @@ use Rattle.ct_core.specs.declared.state.State.TheVariants.{Final, Open, Pending}
 use Rattle.ct_core.specs.declared.in_use.InUse.{InUse}
 use Rattle.ct_core.specs.declared.parts.Parts.{Parts}
 use Rattle.ct_core.specs.Core.{with_due_stop}
-use Rattle.ct_core.specs.InUse.{CanGive, Gives, IsInUse}
+use Rattle.ct_core.specs.InUse.{CanGive, GivesBack, IsInUse}
 use Rattle.ct_core.specs.Places.{stop_places}
 use Rattle.ct_core.specs.Standing.{IsPlaceOf, count_unfinished, state_of, states_of, verdict_of_state}
 use Rattle.ct_core.specs.Waiting.{AreSettleable, IsQueued, followers_of}
-use Rattle.ct_core.specs.Parts.{AreTold, HasRoom, IsConcluding, IsKept}
+use Rattle.ct_core.specs.Parts.{AreTold, HasRoomToEnd, IsConcluding, IsKept}
 use Rattle.ct_core.proofs.KeyLemmas.{bunches_stay}
 use Rattle.ct_core.proofs.DueLemmas.{end_due}
 use Rattle.ct_core.proofs.KeptLemmas.{end_allowed, stop_stays}
@@ -41,7 +41,7 @@ use Rattle.ct_core.proofs.WaitingLemmas.{again_queued, again_settleable, again_s
 -- what the test used is given back, and nothing else changed
 pub record IsClosed (place : ℕ) (t : PlanTest) (placement : Option Placement) (state : State) (old new : Parts) : Type 0 where
   pub states : new.states.items ≡ slice_set old.states.items place state
-  pub in_use : Gives t placement old.in_use new.in_use
+  pub in_use : GivesBack t placement old.in_use new.in_use
   pub keys : new.keys.items ≡ old.keys.items
   pub followers : new.followers.items ≡ old.followers.items
   pub stopped : new.stopped ≡ old.stopped
@@ -119,7 +119,7 @@ module _ (plan : PlanParts) (es : List Entry) (room : ℕ) (parts : Parts) (kept
   is_gone runs = end_out plan kept.told.sound es n t found a w s so_far holds parts.ready (kept.queued.ready (going_on runs))
 
   -- what is in use agrees with the open starts once the test gave back what it used
-  used : (new : InUse) → Gives t placement parts.in_use new → IsInUse plan (open_starts more) new
+  used : (new : InUse) → GivesBack t placement parts.in_use new → IsInUse plan (open_starts more) new
   used new gives =
       subst (λ (rs : List Running). IsInUse plan rs new) (sym (held.closes s))
       (given plan (open_starts es) n held.start t parts.in_use new kept.told.in_use held.opens (open_apart plan es so_far) along found gives)
@@ -140,7 +140,7 @@ module _ (plan : PlanParts) (es : List Entry) (room : ℕ) (parts : Parts) (kept
     followers = closed.followers ∙ kept.told.followers;
   }
 
-  reserved : (new : Parts) → Gives t placement parts.in_use new.in_use → (room' : ℕ) → room ≤ room' → HasRoom more room' new
+  reserved : (new : Parts) → GivesBack t placement parts.in_use new.in_use → (room' : ℕ) → room ≤ room' → HasRoomToEnd more room' new
   reserved new gives room' le = λ some.
       let longer : length more ≡ length es + 1 = length-append es (End n a w s ∷ []) in
       let less = gives.opens in

@@ -16,7 +16,7 @@ use Rattle.ct_history.specs.declared.plan.PlanParts.{PlanParts}
 use Rattle.ct_history.specs.declared.history.Entry.{Entry}
 use Rattle.ct_history.specs.Plan.{test_at}
 use Rattle.ct_history.specs.History.{Running, open_starts, placed_slots, processors_of, used_processors, used_slots}
-use Rattle.ct_history.specs.Rules.{exclude, has_room, is_among, is_placed, is_serial, locks_of, locks_out, may_start, shared_of, shares_name}
+use Rattle.ct_history.specs.Rules.{exclude, has_room, is_placed, is_serial, locks_of, locks_out, may_start, shared_of}
 use Rattle.ct_history.specs.Legal.{GetAlong}
 use Rattle.ct_history.proofs.ExcludeLemmas.{exclude-sym}
 use Rattle.ct_history.proofs.MayLemmas.{may_start-parts}
@@ -25,8 +25,9 @@ use Rattle.ct_core.specs.Locks.{is_held, knows}
 use Rattle.ct_core.specs.Sharers.{counts_sharers, is_shared, one_if}
 use Rattle.ct_core.specs.Slots.{IsFreeBeside, used_of}
 use Rattle.ct_core.specs.declared.in_use.InUse.{InUse}
-use Rattle.ct_core.specs.InUse.{CanGive, CanTake, CountsSharers, Gives, IsInUse, KnowsLocks, Takes, has_room_beside, is_excluded_beside, is_locked}
+use Rattle.ct_core.specs.InUse.{CanGive, CanTake, CountsSharers, GivesBack, IsInUse, KnowsLocks, Takes, has_room_beside, is_excluded_beside, is_locked}
 use Rattle.ct_core.proofs.FreeLemmas.{placed_beside, taken_for, used_if_some}
+use Rattle.ct_base.specs.Names.{is_among, shares_name}
 
 -- if each lock is known as before, the locks of all tests stay known
 still_known : (tests : List PlanTest) (old new : InUse) → ((name : List ℕ) → knows new.locks name ≡ knows old.locks name) → KnowsLocks tests old → KnowsLocks tests new
@@ -192,7 +193,7 @@ left_over old new false true was is apart = is ∙ ap (λ (b : Bool). b && true)
 left_over old new false false was is apart = is ∙ ap (λ (b : Bool). b && true) was
 
 -- once a test gives back what it used, what is in use agrees with the other starts
-pub given : (plan : PlanParts) (rs : List Running) (n : ℕ) (r : Running) (t : PlanTest) (old new : InUse) → IsInUse plan rs old → find (λ (q : Running). q.test == n) rs ≡ Some r → AllPairs (λ (x y : Running). x.test ≢ y.test) rs → AllPairs (GetAlong plan.tests) rs → test_at plan.tests n ≡ Some t → Gives t r.placement old new → IsInUse plan (filter (λ (q : Running). not (q.test == n)) rs) new
+pub given : (plan : PlanParts) (rs : List Running) (n : ℕ) (r : Running) (t : PlanTest) (old new : InUse) → IsInUse plan rs old → find (λ (q : Running). q.test == n) rs ≡ Some r → AllPairs (λ (x y : Running). x.test ≢ y.test) rs → AllPairs (GetAlong plan.tests) rs → test_at plan.tests n ≡ Some t → GivesBack t r.placement old new → IsInUse plan (filter (λ (q : Running). not (q.test == n)) rs) new
 given plan rs n r t old new is finds once along looked gives =
     let out = taken_out plan.tests n rs r finds once along in
     let same : r.test ≡ n = eqb-true r.test n (find_passes (λ (q : Running). q.test == n) rs r finds) in

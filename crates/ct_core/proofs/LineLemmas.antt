@@ -12,7 +12,7 @@ use Rattle.ct_history.specs.declared.plan.PlanParts.{PlanParts}
 use Rattle.ct_history.specs.declared.history.Entry.{Entry}
 use Rattle.ct_history.specs.Plan.{IsSound, test_at}
 use Rattle.ct_history.specs.History.{Running, has_stop, open_starts, used_processors, used_slots}
-use Rattle.ct_history.specs.Rules.{CanStart, exclude, has_processors, has_room, is_excluded, is_pending, is_placed, is_ready, is_serial, locks_of, may_start_at, shared_of, shares_name}
+use Rattle.ct_history.specs.Rules.{CanStart, exclude, has_processors, has_room, is_excluded, is_pending, is_placed, is_ready, is_serial, locks_of, may_start_at, shared_of}
 use Rattle.ct_queue.specs.Lines.{AreNumbered}
 use Rattle.ct_queue.specs.Ready.{ReadyValue, IsHead, is_member}
 use Rattle.ct_queue.proofs.CallerLemmas.{HasHead, head_of_line}
@@ -21,6 +21,7 @@ use Rattle.ct_core.specs.Choice.{NoneSettles}
 use Rattle.ct_core.specs.Waiting.{IsDue, IsQueued}
 use Rattle.ct_core.proofs.PickLemmas.{found_parts, member_may, no_member}
 use Rattle.ct_core.proofs.ChoiceLemmas.{next_due}
+use Rattle.ct_base.specs.Names.{shares_name}
 
 same_exclude : (t u : PlanTest) (o : Option PlanTest) → t.locks ≡ u.locks → t.shared ≡ u.shared → t.serial ≡ u.serial → exclude (Some t) o ≡ exclude (Some u) o
 unfolding exclude

@@ -9,8 +9,8 @@ use Rattle.std.proofs.lemmas.List.Sums.{list_all-from_AllPass}
 use Rattle.std.proofs.lemmas.Slice.Eq.{bytes_eq-Decides}
 use Rattle.indexmap.specs.IndexMap.{IndexMap, UpdatesBy}
 use Rattle.ct_history.specs.declared.plan.PlanTest.{PlanTest}
-use Rattle.ct_history.specs.Rules.{is_among}
 use Rattle.ct_core.specs.Locks.{noted_for}
+use Rattle.ct_base.specs.Names.{is_among}
 
 module _ {Y : Type 0} where
   key_test : (asked : List ℕ) → IsKeyTest (λ (one other : Vec ℕ Y). bytes_eq one.items other.items) (λ (name : Vec ℕ Y). bytes_eq asked name.items)

@@ -16,11 +16,11 @@ use Rattle.ct_history.specs.History.{has_stop}
 use Rattle.ct_history.specs.Verdicts.{verdict_of_test}
 use Rattle.ct_history.specs.Rules.{follows_finals, is_pending, settle_cause}
 use Rattle.ct_history.proofs.BoolLemmas.{eq_is, eq_same}
-use Rattle.ct_queue.specs.Ready.{ReadyValue, StandsIn, place_of, count_of, is_out, is_ready, lowered}
+use Rattle.ct_queue.specs.Ready.{ReadyValue, StandsIn, place_of, predecessors_left, is_out, is_in_ready_set, lowered}
 use Rattle.ct_queue.specs.Marks.{is_marked}
 use Rattle.ct_queue.proofs.CallerLemmas.{count_lowered, places_apart}
 use Rattle.ct_core.specs.Standing.{IsPlaceOf, open_before}
-use Rattle.ct_core.specs.Waiting.{AreSettleable, IsQueued, cause_then, followers_of, is_one_of, is_pending_at, open_before_at, settles_but}
+use Rattle.ct_core.specs.Waiting.{AreSettleable, IsQueued, cause_then, followers_of, is_one_of_numbers, is_pending_at, open_before_at, settles_but}
 use Rattle.ct_core.proofs.AllowedLemmas.{number_at}
 use Rattle.ct_core.proofs.EnabledLemmas.{enabled_stands}
 use Rattle.ct_core.proofs.QueueLemmas.{ascend-drop, ascend-filter, none_lesser, numbers_of, one_place}
@@ -59,16 +59,16 @@ settle_going plan t es on = by_parts (is_pending plan t es) (has_stop es) (follo
 
 -- for a test that is not in `left`, the ready set tells
 -- whether it is pending and its predecessors are final
-pub ready_says : (plan : PlanParts) (es : List Entry) (left : List ℕ) (r : ReadyValue) (n : ℕ) (t : PlanTest) → IsQueued plan es left r → StandsIn plan.queue n → is_one_of n left ≡ false → test_at plan.tests n ≡ Some t → is_ready r n ≡ (follows_finals plan t es && is_pending plan t es)
+pub ready_says : (plan : PlanParts) (es : List Entry) (left : List ℕ) (r : ReadyValue) (n : ℕ) (t : PlanTest) → IsQueued plan es left r → StandsIn plan.queue n → is_one_of_numbers n left ≡ false → test_at plan.tests n ≡ Some t → is_in_ready_set r n ≡ (follows_finals plan t es && is_pending plan t es)
 ready_says plan es left r n t q stands once found =
     let here : StandsIn r.order n = subst (λ (o : List ℕ). StandsIn o n) (sym q.order) stands in
-    let count : count_of r n ≡ open_before plan es t + 0 =
+    let count : predecessors_left r n ≡ open_before plan es t + 0 =
     q.counts n stands
-    ∙ ap (λ (o : Option PlanTest). open_before_at plan es o + (if is_one_of n left then 1 else 0)) found
+    ∙ ap (λ (o : Option PlanTest). open_before_at plan es o + (if is_one_of_numbers n left then 1 else 0)) found
     ∙ ap (λ (b : Bool). open_before plan es t + (if b then 1 else 0)) once in
-    let exact : count_of r n ≡ open_before plan es t = omega (arith, count) in
+    let exact : predecessors_left r n ≡ open_before plan es t = omega (arith, count) in
     let out : is_out r n ≡ not (is_pending plan t es) = q.outs n stands ∙ ap (λ (o : Option PlanTest). not (is_pending_at plan es o)) found in
-    ap (λ (b : Bool). b && count_of r n == 0 && not (is_out r n)) (lt-ltb (place_of r.order n) (length r.order) here)
+    ap (λ (b : Bool). b && predecessors_left r n == 0 && not (is_out r n)) (lt-ltb (place_of r.order n) (length r.order) here)
     ∙ ap (λ (c : ℕ). c == 0 && not (is_out r n)) exact
     ∙ ap (λ (b : Bool). open_before plan es t == 0 && not b) out
     ∙ ap (λ (b : Bool). b && not (not (is_pending plan t es))) (sym (follows_by_count plan t es))
@@ -79,36 +79,36 @@ module _ (plan : PlanParts) (es : List Entry) (n : ℕ) (left : List ℕ) (r : R
   here : StandsIn r.order n
   here = subst (λ (o : List ℕ). StandsIn o n) (sym q.order) stands
 
-  one_more : count_of r n ≡ open_before_at plan es (test_at plan.tests n) + 1
+  one_more : predecessors_left r n ≡ open_before_at plan es (test_at plan.tests n) + 1
   one_more =
       q.counts n stands
-      ∙ ap (λ (b : Bool). open_before_at plan es (test_at plan.tests n) + (if b || is_one_of n left then 1 else 0)) (eq_same n)
+      ∙ ap (λ (b : Bool). open_before_at plan es (test_at plan.tests n) + (if b || is_one_of_numbers n left then 1 else 0)) (eq_same n)
 
-  pub lowerable : 0 < count_of r n
+  pub lowerable : 0 < predecessors_left r n
   lowerable = omega (arith, one_more)
 
-  count_here : is_one_of n left ≡ false → count_of (lowered r n) n ≡ open_before_at plan es (test_at plan.tests n) + (if is_one_of n left then 1 else 0)
+  count_here : is_one_of_numbers n left ≡ false → predecessors_left (lowered r n) n ≡ open_before_at plan es (test_at plan.tests n) + (if is_one_of_numbers n left then 1 else 0)
   count_here once =
       let lengths : length r.order ≡ length plan.queue = ap (λ (o : List ℕ). length o) q.order in
       let counted = q.counted in
       let within : place_of r.order n < length r.counts = omega (arith, here, lengths, counted) in
-      let less : count_of r n - 1 ≡ open_before_at plan es (test_at plan.tests n) + 0 = omega (arith, one_more) in
+      let less : predecessors_left r n - 1 ≡ open_before_at plan es (test_at plan.tests n) + 0 = omega (arith, one_more) in
       count_lowered r n within ∙ less ∙ ap (λ (b : Bool). open_before_at plan es (test_at plan.tests n) + (if b then 1 else 0)) (sym once)
 
-  count_there : (m : ℕ) → (m ≡ n → ⊥) → StandsIn plan.queue m → count_of (lowered r n) m ≡ open_before_at plan es (test_at plan.tests m) + (if is_one_of m left then 1 else 0)
+  count_there : (m : ℕ) → (m ≡ n → ⊥) → StandsIn plan.queue m → predecessors_left (lowered r n) m ≡ open_before_at plan es (test_at plan.tests m) + (if is_one_of_numbers m left then 1 else 0)
   count_there m apart there =
       let other : StandsIn r.order m = subst (λ (o : List ℕ). StandsIn o m) (sym q.order) there in
-      get_or-set_other r.counts (place_of r.order n) (place_of r.order m) (count_of r n - 1) 0 (λ same. apart (places_apart r.order m n other here same))
+      get_or-set_other r.counts (place_of r.order n) (place_of r.order m) (predecessors_left r n - 1) 0 (λ same. apart (places_apart r.order m n other here same))
       ∙ q.counts m there
-      ∙ ap (λ (b : Bool). open_before_at plan es (test_at plan.tests m) + (if b || is_one_of m left then 1 else 0)) (ne_eqb n m (λ same. apart (sym same)))
+      ∙ ap (λ (b : Bool). open_before_at plan es (test_at plan.tests m) + (if b || is_one_of_numbers m left then 1 else 0)) (ne_eqb n m (λ same. apart (sym same)))
 
-  pub lowers : is_one_of n left ≡ false → IsQueued plan es left (lowered r n)
+  pub lowers : is_one_of_numbers n left ≡ false → IsQueued plan es left (lowered r n)
   lowers once = record {
     order = q.order;
-    counted = length-set r.counts (place_of r.order n) (count_of r n - 1) ∙ q.counted;
+    counted = length-set r.counts (place_of r.order n) (predecessors_left r n - 1) ∙ q.counted;
     said = q.said;
     counts = λ m there. elim (cases_eq m n) [
-      | inl same ↦ subst (λ (k : ℕ). count_of (lowered r n) k ≡ open_before_at plan es (test_at plan.tests k) + (if is_one_of k left then 1 else 0)) (sym same) (count_here once)
+      | inl same ↦ subst (λ (k : ℕ). predecessors_left (lowered r n) k ≡ open_before_at plan es (test_at plan.tests k) + (if is_one_of_numbers k left then 1 else 0)) (sym same) (count_here once)
       | inr apart ↦ count_there m apart there
     ];
     outs = q.outs;
@@ -119,7 +119,7 @@ module _ (plan : PlanParts) (es : List Entry) (n : ℕ) (left : List ℕ) (r : R
 pub record IsLowered (plan : PlanParts) (es : List Entry) (n : ℕ) (left : List ℕ) (t : PlanTest) (place : ℕ) (r : ReadyValue) : Type 0 where
   pub goes_on : has_stop es ≡ false
   pub stands : StandsIn plan.queue n
-  pub once : is_one_of n left ≡ false
+  pub once : is_one_of_numbers n left ≡ false
   pub found : test_at plan.tests n ≡ Some t
   pub place_of_it : IsPlaceOf plan.tests n place
   pub queued : IsQueued plan es left r
@@ -136,14 +136,14 @@ module _ (plan : PlanParts) (sound : IsSound plan) (es : List Entry) (n : ℕ) (
   unmarked =
       marks.marked place
       ∙ ap (λ (o : Option PlanTest). settles_but plan es (n ∷ left) o) there
-      ∙ ap (λ (b : Bool). is_some (settle_cause plan t es) && not (b || is_one_of t.number left)) (eq_is n t.number (sym number))
+      ∙ ap (λ (b : Bool). is_some (settle_cause plan t es) && not (b || is_one_of_numbers t.number left)) (eq_is n t.number (sym number))
       ∙ and_right (is_some (settle_cause plan t es)) false refl
 
   -- behind the step the test is to be marked exactly if it may be settled
   settles_here : settles_but plan es left (slice_get plan.tests place) ≡ is_some (settle_cause plan t es)
   settles_here =
       ap (λ (o : Option PlanTest). settles_but plan es left o) there
-      ∙ ap (λ (k : ℕ). is_some (settle_cause plan t es) && not (is_one_of k left)) number
+      ∙ ap (λ (k : ℕ). is_some (settle_cause plan t es) && not (is_one_of_numbers k left)) number
       ∙ ap (λ (b : Bool). is_some (settle_cause plan t es) && not b) low.once
       ∙ and_true (is_some (settle_cause plan t es))
 
@@ -153,7 +153,7 @@ module _ (plan : PlanParts) (sound : IsSound plan) (es : List Entry) (n : ℕ) (
       by_test : (o : Option PlanTest) → slice_get plan.tests p ≡ o → settles_but plan es (n ∷ left) o ≡ settles_but plan es left o
       by_test None is = refl
       by_test (Some u) is =
-          ap (λ (b : Bool). is_some (settle_cause plan u es) && not (b || is_one_of u.number left))
+          ap (λ (b : Bool). is_some (settle_cause plan u es) && not (b || is_one_of_numbers u.number left))
           (ne_eqb n u.number (λ same. apart (one_place plan.tests p place u t sound.numbers is there (sym same ∙ sym number))))
 
   kept : settle_cause plan t es ≡ None → AreSettleable plan es left m
@@ -181,29 +181,29 @@ module _ (plan : PlanParts) (sound : IsSound plan) (es : List Entry) (n : ℕ) (
         ];
       }
 
-  cause_by_ready : settle_cause plan t es ≡ (if is_ready r n then cause_then plan es t else None)
+  cause_by_ready : settle_cause plan t es ≡ (if is_in_ready_set r n then cause_then plan es t else None)
   cause_by_ready =
       settle_going plan t es low.goes_on
       ∙ ap (λ (b : Bool). if b then cause_then plan es t else None) (sym (ready_says plan es left r n t low.queued low.stands low.once low.found))
 
   -- if the test is not ready, it can't be settled, and the marks stay right
-  pub marks_waiting : is_ready r n ≡ false → AreSettleable plan es left m
+  pub marks_waiting : is_in_ready_set r n ≡ false → AreSettleable plan es left m
   marks_waiting is = kept (cause_by_ready ∙ ap (λ (b : Bool). if b then cause_then plan es t else None) is)
 
-  pub cause_ready : is_ready r n ≡ true → settle_cause plan t es ≡ cause_then plan es t
+  pub cause_ready : is_in_ready_set r n ≡ true → settle_cause plan t es ≡ cause_then plan es t
   cause_ready is = cause_by_ready ∙ ap (λ (b : Bool). if b then cause_then plan es t else None) is
 
-  pub marks_unsettled : is_ready r n ≡ true → cause_then plan es t ≡ None → AreSettleable plan es left m
+  pub marks_unsettled : is_in_ready_set r n ≡ true → cause_then plan es t ≡ None → AreSettleable plan es left m
   marks_unsettled is none = kept (cause_ready is ∙ none)
 
-  pub marks_settled : (c : Cause) → is_ready r n ≡ true → cause_then plan es t ≡ Some c → AreSettleable plan es left (set m place true)
+  pub marks_settled : (c : Cause) → is_in_ready_set r n ≡ true → cause_then plan es t ≡ Some c → AreSettleable plan es left (set m place true)
   marks_settled c is some = with_mark c (cause_ready is ∙ some)
 
   -- the marks are right once the place is marked if the test is ready and has a cause
-  pub marks_follow : AreSettleable plan es left (if is_ready r n && is_some (cause_then plan es t) then set m place true else m)
-  marks_follow = by_cases (is_ready r n) refl (cause_then plan es t) refl
+  pub marks_follow : AreSettleable plan es left (if is_in_ready_set r n && is_some (cause_then plan es t) then set m place true else m)
+  marks_follow = by_cases (is_in_ready_set r n) refl (cause_then plan es t) refl
     where
-      by_cases : (b : Bool) → is_ready r n ≡ b → (o : Option Cause) → cause_then plan es t ≡ o → AreSettleable plan es left (if b && is_some o then set m place true else m)
+      by_cases : (b : Bool) → is_in_ready_set r n ≡ b → (o : Option Cause) → cause_then plan es t ≡ o → AreSettleable plan es left (if b && is_some o then set m place true else m)
       by_cases false is o has = marks_waiting is
       by_cases true is None has = marks_unsettled is has
       by_cases true is (Some c) has = marks_settled c is has
@@ -238,7 +238,7 @@ module _ (plan : PlanParts) (sound : IsSound plan) (n : ℕ) where
       All-weaker (λ m. Contains (followers_of plan.tests n) m) (λ m. StandsIn plan.queue m)
       (λ m is.
       enabled_stands plan sound m
-      (more_kept (λ (t : PlanTest). not t.disabled && is_one_of n t.before) (λ (t : PlanTest). not t.disabled) (λ t both. (and_parts (not t.disabled) (is_one_of n t.before) both).0) plan.tests m is))
+      (more_kept (λ (t : PlanTest). not t.disabled && is_one_of_numbers n t.before) (λ (t : PlanTest). not t.disabled) (λ t both. (and_parts (not t.disabled) (is_one_of_numbers n t.before) both).0) plan.tests m is))
       (followers_of plan.tests n) (All-contains_itself (followers_of plan.tests n))
 
   -- the next follower stands in the queue, and is not among the followers behind it
@@ -247,11 +247,11 @@ module _ (plan : PlanParts) (sound : IsSound plan) (n : ℕ) where
       All-head (λ k. StandsIn plan.queue k) m rest
       (subst (λ (ks : List ℕ). All (λ k. StandsIn plan.queue k) ks) is (All-drop (λ k. StandsIn plan.queue k) at (followers_of plan.tests n) followers_stand))
 
-  pub follower_once : (at m : ℕ) (rest : List ℕ) → drop at (followers_of plan.tests n) ≡ m ∷ rest → is_one_of m rest ≡ false
+  pub follower_once : (at m : ℕ) (rest : List ℕ) → drop at (followers_of plan.tests n) ≡ m ∷ rest → is_one_of_numbers m rest ≡ false
   follower_once at m rest is =
       let ascends : IsAscendingFrom 1 (m ∷ rest) =
       subst (λ (ks : List ℕ). IsAscendingFrom 1 ks) is
-      (ascend-drop 1 at (followers_of plan.tests n) (ascend-filter (λ (t : PlanTest). not t.disabled && is_one_of n t.before) 1 plan.tests sound.numbers)) in
+      (ascend-drop 1 at (followers_of plan.tests n) (ascend-filter (λ (t : PlanTest). not t.disabled && is_one_of_numbers n t.before) 1 plan.tests sound.numbers)) in
       none_lesser (m + 1) m rest ascends.1 (omega arith)
 
 -- the next follower of a test, while it and the followers behind it remain
@@ -259,7 +259,7 @@ module _ (plan : PlanParts) (sound : IsSound plan) (es : List Entry) (n at m : �
   queued_here : IsQueued plan es (m ∷ rest) r
   queued_here = subst (λ (ks : List ℕ). IsQueued plan es ks r) next q
 
-  pub follower_lowerable : 0 < count_of r m
+  pub follower_lowerable : 0 < predecessors_left r m
   follower_lowerable = lowerable plan es m rest r queued_here (follower_stands plan sound n at m rest next)
 
   pub follower_lowers : IsQueued plan es rest (lowered r m)

@@ -10,7 +10,7 @@ use Rattle.ct_history.specs.declared.plan.PlanParts.{PlanParts}
 use Rattle.ct_history.specs.declared.history.Entry.{Entry}
 use Rattle.ct_history.specs.Plan.{IsSound, test_at}
 use Rattle.ct_history.specs.History.{has_stop}
-use Rattle.ct_queue.specs.Ready.{ReadyValue, StandsIn, count_of, is_ready, lowered}
+use Rattle.ct_queue.specs.Ready.{ReadyValue, StandsIn, predecessors_left, is_in_ready_set, lowered}
 use Rattle.ct_core.specs.declared.parts.Parts.{Parts}
 use Rattle.ct_core.specs.Standing.{IsPlaceOf}
 use Rattle.ct_core.specs.Waiting.{AreSettleable, IsQueued, cause_then, followers_of}
@@ -99,7 +99,7 @@ module _ (plan : PlanParts) (sound : IsSound plan) (es : List Entry) (going : ha
   pub stands_in : StandsIn parts.ready.order x
   stands_in = subst (λ (o : List ℕ). StandsIn o x) (sym ready.order) stands
 
-  pub open_one : 0 < count_of parts.ready x
+  pub open_one : 0 < predecessors_left parts.ready x
   open_one = follower_lowerable plan sound es wait.number at x rest next parts.ready ready
 
   pub enabled : IsEnabled plan x
@@ -115,7 +115,7 @@ module _ (plan : PlanParts) (sound : IsSound plan) (es : List Entry) (going : ha
     bunched : has_stop es ≡ false → AreBunchesOf plan new.keys.items new.ready.bunches
     bunched goes_on = bunches_stay plan parts new keys (ap (λ (r : ReadyValue). r.bunches) now) (queued.bunches goes_on)
 
-    pub waits_on : is_ready (lowered parts.ready x) x ≡ false → new.settleable ≡ parts.settleable → AreQueued plan es rest new
+    pub waits_on : is_in_ready_set (lowered parts.ready x) x ≡ false → new.settleable ≡ parts.settleable → AreQueued plan es rest new
     waits_on not_ready same =
         let follower = enabled in
         let at_place = place_exists plan.tests x follower.test follower.found in
@@ -130,7 +130,7 @@ module _ (plan : PlanParts) (sound : IsSound plan) (es : List Entry) (going : ha
       low : IsLowered plan es x rest t here (lowered parts.ready x)
       low = follower_lowered plan sound es wait.number at x rest next parts.ready ready t here going found at_place
 
-      pub settles_not : is_ready (lowered parts.ready x) x ≡ true → is_some (cause_then plan es t) ≡ false → new.settleable ≡ parts.settleable → AreQueued plan es rest new
+      pub settles_not : is_in_ready_set (lowered parts.ready x) x ≡ true → is_some (cause_then plan es t) ≡ false → new.settleable ≡ parts.settleable → AreQueued plan es rest new
       settles_not is_now none same = record {
         ready = queue;
         bunches = bunched;
@@ -141,7 +141,7 @@ module _ (plan : PlanParts) (sound : IsSound plan) (es : List Entry) (going : ha
           no_cause None is = refl
           no_cause (Some c) is = cc
 
-      pub settles : is_ready (lowered parts.ready x) x ≡ true → is_some (cause_then plan es t) ≡ true → new.settleable ≡ slice_set parts.settleable here true → AreQueued plan es rest new
+      pub settles : is_in_ready_set (lowered parts.ready x) x ≡ true → is_some (cause_then plan es t) ≡ true → new.settleable ≡ slice_set parts.settleable here true → AreQueued plan es rest new
       settles is_now some same = by_cause (cause_then plan es t) refl some
         where
           by_cause : (c : Option Cause) → cause_then plan es t ≡ c → is_some c ≡ true → AreQueued plan es rest new

@@ -30,7 +30,7 @@ use Rattle.ct_history.proofs.MayLemmas.{SettlesAs, StartsAs}
 use Rattle.ct_history.proofs.OpenLemmas.{is_of, open_starts-end, open_starts-snoc}
 use Rattle.ct_history.proofs.PlanLemmas.{find_passes}
 use Rattle.ct_history.proofs.ProgressLemmas.{found_contains}
-use Rattle.ct_core.specs.Standing.{open_start}
+use Rattle.ct_core.specs.Standing.{open_start_of_test}
 pub use Rattle.ct_core.proofs.AllowedLemmas.{IsAboutOnly, IsUndecided, about_end, about_settle, about_start, allowed_induction, attempts-snoc, attempts_other, end_holds, is_about, number_at, settle_settles, settled-snoc, settled_other, start_begins, undecided}
 
 true_is_false : true ≡ false → ⊥
@@ -245,7 +245,7 @@ found_some p (y ∷ ys) x is = elim (cases_Bool (p y)) [
 ]
 
 -- a test with an open start is in the plan, and not final
-pub open_planned : (plan : PlanParts) (es : List Entry) (n : ℕ) (r : Running) → is_allowed_so_far plan es ≡ true → open_start n es ≡ Some r → IsOpenTest plan es n r
+pub open_planned : (plan : PlanParts) (es : List Entry) (n : ℕ) (r : Running) → is_allowed_so_far plan es ≡ true → open_start_of_test n es ≡ Some r → IsOpenTest plan es n r
 open_planned plan es n r so_far is =
     let p : Running → Bool = λ q. q.test == n in
     let start = All-contains (IsOpenStart plan es) (open_starts es) r (all_open plan es so_far) (found_in p (open_starts es) r is) in
@@ -267,7 +267,7 @@ open_planned plan es n r so_far is =
     }
 
 -- the placement of a test's open start was right for the test when it started
-pub open_placed : (plan : PlanParts) (es : List Entry) (n : ℕ) (r : Running) (t : PlanTest) → is_allowed_so_far plan es ≡ true → open_start n es ≡ Some r → test_at plan.tests n ≡ Some t → WasPlaced plan t r.placement es
+pub open_placed : (plan : PlanParts) (es : List Entry) (n : ℕ) (r : Running) (t : PlanTest) → is_allowed_so_far plan es ≡ true → open_start_of_test n es ≡ Some r → test_at plan.tests n ≡ Some t → WasPlaced plan t r.placement es
 open_placed plan es n r t so_far is found =
     let opens = open_planned plan es n r so_far is in
     let both : Some opens.test ≡ Some t = sym opens.found ∙ found in
@@ -299,7 +299,7 @@ filter_same p q (x ∷ xs) same =
 -- next attempt, and its End closes no other start
 pub record IsHeldOpen (plan : PlanParts) (es : List Entry) (n a w : ℕ) : Type 0 where
   pub start : Running
-  pub opens : open_start n es ≡ Some start
+  pub opens : open_start_of_test n es ≡ Some start
   pub attempt : start.attempt ≡ a
   pub worker : start.worker ≡ w
   pub test : PlanTest
@@ -316,7 +316,7 @@ held_open plan es n a w so_far holds =
     let q = held.start in
     let all = all_open plan es so_far in
     let ended = All-contains (IsOpenStart plan es) (open_starts es) q all held.there in
-    let opens : open_start n es ≡ Some q = subst (λ (m : ℕ). open_start m es ≡ Some q) held.test (found_apart (open_starts es) q (open_apart plan es so_far) held.there) in
+    let opens : open_start_of_test n es ≡ Some q = subst (λ (m : ℕ). open_start_of_test m es ≡ Some q) held.test (found_apart (open_starts es) q (open_apart plan es so_far) held.there) in
     record {
       start = q;
       opens = opens;

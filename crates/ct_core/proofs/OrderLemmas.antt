@@ -8,7 +8,7 @@ use Rattle.ct_history.specs.Legal.{is_stop_due}
 use Rattle.ct_core.specs.declared.run.Run.{Run}
 use Rattle.ct_core.specs.Core.{with_due_stop}
 use Rattle.ct_core.specs.Order.{FollowsQueue, IsNextInOrder}
-use Rattle.ct_core.specs.Run.{IsKeptRun, IsOrderlyRun, entries_of}
+use Rattle.ct_core.specs.Run.{IsKeptRun, IsOrderlyRun, history_of_run}
 
 -- the empty list has no element
 nil_splits : {A : Type 0} (front back : List A) (x : A) → [] ≡ front ++ x ∷ back → ⊥
@@ -52,14 +52,14 @@ follows_due plan es e follows next = by (is_stop_due plan (es ++ e ∷ []))
 
 -- a run stays orderly with the next entry, and with a Stop if that entry makes one due
 module _ (old new : Run) (kept : IsKeptRun new) (plan : new.plan ≡ old.plan) where
-  pub orderly : (es : List Entry) → entries_of new ≡ es → FollowsQueue old.plan es → IsOrderlyRun new
+  pub orderly : (es : List Entry) → history_of_run new ≡ es → FollowsQueue old.plan es → IsOrderlyRun new
   orderly es is follows = record {
     kept = kept;
-    order = subst (λ (p : PlanParts). FollowsQueue p (entries_of new)) (sym plan) (subst (λ (xs : List Entry). FollowsQueue old.plan xs) (sym is) follows);
+    order = subst (λ (p : PlanParts). FollowsQueue p (history_of_run new)) (sym plan) (subst (λ (xs : List Entry). FollowsQueue old.plan xs) (sym is) follows);
   }
 
-  pub orderly_with : (e : Entry) → IsOrderlyRun old → IsNextInOrder old.plan (entries_of old) e → entries_of new ≡ entries_of old ++ e ∷ [] → IsOrderlyRun new
-  orderly_with e before next is = orderly (entries_of old ++ e ∷ []) is (follows-snoc old.plan (entries_of old) e before.order next)
+  pub orderly_with : (e : Entry) → IsOrderlyRun old → IsNextInOrder old.plan (history_of_run old) e → history_of_run new ≡ history_of_run old ++ e ∷ [] → IsOrderlyRun new
+  orderly_with e before next is = orderly (history_of_run old ++ e ∷ []) is (follows-snoc old.plan (history_of_run old) e before.order next)
 
-  pub orderly_due : (e : Entry) → IsOrderlyRun old → IsNextInOrder old.plan (entries_of old) e → entries_of new ≡ with_due_stop old.plan (entries_of old ++ e ∷ []) → IsOrderlyRun new
-  orderly_due e before next is = orderly (with_due_stop old.plan (entries_of old ++ e ∷ [])) is (follows_due old.plan (entries_of old) e before.order next)
+  pub orderly_due : (e : Entry) → IsOrderlyRun old → IsNextInOrder old.plan (history_of_run old) e → history_of_run new ≡ with_due_stop old.plan (history_of_run old ++ e ∷ []) → IsOrderlyRun new
+  orderly_due e before next is = orderly (with_due_stop old.plan (history_of_run old ++ e ∷ [])) is (follows_due old.plan (history_of_run old) e before.order next)

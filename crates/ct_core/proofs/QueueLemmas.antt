@@ -21,7 +21,7 @@ use Rattle.ct_history.proofs.PlanLemmas.{contained_at}
 use Rattle.ct_history.proofs.ProgressLemmas.{found_contains}
 use Rattle.ct_queue.specs.Ready.{NamesOnce, StandsIn, place_of}
 use Rattle.ct_queue.proofs.CallerLemmas.{place_of_test}
-use Rattle.ct_core.specs.Waiting.{is_one_of}
+use Rattle.ct_core.specs.Waiting.{is_one_of_numbers}
 
 -- the numbers of tests
 abbrev pub numbers_of : List PlanTest → List ℕ
@@ -49,10 +49,10 @@ ascend-drop least (suc at) [] ascends = tt
 ascend-drop least (suc at) (n ∷ ns) ascends = ascend_sooner (n + 1) least (drop at ns) (omega (arith, ascends.0)) (ascend-drop (n + 1) at ns ascends.1)
 
 -- a number below the bound is not among the numbers
-pub none_lesser : (least n : ℕ) (ns : List ℕ) → IsAscendingFrom least ns → n < least → is_one_of n ns ≡ false
+pub none_lesser : (least n : ℕ) (ns : List ℕ) → IsAscendingFrom least ns → n < least → is_one_of_numbers n ns ≡ false
 none_lesser least n [] ascends less = refl
 none_lesser least n (m ∷ ms) ascends less =
-    or_from (m == n) (is_one_of n ms) (eq_more m n (omega (arith, ascends.0, less))) (none_lesser (m + 1) n ms ascends.1 (omega (arith, ascends.0, less)))
+    or_from (m == n) (is_one_of_numbers n ms) (eq_more m n (omega (arith, ascends.0, less))) (none_lesser (m + 1) n ms ascends.1 (omega (arith, ascends.0, less)))
 
 all_behind : (least : ℕ) (ns : List ℕ) → IsAscendingFrom least ns → All (λ n. least ≤ n) ns
 all_behind least [] ascends = All-nil (λ n. least ≤ n)

@@ -13,7 +13,7 @@ use Rattle.ct_history.specs.History.{Running, attempts_of, has_stop, open_starts
 use Rattle.ct_history.specs.Rules.{is_pending, settle_cause, settle_cause_at, settle_cause_of_test}
 use Rattle.ct_history.proofs.LegalLemmas.{allowed-snoc, legal_allowed}
 use Rattle.ct_history.proofs.MayLemmas.{settled_pending}
-use Rattle.ct_queue.specs.Ready.{ReadyValue, StandsIn, is_ready}
+use Rattle.ct_queue.specs.Ready.{ReadyValue, StandsIn, is_in_ready_set}
 use Rattle.ct_core.specs.declared.state.State.{State}
 use Rattle.ct_core.specs.declared.state.State.TheVariants.{Final, Pending}
 use Rattle.ct_core.specs.declared.in_use.InUse.{InUse}
@@ -62,7 +62,7 @@ module _ (plan : PlanParts) (es : List Entry) (room : ℕ) (parts : Parts) (kept
   stands_queued runs =
       subst (λ (o : List ℕ). StandsIn o n) (sym (kept.queued.ready (going_on runs)).order) (settle_stands plan kept.told.sound es n one.test one.found c one.has)
 
-  pub is_member : parts.stopped ≡ false → is_ready parts.ready n ≡ true
+  pub is_member : parts.stopped ≡ false → is_in_ready_set parts.ready n ≡ true
   is_member runs = settle_member plan kept.told.sound es n one.test one.found c one.has parts.ready (going_on runs) (kept.queued.ready (going_on runs))
 
   stops : has_stop more ≡ has_stop es

@@ -4,8 +4,8 @@ use Rattle.std.specs.Prelude.{◌||◌, bytes_eq}
 use Rattle.std.proofs.lemmas.Bool.{cases_Bool, or_right}
 use Rattle.std.proofs.lemmas.List.Folds.{list_any_at, list_any_more}
 use Rattle.std.proofs.lemmas.Slice.Eq.{bytes_eq-Decides}
-use Rattle.ct_history.specs.Rules.{is_among}
 use Rattle.ct_core.specs.Sharers.{one_if}
+use Rattle.ct_base.specs.Names.{is_among}
 
 or_false : (b : Bool) → (b || false) ≡ b
 or_false true = refl

@@ -22,7 +22,7 @@ use Rattle.ct_history.specs.Legal.{is_allowed_so_far}
 use Rattle.ct_history.proofs.MayLemmas.{may_start-parts, settled_pending}
 use Rattle.ct_core.specs.declared.state.State.{State}
 use Rattle.ct_core.specs.declared.state.State.TheVariants.{Pending, Open, Final}
-use Rattle.ct_core.specs.Standing.{IsPlaceOf, count_unfinished, open_start, state_of, states_of, verdict_of_state}
+use Rattle.ct_core.specs.Standing.{IsPlaceOf, count_unfinished, open_start_of_test, state_of, states_of, verdict_of_state}
 use Rattle.ct_core.proofs.OpenStartLemmas.{IsAboutOnly, about_end, about_settle, about_start, number_at}
 pub use Rattle.ct_core.proofs.StateLemmas.{attempts_few, open_other, pending_other, pending_state, state_after, state_ended, state_first, state_open, state_other, state_pending, state_settled, state_started, verdict_ended, verdict_in_other, verdict_other, verdict_settled, verdict_standing, verdict_started, verdict_state}
 
@@ -86,7 +86,7 @@ module _ (plan : PlanParts) (es : List Entry) (n place : ℕ) (t : PlanTest) (he
   pending_settles c is = pending_at (settled_pending plan t es c is)
 
   -- the state at the place of an open test
-  pub open_at : is_allowed_so_far plan es ≡ true → (r : Running) → open_start n es ≡ Some r → slice_get (states_of plan es) place ≡ Some (Open (length (attempts_of t.number t.rules es)) r.placement)
+  pub open_at : is_allowed_so_far plan es ≡ true → (r : Running) → open_start_of_test n es ≡ Some r → slice_get (states_of plan es) place ≡ Some (Open (length (attempts_of t.number t.rules es)) r.placement)
   open_at so_far r is = state_at plan es n place t here found ∙ ap Some (state_open plan es n t found so_far r is)
 
   -- a Start opens a test that may start

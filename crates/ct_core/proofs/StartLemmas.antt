@@ -12,7 +12,7 @@ use Rattle.ct_history.specs.History.{Running, attempts_of, has_stop, is_busy_in,
 use Rattle.ct_history.specs.Rules.{may_start, may_start_at}
 use Rattle.ct_history.proofs.LegalLemmas.{allowed-snoc, legal_allowed, legal_from, start_not_due}
 use Rattle.ct_history.proofs.MayLemmas.{may_start-parts}
-use Rattle.ct_queue.specs.Ready.{ReadyValue, StandsIn, is_ready, with_out}
+use Rattle.ct_queue.specs.Ready.{ReadyValue, StandsIn, is_in_ready_set, with_out}
 use Rattle.ct_core.specs.declared.choice.Startable.{Startable}
 use Rattle.ct_core.specs.declared.state.State.{State}
 use Rattle.ct_core.specs.declared.state.State.TheVariants.{Open, Pending}
@@ -98,7 +98,7 @@ module _ (plan : PlanParts) (es : List Entry) (room : ℕ) (parts : Parts) (kept
   pub stands_queued : StandsIn parts.ready.order n
   stands_queued = subst (λ (o : List ℕ). StandsIn o n) (sym (kept.queued.ready going).order) (start_stands plan kept.told.sound es n t found start.attempt w p may)
 
-  pub is_member : is_ready parts.ready n ≡ true
+  pub is_member : is_in_ready_set parts.ready n ≡ true
   is_member = start_member plan kept.told.sound es n t found start.attempt w p may parts.ready (kept.queued.ready going)
 
   stops : has_stop more ≡ has_stop es

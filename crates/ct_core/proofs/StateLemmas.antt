@@ -25,7 +25,7 @@ use Rattle.ct_history.proofs.BoolLemmas.{eq_is}
 use Rattle.ct_history.proofs.OpenLemmas.{is_of, open_starts-end}
 use Rattle.ct_core.specs.declared.state.State.{State}
 use Rattle.ct_core.specs.declared.state.State.TheVariants.{Pending, Open, Final}
-use Rattle.ct_core.specs.Standing.{is_pending_state, open_start, standing, state_of, verdict_of_state}
+use Rattle.ct_core.specs.Standing.{is_pending_state, open_start_of_test, standing, state_of, verdict_of_state}
 use Rattle.ct_core.proofs.OpenStartLemmas.{HasLeft, attempts-snoc, attempts_other, held_open, is_about, number_at, open_planned, opens_settle, opens_stop, settled-snoc, settled_other, start_opens, undecided}
 
 true_is_false : true ≡ false → ⊥
@@ -48,14 +48,14 @@ verdict_from repeat t start cause attempts =
 abbrev state_from : Repeat → PlanTest → Option Running → Option Cause → List Verdict → State
 state_from repeat t start cause attempts = standing (verdict_from repeat t start cause attempts) start (length attempts)
 
-verdict_is : (repeat : Repeat) (es : List Entry) (t : PlanTest) → verdict_in repeat t es ≡ verdict_from repeat t (open_start t.number es) (settled_cause t.number es) (attempts_of t.number t.rules es)
+verdict_is : (repeat : Repeat) (es : List Entry) (t : PlanTest) → verdict_in repeat t es ≡ verdict_from repeat t (open_start_of_test t.number es) (settled_cause t.number es) (attempts_of t.number t.rules es)
 verdict_is repeat es t =
     ap (λ (b : Bool). if t.disabled then Some Disabled else settled_or (settled_cause t.number es) (if not b && is_over repeat (attempts_of t.number t.rules es) then last_of_list (attempts_of t.number t.rules es) else None))
     (any_is_found (λ (r : Running). r.test == t.number) (open_starts es))
 
 -- a history's facts about one test: its open start, its cause and its attempts
 record Says (t : PlanTest) (es : List Entry) (start : Option Running) (cause : Option Cause) (attempts : List Verdict) : Type 0 where
-  opens : open_start t.number es ≡ start
+  opens : open_start_of_test t.number es ≡ start
   settled : settled_cause t.number es ≡ cause
   ended : attempts_of t.number t.rules es ≡ attempts
 
@@ -68,7 +68,7 @@ verdict_by repeat es t start cause attempts says =
 
 state_by : (repeat : Repeat) (es : List Entry) (t : PlanTest) (start : Option Running) (cause : Option Cause) (attempts : List Verdict) → Says t es start cause attempts → state_of repeat es t ≡ state_from repeat t start cause attempts
 state_by repeat es t start cause attempts says =
-    ap (λ (v : Option Verdict). standing v (open_start t.number es) (length (attempts_of t.number t.rules es))) (verdict_by repeat es t start cause attempts says)
+    ap (λ (v : Option Verdict). standing v (open_start_of_test t.number es) (length (attempts_of t.number t.rules es))) (verdict_by repeat es t start cause attempts says)
     ∙ ap (λ (o : Option Running). standing (verdict_from repeat t start cause attempts) o (length (attempts_of t.number t.rules es))) says.opens
     ∙ ap (λ (vs : List Verdict). standing (verdict_from repeat t start cause attempts) start (length vs)) says.ended
 
@@ -114,7 +114,7 @@ find_gone p (x ∷ xs) = elim (cases_Bool (p x)) [
 ]
 
 -- an entry that is not about a test leaves its open start
-pub open_other : (n : ℕ) (es : List Entry) (e : Entry) → is_about n e ≡ false → open_start n (es ++ e ∷ []) ≡ open_start n es
+pub open_other : (n : ℕ) (es : List Entry) (e : Entry) → is_about n e ≡ false → open_start_of_test n (es ++ e ∷ []) ≡ open_start_of_test n es
 open_other n es (Start m a w p) other =
     ap (λ (rs : List Running). find (λ (r : Running). r.test == n) rs) (start_opens es m a w p)
     ∙ find_more (λ (r : Running). r.test == n) (open_starts es) (record { test = m; attempt = a; worker = w; placement = p }) other
@@ -127,25 +127,25 @@ open_other n es (End m a w s) other =
 open_other n es (Settle m c) other = ap (λ (rs : List Running). find (λ (r : Running). r.test == n) rs) (opens_settle es m c)
 open_other n es Stop other = ap (λ (rs : List Running). find (λ (r : Running). r.test == n) rs) (opens_stop es)
 
-says_same : (t : PlanTest) (es : List Entry) (e : Entry) → is_about t.number e ≡ false → Says t (es ++ e ∷ []) (open_start t.number es) (settled_cause t.number es) (attempts_of t.number t.rules es)
+says_same : (t : PlanTest) (es : List Entry) (e : Entry) → is_about t.number e ≡ false → Says t (es ++ e ∷ []) (open_start_of_test t.number es) (settled_cause t.number es) (attempts_of t.number t.rules es)
 says_same t es e other = record {
   opens = open_other t.number es e other;
   settled = settled_other t.number es e other;
   ended = attempts_other t.number t.rules es e other;
 }
 
-says_itself : (t : PlanTest) (es : List Entry) → Says t es (open_start t.number es) (settled_cause t.number es) (attempts_of t.number t.rules es)
+says_itself : (t : PlanTest) (es : List Entry) → Says t es (open_start_of_test t.number es) (settled_cause t.number es) (attempts_of t.number t.rules es)
 says_itself t es = record { opens = refl; settled = refl; ended = refl }
 
 -- an entry that is not about a test leaves its state
 pub state_other : (repeat : Repeat) (t : PlanTest) (es : List Entry) (e : Entry) → is_about t.number e ≡ false → state_of repeat (es ++ e ∷ []) t ≡ state_of repeat es t
 state_other repeat t es e other =
-    state_by repeat (es ++ e ∷ []) t (open_start t.number es) (settled_cause t.number es) (attempts_of t.number t.rules es) (says_same t es e other)
-    ∙ sym (state_by repeat es t (open_start t.number es) (settled_cause t.number es) (attempts_of t.number t.rules es) (says_itself t es))
+    state_by repeat (es ++ e ∷ []) t (open_start_of_test t.number es) (settled_cause t.number es) (attempts_of t.number t.rules es) (says_same t es e other)
+    ∙ sym (state_by repeat es t (open_start_of_test t.number es) (settled_cause t.number es) (attempts_of t.number t.rules es) (says_itself t es))
 
 pub verdict_in_other : (repeat : Repeat) (t : PlanTest) (es : List Entry) (e : Entry) → is_about t.number e ≡ false → verdict_in repeat t (es ++ e ∷ []) ≡ verdict_in repeat t es
 verdict_in_other repeat t es e other =
-    verdict_by repeat (es ++ e ∷ []) t (open_start t.number es) (settled_cause t.number es) (attempts_of t.number t.rules es) (says_same t es e other) ∙ sym (verdict_is repeat es t)
+    verdict_by repeat (es ++ e ∷ []) t (open_start_of_test t.number es) (settled_cause t.number es) (attempts_of t.number t.rules es) (says_same t es e other) ∙ sym (verdict_is repeat es t)
 
 -- an entry that is not about a test leaves its verdict
 pub verdict_other : (plan : PlanParts) (es : List Entry) (e : Entry) (n : ℕ) → is_about n e ≡ false → verdict_of_test plan (es ++ e ∷ []) n ≡ verdict_of_test plan es n
@@ -159,7 +159,7 @@ verdict_other plan es e n other = by_test (test_at plan.tests n) (λ t found. nu
 pub pending_state : (plan : PlanParts) (t : PlanTest) (es : List Entry) → is_pending plan t es ≡ is_pending_state (state_of plan.repeat es t)
 pending_state plan t es =
     ap (λ (b : Bool). not (is_final_in plan.repeat t es) && not b) (any_is_found (λ (r : Running). r.test == t.number) (open_starts es))
-    ∙ by_parts (verdict_in plan.repeat t es) (open_start t.number es) (length (attempts_of t.number t.rules es))
+    ∙ by_parts (verdict_in plan.repeat t es) (open_start_of_test t.number es) (length (attempts_of t.number t.rules es))
   where
     by_parts : (v : Option Verdict) (o : Option Running) (k : ℕ) → (not (is_some v) && not (is_some o)) ≡ is_pending_state (standing v o k)
     by_parts (Some v) o k = refl
@@ -176,7 +176,7 @@ verdict_standing None (Some r) k = refl
 verdict_standing None None k = refl
 
 pub verdict_state : (repeat : Repeat) (t : PlanTest) (es : List Entry) → verdict_of_state (state_of repeat es t) ≡ verdict_in repeat t es
-verdict_state repeat t es = verdict_standing (verdict_in repeat t es) (open_start t.number es) (length (attempts_of t.number t.rules es))
+verdict_state repeat t es = verdict_standing (verdict_in repeat t es) (open_start_of_test t.number es) (length (attempts_of t.number t.rules es))
 
 -- in the empty history a test is final if it is disabled, else pending
 pub state_first : (repeat : Repeat) (t : PlanTest) → state_of repeat [] t ≡ (if t.disabled then Final Disabled else Pending 0)
@@ -203,8 +203,8 @@ module _ (plan : PlanParts) (es : List Entry) (n : ℕ) (t : PlanTest) (found : 
   is_number : (n == t.number) ≡ true
   is_number = eq_is n t.number (sym number)
 
-  pending_none : is_pending plan t es ≡ true → open_start t.number es ≡ None
-  pending_none pending = none (open_start t.number es) (sym (any_is_found (λ (r : Running). r.test == t.number) (open_starts es)) ∙ (undecided plan t es pending).closed)
+  pending_none : is_pending plan t es ≡ true → open_start_of_test t.number es ≡ None
+  pending_none pending = none (open_start_of_test t.number es) (sym (any_is_found (λ (r : Running). r.test == t.number) (open_starts es)) ∙ (undecided plan t es pending).closed)
     where
       none : (o : Option Running) → is_some o ≡ false → o ≡ None
       none None is = refl
@@ -212,7 +212,7 @@ module _ (plan : PlanParts) (es : List Entry) (n : ℕ) (t : PlanTest) (found : 
 
   -- the state of a pending test
   pub state_pending : is_pending plan t es ≡ true → state_of plan.repeat es t ≡ Pending (length (attempts_of t.number t.rules es))
-  state_pending pending = by_parts (verdict_in plan.repeat t es) (open_start t.number es) (sym (pending_state plan t es) ∙ pending)
+  state_pending pending = by_parts (verdict_in plan.repeat t es) (open_start_of_test t.number es) (sym (pending_state plan t es) ∙ pending)
     where
       by_parts : (v : Option Verdict) (o : Option Running) → is_pending_state (standing v o (length (attempts_of t.number t.rules es))) ≡ true → standing v o (length (attempts_of t.number t.rules es)) ≡ Pending (length (attempts_of t.number t.rules es))
       by_parts (Some v) o is = cc
@@ -220,13 +220,13 @@ module _ (plan : PlanParts) (es : List Entry) (n : ℕ) (t : PlanTest) (found : 
       by_parts None None is = refl
 
   -- the state of an open test
-  pub state_open : is_allowed_so_far plan es ≡ true → (r : Running) → open_start n es ≡ Some r → state_of plan.repeat es t ≡ Open (length (attempts_of t.number t.rules es)) r.placement
+  pub state_open : is_allowed_so_far plan es ≡ true → (r : Running) → open_start_of_test n es ≡ Some r → state_of plan.repeat es t ≡ Open (length (attempts_of t.number t.rules es)) r.placement
   state_open so_far r is =
       let opens = open_planned plan es n r so_far is in
       let none : verdict_in plan.repeat t es ≡ None = sym (ap (λ (o : Option PlanTest). verdict_at plan es o) found) ∙ opens.unfinished in
-      let at : open_start t.number es ≡ Some r = ap (λ (m : ℕ). open_start m es) number ∙ is in
+      let at : open_start_of_test t.number es ≡ Some r = ap (λ (m : ℕ). open_start_of_test m es) number ∙ is in
       let k = length (attempts_of t.number t.rules es) in
-      ap (λ (v : Option Verdict). standing v (open_start t.number es) k) none ∙ ap (λ (o : Option Running). standing None o k) at
+      ap (λ (v : Option Verdict). standing v (open_start_of_test t.number es) k) none ∙ ap (λ (o : Option Running). standing None o k) at
 
   -- a Start opens a pending test
   pub state_started : (a w : ℕ) (p : Option Placement) → is_pending plan t es ≡ true → state_of plan.repeat (es ++ Start n a w p ∷ []) t ≡ Open (length (attempts_of t.number t.rules es)) p
@@ -235,7 +235,7 @@ module _ (plan : PlanParts) (es : List Entry) (n : ℕ) (t : PlanTest) (found : 
       let start = Start n a w p in
       let run : Running = record { test = n; attempt = a; worker = w; placement = p } in
       let vs = attempts_of t.number t.rules es in
-      let opens : open_start t.number (es ++ start ∷ []) ≡ Some run =
+      let opens : open_start_of_test t.number (es ++ start ∷ []) ≡ Some run =
       ap (λ (rs : List Running). find (λ (r : Running). r.test == t.number) rs) (start_opens es n a w p)
       ∙ find_new (λ (r : Running). r.test == t.number) (open_starts es) run (pending_none pending) is_number in
       let says : Says t (es ++ start ∷ []) (Some run) None vs = record {
@@ -256,12 +256,12 @@ module _ (plan : PlanParts) (es : List Entry) (n : ℕ) (t : PlanTest) (found : 
       let vs = attempts_of t.number t.rules es in
       let enabled : t.disabled ≡ false = sym (ap (λ (u : PlanTest). u.disabled) same) ∙ held.enabled in
       let unsettled : settled_cause t.number es ≡ None = sym (ap (λ (u : PlanTest). settled_cause u.number es) same) ∙ held.unsettled in
-      let opens : open_start n (es ++ end ∷ []) ≡ None =
+      let opens : open_start_of_test n (es ++ end ∷ []) ≡ None =
       ap (λ (rs : List Running). find (λ (r : Running). r.test == n) rs) (held.closes s) ∙ find_gone (λ (r : Running). r.test == n) (open_starts es) in
       let ended : attempts_of t.number t.rules (es ++ end ∷ []) ≡ vs ++ v ∷ [] =
       filter_map-append (attempt_by t.number t.rules) es (end ∷ []) ∙ ap (λ (b : Bool). vs ++ cons_option (if b then Some v else None) []) is_number in
       let says : Says t (es ++ end ∷ []) None None (vs ++ v ∷ []) = record {
-        opens = ap (λ (m : ℕ). open_start m (es ++ end ∷ [])) number ∙ opens;
+        opens = ap (λ (m : ℕ). open_start_of_test m (es ++ end ∷ [])) number ∙ opens;
         settled = settled-snoc t.number es end refl ∙ unsettled;
         ended = ended;
       } in

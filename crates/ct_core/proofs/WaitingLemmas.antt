@@ -22,11 +22,11 @@ use Rattle.ct_history.specs.Legal.{is_allowed_so_far}
 use Rattle.ct_history.proofs.BoolLemmas.{eq_is}
 use Rattle.ct_history.proofs.LegalLemmas.{stop-snoc}
 use Rattle.ct_history.proofs.MayLemmas.{may_start-parts, pending-parts, settled_pending}
-use Rattle.ct_queue.specs.Ready.{ReadyValue, StandsIn, count_of, is_out, place_of, with_out}
+use Rattle.ct_queue.specs.Ready.{ReadyValue, StandsIn, predecessors_left, is_out, place_of, with_out}
 use Rattle.ct_queue.specs.Ready as Queue
 use Rattle.ct_queue.specs.Marks.{is_marked}
-use Rattle.ct_core.specs.Standing.{IsPlaceOf, is_pending_state, open_start, standing}
-use Rattle.ct_core.specs.Waiting.{AreSettleable, IsQueued, followers_of, is_one_of, is_pending_at, open_before_at, settles_but}
+use Rattle.ct_core.specs.Standing.{IsPlaceOf, is_pending_state, open_start_of_test, standing}
+use Rattle.ct_core.specs.Waiting.{AreSettleable, IsQueued, followers_of, is_one_of_numbers, is_pending_at, open_before_at, settles_but}
 use Rattle.ct_core.proofs.BegunLemmas.{open_is_ready}
 use Rattle.ct_core.proofs.ChangeLemmas.{ChangesOne, cause_of, cause_stopped, counts_final, counts_same, marks_set, marks_stay, no_cause, no_cause_ready, others_final, others_same, others_stopped, queue_set, queue_stays, ready_same}
 use Rattle.ct_core.proofs.AllowedLemmas.{IsAboutOnly, about_end, about_settle, about_start, number_at, undecided}
@@ -49,17 +49,17 @@ not_some None none = refl
 not_some (Some x) none = cc
 
 -- a pending test whose predecessors are final is a member of the ready set
-ready_member : (plan : PlanParts) → IsSound plan → (es : List Entry) (n : ℕ) (t : PlanTest) → test_at plan.tests n ≡ Some t → (r : ReadyValue) → IsQueued plan es [] r → is_pending plan t es ≡ true → follows_finals plan t es ≡ true → Queue.is_ready r n ≡ true
+ready_member : (plan : PlanParts) → IsSound plan → (es : List Entry) (n : ℕ) (t : PlanTest) → test_at plan.tests n ≡ Some t → (r : ReadyValue) → IsQueued plan es [] r → is_pending plan t es ≡ true → follows_finals plan t es ≡ true → Queue.is_in_ready_set r n ≡ true
 ready_member plan sound es n t found r queued pending follows =
     let stands = enabled_queued plan sound n t found (undecided plan t es pending).enabled in
     let none = none_open (verdict_of_test plan es) t.before follows in
-    let counted : count_of r n ≡ open_before_at plan es (test_at plan.tests n) + 0 = queued.counts n stands in
+    let counted : predecessors_left r n ≡ open_before_at plan es (test_at plan.tests n) + 0 = queued.counts n stands in
     let there : open_before_at plan es (test_at plan.tests n) ≡ 0 = ap (λ (o : Option PlanTest). open_before_at plan es o) found ∙ none in
-    let count : count_of r n ≡ 0 = omega (arith, counted, there) in
+    let count : predecessors_left r n ≡ 0 = omega (arith, counted, there) in
     let out : is_out r n ≡ false = queued.outs n stands ∙ ap not (ap (λ (o : Option PlanTest). is_pending_at plan es o) found ∙ pending) in
     let within : place_of r.order n < length r.order = subst (λ (xs : List ℕ). place_of xs n < length xs) (sym queued.order) stands in
-    and_from (nat_lt (place_of r.order n) (length r.order) && (count_of r n == 0)) (not (is_out r n))
-    (and_from (nat_lt (place_of r.order n) (length r.order)) (count_of r n == 0) (lt_true (place_of r.order n) (length r.order) within) (eq_is (count_of r n) 0 count))
+    and_from (nat_lt (place_of r.order n) (length r.order) && (predecessors_left r n == 0)) (not (is_out r n))
+    (and_from (nat_lt (place_of r.order n) (length r.order)) (predecessors_left r n == 0) (lt_true (place_of r.order n) (length r.order) within) (eq_is (predecessors_left r n) 0 count))
     (ap not out)
   where
     lt_true : (x y : ℕ) → x < y → nat_lt x y ≡ true
@@ -127,7 +127,7 @@ module _ (plan : PlanParts) (sound : IsSound plan) (es : List Entry) (n : ℕ) (
     pub start_stands : StandsIn plan.queue n
     start_stands = enabled_queued plan sound n t found (undecided plan t es start_pending).enabled
 
-    pub start_member : (r : ReadyValue) → IsQueued plan es [] r → Queue.is_ready r n ≡ true
+    pub start_member : (r : ReadyValue) → IsQueued plan es [] r → Queue.is_in_ready_set r n ≡ true
     start_member r queued =
         let most = and_parts (follows_finals plan t es && is_none (first_unpassed plan t es)) (is_none t.fixed) start_ready in
         let both = and_parts (follows_finals plan t es) (is_none (first_unpassed plan t es)) most.0 in
@@ -168,7 +168,7 @@ module _ (plan : PlanParts) (sound : IsSound plan) (es : List Entry) (n : ℕ) (
         let held = held_open plan es n a w so_far holds in
         let k = length (attempts_of t.number t.rules es) in
         pending_state plan t es
-        ∙ ap (λ (m : ℕ). is_pending_state (standing (verdict_in plan.repeat t es) (open_start m es) k)) number
+        ∙ ap (λ (m : ℕ). is_pending_state (standing (verdict_in plan.repeat t es) (open_start_of_test m es) k)) number
         ∙ ap (λ (o : Option Running). is_pending_state (standing (verdict_in plan.repeat t es) o k)) held.opens
         ∙ by_verdict (verdict_in plan.repeat t es) held.start k
       where
@@ -232,7 +232,7 @@ module _ (plan : PlanParts) (sound : IsSound plan) (es : List Entry) (n : ℕ) (
           queue_stays plan sound es ended n t found end_changes (followers_of plan.tests n) r (counts_final plan sound es ended n t found end_changes end_unfinished final) (final_done ended final ∙ sym end_busy) queued
 
       over_settles : (left : List ℕ) → settles_but plan ended left (Some t) ≡ settles_but plan es [] (Some t)
-      over_settles left = ap (λ (c : Option Cause). is_some c && not (is_one_of t.number left)) (no_cause plan t ended (final_done ended final)) ∙ sym none_settled
+      over_settles left = ap (λ (c : Option Cause). is_some c && not (is_one_of_numbers t.number left)) (no_cause plan t ended (final_done ended final)) ∙ sym none_settled
 
       pub over_settleable : (m : List Bool) → has_stop es ≡ false → AreSettleable plan es [] m → AreSettleable plan ended (followers_of plan.tests n) m
       over_settleable m on marks =
@@ -270,7 +270,7 @@ module _ (plan : PlanParts) (sound : IsSound plan) (es : List Entry) (n : ℕ) (
         by_follows true true first fixed is = refl
         by_follows true false first fixed is = cc
 
-    pub settle_member : (r : ReadyValue) → has_stop es ≡ false → IsQueued plan es [] r → Queue.is_ready r n ≡ true
+    pub settle_member : (r : ReadyValue) → has_stop es ≡ false → IsQueued plan es [] r → Queue.is_in_ready_set r n ≡ true
     settle_member r on queued = ready_member plan sound es n t found r queued settle_pending (settle_follows on)
 
     pub settle_queued : (r : ReadyValue) → IsQueued plan es [] r → IsQueued plan settled (followers_of plan.tests n) (with_out r n true)
@@ -278,7 +278,7 @@ module _ (plan : PlanParts) (sound : IsSound plan) (es : List Entry) (n : ℕ) (
         queue_set plan sound es settled n t found settle_changes (followers_of plan.tests n) r true (counts_final plan sound es settled n t found settle_changes (pending_none settle_pending) settle_final) settle_stands (ap not (final_done settled settle_final)) queued
 
     settle_done : (left : List ℕ) → settles_but plan settled left (Some t) ≡ false
-    settle_done left = ap (λ (x : Option Cause). is_some x && not (is_one_of t.number left)) (no_cause plan t settled (final_done settled settle_final))
+    settle_done left = ap (λ (x : Option Cause). is_some x && not (is_one_of_numbers t.number left)) (no_cause plan t settled (final_done settled settle_final))
 
     pub settle_settleable : (m : List Bool) (place : ℕ) → has_stop es ≡ false → IsPlaceOf plan.tests n place → AreSettleable plan es [] m → AreSettleable plan settled (followers_of plan.tests n) (slice_set m place false)
     settle_settleable m place on here marks =

@@ -1,5 +1,7 @@
--- The bunches of a queue: tests with the same key, which is a lock to hold or to share, or, without a key, with
--- the same demand. Source: CMake manual, cmake-properties(7), RESOURCE_LOCK. The bunches are this project's own.
+-- The bunches of a queue: tests with the same key, which is a lock to hold or to share, or, without a key,
+-- with
+-- the same demand. Source: CMake manual, cmake-properties(7), RESOURCE_LOCK. The bunches are this project's
+-- own.
 use Rattle.std.specs.Prelude.{◌≡◌, ℕ, ◌<◌, ⊤, Bool, true, false, not, ◌==◌, List, length, All, Option, Some, None, option_and_then, option_map, slice_get, slice_index, slice_index_or, if◌then◌else◌}
 use Rattle.ct_history.specs.declared.plan.PlanTest.{PlanTest}
 use Rattle.ct_history.specs.declared.plan.PlanParts.{PlanParts}
@@ -24,8 +26,10 @@ pub record Key : Type 0 where
 
 -- the key at a place among the test's locks: a lock that it holds alone, or one that it shares
 abbrev pub key_in : PlanTest → KeyPlace → Option Key
-key_in t (Alone at) = option_map (λ (lock : List ℕ). record { lock = lock; alone = true }) (slice_get t.locks at)
-key_in t (Shared at) = option_map (λ (lock : List ℕ). record { lock = lock; alone = false }) (slice_get t.shared at)
+key_in t (Alone at) =
+    option_map (λ (lock : List ℕ). record { lock = lock; alone = true }) (slice_get t.locks at)
+key_in t (Shared at) =
+    option_map (λ (lock : List ℕ). record { lock = lock; alone = false }) (slice_get t.shared at)
 
 -- the key at a place among the locks of the test that was looked up; none if the
 -- test, the place or the lock is missing, or if the test has needs
@@ -49,8 +53,10 @@ is_alone (Some (Shared at)) = false
 pub record AreBunchesOf (plan : PlanParts) (keys : List (Option KeyPlace)) (bunches : List ℕ) : Type 0 where
   pub many : length bunches ≡ length plan.queue
   pub within : All (λ bunch. bunch < length plan.queue) bunches
-  pub locked : (place : ℕ) → place < length plan.queue → key_at plan keys (slice_index bunches place) ≡ key_at plan keys place
-  pub alike : (place : ℕ) → place < length plan.queue → key_at plan keys place ≡ None → demand_at plan (slice_index bunches place) ≡ demand_at plan place
+  pub locked : (place : ℕ) → place < length plan.queue
+      → key_at plan keys (slice_index bunches place) ≡ key_at plan keys place
+  pub alike : (place : ℕ) → place < length plan.queue → key_at plan keys place ≡ None
+      → demand_at plan (slice_index bunches place) ≡ demand_at plan place
 
 -- there is a key, and its lock is not closed to those that wait for it
 abbrev pub is_open_key : InUse → Option Key → Bool
@@ -69,7 +75,8 @@ IsBefore (Some end) place = place < end
 
 -- the bunch of each head in front of the end was seen: it has a head up to the given place
 abbrev pub NoNewBunchTo : ReadyValue → Option ℕ → Option ℕ → Type 0
-NoNewBunchTo ready given end = (head : ℕ) → IsHead ready head → IsBefore end head → IsOfSeenBunch ready given head
+NoNewBunchTo ready given end =
+    (head : ℕ) → IsHead ready head → IsBefore end head → IsOfSeenBunch ready given head
 
 -- a head of a new bunch is found, in front of the end; each earlier head is of a bunch that was seen
 pub record IsNewBunchTo (ready : ReadyValue) (given end : Option ℕ) (found : ℕ) : Type 0 where
@@ -78,11 +85,16 @@ pub record IsNewBunchTo (ready : ReadyValue) (given end : Option ℕ) (found : �
 
 -- no test may start at a head of the place's bunch that is behind the place and in front of the end
 abbrev pub NoneOfBunch : PlanParts → List Entry → ReadyValue → ℕ → Option ℕ → Type 0
-NoneOfBunch plan entries ready place end = (head : ℕ) → place < head → IsBefore end head → slice_index ready.bunches head ≡ slice_index ready.bunches place → IsHead ready head → CanStart plan entries (slice_index plan.queue head) → ⊥
+NoneOfBunch plan entries ready place end =
+    (head : ℕ) → place < head → IsBefore end head
+    → slice_index ready.bunches head ≡ slice_index ready.bunches place → IsHead ready head
+    → CanStart plan entries (slice_index plan.queue head) → ⊥
 
 -- a head of the place's bunch is found, behind the place and in front of the end. Its test may
 -- start without a placement, and no test may start at a head of the bunch between the two.
-pub record IsFirstOfBunch (plan : PlanParts) (entries : List Entry) (ready : ReadyValue) (place : ℕ) (end : Option ℕ) (found : ℕ) : Type 0 where
+pub record IsFirstOfBunch
+    (plan : PlanParts) (entries : List Entry) (ready : ReadyValue) (place : ℕ) (end : Option ℕ) (found : ℕ)
+    : Type 0 where
   pub behind : place < found
   pub before : IsBefore end found
   pub head : IsHead ready found

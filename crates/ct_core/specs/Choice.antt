@@ -28,12 +28,14 @@ abbrev pub NoneStarts : PlanParts → List Entry → List ℕ → Type 0
 NoneStarts plan entries numbers = All (λ number. CanStart plan entries number → ⊥) numbers
 
 -- the test may be settled with this cause, and no test with a lower number may be settled
-pub record IsLeastToSettle (plan : PlanParts) (entries : List Entry) (number : ℕ) (cause : Cause) : Type 0 where
+pub record IsLeastToSettle (plan : PlanParts) (entries : List Entry) (number : ℕ) (cause : Cause)
+    : Type 0 where
   pub may : settle_cause_of_test plan entries number ≡ Some cause
   pub least : (n : ℕ) → n < number → settle_cause_of_test plan entries n ≡ None
 
 -- the test may start with this placement, and no test in front of it in the queue may start
-pub record IsFirstToStart (plan : PlanParts) (entries : List Entry) (number : ℕ) (placement : Option Placement) : Type 0 where
+pub record IsFirstToStart
+    (plan : PlanParts) (entries : List Entry) (number : ℕ) (placement : Option Placement) : Type 0 where
   pub earlier : List ℕ
   pub later : List ℕ
   pub queued : plan.queue ≡ earlier ++ number ∷ later

@@ -4,12 +4,12 @@ use Rattle.std.specs.List.{list_any}
 use Rattle.ct_history.specs.declared.plan.PlanTest.{PlanTest}
 
 -- the number is one of these numbers
-abbrev pub is_one_of : ℕ → List ℕ → Bool
-is_one_of number numbers = list_any (λ n. n == number) numbers
+abbrev pub is_one_of_numbers : ℕ → List ℕ → Bool
+is_one_of_numbers number numbers = list_any (λ n. n == number) numbers
 
 -- the test is not disabled, and waits for the one with this number
 abbrev pub follows : ℕ → PlanTest → Bool
-follows number t = not t.disabled && is_one_of number t.before
+follows number t = not t.disabled && is_one_of_numbers number t.before
 
 -- the numbers of the tests that wait for the one with this number, in order
 abbrev pub followers_of : List PlanTest → ℕ → List ℕ

@@ -28,11 +28,17 @@ is_not_started NoMemory = false
 
 -- the line for an attempt that the world does not name: nothing is heard, and it exits with 0 at once
 abbrev pub untold : ℕ → ℕ → Told
-untold test attempt = record { test = test; attempt = attempt; heard = []; ended = record { how = Exited (pos 0); micros = 0 } }
+untold test attempt = record {
+  test = test;
+  attempt = attempt;
+  heard = [];
+  ended = record { how = Exited (pos 0); micros = 0 };
+}
 
 -- what a world tells of an attempt: its first line of that test and attempt, else `untold`
 abbrev pub told : List Told → ℕ → ℕ → Told
-told world test attempt = unwrap_or (find (λ (t : Told). t.test == test && t.attempt == attempt) world) (untold test attempt)
+told world test attempt =
+    unwrap_or (find (λ (t : Told). t.test == test && t.attempt == attempt) world) (untold test attempt)
 
 -- what a gate tells: what each attempt comes to, and the attempts and requests that were
 -- run so far, each of the three if it is known; and how many starts and waits failed
@@ -52,12 +58,15 @@ asked_for test attempt = record { test = test; attempt = attempt }
 
 -- the answer is the one that the world tells, unless memory was wanting or the world is not known
 abbrev pub IsTold : Option (List Told) → ℕ → ℕ → Ended → Type 0
-IsTold world test attempt ended = is_no_memory ended.how ≡ false → IfSome world (λ w. ended ≡ (told w test attempt).ended)
+IsTold world test attempt ended =
+    is_no_memory ended.how ≡ false → IfSome world (λ w. ended ≡ (told w test attempt).ended)
 
 -- the ear heard what the world tells, behind what it had heard
 -- before, unless memory was wanting or the world is not known
 abbrev pub HearsTold : Option (List Told) → ℕ → ℕ → How → (List ℕ → Type 0) → (List ℕ → Type 0) → Type 0
-HearsTold world test attempt how before now = is_no_memory how ≡ false → IfSome world (λ w. (text : List ℕ) → before text → now (text ++ (told w test attempt).heard))
+HearsTold world test attempt how before now =
+    is_no_memory how ≡ false
+    → IfSome world (λ w. (text : List ℕ) → before text → now (text ++ (told w test attempt).heard))
 
 -- the count of faults rose if the attempt was not started, and else stays; it never falls
 pub record HasStartCause (before now : ℕ) (how : How) : Type 0 where
@@ -67,10 +76,13 @@ pub record HasStartCause (before now : ℕ) (how : How) : Type 0 where
 
 -- a request was run. Unless memory was wanting, the answer and what the ear heard are as the world
 -- tells, and the call is recorded. The world stays, and the count of faults follows the answer.
-pub record RunsRequest (request : Request) (before now : GateTell) (heard_before heard_now : List ℕ → Type 0) (ended : Ended) : Type 0 where
+pub record RunsRequest
+    (request : Request) (before now : GateTell) (heard_before heard_now : List ℕ → Type 0) (ended : Ended)
+    : Type 0 where
   pub told : IsTold before.world request.test request.attempt ended
   pub heard : HearsTold before.world request.test request.attempt ended.how heard_before heard_now
-  pub asked : Becomes before.asked now.asked (Adds (recorded ended.how (asked_for request.test request.attempt)))
+  pub asked :
+      Becomes before.asked now.asked (Adds (recorded ended.how (asked_for request.test request.attempt)))
   pub sent : Becomes before.sent now.sent (Adds (recorded ended.how request))
   pub world : now.world ≡ before.world
   pub cause : HasStartCause before.faults now.faults ended.how

@@ -8,11 +8,12 @@ use Rattle.ct_alloc.specs.Free.{FreeValue, are_there, used_at}
 use Rattle.ct_history.specs.declared.plan.PlanTest.{PlanTest}
 use Rattle.ct_history.specs.declared.plan.PlanParts.{PlanParts}
 use Rattle.ct_history.specs.History.{Running, placed_slots, processors_of, test_at}
-use Rattle.ct_history.specs.Rules.{is_among, is_placed, is_serial, locks_of, shared_of}
-use Rattle.ct_core.specs.Slots.{resources_of, used_of}
+use Rattle.ct_history.specs.Rules.{is_placed, is_serial, locks_of, shared_of}
+use Rattle.ct_core.specs.Slots.{given_resources, used_of}
 use Rattle.ct_core.specs.Locks.{is_held, knows}
 use Rattle.ct_core.specs.Sharers.{sharers_of, counts_sharers, is_shared, one_if}
 use Rattle.ct_core.specs.declared.in_use.InUse.{InUse}
+use Rattle.ct_base.specs.Names.{is_among}
 
 -- each lock that a test of the plan names is known
 abbrev pub KnowsLocks : List PlanTest → InUse → Type 0
@@ -29,11 +30,16 @@ pub record IsInUse (plan : PlanParts) (starts : List Running) (u : InUse) : Type
   pub opens : u.open_count ≡ length starts
   pub serial : u.serial ≡ list_any (λ (r : Running). is_serial (test_at plan.tests r.test)) starts
   pub known : KnowsLocks plan.tests u
-  pub locks : (name : List ℕ) → is_held u.locks name ≡ list_any (λ (r : Running). is_among name (locks_of (test_at plan.tests r.test))) starts
+  pub locks : (name : List ℕ)
+      → is_held u.locks name ≡ list_any (λ (r : Running).
+      is_among name (locks_of (test_at plan.tests r.test))) starts
   pub counted : CountsSharers plan.tests u
-  pub shares : (name : List ℕ) → sharers_of u.sharers name ≡ sum_by (λ (r : Running). one_if (is_among name (shared_of (test_at plan.tests r.test)))) starts
-  pub resources : resources_of u.free ≡ plan.resources
-  pub slots : (place : ℕ) → used_of u.free place ≡ sum_by (λ (r : Running). placed_slots place r.placement) starts
+  pub shares : (name : List ℕ)
+      → sharers_of u.sharers name ≡ sum_by (λ (r : Running).
+      one_if (is_among name (shared_of (test_at plan.tests r.test)))) starts
+  pub resources : given_resources u.free ≡ plan.resources
+  pub slots :
+      (place : ℕ) → used_of u.free place ≡ sum_by (λ (r : Running). placed_slots place r.placement) starts
 
 -- what is in use after a test has started with this placement
 pub record Takes (t : PlanTest) (placement : Option Placement) (old new : InUse) : Type 0 where
@@ -43,20 +49,23 @@ pub record Takes (t : PlanTest) (placement : Option Placement) (old new : InUse)
   pub known : (name : List ℕ) → knows new.locks name ≡ knows old.locks name
   pub locks : (name : List ℕ) → is_held new.locks name ≡ (is_held old.locks name || is_among name t.locks)
   pub counted : (name : List ℕ) → counts_sharers new.sharers name ≡ counts_sharers old.sharers name
-  pub shares : (name : List ℕ) → sharers_of new.sharers name ≡ sharers_of old.sharers name + one_if (is_among name t.shared)
-  pub resources : resources_of new.free ≡ resources_of old.free
+  pub shares : (name : List ℕ)
+      → sharers_of new.sharers name ≡ sharers_of old.sharers name + one_if (is_among name t.shared)
+  pub resources : given_resources new.free ≡ given_resources old.free
   pub slots : (place : ℕ) → used_of new.free place ≡ used_of old.free place + placed_slots place placement
 
 -- what is in use after a test with this placement has ended, if no other test held its locks
-pub record Gives (t : PlanTest) (placement : Option Placement) (old new : InUse) : Type 0 where
+pub record GivesBack (t : PlanTest) (placement : Option Placement) (old new : InUse) : Type 0 where
   pub processors : new.processors ≡ old.processors - t.processors
   pub opens : new.open_count ≡ old.open_count - 1
   pub serial : new.serial ≡ (old.serial && not t.serial)
   pub known : (name : List ℕ) → knows new.locks name ≡ knows old.locks name
-  pub locks : (name : List ℕ) → is_held new.locks name ≡ (is_held old.locks name && not (is_among name t.locks))
+  pub locks :
+      (name : List ℕ) → is_held new.locks name ≡ (is_held old.locks name && not (is_among name t.locks))
   pub counted : (name : List ℕ) → counts_sharers new.sharers name ≡ counts_sharers old.sharers name
-  pub shares : (name : List ℕ) → sharers_of new.sharers name ≡ sharers_of old.sharers name - one_if (is_among name t.shared)
-  pub resources : resources_of new.free ≡ resources_of old.free
+  pub shares : (name : List ℕ)
+      → sharers_of new.sharers name ≡ sharers_of old.sharers name - one_if (is_among name t.shared)
+  pub resources : given_resources new.free ≡ given_resources old.free
   pub slots : (place : ℕ) → used_of new.free place ≡ used_of old.free place - placed_slots place placement
 
 -- some open test holds the lock alone or shares it
@@ -71,7 +80,10 @@ is_closed u alone lock = if alone then is_locked u lock else is_held u.locks loc
 -- some open test and this test exclude each other
 abbrev pub is_excluded_beside : InUse → PlanTest → Bool
 is_excluded_beside u t =
-    u.serial || t.serial && nat_lt 0 u.open_count || list_any (is_locked u) t.locks || list_any (is_held u.locks) t.shared
+    u.serial
+    || t.serial && nat_lt 0 u.open_count
+    || list_any (is_locked u) t.locks
+    || list_any (is_held u.locks) t.shared
 
 -- the test has room: its processors and the used ones are
 -- together at most the level, and no open test excludes it
@@ -85,7 +97,8 @@ abbrev pub HasFreeFor : Option FreeValue → Option Placement → Type 0
 HasFreeFor None None = Unit {0}
 HasFreeFor None (Some p) = ⊥
 HasFreeFor (Some free) None = Unit {0}
-HasFreeFor (Some free) (Some p) = (are_there free.resources p.picks ≡ true) × (fits_beside free.resources (used_at free) p.picks ≡ true)
+HasFreeFor (Some free) (Some p) =
+    (are_there free.resources p.picks ≡ true) × (fits_beside free.resources (used_at free) p.picks ≡ true)
 
 -- the resources of a placement are there and have its slots
 -- in use. Without resources there is no placement.
@@ -93,7 +106,8 @@ abbrev pub HasTaken : Option FreeValue → Option Placement → Type 0
 HasTaken None None = Unit {0}
 HasTaken None (Some p) = ⊥
 HasTaken (Some free) None = Unit {0}
-HasTaken (Some free) (Some p) = (are_there free.resources p.picks ≡ true) × ((place : ℕ) → slots_at place p.picks ≤ used_at free place)
+HasTaken (Some free) (Some p) =
+    (are_there free.resources p.picks ≡ true) × ((place : ℕ) → slots_at place p.picks ≤ used_at free place)
 
 -- a test with this placement can take what it needs
 pub record CanTake (t : PlanTest) (placement : Option Placement) (u : InUse) : Type 0 where
@@ -102,7 +116,7 @@ pub record CanTake (t : PlanTest) (placement : Option Placement) (u : InUse) : T
   pub known : list_all (knows u.locks) t.locks ≡ true
   pub counted : list_all (counts_sharers u.sharers) t.shared ≡ true
   pub few : (name : List ℕ) → sharers_of u.sharers name + 1 < 2 ^ 64
-  pub placed : is_placed (resources_of u.free) t.needs (used_of u.free) placement ≡ true
+  pub placed : is_placed (given_resources u.free) t.needs (used_of u.free) placement ≡ true
 
 -- a test with this placement can give back what it took
 pub record CanGive (t : PlanTest) (placement : Option Placement) (u : InUse) : Type 0 where

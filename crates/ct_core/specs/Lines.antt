@@ -17,7 +17,13 @@ pub record Demand : Type 0 where
 
 -- the demand of a test
 abbrev pub demand_of : PlanTest → Demand
-demand_of t = record { processors = t.processors; serial = t.serial; locks = t.locks; shared = t.shared; needs = t.needs }
+demand_of t = record {
+  processors = t.processors;
+  serial = t.serial;
+  locks = t.locks;
+  shared = t.shared;
+  needs = t.needs;
+}
 
 -- two tests have the same demand
 abbrev pub AskAlike : PlanTest → PlanTest → Type 0

@@ -49,24 +49,28 @@ pub record AreQueued (plan : PlanParts) (entries : List Entry) (left : List ℕ)
 
 -- while an attempt is open, the room suffices for an End of each open
 -- attempt and for a Stop that may still come, so an End takes no memory
-abbrev pub HasRoom : List Entry → ℕ → Parts → Type 0
-HasRoom entries room parts = 0 < parts.in_use.open_count → length entries + parts.in_use.open_count + stop_places entries ≤ room
+abbrev pub HasRoomToEnd : List Entry → ℕ → Parts → Type 0
+HasRoomToEnd entries room parts =
+    0 < parts.in_use.open_count → length entries + parts.in_use.open_count + stop_places entries ≤ room
 
 -- the history is legal, it has room for what is still to end, and each part agrees with it
 pub record IsKept (plan : PlanParts) (entries : List Entry) (room : ℕ) (parts : Parts) : Type 0 where
   pub legal : is_legal plan entries ≡ true
-  pub reserved : HasRoom entries room parts
+  pub reserved : HasRoomToEnd entries room parts
   pub told : AreTold plan entries parts
   pub unfinished : parts.unfinished ≡ count_unfinished parts.states.items
   pub queued : AreQueued plan entries [] parts
 
 -- the last entry made the test final with this verdict. Only three parts are not updated
 -- yet: the number of tests that are not final, the test's followers, and a due Stop.
-pub record IsConcluding (plan : PlanParts) (entries : List Entry) (room : ℕ) (number : ℕ) (verdict : Verdict) (parts : Parts) : Type 0 where
+pub record IsConcluding
+    (plan : PlanParts) (entries : List Entry) (room : ℕ) (number : ℕ) (verdict : Verdict) (parts : Parts)
+    : Type 0 where
   pub allowed : is_allowed_so_far plan entries ≡ true
   pub final : verdict_of_test plan entries number ≡ Some verdict
-  pub due : is_stop_due plan entries ≡ (plan.stop_on_failure && is_failing_verdict verdict && not (has_stop entries))
-  pub reserved : HasRoom entries room parts
+  pub due : is_stop_due plan entries
+      ≡ (plan.stop_on_failure && is_failing_verdict verdict && not (has_stop entries))
+  pub reserved : HasRoomToEnd entries room parts
   pub stop_room : has_stop entries ≡ false → length entries < room
   pub told : AreTold plan entries parts
   pub unfinished : parts.unfinished ≡ count_unfinished parts.states.items + 1
@@ -88,7 +92,7 @@ pub record IsLowered (old new : Parts) : Type 0 where
 
 -- the test at this place is pending again, after so many attempts. Without a
 -- Stop it is no longer out of the ready set; behind a Stop it may be settled.
-pub record GoesOn (place number attempts : ℕ) (old new : Parts) : Type 0 where
+pub record GoesOnPending (place number attempts : ℕ) (old new : Parts) : Type 0 where
   pub states : new.states.items ≡ slice_set old.states.items place (Pending attempts)
   pub unfinished : new.unfinished ≡ old.unfinished
   pub in_use : new.in_use ≡ old.in_use
@@ -96,7 +100,8 @@ pub record GoesOn (place number attempts : ℕ) (old new : Parts) : Type 0 where
   pub followers : new.followers.items ≡ old.followers.items
   pub stopped : new.stopped ≡ old.stopped
   pub ready : old.stopped ≡ false → new.ready ≡ with_out old.ready number false
-  pub settleable : new.settleable ≡ (if old.stopped then slice_set old.settleable place true else old.settleable)
+  pub settleable :
+      new.settleable ≡ (if old.stopped then slice_set old.settleable place true else old.settleable)
 
 -- the test at this place is settled with this cause: it is final,
 -- out of the ready set if there is no Stop, and not marked
@@ -120,7 +125,11 @@ pub record IsStoppedTo (places : ℕ) (old new : Parts) : Type 0 where
   pub followers : new.followers.items ≡ old.followers.items
   pub stopped : new.stopped ≡ true
   pub room : length new.settleable ≡ length old.settleable
-  pub marked : (place : ℕ) → is_marked new.settleable place ≡ (if nat_lt place places then is_pending_at_place old.states.items place else is_marked old.settleable place)
+  pub marked : (place : ℕ)
+      → is_marked new.settleable place
+      ≡ (if nat_lt place places
+      then is_pending_at_place old.states.items place
+      else is_marked old.settleable place)
 
 -- a Stop is noted, and exactly the pending tests are marked: each of them may be settled
 abbrev pub IsStopped : Parts → Parts → Type 0

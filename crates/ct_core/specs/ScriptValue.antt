@@ -17,15 +17,24 @@ pub record ScriptValue : Type 0 where
 
 -- what a gate that follows a script tells: its world, its attempts, its requests and its count of faults
 abbrev pub told_of_script : ScriptValue → GateTell
-told_of_script gate = record { world = Some gate.world; asked = Some gate.asked; sent = Some gate.sent; faults = gate.faults }
+told_of_script gate = record {
+  world = Some gate.world;
+  asked = Some gate.asked;
+  sent = Some gate.sent;
+  faults = gate.faults;
+}
 
 -- the request was recorded, and nothing else changed
 abbrev pub Records : ScriptValue → Request → ScriptValue → Type 0
-Records old request new = new ≡ record old { asked = old.asked ++ asked_for request.test request.attempt ∷ []; sent = old.sent ++ request ∷ [] }
+Records old request new =
+    new
+    ≡ record old { asked = old.asked ++ asked_for request.test request.attempt ∷ []; sent = old.sent ++ request ∷ [] }
 
 -- the count of faults rose by one if the attempt was not started, up to 2^64 - 1; nothing else changed
 abbrev pub CountsStart : ScriptValue → How → ScriptValue → Type 0
-CountsStart old how new = new ≡ record old { faults = (if is_not_started how then min (old.faults + 1) (2 ^ 64 - 1) else old.faults) }
+CountsStart old how new =
+    new
+    ≡ record old { faults = (if is_not_started how then min (old.faults + 1) (2 ^ 64 - 1) else old.faults) }
 
 -- the rank of an attempt in the order of test and attempt, which are below 2^32
 abbrev pub rank : ℕ → ℕ → ℕ
@@ -38,4 +47,6 @@ AreInOrder world = IsNonDecreasingBy (λ (t : Told). rank t.test t.attempt) worl
 -- each line in front of the place has a lower rank than the one sought, and no line from the place on has
 abbrev pub IsPlaceOf : ℕ → List Told → ℕ → Type 0
 IsPlaceOf sought world place =
-    IsPartitionPoint (λ (t : Told). nat_lt (rank t.test t.attempt) sought ≡ true) (λ (t : Told). nat_lt (rank t.test t.attempt) sought ≡ false) world place
+    IsPartitionPoint (λ (t : Told).
+    nat_lt (rank t.test t.attempt) sought
+    ≡ true) (λ (t : Told). nat_lt (rank t.test t.attempt) sought ≡ false) world place

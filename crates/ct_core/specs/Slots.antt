@@ -13,8 +13,8 @@ use Rattle.ct_core.specs.declared.slots.Place.{Place}
 use Rattle.ct_core.specs.declared.slots.Place.TheVariants.{Nowhere, Here}
 
 -- the resources, if they are given
-abbrev pub resources_of : Option FreeValue → Option (List Resource)
-resources_of free = option_map (λ (f : FreeValue). f.resources) free
+abbrev pub given_resources : Option FreeValue → Option (List Resource)
+given_resources free = option_map (λ (f : FreeValue). f.resources) free
 
 -- how many slots of the resource at a place are used; 0 if no resources are given
 abbrev pub used_of : Option FreeValue → ℕ → ℕ
@@ -23,11 +23,14 @@ used_of (Some free) place = used_at free place
 
 -- the resources are the plan's, and the slots in use are the slots that the open starts use
 pub record IsFreeBeside (plan : PlanParts) (entries : List Entry) (free : Option FreeValue) : Type 0 where
-  pub resources : resources_of free ≡ plan.resources
+  pub resources : given_resources free ≡ plan.resources
   pub used : IfSome free (λ f. (place : ℕ) → used_at f place ≡ used_slots entries place)
 
 -- the answer is right for these needs: `Nowhere` if no
 -- placement is right for them, else a placement that is
 abbrev pub IsPlaceFor : Option FreeValue → List Need → Place → Type 0
-IsPlaceFor free needs Nowhere = (placement : Option Placement) → is_placed (resources_of free) needs (used_of free) placement ≡ true → ⊥
-IsPlaceFor free needs (Here placement) = is_placed (resources_of free) needs (used_of free) placement ≡ true
+IsPlaceFor free needs Nowhere =
+    (placement : Option Placement) → is_placed (given_resources free) needs (used_of free) placement ≡ true
+    → ⊥
+IsPlaceFor free needs (Here placement) =
+    is_placed (given_resources free) needs (used_of free) placement ≡ true

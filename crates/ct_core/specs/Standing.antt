@@ -13,8 +13,8 @@ use Rattle.ct_core.specs.declared.state.State.{State}
 use Rattle.ct_core.specs.declared.state.State.TheVariants.{Pending, Open, Final}
 
 -- the open start of a test, if there is one
-abbrev pub open_start : ℕ → List Entry → Option Running
-open_start test entries = find (λ (r : Running). r.test == test) (open_starts entries)
+abbrev pub open_start_of_test : ℕ → List Entry → Option Running
+open_start_of_test test entries = find (λ (r : Running). r.test == test) (open_starts entries)
 
 -- the state by the verdict, the open start and the number of ended attempts:
 -- final if there is a verdict, else open if there is an open start, else pending
@@ -25,7 +25,9 @@ standing None None attempts = Pending attempts
 
 -- the state of a test, as the history tells it
 abbrev pub state_of : Repeat → List Entry → PlanTest → State
-state_of repeat entries t = standing (verdict_in repeat t entries) (open_start t.number entries) (length (attempts_of t.number t.rules entries))
+state_of repeat entries t =
+    standing (verdict_in repeat t entries) (open_start_of_test t.number entries)
+    (length (attempts_of t.number t.rules entries))
 
 -- the state of each test of the plan, in order
 abbrev pub states_of : PlanParts → List Entry → List State

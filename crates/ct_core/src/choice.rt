@@ -2,7 +2,7 @@ ghost use Rattle.std.specs.Prelude.{◌≡◌, ◌↔◌, ◌<◌, find, length,
 ghost use Rattle.ct_core.specs.Bunches.{IsBefore, IsFirstOfBunch, IsNewBunchTo, NoNewBunchTo, NoneOfBunch, has_room_at, is_open_key, key_at, test_in_queue};
 ghost use Rattle.ct_core.specs.Choice.{IsChoice, IsLeastToSettle, IsStartOf, IsStartable, NoneSettles, NoneStarts, SomeIsToPlace, TakesMemory, attempt_after, may_start_if_placed_at};
 ghost use Rattle.ct_core.specs.Parts.{AreTold};
-ghost use Rattle.ct_core.specs.Run.{IsKeptRun, entries_of};
+ghost use Rattle.ct_core.specs.Run.{IsKeptRun, history_of_run};
 ghost use Rattle.ct_core.specs.Waiting.{IsDue, cause_then};
 ghost use Rattle.ct_history.specs.History.{has_stop};
 ghost use Rattle.ct_history.specs.Plan.{IsSound, test_at};
@@ -50,8 +50,8 @@ impl Run {
     /// It takes memory only to look for a placement.
     pub(crate) fn choose(&self, alloc: Global) -> Result<Choice, NoMemory>
         requires { IsKeptRun self.now }
-        ensures ok { IfOk result (λ choice. IsChoice self.now.plan (entries_of self.now) choice) }
-        ensures err { IfErr result (λ _. TakesMemory self.now.plan (entries_of self.now)) }
+        ensures ok { IfOk result (λ choice. IsChoice self.now.plan (history_of_run self.now) choice) }
+        ensures err { IfErr result (λ _. TakesMemory self.now.plan (history_of_run self.now)) }
     {
         if self.parts.unfinished == 0 {
             return Ok(Choice::Done);
@@ -68,8 +68,8 @@ impl Run {
     /// Finds the test of the least number that may be settled, and its cause.
     fn first_to_settle(&self) -> Option<(u32, Cause)>
         requires { IsKeptRun self.now }
-        ensures found { MatchOption result (NoneSettles self.now.plan (entries_of self.now))
-            (λ found. IsLeastToSettle self.now.plan (entries_of self.now) found.0 found.1) }
+        ensures found { MatchOption result (NoneSettles self.now.plan (history_of_run self.now))
+            (λ found. IsLeastToSettle self.now.plan (history_of_run self.now) found.0 found.1) }
         ensures sound { IsSound self.now.plan }
     {
         let tests = self.plan.parts().tests.as_slice();
@@ -85,8 +85,8 @@ impl Run {
 
     /// Returns the cause of a test that may be settled.
     fn cause(&self, test: &PlanTest) -> Option<Cause>
-        requires { AreTold self.now.plan (entries_of self.now) self.now.parts }
-        ensures { result ≡ (if has_stop (entries_of self.now) then Some Stopped else cause_then self.now.plan (entries_of self.now) test.now) }
+        requires { AreTold self.now.plan (history_of_run self.now) self.now.parts }
+        ensures { result ≡ (if has_stop (history_of_run self.now) then Some Stopped else cause_then self.now.plan (history_of_run self.now) test.now) }
     {
         if self.parts.stopped {
             Some(Cause::Stopped)
@@ -97,8 +97,8 @@ impl Run {
 
     /// Returns the cause that a test is settled with once its predecessors are final, if there is one.
     pub(crate) fn cause_then(&self, test: &PlanTest) -> Option<Cause>
-        requires { AreTold self.now.plan (entries_of self.now) self.now.parts }
-        ensures { result ≡ cause_then self.now.plan (entries_of self.now) test.now }
+        requires { AreTold self.now.plan (history_of_run self.now) self.now.parts }
+        ensures { result ≡ cause_then self.now.plan (history_of_run self.now) test.now }
     {
         match self.first_unpassed(test.setups.as_slice()) {
             Some(setup) => Some(Cause::Fixture(setup)),
@@ -107,8 +107,8 @@ impl Run {
     }
 
     fn first_unpassed(&self, setups: &[u32]) -> Option<u32>
-        requires { AreTold self.now.plan (entries_of self.now) self.now.parts }
-        ensures { result ≡ find (λ s. not (is_passed_verdict (verdict_of_test self.now.plan (entries_of self.now) s))) setups.now }
+        requires { AreTold self.now.plan (history_of_run self.now) self.now.parts }
+        ensures { result ≡ find (λ s. not (is_passed_verdict (verdict_of_test self.now.plan (history_of_run self.now) s))) setups.now }
     {
         for setup in setups {
             if !self.has_passed(*setup) {
@@ -119,8 +119,8 @@ impl Run {
     }
 
     fn has_passed(&self, number: u32) -> bool
-        requires { AreTold self.now.plan (entries_of self.now) self.now.parts }
-        ensures { result ≡ is_passed_verdict (verdict_of_test self.now.plan (entries_of self.now) number) }
+        requires { AreTold self.now.plan (history_of_run self.now) self.now.parts }
+        ensures { result ≡ is_passed_verdict (verdict_of_test self.now.plan (history_of_run self.now) number) }
     {
         match place_of(self.plan.parts().tests.as_slice(), number) {
             Some(place) => self.parts.states[place].has_passed(),
@@ -134,10 +134,10 @@ impl Run {
     /// line can. Of a bunch whose lock is closed it tries only the first ready test of the first line.
     fn first_to_start(&self, alloc: Global) -> Result<Option<Startable>, NoMemory>
         requires kept { IsKeptRun self.now }
-        requires unsettled { NoneSettles self.now.plan (entries_of self.now) }
-        ensures ok { IfOk result (λ found. MatchOption found (NoneStarts self.now.plan (entries_of self.now) self.now.plan.queue)
-            (λ start. IsStartable self.now.plan (entries_of self.now) start)) }
-        ensures err { IfErr result (λ _. SomeIsToPlace self.now.plan (entries_of self.now)) }
+        requires unsettled { NoneSettles self.now.plan (history_of_run self.now) }
+        ensures ok { IfOk result (λ found. MatchOption found (NoneStarts self.now.plan (history_of_run self.now) self.now.plan.queue)
+            (λ start. IsStartable self.now.plan (history_of_run self.now) start)) }
+        ensures err { IfErr result (λ _. SomeIsToPlace self.now.plan (history_of_run self.now)) }
     {
         let plan = self.plan.parts();
         if self.parts.stopped || self.parts.in_use.is_full(plan.level) {
@@ -175,10 +175,10 @@ impl Run {
     /// Finds the next attempt of a ready test, with its placement, if the test may start.
     fn next_start(&self, alloc: Global, number: u32) -> Result<Option<Startable>, NoMemory>
         requires kept { IsKeptRun self.now }
-        requires due { IsDue self.now.plan (entries_of self.now) number }
-        ensures ok { IfOk result (λ found. MatchOption found (CanStart self.now.plan (entries_of self.now) number → ⊥)
-            (λ start. IsStartOf self.now.plan (entries_of self.now) number start)) }
-        ensures err { IfErr result (λ _. may_start_if_placed_at self.now.plan (entries_of self.now) (test_at self.now.plan.tests number) ≡ true) }
+        requires due { IsDue self.now.plan (history_of_run self.now) number }
+        ensures ok { IfOk result (λ found. MatchOption found (CanStart self.now.plan (history_of_run self.now) number → ⊥)
+            (λ start. IsStartOf self.now.plan (history_of_run self.now) number start)) }
+        ensures err { IfErr result (λ _. may_start_if_placed_at self.now.plan (history_of_run self.now) (test_at self.now.plan.tests number) ≡ true) }
     {
         let plan = self.plan.parts();
         let tests = plan.tests.as_slice();
@@ -200,9 +200,9 @@ impl Run {
     /// Returns the number of the next attempt of a test that may start as soon as its needs are met.
     fn next_attempt(&self, number: u32) -> u32
         requires kept { IsKeptRun self.now }
-        requires due { IsDue self.now.plan (entries_of self.now) number }
-        requires may { may_start_if_placed_at self.now.plan (entries_of self.now) (test_at self.now.plan.tests number) ≡ true }
-        ensures { result ≡ attempt_after (entries_of self.now) (test_at self.now.plan.tests number) }
+        requires due { IsDue self.now.plan (history_of_run self.now) number }
+        requires may { may_start_if_placed_at self.now.plan (history_of_run self.now) (test_at self.now.plan.tests number) ≡ true }
+        ensures { result ≡ attempt_after (history_of_run self.now) (test_at self.now.plan.tests number) }
     {
         let plan = self.plan.parts();
         let _times = plan.repeat.times;
@@ -216,9 +216,9 @@ impl Run {
     /// Returns the next attempt of a test that may start without a placement.
     fn start_unplaced(&self, number: u32) -> Startable
         requires kept { IsKeptRun self.now }
-        requires due { IsDue self.now.plan (entries_of self.now) number }
-        requires may { may_start_at self.now.plan (entries_of self.now) None (test_at self.now.plan.tests number) ≡ true }
-        ensures { IsStartOf self.now.plan (entries_of self.now) number result }
+        requires due { IsDue self.now.plan (history_of_run self.now) number }
+        requires may { may_start_at self.now.plan (history_of_run self.now) None (test_at self.now.plan.tests number) ≡ true }
+        ensures { IsStartOf self.now.plan (history_of_run self.now) number result }
     {
         Startable {
             test: number,
@@ -234,12 +234,12 @@ impl Run {
     /// no lock, none may either, since its tests have the same demand.
     fn first_of_bunch(&self, first: u32, end: Option<u32>) -> Option<u32>
         requires kept { IsKeptRun self.now }
-        requires goes_on { has_stop (entries_of self.now) ≡ false }
-        requires unsettled { NoneSettles self.now.plan (entries_of self.now) }
+        requires goes_on { has_stop (history_of_run self.now) ≡ false }
+        requires unsettled { NoneSettles self.now.plan (history_of_run self.now) }
         requires head { IsHead self.now.parts.ready first }
-        requires unable { CanStart self.now.plan (entries_of self.now) (slice_index self.now.plan.queue first) → ⊥ }
-        ensures { MatchOption result (NoneOfBunch self.now.plan (entries_of self.now) self.now.parts.ready first end)
-            (λ found. IsFirstOfBunch self.now.plan (entries_of self.now) self.now.parts.ready first end found) }
+        requires unable { CanStart self.now.plan (history_of_run self.now) (slice_index self.now.plan.queue first) → ⊥ }
+        ensures { MatchOption result (NoneOfBunch self.now.plan (history_of_run self.now) self.now.parts.ready first end)
+            (λ found. IsFirstOfBunch self.now.plan (history_of_run self.now) self.now.parts.ready first end found) }
     {
         if !self.is_open(first) {
             return None;

@@ -1,7 +1,6 @@
 //! The scheduling core of a run, and the gate through which programs are asked.
 //!
 //! Hands up: `Core`, which starts and ends attempts; `Ticket`, the right to run one; `Gate`.
-//! Stands on: ct_base, ct_alloc, ct_verdict, ct_history, ct_queue and `indexmap`.
 //! Read first: `specs/Choice.antt`, `specs/Core.antt`, `specs/Gate.antt`, then `scheduler.rt`, `gate.rt`.
 //! For what the core keeps beside its history: `specs/Parts.antt`, then `run.rt`.
 #![tactic(auto)]

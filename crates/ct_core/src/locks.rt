@@ -1,7 +1,7 @@
 ghost use Rattle.std.specs.Prelude.{◌≡◌, ℕ, ◌&&◌, ◌||◌, not, true, false, List, IfOk, OnOk, bytes_eq, if◌then◌else◌};
 ghost use Rattle.std.specs.List.{list_any, list_all};
-ghost use Rattle.ct_history.specs.Rules.{is_among};
 ghost use Rattle.ct_core.specs.Locks.{is_held, knows};
+ghost use Rattle.ct_base.specs.Names.{is_among};
 
 use ct_base::{Name, NoMemory};
 use ct_history::PlanTest;

@@ -1,6 +1,6 @@
 ghost use Rattle.std.specs.Prelude.{◌<◌, ◌≤◌, ◌≡◌, false, true, length};
-ghost use Rattle.ct_core.specs.Parts.{GoesOn, IsSettled, IsStopped, is_pending_at_place};
-ghost use Rattle.ct_queue.specs.Ready.{StandsIn, is_out, is_ready};
+ghost use Rattle.ct_core.specs.Parts.{GoesOnPending, IsSettled, IsStopped, is_pending_at_place};
+ghost use Rattle.ct_queue.specs.Ready.{StandsIn, is_out, is_in_ready_set};
 
 use crate::bunches::KeyPlace;
 use crate::in_use::InUse;
@@ -38,7 +38,7 @@ impl Parts {
         requires marks { length self.old.states.items ≤ length self.old.settleable }
         requires stands { self.old.stopped ≡ false → StandsIn self.old.ready.order number }
         requires gone { self.old.stopped ≡ false → is_out self.old.ready number ≡ true }
-        ensures { GoesOn place number attempts self.old self.new }
+        ensures { GoesOnPending place number attempts self.old self.new }
     {
         self.states[place] = State::Pending(attempts);
         if self.stopped {
@@ -53,7 +53,7 @@ impl Parts {
         requires there { place < length self.old.states.items }
         requires marks { length self.old.states.items ≤ length self.old.settleable }
         requires stands { self.old.stopped ≡ false → StandsIn self.old.ready.order number }
-        requires member { self.old.stopped ≡ false → is_ready self.old.ready number ≡ true }
+        requires member { self.old.stopped ≡ false → is_in_ready_set self.old.ready number ≡ true }
         ensures { IsSettled place number cause self.old self.new }
     {
         self.states[place] = State::Final(Verdict::NotRun(cause));

@@ -2,7 +2,7 @@ ghost use Rattle.std.specs.Prelude.{◌≡◌, ◌+◌, ◌<◌, ◌≤◌, ◌&
 ghost use Rattle.ct_core.specs.Choice.{IsStartable};
 ghost use Rattle.ct_core.specs.Core.{with_due_stop};
 ghost use Rattle.ct_core.specs.Parts.{AreQueued, AreTold, IsLowered, followers_at};
-ghost use Rattle.ct_core.specs.Run.{IsConcludingRun, IsKeptRun, entries_of};
+ghost use Rattle.ct_core.specs.Run.{IsConcludingRun, IsKeptRun, history_of_run};
 ghost use Rattle.ct_core.specs.Standing.{IsPlaceOf};
 ghost use Rattle.ct_history.specs.History.{has_stop, holds_start, is_busy_in};
 ghost use Rattle.ct_history.specs.Rules.{settle_cause_of_test};
@@ -32,12 +32,12 @@ impl Run {
     /// Starts the next attempt of a test that may start.
     pub(crate) fn start(&mut self, start: &Startable, worker: u32) -> Result<(), NoMemory>
         requires kept { IsKeptRun self.old }
-        requires free { is_busy_in worker (entries_of self.old) ≡ false }
-        requires startable { IsStartable self.old.plan (entries_of self.old) start.now }
+        requires free { is_busy_in worker (history_of_run self.old) ≡ false }
+        requires startable { IsStartable self.old.plan (history_of_run self.old) start.now }
         ensures kept { IsKeptRun self.new }
         ensures plan { self.new.plan ≡ self.old.plan }
-        ensures started { OnOk result (entries_of self.new ≡ entries_of self.old ++ Start start.now.test start.now.attempt worker start.now.placement ∷ []) }
-        ensures unstarted { OnErr result (entries_of self.new ≡ entries_of self.old) }
+        ensures started { OnOk result (history_of_run self.new ≡ history_of_run self.old ++ Start start.now.test start.now.attempt worker start.now.placement ∷ []) }
+        ensures unstarted { OnErr result (history_of_run self.new ≡ history_of_run self.old) }
     {
         let alloc = *self.history.entries.allocator();
         let told = copy_placement(alloc, start.placement.as_ref())?;
@@ -74,11 +74,11 @@ impl Run {
         seen: Seen,
     ) -> Option<Verdict>
         requires kept { IsKeptRun self.old }
-        requires holds { holds_start number attempt worker (entries_of self.old) ≡ true }
+        requires holds { holds_start number attempt worker (history_of_run self.old) ≡ true }
         ensures kept { IsKeptRun self.new }
         ensures plan { self.new.plan ≡ self.old.plan }
-        ensures ended { entries_of self.new ≡ with_due_stop self.old.plan (entries_of self.old ++ End number attempt worker seen ∷ []) }
-        ensures verdict { result ≡ verdict_of_test self.old.plan (entries_of self.new) number }
+        ensures ended { history_of_run self.new ≡ with_due_stop self.old.plan (history_of_run self.old ++ End number attempt worker seen ∷ []) }
+        ensures verdict { result ≡ verdict_of_test self.old.plan (history_of_run self.new) number }
     {
         let plan = self.plan.parts();
         let place = expect_place(plan.tests.as_slice(), number);
@@ -112,11 +112,11 @@ impl Run {
     /// Settles a test that may be settled with this cause.
     pub(crate) fn settle(&mut self, number: u32, cause: Cause) -> Result<(), NoMemory>
         requires kept { IsKeptRun self.old }
-        requires may { settle_cause_of_test self.old.plan (entries_of self.old) number ≡ Some cause }
+        requires may { settle_cause_of_test self.old.plan (history_of_run self.old) number ≡ Some cause }
         ensures kept { IsKeptRun self.new }
         ensures plan { self.new.plan ≡ self.old.plan }
-        ensures settled { OnOk result (entries_of self.new ≡ with_due_stop self.old.plan (entries_of self.old ++ Settle number cause ∷ [])) }
-        ensures unsettled { OnErr result (entries_of self.new ≡ entries_of self.old) }
+        ensures settled { OnOk result (history_of_run self.new ≡ with_due_stop self.old.plan (history_of_run self.old ++ Settle number cause ∷ [])) }
+        ensures unsettled { OnErr result (history_of_run self.new ≡ history_of_run self.old) }
     {
         self.history
             .entries
@@ -140,7 +140,7 @@ impl Run {
         requires concluding { IsConcludingRun number verdict self.old }
         ensures kept { IsKeptRun self.new }
         ensures plan { self.new.plan ≡ self.old.plan }
-        ensures stopped { entries_of self.new ≡ with_due_stop self.old.plan (entries_of self.old) }
+        ensures stopped { history_of_run self.new ≡ with_due_stop self.old.plan (history_of_run self.old) }
     {
         self.parts.unfinished -= 1;
         if self.parts.stopped {
@@ -158,13 +158,13 @@ impl Run {
     /// Lowers the count of each follower of the test at a place.
     fn lower_followers(&mut self, place: usize)
         requires there { place < length self.old.plan.tests }
-        requires goes_on { has_stop (entries_of self.old) ≡ false }
-        requires told { AreTold self.old.plan (entries_of self.old) self.old.parts }
-        requires queued { AreQueued self.old.plan (entries_of self.old) (followers_at self.old.parts place) self.old.parts }
+        requires goes_on { has_stop (history_of_run self.old) ≡ false }
+        requires told { AreTold self.old.plan (history_of_run self.old) self.old.parts }
+        requires queued { AreQueued self.old.plan (history_of_run self.old) (followers_at self.old.parts place) self.old.parts }
         ensures plan { self.new.plan ≡ self.old.plan }
         ensures history { self.new.history ≡ self.old.history }
         ensures lowered { IsLowered self.old.parts self.new.parts }
-        ensures queued { AreQueued self.old.plan (entries_of self.old) [] self.new.parts }
+        ensures queued { AreQueued self.old.plan (history_of_run self.old) [] self.new.parts }
     {
         for at in 0..self.parts.followers[place].len() {
             self.lower_follower(place, at);
@@ -175,13 +175,13 @@ impl Run {
     fn lower_follower(&mut self, place: usize, at: usize)
         requires there { place < length self.old.plan.tests }
         requires within { at < length (followers_at self.old.parts place) }
-        requires goes_on { has_stop (entries_of self.old) ≡ false }
-        requires told { AreTold self.old.plan (entries_of self.old) self.old.parts }
-        requires queued { AreQueued self.old.plan (entries_of self.old) (drop at (followers_at self.old.parts place)) self.old.parts }
+        requires goes_on { has_stop (history_of_run self.old) ≡ false }
+        requires told { AreTold self.old.plan (history_of_run self.old) self.old.parts }
+        requires queued { AreQueued self.old.plan (history_of_run self.old) (drop at (followers_at self.old.parts place)) self.old.parts }
         ensures plan { self.new.plan ≡ self.old.plan }
         ensures history { self.new.history ≡ self.old.history }
         ensures lowered { IsLowered self.old.parts self.new.parts }
-        ensures queued { AreQueued self.old.plan (entries_of self.old) (drop (at + 1) (followers_at self.old.parts place)) self.new.parts }
+        ensures queued { AreQueued self.old.plan (history_of_run self.old) (drop (at + 1) (followers_at self.old.parts place)) self.new.parts }
     {
         let follower = self.parts.followers[place].as_slice()[at];
         self.parts.ready.lower(follower);

@@ -8,9 +8,9 @@ use Rattle.std.proofs.lemmas.List.{map_push}
 use Rattle.std.proofs.lemmas.Slice.Eq.{bytes_eq-Decides}
 use Rattle.indexmap.specs.IndexMap.{insert_entry}
 use Rattle.indexmap.specs.IndexSet.{insert_key}
-use Rattle.ct_history.specs.Rules.{is_among}
-use Rattle.ct_cost.specs.CostLine.{CostLine, last_of, line_of, with_line, with_new_name, with_run, unrun, after_run}
+use Rattle.ct_cost.specs.CostLine.{CostLine, last_durations, line_of, with_line, with_new_name, with_run, unrun, after_run}
 use Rattle.ct_cost.specs.Kept.{line_for, kept_line, durations_of, with_read}
+use Rattle.ct_base.specs.Names.{is_among}
 
 module _ {Z : Type 0} where
   durations_by : (entry : Vec ℕ Z × List ℕ) (name : List ℕ) (found : Option (List ℕ)) (lines : List CostLine) → found ≡ option_map durations_of (line_of lines name) → (is : Bool)
@@ -72,17 +72,17 @@ line_of-named [] name = tt
 line_of-named (first ∷ lines) name = named_by first name (line_of lines name) (line_of-named lines name) (bytes_eq name first.name) refl
 
 run_by : (name : List ℕ) (micros : ℕ) (found : Option CostLine) → IfSome found (λ (l : CostLine). l.name ≡ name)
-    → line_for name (last_of (option_map_or durations_of found [] ++ micros ∷ [])) ≡ option_map_or (with_run micros) found (with_run micros (unrun name))
+    → line_for name (last_durations (option_map_or durations_of found [] ++ micros ∷ [])) ≡ option_map_or (with_run micros) found (with_run micros (unrun name))
 run_by name micros None named = refl
-run_by name micros (Some line) named = λ i. record { name = sym named i; durations = last_of (line.durations ++ micros ∷ []) }
+run_by name micros (Some line) named = λ i. record { name = sym named i; durations = last_durations (line.durations ++ micros ∷ []) }
 
 -- the durations of a name after one more run are those of its line
-pub run-line : (lines : List CostLine) (name : List ℕ) (micros : ℕ) (before after : List ℕ) → before ≡ option_map_or durations_of (line_of lines name) [] → after ≡ last_of (before ++ micros ∷ [])
+pub run-line : (lines : List CostLine) (name : List ℕ) (micros : ℕ) (before after : List ℕ) → before ≡ option_map_or durations_of (line_of lines name) [] → after ≡ last_durations (before ++ micros ∷ [])
     → with_line lines (line_for name after) ≡ after_run lines name micros
 run-line lines name micros before after is more =
     ap (with_line lines)
     (ap (line_for name) more
-    ∙ ap (λ durations. line_for name (last_of (durations ++ micros ∷ []))) is
+    ∙ ap (λ durations. line_for name (last_durations (durations ++ micros ∷ []))) is
     ∙ run_by name micros (line_of lines name) (line_of-named lines name))
 
 -- a line that was read, and whose name has no line yet, goes behind the others

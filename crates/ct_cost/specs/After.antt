@@ -17,11 +17,13 @@ counted_micros (Some seen) = min seen.micros most_micros
 
 -- the tests that passed, in order of number
 abbrev pub passed_tests : PlanParts → List Entry → List PlanTest
-passed_tests plan entries = filter (λ (t : PlanTest). is_passed_verdict (verdict_in plan.repeat t entries)) plan.tests
+passed_tests plan entries =
+    filter (λ (t : PlanTest). is_passed_verdict (verdict_in plan.repeat t entries)) plan.tests
 
 -- the tests of the failing class, in order of number
 abbrev pub failed_tests : PlanParts → List Entry → List PlanTest
-failed_tests plan entries = filter (λ (t : PlanTest). is_failing_in (verdict_in plan.repeat t entries)) plan.tests
+failed_tests plan entries =
+    filter (λ (t : PlanTest). is_failing_in (verdict_in plan.repeat t entries)) plan.tests
 
 -- the lines after one more test that passed: its name has one more run, the test's last attempt
 abbrev pub after_test : List Entry → List CostLine → PlanTest → List CostLine

@@ -1,9 +1,10 @@
--- The lines of cost data. Source: CMake manual, cmake-properties(7), COST. That a name has one line with its last
+-- The lines of cost data. Source: CMake manual, cmake-properties(7), COST. That a name has one line with its
+-- last
 -- durations, and costs the greatest of them, is this project's choice.
 use Rattle.std.specs.Prelude.{ℕ, ◌-◌, max, List, [], ◌∷◌, ◌++◌, drop, length, find, bytes_eq, Option, is_some, option_and_then, fold, if◌then◌else◌}
 use Rattle.std.specs.List.{reduce}
 use Rattle.std.specs.Option.{option_map_or}
-use Rattle.ct_history.specs.Rules.{is_among}
+use Rattle.ct_base.specs.Names.{is_among}
 
 -- what is known of a name: how long its last attempts that passed took, in microseconds, oldest first
 pub record CostLine : Type 0 where
@@ -15,8 +16,8 @@ abbrev pub most_durations : ℕ
 most_durations = 8
 
 -- the last durations of these, as many as are kept
-abbrev pub last_of : List ℕ → List ℕ
-last_of durations = drop (length durations - most_durations) durations
+abbrev pub last_durations : List ℕ → List ℕ
+last_durations durations = drop (length durations - most_durations) durations
 
 -- the greatest of these durations, if there is one
 abbrev pub greatest_of : List ℕ → Option ℕ
@@ -33,7 +34,8 @@ cost_of lines name = option_and_then (λ (l : CostLine). greatest_of l.durations
 -- the lines with this one in place of the one with its name, or behind the others where there is none
 abbrev pub with_line : List CostLine → CostLine → List CostLine
 with_line [] line = line ∷ []
-with_line (first ∷ lines) line = if bytes_eq line.name first.name then line ∷ lines else first ∷ with_line lines line
+with_line (first ∷ lines) line =
+    if bytes_eq line.name first.name then line ∷ lines else first ∷ with_line lines line
 
 -- the lines with this one behind them, unless its name has a line
 abbrev pub with_new_line : List CostLine → CostLine → List CostLine
@@ -49,7 +51,7 @@ each_once names = fold with_new_name [] names
 
 -- a line after one more run, which took `micros`
 abbrev pub with_run : ℕ → CostLine → CostLine
-with_run micros line = record { name = line.name; durations = last_of (line.durations ++ micros ∷ []) }
+with_run micros line = record { name = line.name; durations = last_durations (line.durations ++ micros ∷ []) }
 
 -- the line of a name without a run
 abbrev pub unrun : List ℕ → CostLine
@@ -57,4 +59,5 @@ unrun name = record { name = name; durations = [] }
 
 -- the lines after one more run of a name, which took `micros`
 abbrev pub after_run : List CostLine → List ℕ → ℕ → List CostLine
-after_run lines name micros = with_line lines (option_map_or (with_run micros) (line_of lines name) (with_run micros (unrun name)))
+after_run lines name micros =
+    with_line lines (option_map_or (with_run micros) (line_of lines name) (with_run micros (unrun name)))

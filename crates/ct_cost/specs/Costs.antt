@@ -9,7 +9,7 @@ use Rattle.ct_cost.specs.declared.cost_data.CostData.{CostData}
 use Rattle.ct_cost.specs.declared.line.Version.{Version}
 use Rattle.ct_cost.specs.declared.line.Version.TheVariants.{One, Two}
 use Rattle.ct_cost.specs.CostLine.{with_new_line, each_once}
-use Rattle.ct_cost.specs.Text.{is_divider, is_mark, lines_in, line_in, is_named, line_text, failed_text}
+use Rattle.ct_cost.specs.Text.{is_divider, is_mark, lines_in, line_in, is_named, cost_line_text, failed_text}
 use Rattle.ct_cost.specs.After.{after_test, passed_tests, failed_tests}
 
 -- the cost data in these lines: the costs up to the first line that is `---`, and behind it the failed tests
@@ -34,4 +34,8 @@ costs_after plan entries costs =
 
 -- cost data as a text of version 2
 abbrev pub costs_text : CostData → List ℕ
-costs_text costs = codes "version 2\n" ++ flat_map line_text costs.lines ++ codes "---\n" ++ flat_map failed_text costs.failed
+costs_text costs =
+    codes "version 2\n"
+    ++ flat_map cost_line_text costs.lines
+    ++ codes "---\n"
+    ++ flat_map failed_text costs.failed

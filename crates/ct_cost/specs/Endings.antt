@@ -10,7 +10,8 @@ use Rattle.ct_cost.specs.After.{counted_micros, logged}
 
 -- the microseconds that a test counts for, if it passed, by how it ended
 abbrev pub passed_micros : PlanTest → Ending → Option ℕ
-passed_micros t ending = if is_passed_verdict (verdict_by t ending) then Some (counted_micros ending.last) else None
+passed_micros t ending =
+    if is_passed_verdict (verdict_by t ending) then Some (counted_micros ending.last) else None
 
 -- a test that is final is of the failing class, by how it ended
 abbrev pub fails_by : PlanTest → Ending → Bool
@@ -27,7 +28,8 @@ after_ending endings lines t = after_passed lines t.name (passed_micros t (endin
 
 -- the failed names with that of one more test, by how it ended
 abbrev pub with_failed : {S : Type 0} → IndexMap ℕ Ending S → List (List ℕ) → PlanTest → List (List ℕ)
-with_failed endings names t = if fails_by t (ending_at endings t.number) then with_new_name names t.name else names
+with_failed endings names t =
+    if fails_by t (ending_at endings t.number) then with_new_name names t.name else names
 
 -- what the log says of a test, by how it ended
 abbrev pub log_by : {S : Type 0} → IndexMap ℕ Ending S → PlanTest → List ℕ

@@ -17,11 +17,21 @@ unread version = record { version = version; lines = []; failed = []; is_behind 
 
 -- the reading after one more line behind the line that is `---`
 abbrev pub after_failed : Reading → List ℕ → Reading
-after_failed reading line = record { version = reading.version; lines = reading.lines; failed = with_named reading.failed line; is_behind = true }
+after_failed reading line = record {
+  version = reading.version;
+  lines = reading.lines;
+  failed = with_named reading.failed line;
+  is_behind = true;
+}
 
 -- the reading after one more line in front of the line that is `---`, or after that line
 abbrev pub after_cost : Reading → List ℕ → Reading
-after_cost reading line = record { version = reading.version; lines = if is_divider line then reading.lines else with_read reading.lines (line_in reading.version line); failed = reading.failed; is_behind = is_divider line }
+after_cost reading line = record {
+  version = reading.version;
+  lines = if is_divider line then reading.lines else with_read reading.lines (line_in reading.version line);
+  failed = reading.failed;
+  is_behind = is_divider line;
+}
 
 -- the reading after one more line
 abbrev pub after_line : Reading → List ℕ → Reading
@@ -30,4 +40,5 @@ after_line reading line = if reading.is_behind then after_failed reading line el
 -- the reading after all lines, whose first one may say that they are of version 2
 abbrev pub after_lines : List (List ℕ) → Reading
 after_lines [] = unread One
-after_lines (first ∷ rest) = if is_mark first then fold after_line (unread Two) rest else fold after_line (unread One) (first ∷ rest)
+after_lines (first ∷ rest) =
+    if is_mark first then fold after_line (unread Two) rest else fold after_line (unread One) (first ∷ rest)

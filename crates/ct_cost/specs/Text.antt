@@ -5,15 +5,15 @@ use Rattle.std.specs.Path.{rsplit_once}
 use Rattle.ct_base.specs.Seconds.{micros_in, number_in}
 use Rattle.ct_cost.specs.declared.line.Version.{Version}
 use Rattle.ct_cost.specs.declared.line.Version.TheVariants.{One, Two}
-use Rattle.ct_cost.specs.CostLine.{CostLine, last_of}
+use Rattle.ct_cost.specs.CostLine.{CostLine, last_durations}
 
 -- a line feed
 abbrev pub line_feed : ℕ
 line_feed = 10
 
 -- the byte between the pieces of a line
-abbrev pub space : ℕ
-space = 32
+abbrev pub piece_separator : ℕ
+piece_separator = 32
 
 -- the byte ends a line
 abbrev pub ends_line : ℕ → Bool
@@ -32,12 +32,12 @@ abbrev pub is_mark : List ℕ → Bool
 is_mark line = bytes_eq line (codes "version 2")
 
 -- the byte between the durations of a line
-abbrev pub comma : ℕ
-comma = 44
+abbrev pub duration_separator : ℕ
+duration_separator = 44
 
 -- the byte stands between two durations
 abbrev pub ends_duration : ℕ → Bool
-ends_duration byte = byte == comma
+ends_duration byte = byte == duration_separator
 
 -- these values, if each of them is there
 abbrev pub each_of : List (Option ℕ) → Option (List ℕ)
@@ -47,27 +47,34 @@ each_of (Some value ∷ rest) = option_map (λ values. value ∷ values) (each_o
 
 -- durations that are joined by `,`; where there are more than are kept, the last ones
 abbrev pub durations_in : List ℕ → Option (List ℕ)
-durations_in text = option_map last_of (each_of (map micros_in (slice_split ends_duration text)))
+durations_in text = option_map last_durations (each_of (map micros_in (slice_split ends_duration text)))
 
 -- the line of a name and durations; none where one of these is missing
-abbrev pub line_with : List ℕ → Option (List ℕ) → Option CostLine
-line_with (first ∷ rest) (Some durations) = Some (record { name = first ∷ rest; durations = durations })
-line_with name durations = None
+abbrev pub named_line : List ℕ → Option (List ℕ) → Option CostLine
+named_line (first ∷ rest) (Some durations) = Some (record { name = first ∷ rest; durations = durations })
+named_line name durations = None
 
 -- the one duration of a line with runs and a cost, if both are there: its cost
 abbrev pub only_duration : Option ℕ → Option ℕ → Option (List ℕ)
 only_duration (Some runs) (Some micros) = Some (micros ∷ [])
 only_duration runs micros = None
 
--- the line of a text of version 1 that was cut at its last space: its name and runs stand in front, its cost behind
+-- the line of a text of version 1 that was cut at its last space: its name and runs stand in front, its cost
+-- behind
 abbrev pub line_before : List ℕ × List ℕ → Option CostLine
-line_before cut = option_and_then (λ (front : List ℕ × List ℕ). line_with front.0 (only_duration (number_in front.1) (micros_in cut.1))) (rsplit_once space cut.0)
+line_before cut =
+    option_and_then
+    (λ (front : List ℕ × List ℕ). named_line front.0 (only_duration (number_in front.1) (micros_in cut.1)))
+    (rsplit_once piece_separator cut.0)
 
--- a line of cost data. In version 1 it is a name, a space, runs, a space and a cost; in version 2 a name, a space and
+-- a line of cost data. In version 1 it is a name, a space, runs, a space and a cost; in version 2 a name, a
+-- space and
 -- durations. The name is all in front of these pieces.
 abbrev pub line_in : Version → List ℕ → Option CostLine
-line_in One text = option_and_then line_before (rsplit_once space text)
-line_in Two text = option_and_then (λ (cut : List ℕ × List ℕ). line_with cut.0 (durations_in cut.1)) (rsplit_once space text)
+line_in One text = option_and_then line_before (rsplit_once piece_separator text)
+line_in Two text =
+    option_and_then (λ (cut : List ℕ × List ℕ). named_line cut.0 (durations_in cut.1))
+    (rsplit_once piece_separator text)
 
 -- the line of a failed test has a name: it is not empty
 abbrev pub is_named : List ℕ → Bool
@@ -91,8 +98,8 @@ durations_text [] = []
 durations_text (first ∷ rest) = exact_seconds first ++ flat_map next_text rest
 
 -- the text of a line of cost data
-abbrev pub line_text : CostLine → List ℕ
-line_text line = line.name ++ codes " " ++ durations_text line.durations ++ codes "\n"
+abbrev pub cost_line_text : CostLine → List ℕ
+cost_line_text line = line.name ++ codes " " ++ durations_text line.durations ++ codes "\n"
 
 -- the text of a failed name
 abbrev pub failed_text : List ℕ → List ℕ

@@ -1,8 +1,8 @@
 ghost use Rattle.std.specs.Prelude.{◌≡◌, IfOk, true};
-ghost use Rattle.ct_history.specs.Rules.{is_among};
 ghost use Rattle.ct_history.specs.Verdicts.{are_all_final};
 ghost use Rattle.ct_cost.specs.CostLine.{cost_of};
 ghost use Rattle.ct_cost.specs.Costs.{costs_after, costs_in, costs_text};
+ghost use Rattle.ct_base.specs.Names.{is_among};
 
 use crate::lines::Lines;
 use crate::log::failed_names;

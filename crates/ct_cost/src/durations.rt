@@ -1,5 +1,5 @@
 ghost use Rattle.std.specs.Prelude.{◌≡◌, ◌++◌, ◌∷◌, [], IfOk, OnOk};
-ghost use Rattle.ct_cost.specs.CostLine.{greatest_of, last_of};
+ghost use Rattle.ct_cost.specs.CostLine.{greatest_of, last_durations};
 ghost use Rattle.ct_cost.specs.Text.{durations_in, durations_text, next_text};
 
 use crate::parts::part_len;
@@ -76,7 +76,7 @@ impl Durations {
 
     /// Adds a duration behind the others, and keeps the last eight.
     pub(crate) fn push(&mut self, micros: u64) -> Result<(), NoMemory>
-        ensures { OnOk result (self.new ≡ last_of (self.old ++ micros ∷ [])) }
+        ensures { OnOk result (self.new ≡ last_durations (self.old ++ micros ∷ [])) }
     {
         if self.micros.len() == MOST_DURATIONS {
             self.micros.remove(0);

@@ -2,7 +2,6 @@
 //!
 //! Hands up: `CostData`, which is read from a text, brought up to date after a run, and written;
 //! and `failed_log`.
-//! Stands on: ct_base, ct_verdict, ct_history and `indexmap`.
 //! Read first: `specs/CostLine.antt`, `specs/Text.antt`, `specs/After.antt`, then `cost_data.rt`.
 #![tactic(auto)]
 

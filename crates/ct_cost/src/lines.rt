@@ -1,7 +1,7 @@
 ghost use Rattle.std.specs.Prelude.{◌≡◌, ◌++◌, [], IfOk, OnOk, flat_map, fold, option_map};
 ghost use Rattle.std.specs.Option.{option_map_or};
 ghost use Rattle.ct_cost.specs.CostLine.{cost_of, line_of as line_by_name, with_line as with_line_of, after_run as run_counted};
-ghost use Rattle.ct_cost.specs.Text.{line_in as line_read, line_text};
+ghost use Rattle.ct_cost.specs.Text.{line_in as line_read, cost_line_text};
 ghost use Rattle.ct_cost.specs.Kept.{durations_of, line_for, with_read};
 ghost use Rattle.ct_cost.specs.Endings.{after_ending};
 
@@ -143,7 +143,7 @@ impl Lines {
 
     /// Puts each line behind the text.
     pub(crate) fn append_to(&self, alloc: Global, text: &mut Blob) -> Result<(), NoMemory>
-        ensures { OnOk result (text.new ≡ text.old ++ flat_map line_text self.now) }
+        ensures { OnOk result (text.new ≡ text.old ++ flat_map cost_line_text self.now) }
     {
         for (name, durations) in self.durations.iter() {
             append_line(alloc, text, name.as_slice(), durations)?;

@@ -1,8 +1,8 @@
 ghost use Rattle.std.specs.Prelude.{◌≡◌, [], IfOk, flat_map};
-ghost use Rattle.ct_history.specs.Rules.{is_among};
 ghost use Rattle.ct_cost.specs.CostLine.{with_new_name};
 ghost use Rattle.ct_cost.specs.Text.{failed_text};
 ghost use Rattle.ct_cost.specs.Kept.{with_named};
+ghost use Rattle.ct_base.specs.Names.{is_among};
 
 use ct_base::{Blob, NoMemory};
 use indexmap::IndexSet;

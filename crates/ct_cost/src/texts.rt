@@ -1,5 +1,5 @@
 ghost use Rattle.std.specs.Prelude.{◌≡◌, ◌++◌, ◌+◌, ◌/◌, ◌%◌, ◌<◌, OnOk, decimal};
-ghost use Rattle.ct_cost.specs.Text.{exact_seconds as seconds, line_text as line_written};
+ghost use Rattle.ct_cost.specs.Text.{exact_seconds as seconds, cost_line_text as line_written};
 ghost use Rattle.ct_cost.specs.Kept.{line_for};
 
 use crate::durations::Durations;

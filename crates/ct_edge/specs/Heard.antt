@@ -10,7 +10,8 @@ pub record Hears (left left_now : Option (List ℕ)) (before now : List ℕ → 
 
 -- the ear heard bytes from the front of an output, and behind
 -- them bytes from the front of the other; none was lost
-pub record HearsBoth (output output_now errors errors_now : Option (List ℕ)) (before now : List ℕ → Type 0) : Type 0 where
+pub record HearsBoth (output output_now errors errors_now : Option (List ℕ)) (before now : List ℕ → Type 0)
+    : Type 0 where
   pub first : List ℕ
   pub second : List ℕ
   pub first_moved : Becomes output output_now (λ all rest. all ≡ first ++ rest)

@@ -19,4 +19,6 @@ AreHeld held files = list_all (λ file. is_some (held file)) files ≡ true
 -- of it are there, and it is not, or the look at it failed
 abbrev pub IsFirstMissing : Held → List (List ℕ) → Type 0 → Option ℕ → Type 0
 IsFirstMissing held files failed None = AreHeld held files
-IsFirstMissing held files failed (Some place) = AreHeld held (take place files) × IsSomeAnd (slice_get files place) (λ file. (is_some (held file) ≡ false) ⊎ failed)
+IsFirstMissing held files failed (Some place) =
+    AreHeld held (take place files)
+    × IsSomeAnd (slice_get files place) (λ file. (is_some (held file) ≡ false) ⊎ failed)

@@ -18,4 +18,6 @@ kept_and_left None left = None
 
 -- bytes moved from the front of what was left to the end of what was kept; none was lost
 abbrev pub MovesTo : Option (List ℕ) → Option (List ℕ) → Option (List ℕ) → Option (List ℕ) → Type 0
-MovesTo left kept left_now kept_now = Becomes (kept_and_left kept left) (kept_and_left kept_now left_now) (λ old new. old.0 ++ old.1 ≡ new.0 ++ new.1)
+MovesTo left kept left_now kept_now =
+    Becomes (kept_and_left kept left) (kept_and_left kept_now left_now)
+    (λ old new. old.0 ++ old.1 ≡ new.0 ++ new.1)

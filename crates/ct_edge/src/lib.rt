@@ -3,7 +3,6 @@
 //! Hands up: `RealFiles`, `RealSink` and `ProcessGate`, forms of `Files`, `Sink` and `Gate`; and the
 //! parts of them that are tested without the machine: `read_up_to`, `read_both`, `first_missing`,
 //! `attend`, and `Spool`, which keeps what comes on the standard error.
-//! Stands on: ct_base, ct_verdict, ct_core; for the wait on pipes, `libc` and `os` of the kit.
 //! Read first: `real_files.rt`, `real_sink.rt` and `process_gate.rt`; then the parts of the gate:
 //! `required.rt`, `command.rt`, `watch.rt`, `pipe.rt`, `keep.rt` and `spool.rt`.
 #![tactic(auto)]

@@ -11,7 +11,8 @@ equals_sign = 61
 
 -- the texts in front of the first place of a byte and behind it, if the byte is there
 abbrev pub split_first : ℕ → List ℕ → Option (List ℕ × List ℕ)
-split_first byte text = option_map (λ at. (take at text, drop (at + 1) text)) (position (λ other. other == byte) text)
+split_first byte text =
+    option_map (λ at. (take at text, drop (at + 1) text)) (position (λ other. other == byte) text)
 
 -- a variable of a name and a value; none where the name is empty
 abbrev pub with_name : List ℕ × List ℕ → Option Pair

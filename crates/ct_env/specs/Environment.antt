@@ -26,26 +26,32 @@ base_value own entries name = option_or (held_by (assignments_in entries) name) 
 -- the value of a variable after a change, which may be one of another variable
 abbrev pub after_change : List ℕ → Option (List ℕ) → Option (List ℕ) → Option Change → Option (List ℕ)
 after_change name base old None = old
-after_change name base old (Some change) = if bytes_eq change.name name then value_after change.operation change.value base old else old
+after_change name base old (Some change) =
+    if bytes_eq change.name name then value_after change.operation change.value base old else old
 
 -- the value of a variable after the entries of ENVIRONMENT_MODIFICATION in turn
 abbrev pub after_entries : List ℕ → Option (List ℕ) → Option (List ℕ) → List (List ℕ) → Option (List ℕ)
 after_entries name base old [] = old
-after_entries name base old (entry ∷ entries) = after_entries name base (after_change name base old (change_in entry)) entries
+after_entries name base old (entry ∷ entries) =
+    after_entries name base (after_change name base old (change_in entry)) entries
 
 -- the value of a variable after the modification of its base value
 abbrev pub modified_value : List Pair → Props → List ℕ → Option (List ℕ)
-modified_value own props name = after_entries name (base_value own props.environment name) (base_value own props.environment name) props.modification
+modified_value own props name =
+    after_entries name (base_value own props.environment name)
+    (base_value own props.environment name) props.modification
 
 -- the value of a variable in the environment: what a placement tells, else its value after the modification
 abbrev pub value_for : List Pair → Props → Option Placement → List ℕ → Option (List ℕ)
-value_for own props given name = option_or (held_by (given_variables props.groups.count given) name) (modified_value own props name)
+value_for own props given name =
+    option_or (held_by (given_variables props.groups.count given) name) (modified_value own props name)
 
 -- the names ascend in byte order, so that each stands once
 abbrev pub IsAscending : List Pair → Type 0
 IsAscending pairs = IsStrictlySortedBy (slice_cmp nat_cmp) (map (λ (pair : Pair). pair.name) pairs)
 
 -- the environment: its pairs stand in byte order of names, and hold each variable that is set, with its value
-pub record IsEnvironment (own : List Pair) (props : Props) (given : Option Placement) (pairs : List Pair) : Type 0 where
+pub record IsEnvironment (own : List Pair) (props : Props) (given : Option Placement) (pairs : List Pair)
+    : Type 0 where
   pub ordered : IsAscending pairs
   pub holds : (name : List ℕ) → value_of_key pairs name ≡ value_for own props given name

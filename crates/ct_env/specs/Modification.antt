@@ -17,7 +17,9 @@ pub record Change : Type 0 where
 
 -- the change of a variable by an operation and its value, if the operation is known
 abbrev pub change_by : List ℕ → List ℕ × List ℕ → Option Change
-change_by name parts = option_map (λ operation. record { name = name; operation = operation; value = parts.1 }) (operation_named parts.0)
+change_by name parts =
+    option_map (λ operation. record { name = name; operation = operation; value = parts.1 })
+    (operation_named parts.0)
 
 -- the change of a variable that a text names: an operation and, behind the first `:`, a value
 abbrev pub change_of : Pair → Option Change

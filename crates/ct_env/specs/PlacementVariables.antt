@@ -26,7 +26,8 @@ names_in_order names = fold (insert_key (slice_cmp nat_cmp)) [] names
 
 -- the types of which a group has resources, each once, in byte order
 abbrev pub kinds_in : ℕ → List Pick → List (List ℕ)
-kinds_in group picks = names_in_order (map (λ (pick : Pick). pick.kind) (filter (λ (pick : Pick). pick.group == group) picks))
+kinds_in group picks =
+    names_in_order (map (λ (pick : Pick). pick.kind) (filter (λ (pick : Pick). pick.group == group) picks))
 
 -- the text of a pick: the id of its resource, and how many slots of it
 abbrev pub need_text : Pick → List ℕ
@@ -34,7 +35,8 @@ need_text pick = codes "id:" ++ pick.id ++ codes ",slots:" ++ decimal pick.slots
 
 -- the texts of the needs of a group that are of a type, in order
 abbrev pub needs_in : ℕ → List Pick → List ℕ → List (List ℕ)
-needs_in group picks kind = map need_text (filter (λ (pick : Pick). pick.group == group && bytes_eq pick.kind kind) picks)
+needs_in group picks kind =
+    map need_text (filter (λ (pick : Pick). pick.group == group && bytes_eq pick.kind kind) picks)
 
 -- texts in a row with a separator between
 abbrev pub joined_with : ℕ → List (List ℕ) → List ℕ
@@ -42,7 +44,10 @@ joined_with separator texts = join_by (λ text. text) (separator ∷ []) texts
 
 -- the variable that tells which resources of a type a group has
 abbrev pub kind_variable : ℕ → List Pick → List ℕ → Pair
-kind_variable group picks kind = record { name = group_name group ++ codes "_" ++ map to_ascii_uppercase kind; value = joined_with semicolon (needs_in group picks kind) }
+kind_variable group picks kind = record {
+  name = group_name group ++ codes "_" ++ map to_ascii_uppercase kind;
+  value = joined_with semicolon (needs_in group picks kind);
+}
 
 -- the variable that tells which types of resources a group has
 abbrev pub group_variable : ℕ → List (List ℕ) → Pair
@@ -50,11 +55,14 @@ group_variable group kinds = record { name = group_name group; value = joined_wi
 
 -- the variables of a group: its types, and one for each type
 abbrev pub group_variables : List Pick → ℕ → List Pair
-group_variables picks group = group_variable group (kinds_in group picks) ∷ map (kind_variable group picks) (kinds_in group picks)
+group_variables picks group =
+    group_variable group (kinds_in group picks) ∷ map (kind_variable group picks) (kinds_in group picks)
 
 -- the variables of this many groups: their count, and those of each group
 abbrev pub placement_variables : ℕ → List Pick → List Pair
-placement_variables groups picks = record { name = group_count; value = decimal groups } ∷ flat_map (group_variables picks) (range_with_len 0 groups)
+placement_variables groups picks =
+    record { name = group_count; value = decimal groups }
+    ∷ flat_map (group_variables picks) (range_with_len 0 groups)
 
 -- the variables of a placement; none where no placement is given
 abbrev pub given_variables : ℕ → Option Placement → List Pair

@@ -18,19 +18,26 @@ names_in kept = map (λ name. name.items) kept
 
 -- a variable has this value or, with None, is not set, and the others are as they were
 abbrev pub PutsVariable : List ℕ → Option (List ℕ) → List Pair → List Pair → Type 0
-PutsVariable name value before after = (other : List ℕ) → value_of_key after other ≡ (if bytes_eq name other then value else value_of_key before other)
+PutsVariable name value before after =
+    (other : List ℕ)
+    → value_of_key after other ≡ (if bytes_eq name other then value else value_of_key before other)
 
 -- the variables of these pairs are set, and the others are as they were
 abbrev pub SetsAll : List Pair → List Pair → List Pair → Type 0
-SetsAll pairs before after = (name : List ℕ) → value_of_key after name ≡ option_or (held_by pairs name) (value_of_key before name)
+SetsAll pairs before after =
+    (name : List ℕ) → value_of_key after name ≡ option_or (held_by pairs name) (value_of_key before name)
 
 -- each variable has the value that it has after a change
 abbrev pub Changes : List Pair → Option Change → List Pair → List Pair → Type 0
-Changes base change before after = (name : List ℕ) → value_of_key after name ≡ after_change name (value_of_key base name) (value_of_key before name) change
+Changes base change before after =
+    (name : List ℕ)
+    → value_of_key after name ≡ after_change name (value_of_key base name) (value_of_key before name) change
 
 -- each variable is changed by these entries in turn
 abbrev pub ChangesAll : List Pair → List (List ℕ) → List Pair → List Pair → Type 0
-ChangesAll base entries before after = (name : List ℕ) → value_of_key after name ≡ after_entries name (value_of_key base name) (value_of_key before name) entries
+ChangesAll base entries before after =
+    (name : List ℕ)
+    → value_of_key after name ≡ after_entries name (value_of_key base name) (value_of_key before name) entries
 
 -- each variable has its base value
 abbrev pub AreBase : List Pair → List (List ℕ) → List Pair → Type 0

@@ -1,7 +1,6 @@
 //! The environment of a test's program.
 //!
 //! Hands up: `environment` makes it, and `bad_operation` finds an entry that names no operation.
-//! Stands on: ct_base, ct_groups, ct_props and ct_alloc.
 //! Read first: `specs/Environment.antt`, then `start.rt`.
 #![tactic(auto)]
 

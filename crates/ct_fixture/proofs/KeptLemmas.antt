@@ -10,11 +10,12 @@ use Rattle.ct_props.specs.declared.props.Props.{Props}
 use Rattle.ct_props.specs.declared.wanted.Choice.{Choice}
 use Rattle.ct_fixture.specs.declared.fixtures.Fixtures.{Fixtures}
 use Rattle.ct_fixture.specs.declared.members.Members.{Members}
-use Rattle.ct_props.specs.Numbered.{at_number, is_among, is_in}
+use Rattle.ct_props.specs.Numbered.{at_number, is_in}
 use Rattle.ct_fixture.specs.Drawing.{is_drawn, draws, required_by, keeps_cleanups, keeps_setups}
-use Rattle.ct_fixture.specs.Kept.{AddsTests, AreLeft, AreNamed, Draws, Extends, HaveMarks, IsLeft, given, is_member, names, tests_of}
+use Rattle.ct_fixture.specs.Kept.{AddsTests, AreLeft, AreNamed, Draws, Extends, HaveMarks, IsLeft, given, is_drawn_in, names_fixture, fixture_tests}
 use Rattle.ct_fixture.proofs.MemberLemmas.{adds_same, extends_on, or_behind, or_none}
 use Rattle.ct_props.proofs.NumberedLemmas.{at_number_here, number_within}
+use Rattle.ct_base.specs.Names.{is_among}
 
 -- what holds of each number in a list holds of all its numbers
 pub all_in : (P : ℕ → Type 0) (numbers : List ℕ) → ((number : ℕ) → is_in numbers number ≡ true → P number) → All P numbers
@@ -29,12 +30,12 @@ in_all P (first ∷ numbers) all number there =
       | inr later ↦ in_all P numbers (λ k d within. all (suc k) d (omega (arith, within))) number later
     ]
 
-names_there : (property : Props → List (List ℕ)) (props : List Props) (fixture : List ℕ) (number : ℕ) (own : Option Props) → at_number props number ≡ own → names property fixture own ≡ true → (1 ≤ number) × (number ≤ length props)
+names_there : (property : Props → List (List ℕ)) (props : List Props) (fixture : List ℕ) (number : ℕ) (own : Option Props) → at_number props number ≡ own → names_fixture property fixture own ≡ true → (1 ≤ number) × (number ≤ length props)
 names_there property props fixture number None is named = absurd (false≢true named)
 names_there property props fixture number (Some own) is named = number_within props number own is
 
 -- a test that names a fixture has a number
-pub named_number : (property : Props → List (List ℕ)) (props : List Props) (fixture : List ℕ) (number : ℕ) → names property fixture (at_number props number) ≡ true → (1 ≤ number) × (number ≤ length props)
+pub named_number : (property : Props → List (List ℕ)) (props : List Props) (fixture : List ℕ) (number : ℕ) → names_fixture property fixture (at_number props number) ≡ true → (1 ≤ number) × (number ≤ length props)
 named_number property props fixture number named = names_there property props fixture number (at_number props number) refl named
 
 and_none : (a : Bool) → (a && false) ≡ false
@@ -62,7 +63,7 @@ step_by at number names_now among here =
           ∙ ap (λ low. low && names_now) (same_low at number other)
     ]
 
-names_here : (property : Props → List (List ℕ)) (fixture : List ℕ) (own : Props) (disabled : Bool) → own.disabled ≡ disabled → names property fixture (Some own) ≡ (not disabled && is_among fixture (property own))
+names_here : (property : Props → List (List ℕ)) (fixture : List ℕ) (own : Props) (disabled : Bool) → own.disabled ≡ disabled → names_fixture property fixture (Some own) ≡ (not disabled && is_among fixture (property own))
 names_here property fixture own disabled is = ap (λ d. not d && is_among fixture (property own)) is
 
 low_within : (count number : ℕ) (named : Bool) → (named ≡ true → number ≤ count) → (leb number count && named) ≡ named
@@ -85,25 +86,25 @@ given_all P false tests all = all
 module _ {Y Z S : Type 0} where
   -- each fixture has those of the first tests that name it in this property
   abbrev pub AreNamedTo : ℕ → (Props → List (List ℕ)) → List Props → IndexMap (Vec ℕ Y) (Vec ℕ Z) S → Type 0
-  AreNamedTo at property props tests = (fixture : List ℕ) (number : ℕ) → is_in (tests_of tests fixture) number ≡ (leb number at && names property fixture (at_number props number))
+  AreNamedTo at property props tests = (fixture : List ℕ) (number : ℕ) → is_in (fixture_tests tests fixture) number ≡ (leb number at && names_fixture property fixture (at_number props number))
 
   -- with one more test that is not disabled
   pub named_more : (property : Props → List (List ℕ)) (props : List Props) (at number : ℕ) (own : Props) (fixtures : List (List ℕ)) (before now : IndexMap (Vec ℕ Y) (Vec ℕ Z) S) → at < length props → own ≡ get_or props at own → own.disabled ≡ false → number ≡ at + 1 → fixtures ≡ property own
-      → ((asked : List ℕ) (test : ℕ) → is_in (tests_of now asked) test ≡ (is_in (tests_of before asked) test || (eqb number test && is_among asked fixtures))) → AreNamedTo at property props before → AreNamedTo (at + 1) property props now
+      → ((asked : List ℕ) (test : ℕ) → is_in (fixture_tests now asked) test ≡ (is_in (fixture_tests before asked) test || (eqb number test && is_among asked fixtures))) → AreNamedTo at property props before → AreNamedTo (at + 1) property props now
   named_more property props at number own fixtures before now within is enabled is_number are_fixtures noted named = λ fixture test.
       noted fixture test
-      ∙ ap (λ n. is_in (tests_of before fixture) test || (eqb n test && is_among fixture fixtures)) is_number
-      ∙ ap (λ fs. is_in (tests_of before fixture) test || (eqb (at + 1) test && is_among fixture fs)) are_fixtures
+      ∙ ap (λ n. is_in (fixture_tests before fixture) test || (eqb n test && is_among fixture fixtures)) is_number
+      ∙ ap (λ fs. is_in (fixture_tests before fixture) test || (eqb (at + 1) test && is_among fixture fs)) are_fixtures
       ∙ ap (λ was. was || (eqb (at + 1) test && is_among fixture (property own))) (named fixture test)
-      ∙ step_by at test (names property fixture (at_number props test)) (is_among fixture (property own)) (λ same. ap (λ n. names property fixture (at_number props n)) same ∙ ap (names property fixture) (at_number_here props at own within is) ∙ names_here property fixture own false enabled)
+      ∙ step_by at test (names_fixture property fixture (at_number props test)) (is_among fixture (property own)) (λ same. ap (λ n. names_fixture property fixture (at_number props n)) same ∙ ap (names_fixture property fixture) (at_number_here props at own within is) ∙ names_here property fixture own false enabled)
 
   -- with one more test that is disabled
   pub named_still : (property : Props → List (List ℕ)) (props : List Props) (at : ℕ) (own : Props) (tests : IndexMap (Vec ℕ Y) (Vec ℕ Z) S) → at < length props → own ≡ get_or props at own → own.disabled ≡ true → AreNamedTo at property props tests → AreNamedTo (at + 1) property props tests
   named_still property props at own tests within is disabled named = λ fixture number.
       named fixture number
-      ∙ sym (or_none (leb number at && names property fixture (at_number props number)))
-      ∙ ap (λ none. (leb number at && names property fixture (at_number props number)) || none) (sym (and_none (eqb (at + 1) number)))
-      ∙ step_by at number (names property fixture (at_number props number)) false (λ same. ap (λ n. names property fixture (at_number props n)) same ∙ ap (names property fixture) (at_number_here props at own within is) ∙ names_here property fixture own true disabled)
+      ∙ sym (or_none (leb number at && names_fixture property fixture (at_number props number)))
+      ∙ ap (λ none. (leb number at && names_fixture property fixture (at_number props number)) || none) (sym (and_none (eqb (at + 1) number)))
+      ∙ step_by at number (names_fixture property fixture (at_number props number)) false (λ same. ap (λ n. names_fixture property fixture (at_number props n)) same ∙ ap (names_fixture property fixture) (at_number_here props at own within is) ∙ names_here property fixture own true disabled)
 
   -- what holds of a map of tests holds of an equal one
   pub named_as : (at : ℕ) (property : Props → List (List ℕ)) (props : List Props) (tests others : IndexMap (Vec ℕ Y) (Vec ℕ Z) S) → others ≡ tests → AreNamedTo at property props tests → AreNamedTo at property props others
@@ -113,61 +114,61 @@ module _ {Y Z S : Type 0} where
   pub named_all : (property : Props → List (List ℕ)) (props : List Props) (at : ℕ) (tests : IndexMap (Vec ℕ Y) (Vec ℕ Z) S) → at ≡ length props → AreNamedTo at property props tests → AreNamed property props tests
   named_all property props at tests end named = λ fixture number.
       named fixture number
-      ∙ low_within at number (names property fixture (at_number props number)) (λ is. let there = named_number property props fixture number is in omega (arith, there.1, end))
+      ∙ low_within at number (names_fixture property fixture (at_number props number)) (λ is. let there = named_number property props fixture number is in omega (arith, there.1, end))
 
   -- before a test is taken, all tests are left
   pub left_first : (property : Props → List (List ℕ)) (keeps : List ℕ → Bool) (props : List Props) (tests : IndexMap (Vec ℕ Y) (Vec ℕ Z) S) (members : Members) → AreNamed property props tests → IsLeft property keeps props tests members
   left_first property keeps props tests members are = record {
     named = λ fixture number there. sym (are fixture number) ∙ there;
-    left = λ fixture number named kept. or_left (is_in (tests_of tests fixture) number) (is_member members number) (are fixture number ∙ named);
+    left = λ fixture number named kept. or_left (is_in (fixture_tests tests fixture) number) (is_drawn_in members number) (are fixture number ∙ named);
   }
 
   -- what is left stays left with more tests that are in
   pub left_on : (property : Props → List (List ℕ)) (keeps : List ℕ → Bool) (props : List Props) (tests : IndexMap (Vec ℕ Y) (Vec ℕ Z) S) (before now : Members) → Extends before now → IsLeft property keeps props tests before → IsLeft property keeps props tests now
   left_on property keeps props tests before now more is = record {
     named = is.named;
-    left = λ fixture number named kept. elim (or_cases (is_in (tests_of tests fixture) number) (is_member before number) (is.left fixture number named kept)) [
-      | inl there ↦ or_left (is_in (tests_of tests fixture) number) (is_member now number) there
-      | inr was ↦ or_right (is_in (tests_of tests fixture) number) (is_member now number) (more.kept number was)
+    left = λ fixture number named kept. elim (or_cases (is_in (fixture_tests tests fixture) number) (is_drawn_in before number) (is.left fixture number named kept)) [
+      | inl there ↦ or_left (is_in (fixture_tests tests fixture) number) (is_drawn_in now number) there
+      | inr was ↦ or_right (is_in (fixture_tests tests fixture) number) (is_drawn_in now number) (more.kept number was)
     ];
   }
 
-  taken_named : (property : Props → List (List ℕ)) (props : List Props) (tests : IndexMap (Vec ℕ Y) (Vec ℕ Z) S) (asked : List ℕ) (number : ℕ) (is : Bool) → is_in (cond is [] (tests_of tests asked)) number ≡ true → (is_in (tests_of tests asked) number ≡ true → names property asked (at_number props number) ≡ true) → names property asked (at_number props number) ≡ true
+  taken_named : (property : Props → List (List ℕ)) (props : List Props) (tests : IndexMap (Vec ℕ Y) (Vec ℕ Z) S) (asked : List ℕ) (number : ℕ) (is : Bool) → is_in (cond is [] (fixture_tests tests asked)) number ≡ true → (is_in (fixture_tests tests asked) number ≡ true → names_fixture property asked (at_number props number) ≡ true) → names_fixture property asked (at_number props number) ≡ true
   taken_named property props tests asked number true there named = absurd (false≢true there)
   taken_named property props tests asked number false there named = named there
 
-  taken_left : (keeps : List ℕ → Bool) (tests : IndexMap (Vec ℕ Y) (Vec ℕ Z) S) (fixture asked : List ℕ) (number : ℕ) (before now : Members) (is : Bool) → bytes_eq asked fixture ≡ is → keeps asked ≡ false → ((test : ℕ) → is_member now test ≡ (is_member before test || is_in (given (keeps fixture) (tests_of tests fixture)) test)) → (is_in (tests_of tests asked) number || is_member before number) ≡ true → (is_in (cond is [] (tests_of tests asked)) number || is_member now number) ≡ true
+  taken_left : (keeps : List ℕ → Bool) (tests : IndexMap (Vec ℕ Y) (Vec ℕ Z) S) (fixture asked : List ℕ) (number : ℕ) (before now : Members) (is : Bool) → bytes_eq asked fixture ≡ is → keeps asked ≡ false → ((test : ℕ) → is_drawn_in now test ≡ (is_drawn_in before test || is_in (given (keeps fixture) (fixture_tests tests fixture)) test)) → (is_in (fixture_tests tests asked) number || is_drawn_in before number) ≡ true → (is_in (cond is [] (fixture_tests tests asked)) number || is_drawn_in now number) ≡ true
   taken_left keeps tests fixture asked number before now true at_it kept is was =
       let same : asked ≡ fixture = (bytes_eq-Decides asked fixture).0 at_it in
       let open_now : keeps fixture ≡ false = ap keeps (sym same) ∙ kept in
-      let gives : given (keeps fixture) (tests_of tests fixture) ≡ tests_of tests asked = ap (λ k. given k (tests_of tests fixture)) open_now ∙ ap (tests_of tests) (sym same) in
+      let gives : given (keeps fixture) (fixture_tests tests fixture) ≡ fixture_tests tests asked = ap (λ k. given k (fixture_tests tests fixture)) open_now ∙ ap (fixture_tests tests) (sym same) in
       is number
-      ∙ ap (λ taken. is_member before number || is_in taken number) gives
-      ∙ elim (or_cases (is_in (tests_of tests asked) number) (is_member before number) was) [
-        | inl there ↦ or_right (is_member before number) (is_in (tests_of tests asked) number) there
-        | inr before_now ↦ or_left (is_member before number) (is_in (tests_of tests asked) number) before_now
+      ∙ ap (λ taken. is_drawn_in before number || is_in taken number) gives
+      ∙ elim (or_cases (is_in (fixture_tests tests asked) number) (is_drawn_in before number) was) [
+        | inl there ↦ or_right (is_drawn_in before number) (is_in (fixture_tests tests asked) number) there
+        | inr before_now ↦ or_left (is_drawn_in before number) (is_in (fixture_tests tests asked) number) before_now
       ]
   taken_left keeps tests fixture asked number before now false at_it kept is was =
-      elim (or_cases (is_in (tests_of tests asked) number) (is_member before number) was) [
-        | inl there ↦ or_left (is_in (tests_of tests asked) number) (is_member now number) there
-        | inr before_now ↦ or_right (is_in (tests_of tests asked) number) (is_member now number) (is number ∙ or_left (is_member before number) (is_in (given (keeps fixture) (tests_of tests fixture)) number) before_now)
+      elim (or_cases (is_in (fixture_tests tests asked) number) (is_drawn_in before number) was) [
+        | inl there ↦ or_left (is_in (fixture_tests tests asked) number) (is_drawn_in now number) there
+        | inr before_now ↦ or_right (is_in (fixture_tests tests asked) number) (is_drawn_in now number) (is number ∙ or_left (is_drawn_in before number) (is_in (given (keeps fixture) (fixture_tests tests fixture)) number) before_now)
       ]
 
   -- what is left where the tests of a fixture are taken out, and are in now unless they are kept out
-  pub left_taken : (property : Props → List (List ℕ)) (keeps : List ℕ → Bool) (props : List Props) (tests rest : IndexMap (Vec ℕ Y) (Vec ℕ Z) S) (fixture : List ℕ) (before now : Members) → ((asked : List ℕ) → tests_of rest asked ≡ cond (bytes_eq asked fixture) [] (tests_of tests asked)) → AddsTests (given (keeps fixture) (tests_of tests fixture)) before now → IsLeft property keeps props tests before → IsLeft property keeps props rest now
+  pub left_taken : (property : Props → List (List ℕ)) (keeps : List ℕ → Bool) (props : List Props) (tests rest : IndexMap (Vec ℕ Y) (Vec ℕ Z) S) (fixture : List ℕ) (before now : Members) → ((asked : List ℕ) → fixture_tests rest asked ≡ cond (bytes_eq asked fixture) [] (fixture_tests tests asked)) → AddsTests (given (keeps fixture) (fixture_tests tests fixture)) before now → IsLeft property keeps props tests before → IsLeft property keeps props rest now
   left_taken property keeps props tests rest fixture before now taken added is = record {
     named = λ asked number there. taken_named property props tests asked number (bytes_eq asked fixture) (ap (λ tests. is_in tests number) (sym (taken asked)) ∙ there) (is.named asked number);
-    left = λ asked number named kept. ap (λ numbers. is_in numbers number || is_member now number) (taken asked) ∙ taken_left keeps tests fixture asked number before now (bytes_eq asked fixture) refl kept added.is (is.left asked number named kept);
+    left = λ asked number named kept. ap (λ numbers. is_in numbers number || is_drawn_in now number) (taken asked) ∙ taken_left keeps tests fixture asked number before now (bytes_eq asked fixture) refl kept added.is (is.left asked number named kept);
   }
 
   -- the tests that one side of a fixture draws in are those that name it and are not kept out
-  pub side_drawn : (property : Props → List (List ℕ)) (keeps : List ℕ → Bool) (props : List Props) (tests : IndexMap (Vec ℕ Y) (Vec ℕ Z) S) (members : Members) (fixture : List ℕ) (number : ℕ) → IsLeft property keeps props tests members → (is_member members number || is_in (given (keeps fixture) (tests_of tests fixture)) number) ≡ (is_member members number || (names property fixture (at_number props number) && not (keeps fixture)))
+  pub side_drawn : (property : Props → List (List ℕ)) (keeps : List ℕ → Bool) (props : List Props) (tests : IndexMap (Vec ℕ Y) (Vec ℕ Z) S) (members : Members) (fixture : List ℕ) (number : ℕ) → IsLeft property keeps props tests members → (is_drawn_in members number || is_in (given (keeps fixture) (fixture_tests tests fixture)) number) ≡ (is_drawn_in members number || (names_fixture property fixture (at_number props number) && not (keeps fixture)))
   side_drawn property keeps props tests members fixture number is =
-      drawn_by_side (is_in (tests_of tests fixture) number) (names property fixture (at_number props number)) (is_member members number) (keeps fixture) (tests_of tests fixture) number refl (is.named fixture number) (is.left fixture number)
+      drawn_by_side (is_in (fixture_tests tests fixture) number) (names_fixture property fixture (at_number props number)) (is_drawn_in members number) (keeps fixture) (fixture_tests tests fixture) number refl (is.named fixture number) (is.left fixture number)
 
-  left_marks : (property : Props → List (List ℕ)) (keeps : List ℕ → Bool) (props : List Props) (tests : IndexMap (Vec ℕ Y) (Vec ℕ Z) S) (members : Members) (long : ℕ) → long ≡ length props + 1 → IsLeft property keeps props tests members → (fixture : List ℕ) → All (λ number. number < long) (tests_of tests fixture)
+  left_marks : (property : Props → List (List ℕ)) (keeps : List ℕ → Bool) (props : List Props) (tests : IndexMap (Vec ℕ Y) (Vec ℕ Z) S) (members : Members) (long : ℕ) → long ≡ length props + 1 → IsLeft property keeps props tests members → (fixture : List ℕ) → All (λ number. number < long) (fixture_tests tests fixture)
   left_marks property keeps props tests members long is left fixture =
-      all_in (λ number. number < long) (tests_of tests fixture) (λ number there. let has = named_number property props fixture number (left.named fixture number there) in omega (arith, has.1, is))
+      all_in (λ number. number < long) (fixture_tests tests fixture) (λ number there. let has = named_number property props fixture number (left.named fixture number there) in omega (arith, has.1, is))
 
 -- each test that is left has a mark
 pub have_marks : (choice : Choice) (props : List Props) (fixtures : Fixtures) (members : Members) → AreLeft choice props fixtures members → HaveMarks fixtures members
@@ -185,19 +186,19 @@ joined true disabled up kept clean kept_clean = refl
 joined false true up kept clean kept_clean = refl
 joined false false up kept clean kept_clean = none_joined ((up && not kept) || (clean && not kept_clean))
 
-both_sides : (choice : Choice) (fixture : List ℕ) (member : Bool) (own : Option Props) → ((member || (names (λ p. p.setup) fixture own && not (keeps_setups choice fixture))) || (names (λ p. p.cleanup) fixture own && not (keeps_cleanups choice fixture))) ≡ (member || is_drawn choice (fixture ∷ []) own)
+both_sides : (choice : Choice) (fixture : List ℕ) (member : Bool) (own : Option Props) → ((member || (names_fixture (λ p. p.setup) fixture own && not (keeps_setups choice fixture))) || (names_fixture (λ p. p.cleanup) fixture own && not (keeps_cleanups choice fixture))) ≡ (member || is_drawn choice (fixture ∷ []) own)
 both_sides choice fixture member None = sym (none_joined (member || false))
 both_sides choice fixture member (Some own) = joined member own.disabled (is_among fixture own.setup) (keeps_setups choice fixture) (is_among fixture own.cleanup) (keeps_cleanups choice fixture)
 
 -- where the setups and then the cleanups of a fixture are taken out and
 -- added, the tests that it draws in are in
 pub drawn_one : (choice : Choice) (props : List Props) (fixture : List ℕ) (before now : Fixtures) (setups cleanups : List ℕ) (first second third : Members) → AreLeft choice props before first
-    → ((asked : List ℕ) → tests_of now.setups asked ≡ cond (bytes_eq asked fixture) [] (tests_of before.setups asked)) → setups ≡ given (keeps_setups choice fixture) (tests_of before.setups fixture) → AddsTests setups first second
-    → ((asked : List ℕ) → tests_of now.cleanups asked ≡ cond (bytes_eq asked fixture) [] (tests_of before.cleanups asked)) → cleanups ≡ given (keeps_cleanups choice fixture) (tests_of before.cleanups fixture) → AddsTests cleanups second third
+    → ((asked : List ℕ) → fixture_tests now.setups asked ≡ cond (bytes_eq asked fixture) [] (fixture_tests before.setups asked)) → setups ≡ given (keeps_setups choice fixture) (fixture_tests before.setups fixture) → AddsTests setups first second
+    → ((asked : List ℕ) → fixture_tests now.cleanups asked ≡ cond (bytes_eq asked fixture) [] (fixture_tests before.cleanups asked)) → cleanups ≡ given (keeps_cleanups choice fixture) (fixture_tests before.cleanups fixture) → AddsTests cleanups second third
     → AreLeft choice props now third × Draws choice props (fixture ∷ []) first third
 drawn_one choice props fixture before now setups cleanups first second third left setups_out are_setups added_first cleanups_out are_cleanups added_second =
-    let added = adds_same setups (given (keeps_setups choice fixture) (tests_of before.setups fixture)) first second are_setups added_first in
-    let added_too = adds_same cleanups (given (keeps_cleanups choice fixture) (tests_of before.cleanups fixture)) second third are_cleanups added_second in
+    let added = adds_same setups (given (keeps_setups choice fixture) (fixture_tests before.setups fixture)) first second are_setups added_first in
+    let added_too = adds_same cleanups (given (keeps_cleanups choice fixture) (fixture_tests before.cleanups fixture)) second third are_cleanups added_second in
     let cleanups_on = left_on (λ own. own.cleanup) (keeps_cleanups choice) props before.cleanups first second added.extends left.cleanups in
     let setups_on = left_taken (λ own. own.setup) (keeps_setups choice) props before.setups now.setups fixture first second setups_out added left.setups in (
       record {
@@ -210,8 +211,8 @@ drawn_one choice props fixture before now setups cleanups first second third lef
         is = λ number.
             added_too.is number
             ∙ side_drawn (λ own. own.cleanup) (keeps_cleanups choice) props before.cleanups second fixture number cleanups_on
-            ∙ ap (λ m. m || (names (λ own. own.cleanup) fixture (at_number props number) && not (keeps_cleanups choice fixture))) (added.is number ∙ side_drawn (λ own. own.setup) (keeps_setups choice) props before.setups first fixture number left.setups)
-            ∙ both_sides choice fixture (is_member first number) (at_number props number);
+            ∙ ap (λ m. m || (names_fixture (λ own. own.cleanup) fixture (at_number props number) && not (keeps_cleanups choice fixture))) (added.is number ∙ side_drawn (λ own. own.setup) (keeps_setups choice) props before.setups first fixture number left.setups)
+            ∙ both_sides choice fixture (is_drawn_in first number) (at_number props number);
       },
     )
 
@@ -233,8 +234,8 @@ drawn_more choice props fixtures at fixture first second third within is one two
   is = λ number.
       two.is number
       ∙ ap (λ m. m || is_drawn choice (fixture ∷ []) (at_number props number)) (one.is number)
-      ∙ or_behind (is_member first number) (is_drawn choice (take at fixtures) (at_number props number)) (is_drawn choice (fixture ∷ []) (at_number props number))
-      ∙ ap (λ drawn. is_member first number || drawn) (drawn_by_more choice fixtures at fixture (at_number props number) within is);
+      ∙ or_behind (is_drawn_in first number) (is_drawn choice (take at fixtures) (at_number props number)) (is_drawn choice (fixture ∷ []) (at_number props number))
+      ∙ ap (λ drawn. is_drawn_in first number || drawn) (drawn_by_more choice fixtures at fixture (at_number props number) within is);
 }
 
 -- what fixtures draw in is what equal ones draw in

@@ -7,7 +7,7 @@ use Rattle.std.proofs.lemmas.List.Folds.{list_any-append, list_any_more}
 use Rattle.std.proofs.lemmas.List.FromFn.{filter_of_map_range_with_len_more}
 use Rattle.ct_fixture.specs.declared.members.Members.{Members}
 use Rattle.ct_props.specs.Numbered.{is_in}
-use Rattle.ct_fixture.specs.Kept.{AddsTests, Extends, is_member}
+use Rattle.ct_fixture.specs.Kept.{AddsTests, Extends, is_drawn_in}
 
 -- a disjunction with false is its other part
 pub or_none : (a : Bool) → (a || false) ≡ a
@@ -28,7 +28,7 @@ pub extends_on : (first second third : Members) → Extends first second → Ext
 extends_on first second third one two = record {
   long = two.long ∙ one.long;
   kept = λ number was. two.kept number (one.kept number was);
-  waits = λ number in_now was. elim (cases_Bool (is_member second number)) [
+  waits = λ number in_now was. elim (cases_Bool (is_drawn_in second number)) [
     | inl between ↦ two.waits_still number (one.waits number between was)
     | inr between ↦ two.waits number in_now between
   ];
@@ -44,9 +44,9 @@ adds_more tests at first second third within one two = record {
   is = λ number.
       two.is number
       ∙ ap (λ m. m || (eqb (get_or tests at 0) number || false)) (one.is number)
-      ∙ or_behind (is_member first number) (is_in (take at tests) number) (eqb (get_or tests at 0) number || false)
-      ∙ ap (λ later. is_member first number || (is_in (take at tests) number || later)) (or_none (eqb (get_or tests at 0) number))
-      ∙ ap (λ later. is_member first number || later) (sym (list_any_more (λ n. eqb n number) tests at 0 within));
+      ∙ or_behind (is_drawn_in first number) (is_in (take at tests) number) (eqb (get_or tests at 0) number || false)
+      ∙ ap (λ later. is_drawn_in first number || (is_in (take at tests) number || later)) (or_none (eqb (get_or tests at 0) number))
+      ∙ ap (λ later. is_drawn_in first number || later) (sym (list_any_more (λ n. eqb n number) tests at 0 within));
 }
 
 -- the list of the tests that are in, with one number more

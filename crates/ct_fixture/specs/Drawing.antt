@@ -5,9 +5,10 @@ use Rattle.std.specs.List.{list_any, range_with_len}
 use Rattle.ct_regex.specs.declared.pattern.Regex.{Regex}
 use Rattle.ct_regex.specs.Ends.{hits}
 use Rattle.ct_regex.specs.TreeOf.{regex_tree}
-use Rattle.ct_props.specs.Numbered.{at_number, is_among, is_in}
+use Rattle.ct_props.specs.Numbered.{at_number, is_in}
 use Rattle.ct_props.specs.declared.props.Props.{Props}
 use Rattle.ct_props.specs.declared.wanted.Choice.{Choice}
+use Rattle.ct_base.specs.Names.{is_among}
 
 -- a pattern was given, and hits the fixture
 abbrev pub is_hit : Option Regex → List ℕ → Bool
@@ -23,8 +24,8 @@ abbrev pub keeps_cleanups : Choice → List ℕ → Bool
 keeps_cleanups choice fixture = is_hit choice.keep_any fixture || is_hit choice.keep_cleanup fixture
 
 -- the test sets the fixture up, and its setups are not kept out
-abbrev pub sets_up : Choice → List ℕ → Props → Bool
-sets_up choice fixture own = is_among fixture own.setup && not (keeps_setups choice fixture)
+abbrev pub draws_in_setup : Choice → List ℕ → Props → Bool
+draws_in_setup choice fixture own = is_among fixture own.setup && not (keeps_setups choice fixture)
 
 -- the test cleans the fixture, and its cleanups are not kept out
 abbrev pub cleans : Choice → List ℕ → Props → Bool
@@ -32,7 +33,8 @@ cleans choice fixture own = is_among fixture own.cleanup && not (keeps_cleanups 
 
 -- a required fixture draws the test in: the test is not disabled, and sets the fixture up or cleans it
 abbrev pub draws : Choice → Props → List ℕ → Bool
-draws choice own fixture = not own.disabled && (sets_up choice fixture own || cleans choice fixture own)
+draws choice own fixture =
+    not own.disabled && (draws_in_setup choice fixture own || cleans choice fixture own)
 
 -- the fixtures that a test requires; a disabled test requires none
 abbrev pub required_by : Option Props → List (List ℕ)
@@ -51,12 +53,16 @@ fixtures_required props tests = flat_map (λ number. required_by (at_number prop
 -- one round more: the tests that are in, and those that the fixtures required by them draw in
 abbrev pub next_round : Choice → List Props → List ℕ → List ℕ
 next_round choice props tests =
-    filter (λ number. is_in tests number || is_drawn choice (fixtures_required props tests) (at_number props number)) (range_with_len 1 (length props))
+    filter (λ number.
+    is_in tests number
+    || is_drawn choice (fixtures_required props tests) (at_number props number)) (range_with_len 1
+    (length props))
 
 -- the tests that are in after this many rounds
 abbrev pub after_rounds : Choice → List Props → List ℕ → ℕ → List ℕ
 after_rounds choice props chosen zero = chosen
-after_rounds choice props chosen (suc rounds) = next_round choice props (after_rounds choice props chosen rounds)
+after_rounds choice props chosen (suc rounds) =
+    next_round choice props (after_rounds choice props chosen rounds)
 
 -- the members of a run, which ascend: the tests that are in after as many rounds as there are tests
 abbrev pub members_of : Choice → List Props → List ℕ → List ℕ

@@ -1,6 +1,7 @@
 ghost use Rattle.std.specs.Prelude.{◌≡◌, ◌==◌, ◌&&◌, ◌||◌, ℕ, List, [], OnOk, bytes_eq, if◌then◌else◌};
-ghost use Rattle.ct_props.specs.Numbered.{is_among, is_in};
-ghost use Rattle.ct_fixture.specs.Kept.{tests_of};
+ghost use Rattle.ct_props.specs.Numbered.{is_in};
+ghost use Rattle.ct_fixture.specs.Kept.{fixture_tests};
+ghost use Rattle.ct_base.specs.Names.{is_among};
 
 use ct_base::{Name, NoMemory};
 use indexmap::IndexMap;
@@ -16,8 +17,8 @@ pub(crate) fn note_each(
     fixtures: &[Name],
     number: u32,
 ) -> Result<(), NoMemory>
-    ensures { OnOk result ((asked : List ℕ) (test : ℕ) → is_in (tests_of tests.new asked) test
-        ≡ (is_in (tests_of tests.old asked) test || number == test && is_among asked fixtures.now)) }
+    ensures { OnOk result ((asked : List ℕ) (test : ℕ) → is_in (fixture_tests tests.new asked) test
+        ≡ (is_in (fixture_tests tests.old asked) test || number == test && is_among asked fixtures.now)) }
 {
     for fixture in fixtures {
         note(alloc, tests, fixture.bytes(), number)?;
@@ -26,8 +27,8 @@ pub(crate) fn note_each(
 }
 
 fn note(alloc: Global, tests: &mut ByFixture, fixture: &[u8], number: u32) -> Result<(), NoMemory>
-    ensures { OnOk result ((asked : List ℕ) (test : ℕ) → is_in (tests_of tests.new asked) test
-        ≡ (is_in (tests_of tests.old asked) test || number == test && bytes_eq asked fixture.now)) }
+    ensures { OnOk result ((asked : List ℕ) (test : ℕ) → is_in (fixture_tests tests.new asked) test
+        ≡ (is_in (fixture_tests tests.old asked) test || number == test && bytes_eq asked fixture.now)) }
 {
     match tests.get_mut(fixture) {
         Some(here) => {
@@ -45,9 +46,9 @@ fn note(alloc: Global, tests: &mut ByFixture, fixture: &[u8], number: u32) -> Re
 
 /// Removes and returns the tests of a fixture, which then has none.
 pub(crate) fn take(alloc: Global, tests: &mut ByFixture, fixture: &[u8]) -> Vec<u32>
-    ensures gives { result.items ≡ tests_of tests.old fixture.now }
-    ensures leaves { (asked : List ℕ) → tests_of tests.new asked
-        ≡ (if bytes_eq asked fixture.now then [] else tests_of tests.old asked) }
+    ensures gives { result.items ≡ fixture_tests tests.old fixture.now }
+    ensures leaves { (asked : List ℕ) → fixture_tests tests.new asked
+        ≡ (if bytes_eq asked fixture.now then [] else fixture_tests tests.old asked) }
 {
     if tests.is_empty() {
         return Vec::new(alloc);

@@ -1,7 +1,7 @@
 ghost use Rattle.std.specs.Prelude.{◌≡◌, ◌<◌, ◌≤◌, ◌-◌, ◌^◌, ◌||◌, ℕ, [], length, All, IfOk, OnOk, bytes_eq, ◌∷◌, if◌then◌else◌};
 ghost use Rattle.ct_props.specs.Numbered.{at_number};
 ghost use Rattle.ct_fixture.specs.Drawing.{is_hit as is_hit_by, members_of, required_by};
-ghost use Rattle.ct_fixture.specs.Kept.{AreLeft, Draws, HaveMarks, TakesFixture, given, tests_of};
+ghost use Rattle.ct_fixture.specs.Kept.{AreLeft, Draws, HaveMarks, TakesFixture, given, fixture_tests};
 
 use crate::by_fixture::{ByFixture, take};
 use crate::fixtures::Fixtures;
@@ -101,9 +101,9 @@ fn take_unless(
     choice: &Choice,
     keep: &Option<Regex>,
 ) -> Result<Vec<u32>, NoMemory>
-    ensures gives { IfOk result (λ taken. taken.items ≡ given (is_hit_by choice.now.keep_any fixture.now || is_hit_by keep.now fixture.now) (tests_of tests.old fixture.now)) }
-    ensures leaves { (asked : List ℕ) → tests_of tests.new asked
-        ≡ (if bytes_eq asked fixture.now then [] else tests_of tests.old asked) }
+    ensures gives { IfOk result (λ taken. taken.items ≡ given (is_hit_by choice.now.keep_any fixture.now || is_hit_by keep.now fixture.now) (fixture_tests tests.old fixture.now)) }
+    ensures leaves { (asked : List ℕ) → fixture_tests tests.new asked
+        ≡ (if bytes_eq asked fixture.now then [] else fixture_tests tests.old asked) }
 {
     let taken = take(alloc, tests, fixture.bytes());
     if taken.is_empty() {

@@ -1,5 +1,5 @@
 ghost use Rattle.std.specs.Prelude.{◌≡◌, ◌<◌, ◌^◌, ◌-◌, length, IfOk};
-ghost use Rattle.ct_fixture.specs.Kept.{AreWhole};
+ghost use Rattle.ct_fixture.specs.Kept.{AreUntaken};
 
 use crate::by_fixture::{ByFixture, note_each};
 use ct_base::NoMemory;
@@ -18,7 +18,7 @@ impl Fixtures {
     /// Finds the setups and the cleanups of each fixture, without disabled tests.
     pub(crate) fn of(alloc: Global, props: &[Props]) -> Result<Fixtures, NoMemory>
         requires { length props.now < 2 ^ 32 - 1 }
-        ensures { IfOk result (λ fixtures. AreWhole props.now fixtures) }
+        ensures { IfOk result (λ fixtures. AreUntaken props.now fixtures) }
     {
         let mut setups = IndexMap::new(alloc);
         let mut cleanups = IndexMap::new(alloc);

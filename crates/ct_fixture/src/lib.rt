@@ -1,7 +1,6 @@
 //! Draws in the setups and the cleanups of the fixtures that tests require.
 //!
 //! Hands up: `draw_in`, which returns the members of a run, from the chosen tests.
-//! Stands on: ct_base, ct_regex, ct_props and `indexmap`.
 //! Read first: `specs/Drawing.antt`, then `drawing.rt`. `proofs/RoundLemmas.antt` shows that the
 //! rounds of drawing in end.
 #![tactic(auto)]

@@ -1,6 +1,6 @@
 ghost use Rattle.std.specs.Prelude.{◌≡◌, ◌+◌, ◌-◌, ◌^◌, ◌<◌, ◌≤◌, ◌++◌, ◌∷◌, [], ℕ, length, filter, false, vec_len, All, IfOk, MatchOption, OnOk};
 ghost use Rattle.std.specs.List.{range_with_len};
-ghost use Rattle.ct_fixture.specs.Kept.{AddsTests, is_member};
+ghost use Rattle.ct_fixture.specs.Kept.{AddsTests, is_drawn_in};
 
 use ct_base::{List, NoMemory};
 use std::alloc::Global;
@@ -19,7 +19,7 @@ impl Members {
     pub(crate) fn none(alloc: Global, count: usize) -> Result<Members, NoMemory>
         requires { count < 2 ^ 32 - 1 }
         ensures long { IfOk result (λ members. length members.marks.items ≡ count + 1) }
-        ensures none { IfOk result (λ members. (number : ℕ) → is_member members number ≡ false) }
+        ensures none { IfOk result (λ members. (number : ℕ) → is_drawn_in members number ≡ false) }
         ensures waits { IfOk result (λ members. members.waiting.items ≡ []) }
     {
         Ok(Members {
@@ -65,7 +65,7 @@ impl Members {
     pub(crate) fn into_list(self, alloc: Global) -> Result<List<u32>, NoMemory>
         requires low { 1 ≤ length self.marks.items }
         requires few { length self.marks.items < 2 ^ 32 }
-        ensures { IfOk result (λ members. members ≡ filter (is_member self) (range_with_len 1 (length self.marks.items - 1))) }
+        ensures { IfOk result (λ members. members ≡ filter (is_drawn_in self) (range_with_len 1 (length self.marks.items - 1))) }
     {
         let mut members = List::new(alloc);
         for number in 1..self.marks.len() {

@@ -8,14 +8,15 @@ use Rattle.std.proofs.lemmas.List.Kept.{IsStrictlyIncreasing-filter}
 use Rattle.ct_props.proofs.NumberedLemmas.{at_number_within}
 use Rattle.ct_base.specs.declared.defs.TestDef.{TestDef}
 use Rattle.ct_props.specs.declared.props.Props.{Props}
-use Rattle.ct_props.specs.Numbered.{at_number, is_among, is_in}
-use Rattle.ct_graph.specs.Before.{shares_name, comes_before, sets_up, before_of, setups_of}
+use Rattle.ct_props.specs.Numbered.{at_number, is_in}
+use Rattle.ct_graph.specs.Before.{comes_before, sets_up, before_of, setups_of}
 use Rattle.ct_graph.specs.ByName.{tests_of, is_found_in}
 use Rattle.ct_graph.specs.Found.{AreFound}
-use Rattle.ct_graph.specs.Index.{has_name, has_setup, has_required, IsIndex, IsIndexAt, Indexed, AddsTest, AreMembers, FindsBefore}
+use Rattle.ct_graph.specs.Index.{has_own_name, has_setup, has_required, IsIndex, IsIndexAt, Indexed, AddsTest, AreMembers, FindsBefore}
 use Rattle.ct_graph.specs.declared.index.Index.{Index}
 use Rattle.ct_graph.proofs.TestLemmas.{is_in-filter, same_increasing, all_in}
 use Rattle.ct_graph.proofs.NameLemmas.{bytes_eq_comm}
+use Rattle.ct_base.specs.Names.{is_among, shares_name}
 
 -- whether the number that was just added has what is asked
 more_here : (a o : Bool) → ((a && o) || (o && true)) ≡ ((a || true) && o)
@@ -47,12 +48,12 @@ one_more members at d within has before now old new n =
 
 -- the index with one more member
 pub indexes_more : (defs : List TestDef) (props : List Props) (members : List ℕ) (at d : ℕ) → at < length members → (names setups users names' setups' users' : List ℕ → List ℕ) → IsIndex defs props (take at members) names setups users
-    → ((name : List ℕ) (n : ℕ) → is_in (names' name) n ≡ (is_in (names name) n || (has_name name (at_number defs (get_or members at d)) (at_number props (get_or members at d)) && eqb (get_or members at d) n)))
+    → ((name : List ℕ) (n : ℕ) → is_in (names' name) n ≡ (is_in (names name) n || (has_own_name name (at_number defs (get_or members at d)) (at_number props (get_or members at d)) && eqb (get_or members at d) n)))
     → ((fixture : List ℕ) (n : ℕ) → is_in (setups' fixture) n ≡ (is_in (setups fixture) n || (has_setup fixture (at_number props (get_or members at d)) && eqb (get_or members at d) n)))
     → ((fixture : List ℕ) (n : ℕ) → is_in (users' fixture) n ≡ (is_in (users fixture) n || (has_required fixture (at_number props (get_or members at d)) && eqb (get_or members at d) n)))
     → IsIndex defs props (take (at + 1) members) names' setups' users'
 indexes_more defs props members at d within names setups users names' setups' users' index by_name by_setup by_user = record {
-  by_name = λ name. one_more members at d within (λ n. has_name name (at_number defs n) (at_number props n)) (λ n. is_in (names name) n) (λ n. is_in (names' name) n) (index.by_name name) (by_name name);
+  by_name = λ name. one_more members at d within (λ n. has_own_name name (at_number defs n) (at_number props n)) (λ n. is_in (names name) n) (λ n. is_in (names' name) n) (index.by_name name) (by_name name);
   by_setup = λ fixture. one_more members at d within (λ n. has_setup fixture (at_number props n)) (λ n. is_in (setups fixture) n) (λ n. is_in (setups' fixture) n) (index.by_setup fixture) (by_setup fixture);
   by_user = λ fixture. one_more members at d within (λ n. has_required fixture (at_number props n)) (λ n. is_in (users fixture) n) (λ n. is_in (users' fixture) n) (index.by_user fixture) (by_user fixture);
 }
@@ -74,8 +75,8 @@ in_front m each has same (name ∷ names) =
     ∙ both_or m (has name) (list_any has names)
 
 module _ (defs : List TestDef) (props : List Props) (members : List ℕ) (names setups users : List ℕ → List ℕ) (index : IsIndex defs props members names setups users) (n : ℕ) where
-  found_named : (depends : List (List ℕ)) → is_found_in names depends n ≡ (is_in members n && list_any (λ name. has_name name (at_number defs n) (at_number props n)) depends)
-  found_named depends = in_front (is_in members n) (λ name. is_in (names name) n) (λ name. has_name name (at_number defs n) (at_number props n)) (λ name. index.by_name name n) depends
+  found_named : (depends : List (List ℕ)) → is_found_in names depends n ≡ (is_in members n && list_any (λ name. has_own_name name (at_number defs n) (at_number props n)) depends)
+  found_named depends = in_front (is_in members n) (λ name. is_in (names name) n) (λ name. has_own_name name (at_number defs n) (at_number props n)) (λ name. index.by_name name n) depends
 
   found_setups : (fixtures : List (List ℕ)) → is_found_in setups fixtures n ≡ (is_in members n && list_any (λ fixture. has_setup fixture (at_number props n)) fixtures)
   found_setups fixtures = in_front (is_in members n) (λ fixture. is_in (setups fixture) n) (λ fixture. has_setup fixture (at_number props n)) (λ fixture. index.by_setup fixture n) fixtures
@@ -84,9 +85,9 @@ module _ (defs : List TestDef) (props : List Props) (members : List ℕ) (names 
   found_users fixtures = in_front (is_in members n) (λ fixture. is_in (users fixture) n) (λ fixture. has_required fixture (at_number props n)) (λ fixture. index.by_user fixture n) fixtures
 
 -- whether a test has one of these names, by its own name
-named : (depends : List (List ℕ)) (def : TestDef) (earlier : Props) → list_any (λ name. has_name name (Some def) (Some earlier)) depends ≡ (not earlier.disabled && is_among def.name depends)
+named : (depends : List (List ℕ)) (def : TestDef) (earlier : Props) → list_any (λ name. has_own_name name (Some def) (Some earlier)) depends ≡ (not earlier.disabled && is_among def.name depends)
 named depends def earlier =
-    in_front (not earlier.disabled) (λ name. has_name name (Some def) (Some earlier)) (λ name. bytes_eq def.name name)
+    in_front (not earlier.disabled) (λ name. has_own_name name (Some def) (Some earlier)) (λ name. bytes_eq def.name name)
     (λ name. ap (λ b. not earlier.disabled && b) (bytes_eq_comm name def.name)) depends
 
 sets : (fixtures : List (List ℕ)) (earlier : Props) → list_any (λ fixture. has_setup fixture (Some earlier)) fixtures ≡ (not earlier.disabled && shares_name fixtures earlier.setup)
@@ -130,7 +131,7 @@ no_way false r = refl
 abbrev any_of : Bool → Bool → Bool → Bool → Bool → Bool
 any_of m a b c d = (((m && a) || (m && b)) || (m && c)) || (m && d)
 
-ways : (m : Bool) (def : TestDef) (earlier later : Props) → later.disabled ≡ false → any_of m (list_any (λ name. has_name name (Some def) (Some earlier)) later.depends) (list_any (λ fixture. has_setup fixture (Some earlier)) later.required) (list_any (λ fixture. has_required fixture (Some earlier)) later.cleanup) (list_any (λ fixture. has_setup fixture (Some earlier)) later.cleanup) ≡ (comes_before (Some def) (Some earlier) (Some later) && m)
+ways : (m : Bool) (def : TestDef) (earlier later : Props) → later.disabled ≡ false → any_of m (list_any (λ name. has_own_name name (Some def) (Some earlier)) later.depends) (list_any (λ fixture. has_setup fixture (Some earlier)) later.required) (list_any (λ fixture. has_required fixture (Some earlier)) later.cleanup) (list_any (λ fixture. has_setup fixture (Some earlier)) later.cleanup) ≡ (comes_before (Some def) (Some earlier) (Some later) && m)
 ways m def earlier later enabled =
     let e : Bool = not earlier.disabled in
     let depends : Bool = is_among def.name later.depends in
@@ -152,11 +153,11 @@ module _ (defs : List TestDef) (props : List Props) (members : List ℕ) (names 
   props_of : (n : ℕ) → is_in members n ≡ true → (earlier : Props) × (at_number props n ≡ Some earlier)
   props_of n is = let within = all_in members (λ m. (0 < m) × (m ≤ length props)) inside n is in at_number_within props n within.0 within.1
 
-  found_by : (n : ℕ) → later.disabled ≡ false → any_of (is_in members n) (list_any (λ name. has_name name (at_number defs n) (at_number props n)) later.depends) (list_any (λ fixture. has_setup fixture (at_number props n)) later.required) (list_any (λ fixture. has_required fixture (at_number props n)) later.cleanup) (list_any (λ fixture. has_setup fixture (at_number props n)) later.cleanup) ≡ (comes_before (at_number defs n) (at_number props n) (at_number props number) && is_in members n)
+  found_by : (n : ℕ) → later.disabled ≡ false → any_of (is_in members n) (list_any (λ name. has_own_name name (at_number defs n) (at_number props n)) later.depends) (list_any (λ fixture. has_setup fixture (at_number props n)) later.required) (list_any (λ fixture. has_required fixture (at_number props n)) later.cleanup) (list_any (λ fixture. has_setup fixture (at_number props n)) later.cleanup) ≡ (comes_before (at_number defs n) (at_number props n) (at_number props number) && is_in members n)
   found_by n enabled = by (is_in members n) refl
     where
       Found : Bool → Option TestDef → Option Props → Option Props → Type 0
-      Found m D P Q = any_of m (list_any (λ name. has_name name D P) later.depends) (list_any (λ fixture. has_setup fixture P) later.required) (list_any (λ fixture. has_required fixture P) later.cleanup) (list_any (λ fixture. has_setup fixture P) later.cleanup) ≡ (comes_before D P Q && m)
+      Found m D P Q = any_of m (list_any (λ name. has_own_name name D P) later.depends) (list_any (λ fixture. has_setup fixture P) later.required) (list_any (λ fixture. has_required fixture P) later.cleanup) (list_any (λ fixture. has_setup fixture P) later.cleanup) ≡ (comes_before D P Q && m)
 
       by : (m : Bool) → is_in members n ≡ m → Found m (at_number defs n) (at_number props n) (at_number props number)
       by true is =
@@ -172,9 +173,9 @@ module _ (defs : List TestDef) (props : List Props) (members : List ℕ) (names 
   is_before found enabled finds n =
       finds n
       ∙ ap (λ a. ((a || is_found_in setups later.required n) || is_found_in users later.cleanup n) || is_found_in setups later.cleanup n) (found_named defs props members names setups users index n later.depends)
-      ∙ ap (λ b. (((is_in members n && list_any (λ name. has_name name (at_number defs n) (at_number props n)) later.depends) || b) || is_found_in users later.cleanup n) || is_found_in setups later.cleanup n) (found_setups defs props members names setups users index n later.required)
-      ∙ ap (λ c. (((is_in members n && list_any (λ name. has_name name (at_number defs n) (at_number props n)) later.depends) || (is_in members n && list_any (λ fixture. has_setup fixture (at_number props n)) later.required)) || c) || is_found_in setups later.cleanup n) (found_users defs props members names setups users index n later.cleanup)
-      ∙ ap (λ d. (((is_in members n && list_any (λ name. has_name name (at_number defs n) (at_number props n)) later.depends) || (is_in members n && list_any (λ fixture. has_setup fixture (at_number props n)) later.required)) || (is_in members n && list_any (λ fixture. has_required fixture (at_number props n)) later.cleanup)) || d) (found_setups defs props members names setups users index n later.cleanup)
+      ∙ ap (λ b. (((is_in members n && list_any (λ name. has_own_name name (at_number defs n) (at_number props n)) later.depends) || b) || is_found_in users later.cleanup n) || is_found_in setups later.cleanup n) (found_setups defs props members names setups users index n later.required)
+      ∙ ap (λ c. (((is_in members n && list_any (λ name. has_own_name name (at_number defs n) (at_number props n)) later.depends) || (is_in members n && list_any (λ fixture. has_setup fixture (at_number props n)) later.required)) || c) || is_found_in setups later.cleanup n) (found_users defs props members names setups users index n later.cleanup)
+      ∙ ap (λ d. (((is_in members n && list_any (λ name. has_own_name name (at_number defs n) (at_number props n)) later.depends) || (is_in members n && list_any (λ fixture. has_setup fixture (at_number props n)) later.required)) || (is_in members n && list_any (λ fixture. has_required fixture (at_number props n)) later.cleanup)) || d) (found_setups defs props members names setups users index n later.cleanup)
       ∙ found_by n enabled
 
   -- nothing comes before a test that is disabled
@@ -272,7 +273,7 @@ adds_more defs props members at old new within was adds = record {
   members_are = ap (λ m. m.now) adds.same_members ∙ was.members_are;
   indexed =
       indexes_more defs props members at 0 within (tests_of old.names) (tests_of old.setups) (tests_of old.users) (tests_of new.names) (tests_of new.setups) (tests_of new.users) was.indexed
-      (λ name n. adds.by_name name n ∙ ap (λ ds. is_in (tests_of old.names name) n || (has_name name (at_number ds (get_or members at 0)) (at_number old.props.now (get_or members at 0)) && eqb (get_or members at 0) n)) was.defs_are ∙ ap (λ ps. is_in (tests_of old.names name) n || (has_name name (at_number defs (get_or members at 0)) (at_number ps (get_or members at 0)) && eqb (get_or members at 0) n)) was.props_are)
+      (λ name n. adds.by_name name n ∙ ap (λ ds. is_in (tests_of old.names name) n || (has_own_name name (at_number ds (get_or members at 0)) (at_number old.props.now (get_or members at 0)) && eqb (get_or members at 0) n)) was.defs_are ∙ ap (λ ps. is_in (tests_of old.names name) n || (has_own_name name (at_number defs (get_or members at 0)) (at_number ps (get_or members at 0)) && eqb (get_or members at 0) n)) was.props_are)
       (λ fixture n. adds.by_setup fixture n ∙ ap (λ ps. is_in (tests_of old.setups fixture) n || (has_setup fixture (at_number ps (get_or members at 0)) && eqb (get_or members at 0) n)) was.props_are)
       (λ fixture n. adds.by_user fixture n ∙ ap (λ ps. is_in (tests_of old.users fixture) n || (has_required fixture (at_number ps (get_or members at 0)) && eqb (get_or members at 0) n)) was.props_are);
 }

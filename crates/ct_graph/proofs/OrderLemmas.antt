@@ -10,7 +10,7 @@ use Rattle.ct_graph.specs.Before.{before_of, setups_of}
 use Rattle.ct_props.specs.Numbered.{is_in}
 use Rattle.ct_graph.specs.Cycle.{leads_to, is_cycle, HasCycle}
 use Rattle.ct_graph.specs.Order.{IsOrder, IsAnswer, edges_of, links_at, ranks_below, ranks_above_all}
-use Rattle.ct_graph.specs.Walk.{row_of, mark_of, rank_of, is_taken, is_taken_below, are_taken, are_taken_below, AreRanked, EndsWalk}
+use Rattle.ct_graph.specs.Walk.{row_of, mark_of, rank_of, is_ranked, is_taken_below, are_taken, are_taken_below, AreRanked, EndsWalk}
 use Rattle.ct_graph.specs.Rows.{AreRows, EndsRows, links_of}
 use Rattle.ct_graph.specs.declared.fault.GraphFault.{GraphFault}
 use Rattle.ct_graph.specs.declared.fault.GraphFault.TheVariants.{Cycle, TooManyEdges, NoMemory}
@@ -34,7 +34,7 @@ links_at-member link numbered (m ∷ ms) n is =
     ∙ links_by link m n (links_at (map link ms) n) (eqb m n) refl
     (λ other. links_at-member link numbered ms n (⊎_elim (λ same. absurd (true≢false (sym same ∙ other))) (λ rest. rest) (or_cases (eqb m n) (is_in ms n) is)))
 
-taken_is : (mark : Mark) → is_taken mark ≡ true → mark ≡ Taken (rank_of mark)
+taken_is : (mark : Mark) → is_ranked mark ≡ true → mark ≡ Taken (rank_of mark)
 taken_is Unseen is = absurd (false≢true is)
 taken_is Open is = absurd (false≢true is)
 taken_is (Taken rank) is = refl
@@ -94,7 +94,7 @@ orders defs props tests members rows marks links are ranked taken made =
 
     ranks : (i : ℕ) → is_in members i ≡ true → ranks_above_all (map (links_of (setups_of props members) rows marks) members) (links_of (setups_of props members) rows marks i) ≡ true
     ranks i is =
-        let here : mark_of marks i ≡ Taken (rank_of (mark_of marks i)) = taken_is (mark_of marks i) (list_all-at (λ j. is_taken (mark_of marks j)) members i taken is) in
+        let here : mark_of marks i ≡ Taken (rank_of (mark_of marks i)) = taken_is (mark_of marks i) (list_all-at (λ j. is_ranked (mark_of marks j)) members i taken is) in
         let lower : are_taken_below marks (rank_of (mark_of marks i)) (row_of rows i) ≡ true = ranked i (rank_of (mark_of marks i)) here in
         list_all-from (λ j. ranks_below (rank_of (mark_of marks i)) (links_at (map (links_of (setups_of props members) rows marks) members) j)) (row_of rows i)
         (λ j in_row_i.

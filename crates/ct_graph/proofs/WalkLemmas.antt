@@ -7,20 +7,20 @@ use Rattle.std.proofs.lemmas.List.Sums.{sum_by-set}
 use Rattle.std.proofs.lemmas.List.Elements.{All-get_or}
 use Rattle.ct_props.specs.Numbered.{is_in}
 use Rattle.ct_graph.specs.Cycle.{is_cycle, leads_to}
-use Rattle.ct_graph.specs.Walk.{row_of, AreWithin, mark_of, is_unseen, is_taken, is_taken_below, are_taken, are_taken_below, is_on, is_before_last, IsStep, IsTrail, IsWalk, GoesOn, steps_left, back_to}
+use Rattle.ct_graph.specs.Walk.{row_of, AreWithin, mark_of, is_unseen, is_ranked, is_taken_below, are_taken, are_taken_below, is_on, is_before_last, IsStep, IsTrail, IsWalk, WalksOn, steps_left, back_to}
 use Rattle.ct_graph.specs.declared.walk.Mark.{Mark}
 use Rattle.ct_graph.specs.declared.walk.Mark.TheVariants.{Unseen, Open, Taken}
 use Rattle.ct_graph.specs.declared.walk.Step.{Step}
 use Rattle.ct_graph.proofs.TestLemmas.{list_all-weaker, is_in-get_or}
 
 -- a test that is taken with a rank below another is taken
-taken_from_below : (rank : ℕ) (mark : Mark) → is_taken_below rank mark ≡ true → is_taken mark ≡ true
+taken_from_below : (rank : ℕ) (mark : Mark) → is_taken_below rank mark ≡ true → is_ranked mark ≡ true
 taken_from_below rank Unseen is = absurd (false≢true is)
 taken_from_below rank Open is = absurd (false≢true is)
 taken_from_below rank (Taken other) is = refl
 
 -- a taken test is taken with a rank below one that is above all given ranks
-below_from_taken : (most : ℕ) (mark : Mark) → ((rank : ℕ) → mark ≡ Taken rank → rank < most) → is_taken mark ≡ true → is_taken_below most mark ≡ true
+below_from_taken : (most : ℕ) (mark : Mark) → ((rank : ℕ) → mark ≡ Taken rank → rank < most) → is_ranked mark ≡ true → is_taken_below most mark ≡ true
 below_from_taken most Unseen below is = absurd (false≢true is)
 below_from_taken most Open below is = absurd (false≢true is)
 below_from_taken most (Taken rank) below is = lt-ltb rank most (below rank refl)
@@ -32,13 +32,13 @@ same_rank : (rank other : ℕ) → Taken rank ≡ Taken other → rank ≡ other
 same_rank rank other is = cc
 
 -- one test that was not taken gets a mark
-module _ (rows : List (List ℕ)) (marks : List Mark) (test : ℕ) (mark : Mark) (free : is_taken (mark_of marks test) ≡ false) where
-  pub kept_if_taken : (j : ℕ) → is_taken (mark_of marks j) ≡ true → mark_of (set marks test mark) j ≡ mark_of marks j
+module _ (rows : List (List ℕ)) (marks : List Mark) (test : ℕ) (mark : Mark) (free : is_ranked (mark_of marks test) ≡ false) where
+  pub kept_if_taken : (j : ℕ) → is_ranked (mark_of marks j) ≡ true → mark_of (set marks test mark) j ≡ mark_of marks j
   kept_if_taken j is =
-      get_or-set_other marks test j mark Unseen (λ same. both_ways (is_taken (mark_of marks j)) (ap (λ t. is_taken (mark_of marks t)) same ∙ free) is)
+      get_or-set_other marks test j mark Unseen (λ same. both_ways (is_ranked (mark_of marks j)) (ap (λ t. is_ranked (mark_of marks t)) same ∙ free) is)
 
-  taken_stays : (j : ℕ) → is_taken (mark_of marks j) ≡ true → is_taken (mark_of (set marks test mark) j) ≡ true
-  taken_stays j is = ap is_taken (kept_if_taken j is) ∙ is
+  taken_stays : (j : ℕ) → is_ranked (mark_of marks j) ≡ true → is_ranked (mark_of (set marks test mark) j) ≡ true
+  taken_stays j is = ap is_ranked (kept_if_taken j is) ∙ is
 
   below_stays : (rank j : ℕ) → is_taken_below rank (mark_of marks j) ≡ true → is_taken_below rank (mark_of (set marks test mark) j) ≡ true
   below_stays rank j is = ap (is_taken_below rank) (kept_if_taken j (taken_from_below rank (mark_of marks j) is)) ∙ is
@@ -85,8 +85,8 @@ module _ (rows : List (List ℕ)) (marks : List Mark) (s : Step) (trail : List S
   step : IsStep rows marks s
   step = walk.is_trail.0
 
-  free : is_taken (mark_of marks s.test) ≡ false
-  free = ap is_taken step.open_mark
+  free : is_ranked (mark_of marks s.test) ≡ false
+  free = ap is_ranked step.open_mark
 
   within : s.test < length marks
   within = subst (λ n. s.test < n) (sym walk.marked) step.within
@@ -99,7 +99,7 @@ module _ (rows : List (List ℕ)) (marks : List Mark) (s : Step) (trail : List S
 
   ranked_here : are_taken_below (set marks s.test (Taken taken)) taken (row_of rows s.test) ≡ true
   ranked_here =
-      list_all-weaker (λ j. is_taken (mark_of marks j)) (λ j. is_taken_below taken (mark_of (set marks s.test (Taken taken)) j))
+      list_all-weaker (λ j. is_ranked (mark_of marks j)) (λ j. is_taken_below taken (mark_of (set marks s.test (Taken taken)) j))
       (λ j is. below_stays rows marks s.test (Taken taken) free taken j (below_from_taken taken (mark_of marks j) (walk.below j) is))
       (row_of rows s.test) all
 
@@ -131,7 +131,7 @@ module _ (rows : List (List ℕ)) (marks : List Mark) (s : Step) (trail : List S
     is_trail = trail_stays rows marks s.test (Taken taken) free trail walk.is_trail.2 walk.is_trail.3;
     on_trail = λ test is.
         ⊎_elim
-        (λ same. absurd (true≢false (sym (ap is_taken here) ∙ ap (λ t. is_taken (mark_of (set marks s.test (Taken taken)) t)) (sym same) ∙ ap is_taken is)))
+        (λ same. absurd (true≢false (sym (ap is_ranked here) ∙ ap (λ t. is_ranked (mark_of (set marks s.test (Taken taken)) t)) (sym same) ∙ ap is_ranked is)))
         (λ other. on_rest s trail test other (walk.on_trail test (sym (there test other) ∙ is)))
         (cases_eq test s.test);
     count =
@@ -146,8 +146,8 @@ module _ (rows : List (List ℕ)) (marks : List Mark) (s : Step) (trail : List S
 
 -- a test that is unseen is put on the trail
 module _ (rows : List (List ℕ)) (marks : List Mark) (trail : List Step) (taken next : ℕ) (walk : IsWalk rows marks trail taken) (inside : next < length rows) (unseen : mark_of marks next ≡ Unseen) where
-  not_taken : is_taken (mark_of marks next) ≡ false
-  not_taken = ap is_taken unseen
+  not_taken : is_ranked (mark_of marks next) ≡ false
+  not_taken = ap is_ranked unseen
 
   within_marks : next < length marks
   within_marks = subst (λ n. next < n) (sym walk.marked) inside
@@ -161,7 +161,7 @@ module _ (rows : List (List ℕ)) (marks : List Mark) (trail : List Step) (taken
   was_taken : (test rank : ℕ) → mark_of (set marks next Open) test ≡ Taken rank → mark_of marks test ≡ Taken rank
   was_taken test rank is =
       ⊎_elim
-      (λ same. absurd (true≢false (sym (ap is_taken is) ∙ ap (λ t. is_taken (mark_of (set marks next Open) t)) same ∙ ap is_taken opened_here)))
+      (λ same. absurd (true≢false (sym (ap is_ranked is) ∙ ap (λ t. is_ranked (mark_of (set marks next Open) t)) same ∙ ap is_ranked opened_here)))
       (λ other. sym (unchanged test other) ∙ is)
       (cases_eq test next)
 
@@ -223,7 +223,7 @@ closes rows marks first s (next ∷ rest) tests is on leads =
     (eqb s.test first) refl
 
 -- a mark that is not unseen is given to a test that was not taken
-pub goes-set : (rows : List (List ℕ)) (marks : List Mark) (test : ℕ) (mark : Mark) → test < length marks → is_taken (mark_of marks test) ≡ false → is_unseen mark ≡ false → GoesOn marks (set marks test mark)
+pub goes-set : (rows : List (List ℕ)) (marks : List Mark) (test : ℕ) (mark : Mark) → test < length marks → is_ranked (mark_of marks test) ≡ false → is_unseen mark ≡ false → WalksOn marks (set marks test mark)
 goes-set rows marks test mark within free seen = record {
   seen = λ j was. ⊎_elim
       (λ same. ap (λ t. is_unseen (mark_of (set marks test mark) t)) same ∙ ap is_unseen (get_or-set_same marks test mark Unseen within) ∙ seen)
@@ -243,8 +243,8 @@ unmarked n test =
 pub starts : (rows : List (List ℕ)) → IsWalk rows (replicate (length rows) Unseen) [] 0
 starts rows = record {
   marked = length-replicate (length rows) Unseen;
-  ranked = λ test rank is. absurd (true≢false (sym (ap is_taken is) ∙ ap is_taken (unmarked (length rows) test)));
-  below = λ test rank is. absurd (true≢false (sym (ap is_taken is) ∙ ap is_taken (unmarked (length rows) test)));
+  ranked = λ test rank is. absurd (true≢false (sym (ap is_ranked is) ∙ ap is_ranked (unmarked (length rows) test)));
+  below = λ test rank is. absurd (true≢false (sym (ap is_ranked is) ∙ ap is_ranked (unmarked (length rows) test)));
   is_trail = tt;
   on_trail = λ test is. absurd (not_open (mark_of (replicate (length rows) Unseen) test) (unmarked (length rows) test) is);
   count =
@@ -253,13 +253,13 @@ starts rows = record {
 }
 
 -- where the trail is empty, a test that is not unseen is taken
-pub taken_at_end : (rows : List (List ℕ)) (marks : List Mark) (taken test : ℕ) → IsWalk rows marks [] taken → is_unseen (mark_of marks test) ≡ false → is_taken (mark_of marks test) ≡ true
+pub taken_at_end : (rows : List (List ℕ)) (marks : List Mark) (taken test : ℕ) → IsWalk rows marks [] taken → is_unseen (mark_of marks test) ≡ false → is_ranked (mark_of marks test) ≡ true
 taken_at_end rows marks taken test walk seen = by (mark_of marks test) refl
   where
-    by : (mark : Mark) → mark_of marks test ≡ mark → is_taken (mark_of marks test) ≡ true
+    by : (mark : Mark) → mark_of marks test ≡ mark → is_ranked (mark_of marks test) ≡ true
     by Unseen is = absurd (true≢false (sym (ap is_unseen is) ∙ seen))
     by Open is = absurd (false≢true (walk.on_trail test is))
-    by (Taken rank) is = ap is_taken is
+    by (Taken rank) is = ap is_ranked is
 
 -- what holds of a walk holds of an equal one
 pub same_walk : (rows : List (List ℕ)) (marks now : List Mark) (trail on : List Step) (taken count : ℕ) → now ≡ marks → on ≡ trail → count ≡ taken → IsWalk rows marks trail taken → IsWalk rows now on count
@@ -277,7 +277,7 @@ pub next_within : (rows : List (List ℕ)) (test at : ℕ) → AreWithin rows �
 next_within rows test at within inside few =
     All-get_or (λ j. j < length rows) (row_of rows test) at 0 few (All-get_or (All (λ j. j < length rows)) rows test [] inside within)
 
-unseen_from : (mark : Mark) → is_taken mark ≡ false → (mark ≡ Open → ⊥) → mark ≡ Unseen
+unseen_from : (mark : Mark) → is_ranked mark ≡ false → (mark ≡ Open → ⊥) → mark ≡ Unseen
 unseen_from Unseen untaken closed = refl
 unseen_from Open untaken closed = absurd (closed refl)
 unseen_from (Taken rank) untaken closed = absurd (true≢false untaken)
@@ -293,7 +293,7 @@ module _ (rows : List (List ℕ)) (marks : List Mark) (s : Step) (trail : List S
       closes rows marks (get_or (row_of rows s.test) at 0) s trail [] walk.is_trail (walk.on_trail (get_or (row_of rows s.test) at 0) is) (is_in-get_or (row_of rows s.test) at 0 few)
 
   -- where that test is unseen, it is opened
-  module _ (looked : are_taken marks (take at (row_of rows s.test)) ≡ true) (untaken : is_taken (mark_of marks (get_or (row_of rows s.test) at 0)) ≡ false) (closed : mark_of marks (get_or (row_of rows s.test) at 0) ≡ Open → ⊥) where
+  module _ (looked : are_taken marks (take at (row_of rows s.test)) ≡ true) (untaken : is_ranked (mark_of marks (get_or (row_of rows s.test) at 0)) ≡ false) (closed : mark_of marks (get_or (row_of rows s.test) at 0) ≡ Open → ⊥) where
     unseen : mark_of marks (get_or (row_of rows s.test) at 0) ≡ Unseen
     unseen = unseen_from (mark_of marks (get_or (row_of rows s.test) at 0)) untaken closed
 
@@ -305,7 +305,7 @@ module _ (rows : List (List ℕ)) (marks : List Mark) (s : Step) (trail : List S
         unseen
         (is_in-get_or (row_of rows s.test) at 0 few)
 
-    pub goes_next : GoesOn marks (set marks (get_or (row_of rows s.test) at 0) Open)
+    pub goes_next : WalksOn marks (set marks (get_or (row_of rows s.test) at 0) Open)
     goes_next = goes-set rows marks (get_or (row_of rows s.test) at 0) Open next_inside untaken refl
 
     pub fewer_next : (trail' : List Step) → trail' ≡ record { test = get_or (row_of rows s.test) at 0; looked = 0 } ∷ record { test = s.test; looked = at } ∷ trail → (now : List Mark) → now ≡ set marks (get_or (row_of rows s.test) at 0) Open → steps_left now trail' < steps_left marks (s ∷ trail)
@@ -316,14 +316,14 @@ module _ (rows : List (List ℕ)) (marks : List Mark) (s : Step) (trail : List S
         omega arith
 
 -- a walk that goes on keeps the members that were taken, and takes one more
-pub takes_more : (marks now : List Mark) (members : List ℕ) (at d : ℕ) → at < length members → GoesOn marks now → are_taken marks (take at members) ≡ true → is_taken (mark_of now (get_or members at d)) ≡ true → are_taken now (take (at + 1) members) ≡ true
+pub takes_more : (marks now : List Mark) (members : List ℕ) (at d : ℕ) → at < length members → WalksOn marks now → are_taken marks (take at members) ≡ true → is_ranked (mark_of now (get_or members at d)) ≡ true → are_taken now (take (at + 1) members) ≡ true
 takes_more marks now members at d within goes before here =
-    list_all_more (λ j. is_taken (mark_of now j)) members at d within
-    ∙ and_from (are_taken now (take at members)) (is_taken (mark_of now (get_or members at d)))
-    (list_all-weaker (λ j. is_taken (mark_of marks j)) (λ j. is_taken (mark_of now j)) goes.taken (take at members) before)
+    list_all_more (λ j. is_ranked (mark_of now j)) members at d within
+    ∙ and_from (are_taken now (take at members)) (is_ranked (mark_of now (get_or members at d)))
+    (list_all-weaker (λ j. is_ranked (mark_of marks j)) (λ j. is_ranked (mark_of now j)) goes.taken (take at members) before)
     here
 
-pub goes-refl : (marks : List Mark) → GoesOn marks marks
+pub goes-refl : (marks : List Mark) → WalksOn marks marks
 goes-refl marks = record { seen = λ j is. is; taken = λ j is. is }
 
 pub seen_from : (mark : Mark) → (mark ≡ Unseen → ⊥) → is_unseen mark ≡ false

@@ -3,12 +3,9 @@
 use Rattle.std.specs.Prelude.{ℕ, Bool, false, not, ◌&&◌, ◌||◌, List, filter, Option, Some}
 use Rattle.std.specs.List.{list_any}
 use Rattle.ct_base.specs.declared.defs.TestDef.{TestDef}
-use Rattle.ct_props.specs.Numbered.{at_number, is_among}
+use Rattle.ct_props.specs.Numbered.{at_number}
 use Rattle.ct_props.specs.declared.props.Props.{Props}
-
--- some name stands in both lists
-abbrev pub shares_name : List (List ℕ) → List (List ℕ) → Bool
-shares_name names others = list_any (λ name. is_among name others) names
+use Rattle.ct_base.specs.Names.{is_among, shares_name}
 
 -- the later test depends on the name of the earlier one
 abbrev pub depends_on : TestDef → Props → Bool
@@ -20,7 +17,8 @@ is_set_up_by earlier later = shares_name later.required earlier.setup
 
 -- the later test cleans a fixture that the earlier one requires or sets up
 abbrev pub cleans_behind : Props → Props → Bool
-cleans_behind earlier later = shares_name later.cleanup earlier.required || shares_name later.cleanup earlier.setup
+cleans_behind earlier later =
+    shares_name later.cleanup earlier.required || shares_name later.cleanup earlier.setup
 
 -- neither of two tests is disabled
 abbrev pub are_enabled : Props → Props → Bool
@@ -30,7 +28,8 @@ are_enabled earlier later = not earlier.disabled && not later.disabled
 -- requires a fixture that it sets up, or cleans behind it
 abbrev pub comes_before : Option TestDef → Option Props → Option Props → Bool
 comes_before (Some def) (Some earlier) (Some later) =
-    are_enabled earlier later && (depends_on def later || is_set_up_by earlier later || cleans_behind earlier later)
+    are_enabled earlier later
+    && (depends_on def later || is_set_up_by earlier later || cleans_behind earlier later)
 comes_before _ _ _ = false
 
 -- a test that is not disabled sets up a fixture that another one requires

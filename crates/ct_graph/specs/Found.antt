@@ -42,7 +42,9 @@ names_cmp names others = slice_cmp (λ (x y : Bor (List ℕ)). slice_cmp nat_cmp
 -- the tests that a map keeps for a list of names are those that the names find
 abbrev pub KnowsIn : {Y : Type 0} → (List ℕ → List ℕ) → List (Vec (Bor (List ℕ)) Y × List ℕ) → Type 0
 KnowsIn {Y} find entries =
-    (names : Vec (Bor (List ℕ)) Y) (tests : List ℕ) → lookup (λ (key : Vec (Bor (List ℕ)) Y). is_eq (names_cmp names.items key.items)) entries ≡ Some tests → AreFound find (bytes_of names.items) tests
+    (names : Vec (Bor (List ℕ)) Y) (tests : List ℕ)
+    → lookup (λ (key : Vec (Bor (List ℕ)) Y). is_eq (names_cmp names.items key.items)) entries ≡ Some tests
+    → AreFound find (bytes_of names.items) tests
 
 -- the tests that are known for a list of names are those that the names find
 abbrev pub Knows : (List ℕ → List ℕ) → Known → Type 0

@@ -3,16 +3,17 @@ use Rattle.std.specs.Prelude.{◌≡◌, ℕ, ◌≤◌, ◌<◌, bytes_eq, Bool
 use Rattle.std.specs.List.Sorted.{IsStrictlyIncreasing}
 use Rattle.ct_base.specs.declared.defs.TestDef.{TestDef}
 use Rattle.ct_props.specs.declared.props.Props.{Props}
-use Rattle.ct_props.specs.Numbered.{at_number, is_among, is_in}
+use Rattle.ct_props.specs.Numbered.{at_number, is_in}
 use Rattle.ct_graph.specs.ByName.{tests_of, is_found_in}
 use Rattle.ct_graph.specs.Found.{IsEmpty, Knows}
 use Rattle.ct_graph.specs.declared.index.Index.{Index}
 use Rattle.ct_graph.specs.declared.index.Search.{Search}
+use Rattle.ct_base.specs.Names.{is_among}
 
 -- a test that is not disabled has this name
-abbrev pub has_name : List ℕ → Option TestDef → Option Props → Bool
-has_name name (Some def) (Some props) = not props.disabled && bytes_eq name def.name
-has_name name _ _ = false
+abbrev pub has_own_name : List ℕ → Option TestDef → Option Props → Bool
+has_own_name name (Some def) (Some props) = not props.disabled && bytes_eq name def.name
+has_own_name name _ _ = false
 
 -- a test that is not disabled sets up this fixture
 abbrev pub has_setup : List ℕ → Option Props → Bool
@@ -25,10 +26,15 @@ has_required fixture None = false
 has_required fixture (Some props) = not props.disabled && is_among fixture props.required
 
 -- the members are found by their names, by the fixtures that they set up, and by those that they require
-pub record IsIndex (defs : List TestDef) (props : List Props) (members : List ℕ) (names setups users : List ℕ → List ℕ) : Type 0 where
-  pub by_name : (name : List ℕ) (n : ℕ) → is_in (names name) n ≡ (is_in members n && has_name name (at_number defs n) (at_number props n))
-  pub by_setup : (fixture : List ℕ) (n : ℕ) → is_in (setups fixture) n ≡ (is_in members n && has_setup fixture (at_number props n))
-  pub by_user : (fixture : List ℕ) (n : ℕ) → is_in (users fixture) n ≡ (is_in members n && has_required fixture (at_number props n))
+pub record IsIndex
+    (defs : List TestDef) (props : List Props) (members : List ℕ) (names setups users : List ℕ → List ℕ)
+    : Type 0 where
+  pub by_name : (name : List ℕ) (n : ℕ)
+      → is_in (names name) n ≡ (is_in members n && has_own_name name (at_number defs n) (at_number props n))
+  pub by_setup : (fixture : List ℕ) (n : ℕ)
+      → is_in (setups fixture) n ≡ (is_in members n && has_setup fixture (at_number props n))
+  pub by_user : (fixture : List ℕ) (n : ℕ)
+      → is_in (users fixture) n ≡ (is_in members n && has_required fixture (at_number props n))
 
 -- each member is the number of one of `most` tests
 abbrev pub AreMembers : ℕ → List ℕ → Type 0
@@ -39,10 +45,13 @@ pub record Indexed (index : Index) : Type 0 where
   pub paired : length index.props.now ≡ length index.defs.now
   pub inside : AreMembers (length index.props.now) index.members.now
   pub ascending : IsStrictlyIncreasing index.members.now
-  pub found : IsIndex index.defs.now index.props.now index.members.now (tests_of index.names) (tests_of index.setups) (tests_of index.users)
+  pub found :
+      IsIndex index.defs.now index.props.now index.members.now (tests_of index.names) (tests_of index.setups)
+      (tests_of index.users)
 
 -- an index over these tests and members, in which `some` of the members are found
-pub record IsIndexAt (defs : List TestDef) (props : List Props) (members some : List ℕ) (index : Index) : Type 0 where
+pub record IsIndexAt (defs : List TestDef) (props : List Props) (members some : List ℕ) (index : Index)
+    : Type 0 where
   pub defs_are : index.defs.now ≡ defs
   pub props_are : index.props.now ≡ props
   pub members_are : index.members.now ≡ members
@@ -53,17 +62,35 @@ pub record AddsTest (number : ℕ) (old new : Index) : Type 0 where
   pub same_defs : new.defs ≡ old.defs
   pub same_props : new.props ≡ old.props
   pub same_members : new.members ≡ old.members
-  pub by_name : (name : List ℕ) (n : ℕ) → is_in (tests_of new.names name) n ≡ (is_in (tests_of old.names name) n || (has_name name (at_number old.defs.now number) (at_number old.props.now number) && number == n))
-  pub by_setup : (fixture : List ℕ) (n : ℕ) → is_in (tests_of new.setups fixture) n ≡ (is_in (tests_of old.setups fixture) n || (has_setup fixture (at_number old.props.now number) && number == n))
-  pub by_user : (fixture : List ℕ) (n : ℕ) → is_in (tests_of new.users fixture) n ≡ (is_in (tests_of old.users fixture) n || (has_required fixture (at_number old.props.now number) && number == n))
+  pub by_name : (name : List ℕ) (n : ℕ)
+      → is_in (tests_of new.names name) n
+      ≡ (is_in (tests_of old.names name) n
+      || (has_own_name name (at_number old.defs.now number) (at_number old.props.now number)
+      && number == n))
+  pub by_setup : (fixture : List ℕ) (n : ℕ)
+      → is_in (tests_of new.setups fixture) n
+      ≡ (is_in (tests_of old.setups fixture) n
+      || (has_setup fixture (at_number old.props.now number) && number == n))
+  pub by_user : (fixture : List ℕ) (n : ℕ)
+      → is_in (tests_of new.users fixture) n
+      ≡ (is_in (tests_of old.users fixture) n
+      || (has_required fixture (at_number old.props.now number) && number == n))
 
 -- the found tests are the old ones and those that these properties find: by the names in DEPENDS, by the
 -- required fixtures, and as users or setups of the cleaned fixtures
-abbrev pub FindsBefore : (List ℕ → List ℕ) → (List ℕ → List ℕ) → (List ℕ → List ℕ) → Props → List ℕ → List ℕ → Type 0
-FindsBefore names setups users props old new = (n : ℕ) → is_in new n ≡ (is_in old n || is_found_in names props.depends n || is_found_in setups props.required n || is_found_in users props.cleanup n || is_found_in setups props.cleanup n)
+abbrev pub FindsBefore : (List ℕ → List ℕ)
+    → (List ℕ → List ℕ) → (List ℕ → List ℕ) → Props → List ℕ → List ℕ → Type 0
+FindsBefore names setups users props old new =
+    (n : ℕ)
+    → is_in new n
+    ≡ (is_in old n
+    || is_found_in names props.depends n
+    || is_found_in setups props.required n
+    || is_found_in users props.cleanup n
+    || is_found_in setups props.cleanup n)
 
 -- a search that has found nothing yet, and whose known tests are those that fixtures find in the index
-pub record IsReady (index : Index) (search : Search) : Type 0 where
+pub record IsReadySearch (index : Index) (search : Search) : Type 0 where
   pub empty : IsEmpty search.found
   pub setups : Knows (tests_of index.setups) search.setups
   pub users : Knows (tests_of index.users) search.users

@@ -30,7 +30,8 @@ ranks_above_all links l = list_all (λ j. ranks_below l.rank (links_at links j))
 
 -- an order of the members: each with the members before it, its setups, and a
 -- rank above the ranks of those before
-pub record IsOrder (defs : List TestDef) (props : List Props) (members : List ℕ) (links : List Links) : Type 0 where
+pub record IsOrder (defs : List TestDef) (props : List Props) (members : List ℕ) (links : List Links)
+    : Type 0 where
   pub numbers : map (λ (l : Links). l.number) links ≡ members
   pub before : map (λ (l : Links). l.before) links ≡ map (before_of defs props members) members
   pub setups : map (λ (l : Links). l.setups) links ≡ map (setups_of props members) members
@@ -39,7 +40,8 @@ pub record IsOrder (defs : List TestDef) (props : List Props) (members : List �
 -- what is answered where at most `most` edges are allowed: an order; a cycle; that there are more edges; or
 -- want of memory, which may be answered at any time
 abbrev pub IsAnswer : ℕ → List TestDef → List Props → List ℕ → Result Ordered GraphFault → Type 0
-IsAnswer most defs props members (Ok ordered) = (edges_of defs props members ≤ most) × IsOrder defs props members ordered.links
+IsAnswer most defs props members (Ok ordered) =
+    (edges_of defs props members ≤ most) × IsOrder defs props members ordered.links
 IsAnswer most defs props members (Err (Cycle tests)) =
     (edges_of defs props members ≤ most) × (is_cycle (before_of defs props members) tests ≡ true)
 IsAnswer most defs props members (Err TooManyEdges) = most < edges_of defs props members

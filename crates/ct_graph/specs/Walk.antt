@@ -30,10 +30,10 @@ is_unseen Open = false
 is_unseen (Taken rank) = false
 
 -- the walk has taken the test
-abbrev pub is_taken : Mark → Bool
-is_taken Unseen = false
-is_taken Open = false
-is_taken (Taken rank) = true
+abbrev pub is_ranked : Mark → Bool
+is_ranked Unseen = false
+is_ranked Open = false
+is_ranked (Taken rank) = true
 
 -- the rank of a test that is taken
 abbrev pub rank_of : Mark → ℕ
@@ -49,7 +49,7 @@ is_taken_below rank (Taken other) = nat_lt other rank
 
 -- the tests are taken
 abbrev pub are_taken : List Mark → List ℕ → Bool
-are_taken marks tests = list_all (λ j. is_taken (mark_of marks j)) tests
+are_taken marks tests = list_all (λ j. is_ranked (mark_of marks j)) tests
 
 -- the tests are taken with ranks below this one
 abbrev pub are_taken_below : List Mark → ℕ → List ℕ → Bool
@@ -75,11 +75,15 @@ pub record IsStep (rows : List (List ℕ)) (marks : List Mark) (s : Step) : Type
 abbrev pub IsTrail : List (List ℕ) → List Mark → List Step → Type 0
 IsTrail rows marks [] = Unit {0}
 IsTrail rows marks (s ∷ trail) =
-    IsStep rows marks s × (is_before_last rows trail s.test ≡ true) × (is_on trail s.test ≡ false) × IsTrail rows marks trail
+    IsStep rows marks s
+    × (is_before_last rows trail s.test ≡ true)
+    × (is_on trail s.test ≡ false)
+    × IsTrail rows marks trail
 
 -- each test that is taken has a greater rank than all before it, which are taken too
 abbrev pub AreRanked : List (List ℕ) → List Mark → Type 0
-AreRanked rows marks = (test rank : ℕ) → mark_of marks test ≡ Taken rank → are_taken_below marks rank (row_of rows test) ≡ true
+AreRanked rows marks =
+    (test rank : ℕ) → mark_of marks test ≡ Taken rank → are_taken_below marks rank (row_of rows test) ≡ true
 
 -- what holds throughout the walk: the taken tests are ranked and counted, and each
 -- other test is unseen or on the trail
@@ -104,14 +108,15 @@ abbrev pub steps_left : List Mark → List Step → ℕ
 steps_left marks trail = 2 * count_by is_unseen marks + length trail
 
 -- the walk goes on: no test that was seen is unseen again, and each taken test stays taken
-pub record GoesOn (before now : List Mark) : Type 0 where
+pub record WalksOn (before now : List Mark) : Type 0 where
   pub seen : (test : ℕ) → is_unseen (mark_of before test) ≡ false → is_unseen (mark_of now test) ≡ false
-  pub taken : (test : ℕ) → is_taken (mark_of before test) ≡ true → is_taken (mark_of now test) ≡ true
+  pub taken : (test : ℕ) → is_ranked (mark_of before test) ≡ true → is_ranked (mark_of now test) ≡ true
 
 -- the tests of the trail up to this one, in front of others
 abbrev pub back_to : ℕ → List Step → List ℕ → List ℕ
 back_to first [] tests = tests
-back_to first (s ∷ trail) tests = if s.test == first then s.test ∷ tests else back_to first trail (s.test ∷ tests)
+back_to first (s ∷ trail) tests =
+    if s.test == first then s.test ∷ tests else back_to first trail (s.test ∷ tests)
 
 -- why a walk ends: at a cycle, or for want of memory
 abbrev pub EndsWalk : List (List ℕ) → GraphFault → Type 0

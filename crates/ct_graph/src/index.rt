@@ -3,7 +3,7 @@ ghost use Rattle.std.specs.List.Sorted.{IsStrictlyIncreasing};
 ghost use Rattle.ct_graph.specs.Before.{before_of, setups_of};
 ghost use Rattle.ct_graph.specs.ByName.{tests_of};
 ghost use Rattle.ct_graph.specs.Found.{AreFound, IsEmpty, Knows};
-ghost use Rattle.ct_graph.specs.Index.{Indexed, IsIndexAt, IsReady, AddsTest, FindsBefore, AreMembers};
+ghost use Rattle.ct_graph.specs.Index.{Indexed, IsIndexAt, IsReadySearch, AddsTest, FindsBefore, AreMembers};
 
 use crate::by_name::ByName;
 use crate::found::Found;
@@ -81,8 +81,8 @@ impl<'a> Index<'a> {
         requires indexed { Indexed self.now }
         requires above { 0 < number }
         requires within { number ≤ length self.now.props.now }
-        requires ready { IsReady self.now search.old }
-        ensures ready { OnOk result (IsReady self.now search.new) }
+        requires ready { IsReadySearch self.now search.old }
+        ensures ready { OnOk result (IsReadySearch self.now search.new) }
         ensures before { IfOk result (λ row. row.before ≡ before_of self.now.defs.now self.now.props.now self.now.members.now number) }
         ensures setups { IfOk result (λ row. row.setups ≡ setups_of self.now.props.now self.now.members.now number) }
     {
@@ -111,9 +111,9 @@ impl<'a> Index<'a> {
         setups: &[u32],
         search: &mut Search<'a>,
     ) -> Result<List<u32>, NoMemory>
-        requires ready { IsReady self.now search.old }
+        requires ready { IsReadySearch self.now search.old }
         requires setups { AreFound (tests_of self.now.setups) later.now.required setups.now }
-        ensures ready { OnOk result (IsReady self.now search.new) }
+        ensures ready { OnOk result (IsReadySearch self.now search.new) }
         ensures ascending { IfOk result (λ tests. IsStrictlyIncreasing tests) }
         ensures found { IfOk result (λ tests. FindsBefore (tests_of self.now.names) (tests_of self.now.setups) (tests_of self.now.users) later.now [] tests) }
     {

@@ -1,7 +1,6 @@
 //! Finds the order of the tests of a run, or a cycle that forbids it.
 //!
 //! Hands up: `order`, with the tests that come before each test, its setups and its rank.
-//! Stands on: ct_base, ct_props and `indexmap`.
 //! Read first: `specs/Before.antt`, `specs/Cycle.antt`, `specs/Order.antt`, then `ordering.rt`.
 #![tactic(auto)]
 

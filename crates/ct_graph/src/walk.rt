@@ -1,6 +1,6 @@
 ghost use Rattle.std.specs.Prelude.{◌≡◌, ◌+◌, ◌<◌, ◌≤◌, ◌^◌, ◌∷◌, ◌++◌, [], true, false, All, IfOk, OnOk, IfErr, length, replicate, take, reverse, MatchOption, IfSome, slice_index_or, slice_set};
 ghost use Rattle.std.specs.List.{list_all};
-ghost use Rattle.ct_graph.specs.Walk.{IsWalk, Keeps, AreWithin, AreRanked, GoesOn, EndsWalk, IsStep, row_of, mark_of, is_unseen, is_taken, rank_of, are_taken, is_on, trail_of, steps_left, back_to};
+ghost use Rattle.ct_graph.specs.Walk.{IsWalk, Keeps, AreWithin, AreRanked, WalksOn, EndsWalk, IsStep, row_of, mark_of, is_unseen, is_ranked, rank_of, are_taken, is_on, trail_of, steps_left, back_to};
 
 use crate::GraphFault;
 use ct_base::{List, NoMemory};
@@ -20,7 +20,7 @@ pub(crate) enum Mark {
 impl Mark {
     /// Returns the rank of a test that is taken.
     pub(crate) fn rank(self) -> u32
-        requires { is_taken self ≡ true }
+        requires { is_ranked self ≡ true }
         ensures { result ≡ rank_of self }
     {
         match self {
@@ -99,8 +99,8 @@ impl Walk {
         requires unseen { mark_of self.old.marks.items test ≡ Mark.Unseen }
         ensures kept { OnOk result (Keeps rows.now self.new) }
         ensures empty { OnOk result (self.new.path.items ≡ []) }
-        ensures goes { OnOk result (GoesOn self.old.marks.items self.new.marks.items) }
-        ensures taken { OnOk result (is_taken (mark_of self.new.marks.items test) ≡ true) }
+        ensures goes { OnOk result (WalksOn self.old.marks.items self.new.marks.items) }
+        ensures taken { OnOk result (is_ranked (mark_of self.new.marks.items test) ≡ true) }
         ensures err { IfErr result (EndsWalk rows.now) }
     {
         self.open(test)?;
@@ -137,7 +137,7 @@ impl Walk {
         requires within { AreWithin rows.now }
         requires kept { IsWalk rows.now self.old.marks.items (step ∷ trail_of self.old) self.old.taken }
         ensures kept { OnOk result (Keeps rows.now self.new) }
-        ensures goes { OnOk result (GoesOn self.old.marks.items self.new.marks.items) }
+        ensures goes { OnOk result (WalksOn self.old.marks.items self.new.marks.items) }
         ensures fewer { OnOk result (steps_left self.new.marks.items (trail_of self.new) < steps_left self.old.marks.items (step ∷ trail_of self.old)) }
         ensures err { IfErr result (EndsWalk rows.now) }
     {
@@ -163,7 +163,7 @@ impl Walk {
         requires looked { are_taken self.now.marks.items (take looked row.now) ≡ true }
         ensures none { MatchOption result (are_taken self.now.marks.items row.now ≡ true) (λ at. at < length row.now) }
         ensures front { IfSome result (λ at. are_taken self.now.marks.items (take at row.now) ≡ true) }
-        ensures untaken { IfSome result (λ at. is_taken (mark_of self.now.marks.items (slice_index_or row.now at 0)) ≡ false) }
+        ensures untaken { IfSome result (λ at. is_ranked (mark_of self.now.marks.items (slice_index_or row.now at 0)) ≡ false) }
     {
         for at in looked..row.len() {
             match self.marks[row[at] as usize] {

@@ -12,7 +12,8 @@ use Rattle.ct_groups.specs.declared.description.Requirement.{Requirement}
 use Rattle.ct_groups.specs.declared.description.Description.{Description}
 
 -- continues with what was read, or returns its fault
-abbrev pub reads_on : {X Y : Type 0} → Result X GroupsFault → (X → Result Y GroupsFault) → Result Y GroupsFault
+abbrev pub reads_on : {X Y : Type 0}
+    → Result X GroupsFault → (X → Result Y GroupsFault) → Result Y GroupsFault
 reads_on (Ok x) next = next x
 reads_on (Err why) next = Err why
 
@@ -42,9 +43,10 @@ is_kind [] = false
 is_kind (first ∷ rest) = begins_kind first && list_all continues_kind rest
 
 -- a number of slots; no number, 0, and a number above 1,000,000,000 are refused
-abbrev pub slots_of : Option ℕ → Result ℕ GroupsFault
-slots_of None = Err BadCount
-slots_of (Some slots) = if slots == 0 then Err ZeroSlots else if nat_lt 1000000000 slots then Err TooMany else Ok slots
+abbrev pub slots_asked : Option ℕ → Result ℕ GroupsFault
+slots_asked None = Err BadCount
+slots_asked (Some slots) =
+    if slots == 0 then Err ZeroSlots else if nat_lt 1000000000 slots then Err TooMany else Ok slots
 
 -- the requirement of a number of slots of a type, or the fault of that number
 abbrev pub requirement_for : List ℕ → Result ℕ GroupsFault → Result Requirement GroupsFault
@@ -54,7 +56,9 @@ requirement_for kind slots = reads_on slots (λ n. Ok (record { kind = kind; slo
 abbrev pub requirement_at : List ℕ → Option ℕ → Result Requirement GroupsFault
 requirement_at piece None = Err NoColon
 requirement_at piece (Some at) =
-    if is_kind (take at piece) then requirement_for (take at piece) (slots_of (number_in (drop (at + 1) piece))) else Err BadType
+    if is_kind (take at piece)
+    then requirement_for (take at piece) (slots_asked (number_in (drop (at + 1) piece)))
+    else Err BadType
 
 -- the requirement in a piece: a type and its slots, with a `:` between them
 abbrev pub requirement_of : List ℕ → Result Requirement GroupsFault
@@ -63,7 +67,8 @@ requirement_of piece = requirement_at piece (position (λ byte. byte == colon) p
 -- the requirements in these pieces, or the first fault
 abbrev pub requirements_of : List (List ℕ) → Result (List Requirement) GroupsFault
 requirements_of [] = Ok []
-requirements_of (piece ∷ pieces) = reads_on (requirement_of piece) (λ one. reads_on (requirements_of pieces) (λ others. Ok (one ∷ others)))
+requirements_of (piece ∷ pieces) =
+    reads_on (requirement_of piece) (λ one. reads_on (requirements_of pieces) (λ others. Ok (one ∷ others)))
 
 -- a number of groups; 0 and a number above 64 are refused
 abbrev pub checked_count : ℕ → Result ℕ GroupsFault
@@ -90,7 +95,11 @@ pieces_of text = slice_split (λ byte. byte == comma) text
 
 -- the description in these pieces; the count is checked before the requirements
 abbrev pub described : List (List ℕ) → Result Description GroupsFault
-described pieces = reads_on (count_in (first_number pieces)) (λ count. reads_on (requirements_of (required pieces)) (λ asked. Ok (record { count = count; requirements = asked })))
+described pieces =
+    reads_on (count_in (first_number pieces))
+    (λ count.
+    reads_on (requirements_of (required pieces))
+    (λ asked. Ok (record { count = count; requirements = asked })))
 
 -- the description in a text, or its first fault
 abbrev pub description_of : List ℕ → Result Description GroupsFault

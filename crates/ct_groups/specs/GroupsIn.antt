@@ -24,18 +24,24 @@ needs_from first count requirements = flat_map (group_needs requirements) (range
 
 -- with the groups of the description there would be more than 64 groups, or more than 64 needs
 abbrev pub passes_limits : Groups → Description → Bool
-passes_limits groups d = nat_lt 64 (groups.count + d.count) || nat_lt 64 (length groups.needs + d.count * length d.requirements)
+passes_limits groups d =
+    nat_lt 64 (groups.count + d.count) || nat_lt 64 (length groups.needs + d.count * length d.requirements)
 
 -- the groups followed by those of a description, or TooMany above the limits
 abbrev pub with_description : Groups → Description → Result Groups GroupsFault
 with_description groups d =
-    if passes_limits groups d then Err TooMany else Ok (record { needs = groups.needs ++ needs_from groups.count d.count d.requirements; count = groups.count + d.count })
+    if passes_limits groups d
+    then Err TooMany
+    else Ok
+    (record { needs = groups.needs ++ needs_from groups.count d.count d.requirements; count = groups.count + d.count })
 
 -- the groups with the groups of each of these descriptions behind them, or the first fault;
 -- the limits are checked after each description
 abbrev pub with_descriptions : Groups → List (List ℕ) → Result Groups GroupsFault
 with_descriptions groups [] = Ok groups
-with_descriptions groups (text ∷ texts) = reads_on (description_of text) (λ d. reads_on (with_description groups d) (λ more. with_descriptions more texts))
+with_descriptions groups (text ∷ texts) =
+    reads_on (description_of text)
+    (λ d. reads_on (with_description groups d) (λ more. with_descriptions more texts))
 
 -- no groups
 abbrev pub no_groups : Groups

@@ -4,11 +4,11 @@ use Rattle.ct_groups.specs.declared.fault.GroupsFault.{GroupsFault}
 use Rattle.ct_groups.specs.declared.fault.GroupsFault.TheVariants.{NoMemory}
 
 -- the fault is the one that the definition says; NoMemory is always allowed
-abbrev pub IsFirstFault : {X : Type 0} → Result X GroupsFault → GroupsFault → Type 0
-IsFirstFault says NoMemory = ⊤
-IsFirstFault says why = says ≡ Err why
+abbrev pub IsFirstGroupsFault : {X : Type 0} → Result X GroupsFault → GroupsFault → Type 0
+IsFirstGroupsFault says NoMemory = ⊤
+IsFirstGroupsFault says why = says ≡ Err why
 
 -- the call returned what the definition says, or NoMemory
-abbrev pub IsRead : {X : Type 0} → Result X GroupsFault → Result X GroupsFault → Type 0
-IsRead (Ok x) says = says ≡ Ok x
-IsRead (Err why) says = IsFirstFault says why
+abbrev pub ReadsGroups : {X : Type 0} → Result X GroupsFault → Result X GroupsFault → Type 0
+ReadsGroups (Ok x) says = says ≡ Ok x
+ReadsGroups (Err why) says = IsFirstGroupsFault says why

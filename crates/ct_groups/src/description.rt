@@ -1,7 +1,7 @@
 ghost use Rattle.std.specs.Prelude.{◌≡◌};
 ghost use Rattle.std.specs.List.{list_all};
-ghost use Rattle.ct_groups.specs.Description.{is_kind as is_type, begins_kind as may_begin, continues_kind as may_go_on, requirement_at, requirement_of, requirements_of, slots_of as slots_by, checked_count as count_by, count_in as count_read, first_number as number_in_front, required as without_count, described, description_of};
-ghost use Rattle.ct_groups.specs.Read.{IsRead};
+ghost use Rattle.ct_groups.specs.Description.{is_kind as is_type, begins_kind as may_begin, continues_kind as may_go_on, requirement_at, requirement_of, requirements_of, slots_asked as slots_by, checked_count as count_by, count_in as count_read, first_number as number_in_front, required as without_count, described, description_of};
+ghost use Rattle.ct_groups.specs.Read.{ReadsGroups};
 
 use crate::GroupsFault;
 use crate::pieces::pieces_of;
@@ -33,7 +33,7 @@ impl Description {
     ///
     /// Source: CMake manual, cmake-properties(7), RESOURCE_GROUPS.
     pub fn read(alloc: Global, text: &[u8]) -> Result<Description, GroupsFault>
-        ensures { IsRead result (description_of text.now) }
+        ensures { ReadsGroups result (description_of text.now) }
     {
         let pieces = pieces_of(alloc, text)?;
         let count = count_in(first_number(pieces.as_slice()))?;
@@ -72,7 +72,7 @@ fn required(pieces: &[Name]) -> &[Name]
 }
 
 fn count_in(first: Option<u64>) -> Result<u32, GroupsFault>
-    ensures { IsRead result (count_read first) }
+    ensures { ReadsGroups result (count_read first) }
 {
     match first {
         None => Ok(1),
@@ -81,7 +81,7 @@ fn count_in(first: Option<u64>) -> Result<u32, GroupsFault>
 }
 
 fn checked_count(count: u64) -> Result<u32, GroupsFault>
-    ensures { IsRead result (count_by count) }
+    ensures { ReadsGroups result (count_by count) }
 {
     if count == 0 {
         return Err(GroupsFault::BadCount);
@@ -93,7 +93,7 @@ fn checked_count(count: u64) -> Result<u32, GroupsFault>
 }
 
 fn requirements_in(alloc: Global, pieces: &[Name]) -> Result<List<Requirement>, GroupsFault>
-    ensures { IsRead result (requirements_of pieces.now) }
+    ensures { ReadsGroups result (requirements_of pieces.now) }
 {
     let mut requirements = List::new(alloc);
     for piece in pieces {
@@ -103,7 +103,7 @@ fn requirements_in(alloc: Global, pieces: &[Name]) -> Result<List<Requirement>, 
 }
 
 fn requirement_in(alloc: Global, piece: &[u8]) -> Result<Requirement, GroupsFault>
-    ensures { IsRead result (requirement_of piece.now) }
+    ensures { ReadsGroups result (requirement_of piece.now) }
 {
     let Some(at) = first_place(piece, b':') else {
         return Err(GroupsFault::NoColon);
@@ -118,7 +118,7 @@ fn requirement_in(alloc: Global, piece: &[u8]) -> Result<Requirement, GroupsFaul
 }
 
 fn slots_of(number: Option<u64>) -> Result<u32, GroupsFault>
-    ensures { IsRead result (slots_by number) }
+    ensures { ReadsGroups result (slots_by number) }
 {
     match number {
         None => Err(GroupsFault::BadCount),

@@ -1,7 +1,7 @@
 ghost use Rattle.std.specs.Prelude.{◌≡◌, ◌++◌, OnOk, length};
 ghost use Rattle.ct_groups.specs.Description.{description_of};
 ghost use Rattle.ct_groups.specs.GroupsIn.{groups_in, no_groups, with_description as groups_with, needs_from, group_needs, passes_limits as passes};
-ghost use Rattle.ct_groups.specs.Read.{IsRead};
+ghost use Rattle.ct_groups.specs.Read.{ReadsGroups};
 
 use crate::GroupsFault;
 use crate::description::{Description, MOST, Requirement};
@@ -33,7 +33,7 @@ impl Groups {
     /// Source: CMake manual, cmake-properties(7), RESOURCE_GROUPS. The faults and the limits are
     /// this project's choice.
     pub fn parse(alloc: Global, text: &[u8]) -> Result<Groups, GroupsFault>
-        ensures { IsRead result (groups_in text.now) }
+        ensures { ReadsGroups result (groups_in text.now) }
     {
         let descriptions = split_list(alloc, text)?;
         let mut groups = Groups::none(alloc);
@@ -60,7 +60,7 @@ impl Groups {
 
     /// Appends the groups of a description.
     fn with(self, alloc: Global, description: &Description) -> Result<Groups, GroupsFault>
-        ensures { IsRead result (groups_with self description.now) }
+        ensures { ReadsGroups result (groups_with self description.now) }
     {
         if self.passes_limits(description) {
             return Err(GroupsFault::TooMany);

@@ -1,7 +1,6 @@
 //! Reads the property RESOURCE_GROUPS of a test.
 //!
 //! Hands up: `Groups::parse`, with `needs` and `count` to read what it found.
-//! Stands on: ct_base and `thiserror`.
 //! Read first: `specs/Description.antt`, then `specs/GroupsIn.antt` and `groups.rt`.
 #![tactic(auto)]
 

@@ -2,7 +2,8 @@
 use Rattle.std.proofs.Common.{◌≡◌, ◌∙◌, sym, ap, Bool, true, false, ℕ, List, [], ◌∷◌, refl}
 use Rattle.std.specs.Prelude.{Option, Some, None, ◌||◌}
 use Rattle.ct_history.specs.declared.plan.PlanTest.{PlanTest}
-use Rattle.ct_history.specs.Rules.{exclude, is_serial, locks_out, shares_name}
+use Rattle.ct_history.specs.Rules.{exclude, is_serial, locks_out}
+use Rattle.ct_base.specs.Names.{shares_name}
 
 -- no name is shared with an empty list
 shares_none : (names : List (List ℕ)) → shares_name names [] ≡ false

@@ -44,11 +44,17 @@ first_there (Some x) other = Some x
 
 -- how a test ended, with one more entry: the first Settle counts, and the last End
 abbrev pub ending_after : ℕ → Ending → Entry → Ending
-ending_after test ending entry = record { settled = first_there ending.settled (settled_by test entry); last = first_there (seen_at_end test entry) ending.last }
+ending_after test ending entry = record {
+  settled = first_there ending.settled (settled_by test entry);
+  last = first_there (seen_at_end test entry) ending.last;
+}
 
 -- the verdict of a test that is final, by how it ended
 abbrev pub verdict_by : PlanTest → Ending → Option Verdict
-verdict_by t ending = if t.disabled then Some Disabled else settled_or ending.settled (option_map (verdict_of t.rules) ending.last)
+verdict_by t ending =
+    if t.disabled
+    then Some Disabled
+    else settled_or ending.settled (option_map (verdict_of t.rules) ending.last)
 
 -- the map tells of each test how it ended in the history
 abbrev pub AreEndings : {S : Type 0} → IndexMap ℕ Ending S → List Entry → Type 0
@@ -56,4 +62,6 @@ AreEndings endings entries = (test : ℕ) → ending_at endings test ≡ ending_
 
 -- for each final test, `verdict_by` of its ending in the map is its verdict in the history
 abbrev pub TellVerdicts : {S : Type 0} → IndexMap ℕ Ending S → List Entry → Type 0
-TellVerdicts endings entries = (repeat : Repeat) (t : PlanTest) → is_final_in repeat t entries ≡ true → verdict_by t (ending_at endings t.number) ≡ verdict_in repeat t entries
+TellVerdicts endings entries =
+    (repeat : Repeat) (t : PlanTest) → is_final_in repeat t entries ≡ true
+    → verdict_by t (ending_at endings t.number) ≡ verdict_in repeat t entries

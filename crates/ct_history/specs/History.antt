@@ -28,7 +28,10 @@ is_end_of test attempt Stop = false
 
 -- the start that the entry makes, unless an End behind the entry closes it
 abbrev pub opened : Entry → List Entry → Option Running
-opened (Start t a w p) behind = if list_any (is_end_of t a) behind then None else Some (record { test = t; attempt = a; worker = w; placement = p })
+opened (Start t a w p) behind =
+    if list_any (is_end_of t a) behind
+    then None
+    else Some (record { test = t; attempt = a; worker = w; placement = p })
 opened (End t a worker seen) behind = None
 opened (Settle t cause) behind = None
 opened Stop behind = None
@@ -52,7 +55,9 @@ is_busy_in worker entries = list_any (λ (r : Running). r.worker == worker) (ope
 
 -- this attempt of the test is open, and the worker made it
 abbrev pub holds_start : ℕ → ℕ → ℕ → List Entry → Bool
-holds_start test attempt worker entries = list_any (λ (r : Running). r.test == test && r.attempt == attempt && r.worker == worker) (open_starts entries)
+holds_start test attempt worker entries =
+    list_any (λ (r : Running). r.test == test && r.attempt == attempt && r.worker == worker)
+    (open_starts entries)
 
 -- the processors of a test
 abbrev pub processors_of : Option PlanTest → ℕ
@@ -61,7 +66,8 @@ processors_of (Some t) = t.processors
 
 -- the processors that the open starts use together
 abbrev pub used_processors : List PlanTest → List Entry → ℕ
-used_processors tests entries = sum_by (λ (r : Running). processors_of (test_at tests r.test)) (open_starts entries)
+used_processors tests entries =
+    sum_by (λ (r : Running). processors_of (test_at tests r.test)) (open_starts entries)
 
 -- the slots that a placement takes of the resource at a place
 abbrev pub placed_slots : ℕ → Option Placement → ℕ

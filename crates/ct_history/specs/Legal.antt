@@ -52,7 +52,8 @@ is_next_attempt t attempt front = attempt == length (attempts_of t.number t.rule
 -- the test that was looked up is there, and may start with this placement as this attempt
 abbrev pub starts : PlanParts → List Entry → ℕ → Option Placement → Option PlanTest → Bool
 starts plan front attempt placement None = false
-starts plan front attempt placement (Some t) = may_start plan t placement front && is_next_attempt t attempt front
+starts plan front attempt placement (Some t) =
+    may_start plan t placement front && is_next_attempt t attempt front
 
 -- the test that was looked up is there, and may be settled with this cause
 abbrev pub settles : PlanParts → List Entry → Cause → Option PlanTest → Bool
@@ -63,15 +64,18 @@ settles plan front cause (Some t) = same_cause cause (settle_cause plan t front)
 -- it is a Start that may be made by a worker that is not busy, an End of its worker's open
 -- start, or a Settle with the right cause.
 abbrev pub is_allowed : PlanParts → List Entry → Entry → Bool
-is_allowed plan front (Start t a w p) = not (is_stop_due plan front) && starts plan front a p (test_at plan.tests t) && not (is_busy_in w front)
+is_allowed plan front (Start t a w p) =
+    not (is_stop_due plan front) && starts plan front a p (test_at plan.tests t) && not (is_busy_in w front)
 is_allowed plan front (End t a w seen) = not (is_stop_due plan front) && holds_start t a w front
-is_allowed plan front (Settle t cause) = not (is_stop_due plan front) && settles plan front cause (test_at plan.tests t)
+is_allowed plan front (Settle t cause) =
+    not (is_stop_due plan front) && settles plan front cause (test_at plan.tests t)
 is_allowed plan front Stop = is_stop_due plan front
 
 -- each of these entries is allowed by the entries in front of it, those of `front` included
 abbrev pub are_allowed_behind : PlanParts → List Entry → List Entry → Bool
 are_allowed_behind plan front [] = true
-are_allowed_behind plan front (e ∷ es) = is_allowed plan front e && are_allowed_behind plan (front ++ e ∷ []) es
+are_allowed_behind plan front (e ∷ es) =
+    is_allowed plan front e && are_allowed_behind plan (front ++ e ∷ []) es
 
 -- the history is allowed so far: each entry is allowed by the entries in front of it
 abbrev pub is_allowed_so_far : PlanParts → List Entry → Bool
@@ -93,7 +97,8 @@ GetAlong tests one other = exclude (test_at tests one.test) (test_at tests other
 -- the open starts use at most the declared processors and slots, and no two of their tests exclude each other
 pub record IsWithin (plan : PlanParts) (entries : List Entry) : Type 0 where
   pub processors : used_processors plan.tests entries ≤ plan.level
-  pub slots : IfSome plan.resources (λ rs. (place : ℕ) → IfSome (slice_get rs place) (λ (r : Resource). used_slots entries place ≤ r.slots))
+  pub slots : IfSome plan.resources
+      (λ rs. (place : ℕ) → IfSome (slice_get rs place) (λ (r : Resource). used_slots entries place ≤ r.slots))
   pub apart : AllPairs (GetAlong plan.tests) (open_starts entries)
 
 -- the limits held at each moment: each beginning of the history is within the plan

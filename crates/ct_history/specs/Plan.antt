@@ -34,7 +34,8 @@ is_before_rank rank (Some t) = not t.disabled && nat_lt t.rank rank
 -- a test's predecessors are tests that are not disabled, with lesser ranks, and its setups are among them
 abbrev pub has_sound_links : List PlanTest → PlanTest → Bool
 has_sound_links tests t =
-    list_all (λ j. is_before_rank t.rank (test_at tests j)) t.before && list_all (λ s. list_any (λ j. j == s) t.before) t.setups
+    list_all (λ j. is_before_rank t.rank (test_at tests j)) t.before
+    && list_all (λ s. list_any (λ j. j == s) t.before) t.setups
 
 -- no cause, or one that is known before the run: NotAvailable, BadOperation, or
 -- Insufficient where resources are given

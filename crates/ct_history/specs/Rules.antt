@@ -14,15 +14,8 @@ use Rattle.ct_history.specs.declared.plan.PlanParts.{PlanParts}
 use Rattle.ct_history.specs.declared.history.Entry.{Entry}
 pub use Rattle.ct_history.specs.Plan.{test_at}
 use Rattle.ct_history.specs.History.{Running, open_starts, is_open_in, used_processors, used_slots, has_stop}
+use Rattle.ct_base.specs.Names.{is_among, shares_name}
 pub use Rattle.ct_history.specs.Verdicts.{is_final_in, verdict_of_test, is_passed_verdict}
-
--- the name is one of these names
-abbrev pub is_among : List ℕ → List (List ℕ) → Bool
-is_among name others = list_any (λ other. bytes_eq name other) others
-
--- some name stands in both lists
-abbrev pub shares_name : List (List ℕ) → List (List ℕ) → Bool
-shares_name names others = list_any (λ name. is_among name others) names
 
 -- the locks that a test holds alone
 abbrev pub locks_of : Option PlanTest → List (List ℕ)
@@ -34,9 +27,11 @@ abbrev pub shared_of : Option PlanTest → List (List ℕ)
 shared_of None = []
 shared_of (Some t) = t.shared
 
--- one test locks the other one out: a name in `locks` of the one stands in `locks` or in `shared` of the other
+-- one test locks the other one out: a name in `locks` of the one stands in `locks` or in `shared` of the
+-- other
 abbrev pub locks_out : Option PlanTest → Option PlanTest → Bool
-locks_out one other = shares_name (locks_of one) (locks_of other) || shares_name (locks_of one) (shared_of other)
+locks_out one other =
+    shares_name (locks_of one) (locks_of other) || shares_name (locks_of one) (shared_of other)
 
 -- the test runs alone
 abbrev pub is_serial : Option PlanTest → Bool
@@ -49,7 +44,8 @@ exclude one other = locks_out one other || locks_out other one || is_serial one 
 
 -- this test and some open test exclude each other
 abbrev pub is_excluded : List PlanTest → PlanTest → List Entry → Bool
-is_excluded tests t entries = list_any (λ (r : Running). exclude (Some t) (test_at tests r.test)) (open_starts entries)
+is_excluded tests t entries =
+    list_any (λ (r : Running). exclude (Some t) (test_at tests r.test)) (open_starts entries)
 
 -- nothing is open
 abbrev pub is_idle : List Entry → Bool
@@ -69,7 +65,8 @@ abbrev pub is_placed : Option (List Resource) → List Need → (ℕ → ℕ) �
 is_placed None needs used placement = is_none placement
 is_placed (Some resources) [] used placement = is_none placement
 is_placed (Some resources) (need ∷ needs) used None = false
-is_placed (Some resources) (need ∷ needs) used (Some p) = is_placement resources (need ∷ needs) p.picks && fits_beside resources used p.picks
+is_placed (Some resources) (need ∷ needs) used (Some p) =
+    is_placement resources (need ∷ needs) p.picks && fits_beside resources used p.picks
 
 -- the test is pending: neither final nor open
 abbrev pub is_pending : PlanParts → PlanTest → List Entry → Bool
@@ -77,7 +74,8 @@ is_pending plan t entries = not (is_final_in plan.repeat t entries) && not (is_o
 
 -- the test is ready: its predecessors are final, its setups have passed, and it has no fixed cause
 abbrev pub is_ready : PlanParts → PlanTest → List Entry → Bool
-is_ready plan t entries = follows_finals plan t entries && is_none (first_unpassed plan t entries) && is_none t.fixed
+is_ready plan t entries =
+    follows_finals plan t entries && is_none (first_unpassed plan t entries) && is_none t.fixed
 
 -- the test's processors and the used ones are together at most the level
 abbrev pub has_processors : PlanParts → PlanTest → List Entry → Bool
@@ -90,7 +88,11 @@ has_room plan t entries = has_processors plan t entries && not (is_excluded plan
 -- the test may start with this placement
 abbrev pub may_start : PlanParts → PlanTest → Option Placement → List Entry → Bool
 may_start plan t placement entries =
-    not (has_stop entries) && is_pending plan t entries && is_ready plan t entries && has_room plan t entries && is_placed plan.resources t.needs (used_slots entries) placement
+    not (has_stop entries)
+    && is_pending plan t entries
+    && is_ready plan t entries
+    && has_room plan t entries
+    && is_placed plan.resources t.needs (used_slots entries) placement
 
 -- the test may start as soon as its needs are met: all of `may_start` but the placement
 abbrev pub may_start_if_placed : PlanParts → PlanTest → List Entry → Bool
@@ -116,7 +118,13 @@ cause_behind (Some setup) fixed = Some (Fixture setup)
 -- the cause that a test may be settled with, if there is one
 abbrev pub settle_cause : PlanParts → PlanTest → List Entry → Option Cause
 settle_cause plan t entries =
-    if not (is_pending plan t entries) then None else (if has_stop entries then Some Stopped else (if follows_finals plan t entries then cause_behind (first_unpassed plan t entries) t.fixed else None))
+    if not (is_pending plan t entries)
+    then None
+    else (if has_stop entries
+    then Some Stopped
+    else (if follows_finals plan t entries
+    then cause_behind (first_unpassed plan t entries) t.fixed
+    else None))
 
 -- the cause that the test that was looked up may be settled with, if it is there
 abbrev pub settle_cause_at : PlanParts → List Entry → Option PlanTest → Option Cause

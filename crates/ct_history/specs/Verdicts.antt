@@ -38,7 +38,9 @@ is_over repeat attempts = not (is_repeated repeat (length attempts) (last_of_lis
 -- the verdict of a test that was not settled: that of its last attempt, where none is open and none follows
 abbrev pub attempted_verdict : Repeat → PlanTest → List Entry → Option Verdict
 attempted_verdict repeat t entries =
-    if not (is_open_in t.number entries) && is_over repeat (attempts_of t.number t.rules entries) then last_of_list (attempts_of t.number t.rules entries) else None
+    if not (is_open_in t.number entries) && is_over repeat (attempts_of t.number t.rules entries)
+    then last_of_list (attempts_of t.number t.rules entries)
+    else None
 
 -- NotRun with the cause that the test was settled with, else the verdict of its attempts
 abbrev pub settled_or : Option Cause → Option Verdict → Option Verdict
@@ -48,7 +50,9 @@ settled_or (Some cause) attempted = Some (NotRun cause)
 -- the verdict of a test: Disabled, else NotRun with the cause that settled it, else that of its attempts
 abbrev pub verdict_in : Repeat → PlanTest → List Entry → Option Verdict
 verdict_in repeat t entries =
-    if t.disabled then Some Disabled else settled_or (settled_cause t.number entries) (attempted_verdict repeat t entries)
+    if t.disabled
+    then Some Disabled
+    else settled_or (settled_cause t.number entries) (attempted_verdict repeat t entries)
 
 -- a test is final where it has a verdict
 abbrev pub is_final_in : Repeat → PlanTest → List Entry → Bool

@@ -1,7 +1,6 @@
 //! Plans of a run, histories of what happened in it, and what a history says of each test.
 //!
 //! Hands up: `Plan`, `History`, `Board`, `judge`, `final_verdict`, and `endings_of`, for the verdicts of all tests at once.
-//! Stands on: ct_base, ct_alloc, ct_verdict and `indexmap`.
 //! Read first: `specs/History.antt`, `specs/Verdicts.antt`, `specs/Rules.antt`, `specs/Legal.antt`, `specs/Endings.antt`.
 #![tactic(auto)]
 

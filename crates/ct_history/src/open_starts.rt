@@ -2,6 +2,7 @@ ghost use Rattle.std.specs.Prelude.{◌≡◌, ◌+◌, ◌-◌, ◌^◌, min, o
 ghost use Rattle.std.specs.Option.{option_copied};
 ghost use Rattle.ct_history.specs.History as History;
 ghost use Rattle.ct_history.specs.History.{is_busy_in, is_open_in, opened as opened_in, opened_placement};
+ghost use Rattle.ct_base.specs.Names as Among;
 ghost use Rattle.ct_history.specs.Rules as Rules;
 
 use crate::history::is_ended;
@@ -149,13 +150,13 @@ fn locks_out(test: &PlanTest, other: &PlanTest) -> bool
 }
 
 fn shares_name(names: &[Name], others: &[Name]) -> bool
-    ensures { result ≡ Rules.shares_name names.now others.now }
+    ensures { result ≡ Among.shares_name names.now others.now }
 {
     names.iter().any(|name| is_among(name, others))
 }
 
 fn is_among(name: &Name, others: &[Name]) -> bool
-    ensures { result ≡ Rules.is_among name.now others.now }
+    ensures { result ≡ Among.is_among name.now others.now }
 {
     others.iter().any(|other| name.is(other))
 }

@@ -16,7 +16,9 @@ text_value name = string (shown name)
 
 -- the object of a property: its name and its value, both as texts
 abbrev pub property_value : Pair → Data
-property_value pair = object (member (codes "name") (text_value pair.name) (member (codes "value") (text_value pair.value) no_members))
+property_value pair =
+    object
+    (member (codes "name") (text_value pair.name) (member (codes "value") (text_value pair.value) no_members))
 
 -- the object of a test with this number in this configuration;
 -- the properties are in the order of the definition
@@ -42,7 +44,9 @@ test_values config defs members = filter_map (λ n. option_map (test_value confi
 
 -- the version of the object model: 1.0
 abbrev pub version_value : Data
-version_value = object (member (codes "major") (number (unsigned 1)) (member (codes "minor") (number (unsigned 0)) no_members))
+version_value =
+    object
+    (member (codes "major") (number (unsigned 1)) (member (codes "minor") (number (unsigned 0)) no_members))
 
 -- the whole object: its kind, the tests with these numbers in this configuration, and its version
 abbrev pub info_value : List TestDef → List ℕ → List ℕ → Data

@@ -23,8 +23,8 @@ use Rattle.ct_journal.specs.declared.check.Step.{Step}
 use Rattle.ct_journal.specs.declared.check.Step.TheVariants.{GoesOn, Ends, IsBad}
 use Rattle.ct_journal.specs.declared.lines.EntryLine.{EntryLine}
 use Rattle.ct_journal.specs.declared.lines.JournalLine.TheVariants as Line
-use Rattle.ct_journal.specs.Journal.{Says, line_text, noted}
-use Rattle.ct_journal.specs.Checked.{FindsEntry, HasPlacement, IsPlacementFor, IsDone, NotesEntry, Takes, TakesEntryOr}
+use Rattle.ct_journal.specs.Journal.{Says, journal_line_text, noted}
+use Rattle.ct_journal.specs.Checked.{FindsEntry, HasPlacement, IsPlacementFor, IsDoneLine, NotesLine, TakesLine, TakesEntryOr}
 
 placed_for : (resources : Option (List Resource)) (t : PlanTest) (used : ℕ → ℕ) (p : Placement) → is_placed resources t.needs used (Some p) ≡ true → IsPlacementFor resources (Some t) p
 placed_for None t used p placed = cc
@@ -47,7 +47,7 @@ allowed_placed plan front (Happened.Settle t cause) allowed = tt
 allowed_placed plan front Happened.Stop allowed = tt
 
 -- what the line of an entry does, by the entry that was found and whether it is allowed
-pub takes_found : (plan : PlanParts) (front : List Entry) (line : EntryLine) (e : Entry) (step : Step) (audit : Audit) → FindsEntry plan line (Some e) → NotesEntry plan front e step audit → TakesEntryOr plan front line step audit
+pub takes_found : (plan : PlanParts) (front : List Entry) (line : EntryLine) (e : Entry) (step : Step) (audit : Audit) → FindsEntry plan line (Some e) → NotesLine plan front e step audit → TakesEntryOr plan front line step audit
 takes_found plan front line e GoesOn audit finds notes = (e, ((finds e).0 refl).0, notes.0, notes.1)
 takes_found plan front line e Ends audit finds notes = notes
 takes_found plan front line e IsBad audit finds notes =
@@ -60,10 +60,10 @@ entry_same : (a b : EntryLine) → Some (Line.Entry a) ≡ Some (Line.Entry b) �
 entry_same a b is = cc
 
 -- what a text that says the line of an entry does
-pub takes_entry : (plan : PlanParts) (front : List Entry) (text : List ℕ) (line : EntryLine) (step : Step) (audit : Audit) → length front < 2 ^ 64 → Says text (Some (Line.Entry line)) → TakesEntryOr plan front line step audit → Takes plan front text step audit
+pub takes_entry : (plan : PlanParts) (front : List Entry) (text : List ℕ) (line : EntryLine) (step : Step) (audit : Audit) → length front < 2 ^ 64 → Says text (Some (Line.Entry line)) → TakesEntryOr plan front line step audit → TakesLine plan front text step audit
 takes_entry plan front text line GoesOn audit small says (e, is, allowed, told) = record {
   entry = e;
-  is = ((says (Line.Entry line)).0 refl).1 ∙ ap (λ l. line_text (Line.Entry l)) is;
+  is = ((says (Line.Entry line)).0 refl).1 ∙ ap (λ l. journal_line_text (Line.Entry l)) is;
   allowed = allowed;
   told = told;
 }
@@ -74,13 +74,13 @@ takes_entry plan front text line IsBad audit small says takes = (
 )
 
 -- a text that says nothing, or the first line once more
-pub takes_nothing : (plan : PlanParts) (front : List Entry) (text : List ℕ) (audit : Audit) → length front < 2 ^ 64 → Says text None → Takes plan front text IsBad audit
+pub takes_nothing : (plan : PlanParts) (front : List Entry) (text : List ℕ) (audit : Audit) → length front < 2 ^ 64 → Says text None → TakesLine plan front text IsBad audit
 takes_nothing plan front text audit small says = (
   λ e fits allowed is. (let said = (says (Line.Entry (noted e))).1 (fits, is) in cc),
   λ is ended. (let said = (says (Line.Done (length front))).1 (small, is) in cc),
 )
 
-pub takes_first : (plan : PlanParts) (front : List Entry) (text : List ℕ) (audit : Audit) → length front < 2 ^ 64 → Says text (Some Line.First) → Takes plan front text IsBad audit
+pub takes_first : (plan : PlanParts) (front : List Entry) (text : List ℕ) (audit : Audit) → length front < 2 ^ 64 → Says text (Some Line.First) → TakesLine plan front text IsBad audit
 takes_first plan front text audit small says = (
   λ e fits allowed is. (let said = (says (Line.Entry (noted e))).1 (fits, is) in cc),
   λ is ended. (let said = (says (Line.Done (length front))).1 (small, is) in cc),
@@ -90,16 +90,16 @@ done_same : (m n : ℕ) → Some (Line.Done m) ≡ Some (Line.Done n) → m ≡ 
 done_same m n is = cc
 
 -- a text that says the number of entries
-pub takes_done : (plan : PlanParts) (front : List Entry) (text : List ℕ) (n : ℕ) (step : Step) (audit : Audit) → length front < 2 ^ 64 → Says text (Some (Line.Done n)) → IsDone plan front n step → Takes plan front text step audit
+pub takes_done : (plan : PlanParts) (front : List Entry) (text : List ℕ) (n : ℕ) (step : Step) (audit : Audit) → length front < 2 ^ 64 → Says text (Some (Line.Done n)) → IsDoneLine plan front n step → TakesLine plan front text step audit
 takes_done plan front text n GoesOn audit small says done = absurd done
-takes_done plan front text n Ends audit small says done = (((says (Line.Done n)).0 refl).1 ∙ ap (λ (m : ℕ). line_text (Line.Done m)) done.0, done.1)
+takes_done plan front text n Ends audit small says done = (((says (Line.Done n)).0 refl).1 ∙ ap (λ (m : ℕ). journal_line_text (Line.Done m)) done.0, done.1)
 takes_done plan front text n IsBad audit small says done = (
   λ e fits allowed is. (let said = (says (Line.Entry (noted e))).1 (fits, is) in cc),
   λ is ended. done (done_same n (length front) ((says (Line.Done (length front))).1 (small, is))) ended,
 )
 
 -- whether a number of entries is that of a history at its end
-pub done_by : (plan : PlanParts) (front : List Entry) (n count : ℕ) (ends : Bool) → count ≡ length front → ends ≡ is_at_end plan front → (b : Bool) → b ≡ (n == count && ends) → IsDone plan front n (if b then Ends else IsBad)
+pub done_by : (plan : PlanParts) (front : List Entry) (n count : ℕ) (ends : Bool) → count ≡ length front → ends ≡ is_at_end plan front → (b : Bool) → b ≡ (n == count && ends) → IsDoneLine plan front n (if b then Ends else IsBad)
 done_by plan front n count ends same is true both =
     let parts = and_parts (n == count) ends (sym both) in
     let here : n ≡ count = grind (arith, nat_tests) in

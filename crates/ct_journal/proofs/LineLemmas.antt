@@ -8,8 +8,8 @@ use Rattle.ct_journal.specs.declared.lines.EntryLine.{EntryLine}
 use Rattle.ct_journal.specs.declared.lines.EntryLine.TheVariants.{Start, End, Settle, Stop}
 use Rattle.ct_journal.specs.declared.lines.JournalLine.{JournalLine}
 use Rattle.ct_journal.specs.declared.lines.JournalLine.TheVariants as Line
-use Rattle.ct_journal.specs.Journal.{how_text, cause_text, hits_text, listed, seen_text, entry_text, line_text, IsShort, HowFits, CauseFits, PlacesFit, EntryFits, Fits, Says}
-use Rattle.ct_journal.specs.Guess.{pieces, word_at, number_in, short_in, places_in, start_in, end_in, settle_in, guess_by, guess_in, said_in}
+use Rattle.ct_journal.specs.Journal.{how_text, not_run_word, hits_text, listed, seen_text, entry_text, journal_line_text, IsOf32Bits, HowFits, CauseFits, PlacesFit, EntryFits, Fits, Says}
+use Rattle.ct_journal.specs.Guess.{pieces, word_at, number_written, short_in, places_in_word, start_in, end_in, settle_in, guess_by, guess_in, said_in}
 use Rattle.ct_journal.proofs.NumberLemmas.{is_free, decimal_free, short_again, number_again, number_fits, short_fits}
 use Rattle.ct_journal.proofs.WordLemmas.{both, cut_again, how_again, how_free, how_fits, cause_again, cause_free, cause_fits, hit_again, hits_free, places_again, places_fit, listed_free}
 
@@ -25,7 +25,7 @@ regroup one two three rest =
 abbrev spaced : List (List ℕ) → List ℕ
 spaced words = flat_map (λ word. 32 ∷ word) words
 
-short_free : (n : ℕ) → IsShort n → is_free 32 (decimal n) ≡ true
+short_free : (n : ℕ) → IsOf32Bits n → is_free 32 (decimal n) ≡ true
 short_free n small = decimal_free 32 n (omega arith) (omega (arith, small))
 
 three_free : (one two three : List ℕ) (rest : List (List ℕ)) → is_free 32 one ≡ true → is_free 32 two ≡ true → is_free 32 three ≡ true → list_all (is_free 32) rest ≡ true → list_all (is_free 32) (one ∷ two ∷ three ∷ rest) ≡ true
@@ -33,7 +33,7 @@ three_free one two three rest a b c d =
     both (is_free 32 one) (list_all (is_free 32) (two ∷ three ∷ rest)) a
     (both (is_free 32 two) (list_all (is_free 32) (three ∷ rest)) b (both (is_free 32 three) (list_all (is_free 32) rest) c d))
 
-start_again : (test attempt worker : ℕ) (places : Option (List ℕ)) → IsShort test → IsShort attempt → IsShort worker → PlacesFit places → guess_in (entry_text (Start test attempt worker places)) ≡ Line.Entry (Start test attempt worker places)
+start_again : (test attempt worker : ℕ) (places : Option (List ℕ)) → IsOf32Bits test → IsOf32Bits attempt → IsOf32Bits worker → PlacesFit places → guess_in (entry_text (Start test attempt worker places)) ≡ Line.Entry (Start test attempt worker places)
 start_again test attempt worker None t a w fit =
     let words = decimal test ∷ decimal attempt ∷ decimal worker ∷ [] in
     let spelt : entry_text (Start test attempt worker None) ≡ codes "start" ++ spaced words = ap (λ text. codes "start " ++ text) (regroup (decimal test) (decimal attempt) (decimal worker) []) in
@@ -50,7 +50,7 @@ start_again test attempt worker (Some places) t a w fit =
     ∙ cut_again 32 (codes "start") words refl (three_free (decimal test) (decimal attempt) (decimal worker) (codes "at" ∷ listed places ∷ []) (short_free test t) (short_free attempt a) (short_free worker w) (both (is_free 32 (listed places)) true (listed_free places fit) refl)) in
     ap guess_by cut ∙ (λ i. Line.Entry (Start (short_again test t i) (short_again attempt a i) (short_again worker w i) (Some (places_again places fit i))))
 
-end_again : (test attempt worker : ℕ) (seen : Seen) → IsShort test → IsShort attempt → IsShort worker → HowFits seen.how → seen.micros < 2 ^ 64 → guess_in (entry_text (End test attempt worker seen)) ≡ Line.Entry (End test attempt worker seen)
+end_again : (test attempt worker : ℕ) (seen : Seen) → IsOf32Bits test → IsOf32Bits attempt → IsOf32Bits worker → HowFits seen.how → seen.micros < 2 ^ 64 → guess_in (entry_text (End test attempt worker seen)) ≡ Line.Entry (End test attempt worker seen)
 end_again test attempt worker seen t a w how micros =
     let behind = how_text seen.how ∷ hits_text seen ∷ decimal seen.micros ∷ [] in
     let words = decimal test ∷ decimal attempt ∷ decimal worker ∷ behind in
@@ -65,20 +65,20 @@ end_again test attempt worker seen t a w how micros =
     ap guess_by cut
     ∙ (λ i. Line.Entry (End (short_again test t i) (short_again attempt a i) (short_again worker w i) (record { how = how_again seen.how how i; fail_hit = hit_again seen.fail_hit i; pass_hit = hit_again seen.pass_hit i; skip_hit = hit_again seen.skip_hit i; micros = number_again seen.micros micros i })))
 
-settle_again : (test : ℕ) (cause : Cause) → IsShort test → CauseFits cause → guess_in (entry_text (Settle test cause)) ≡ Line.Entry (Settle test cause)
+settle_again : (test : ℕ) (cause : Cause) → IsOf32Bits test → CauseFits cause → guess_in (entry_text (Settle test cause)) ≡ Line.Entry (Settle test cause)
 settle_again test cause t fit =
-    let words = decimal test ∷ cause_text cause ∷ [] in
+    let words = decimal test ∷ not_run_word cause ∷ [] in
     let spelt : entry_text (Settle test cause) ≡ codes "settle" ++ spaced words =
-    ap (λ text. codes "settle " ++ text) (append_assoc (decimal test) (codes " ") (cause_text cause))
-    ∙ ap (λ last. codes "settle " ++ (decimal test ++ (32 ∷ last))) (sym (append-nil (cause_text cause))) in
+    ap (λ text. codes "settle " ++ text) (append_assoc (decimal test) (codes " ") (not_run_word cause))
+    ∙ ap (λ last. codes "settle " ++ (decimal test ++ (32 ∷ last))) (sym (append-nil (not_run_word cause))) in
     let cut : pieces 32 (entry_text (Settle test cause)) ≡ codes "settle" ∷ words =
-    ap (pieces 32) spelt ∙ cut_again 32 (codes "settle") words refl (both (is_free 32 (decimal test)) (is_free 32 (cause_text cause) && true) (short_free test t) (both (is_free 32 (cause_text cause)) true (cause_free cause fit) refl)) in
+    ap (pieces 32) spelt ∙ cut_again 32 (codes "settle") words refl (both (is_free 32 (decimal test)) (is_free 32 (not_run_word cause) && true) (short_free test t) (both (is_free 32 (not_run_word cause)) true (cause_free cause fit) refl)) in
     ap guess_by cut ∙ (λ i. Line.Entry (Settle (short_again test t i) (cause_again cause fit i)))
 
-done_again : (count : ℕ) → count < 2 ^ 64 → guess_in (line_text (Line.Done count)) ≡ Line.Done count
+done_again : (count : ℕ) → count < 2 ^ 64 → guess_in (journal_line_text (Line.Done count)) ≡ Line.Done count
 done_again count small =
-    let spelt : line_text (Line.Done count) ≡ codes "done" ++ spaced (decimal count ∷ []) = ap (λ last. codes "done " ++ last) (sym (append-nil (decimal count))) in
-    let cut : pieces 32 (line_text (Line.Done count)) ≡ codes "done" ∷ decimal count ∷ [] =
+    let spelt : journal_line_text (Line.Done count) ≡ codes "done" ++ spaced (decimal count ∷ []) = ap (λ last. codes "done " ++ last) (sym (append-nil (decimal count))) in
+    let cut : pieces 32 (journal_line_text (Line.Done count)) ≡ codes "done" ∷ decimal count ∷ [] =
     ap (pieces 32) spelt ∙ cut_again 32 (codes "done") (decimal count ∷ []) refl (both (is_free 32 (decimal count)) true (decimal_free 32 count (omega arith) small) refl) in
     ap guess_by cut ∙ ap Line.Done (number_again count small)
 
@@ -89,12 +89,12 @@ entry_again (Settle test cause) fit = settle_again test cause fit.0 fit.1
 entry_again Stop fit = refl
 
 -- the guess for a line is that line
-pub line_again : (line : JournalLine) → Fits line → guess_in (line_text line) ≡ line
+pub line_again : (line : JournalLine) → Fits line → guess_in (journal_line_text line) ≡ line
 line_again Line.First fit = refl
 line_again (Line.Entry entry) fit = entry_again entry fit
 line_again (Line.Done count) fit = done_again count fit
 
-placement_by : (b : Bool) (word : List ℕ) → PlacesFit (cond b (Some (places_in word)) None)
+placement_by : (b : Bool) (word : List ℕ) → PlacesFit (cond b (Some (places_in_word word)) None)
 placement_by true word = places_fit word
 placement_by false word = tt
 
@@ -105,27 +105,27 @@ line_by false one other fits also = also
 by_words : (words : List (List ℕ)) → Fits (guess_by words)
 by_words words =
     let name = word_at words 0 in
-    let three : (k : ℕ) → IsShort (short_in (word_at words k)) = λ k. short_fits (word_at words k) in
-    let done = cond (bytes_eq name (codes "done")) (Line.Done (number_in (word_at words 1))) Line.First in
+    let three : (k : ℕ) → IsOf32Bits (short_in (word_at words k)) = λ k. short_fits (word_at words k) in
+    let done = cond (bytes_eq name (codes "done")) (Line.Done (number_written (word_at words 1))) Line.First in
     let stop = cond (bytes_eq name (codes "stop")) (Line.Entry Stop) done in
     let settle = cond (bytes_eq name (codes "settle")) (Line.Entry (settle_in words)) stop in
     let end = cond (bytes_eq name (codes "end")) (Line.Entry (end_in words)) settle in
     line_by (bytes_eq name (codes "start")) (Line.Entry (start_in words)) end (three 1, three 2, three 3, placement_by (nat_lt 4 (length words)) (word_at words 5))
     (line_by (bytes_eq name (codes "end")) (Line.Entry (end_in words)) settle (three 1, three 2, three 3, how_fits (word_at words 4), number_fits (word_at words 6))
     (line_by (bytes_eq name (codes "settle")) (Line.Entry (settle_in words)) stop (three 1, cause_fits (word_at words 2))
-    (line_by (bytes_eq name (codes "stop")) (Line.Entry Stop) done tt (line_by (bytes_eq name (codes "done")) (Line.Done (number_in (word_at words 1))) Line.First (number_fits (word_at words 1)) tt))))
+    (line_by (bytes_eq name (codes "stop")) (Line.Entry Stop) done tt (line_by (bytes_eq name (codes "done")) (Line.Done (number_written (word_at words 1))) Line.First (number_fits (word_at words 1)) tt))))
 
-found_by : (b : Bool) (guess line : JournalLine) (text : List ℕ) → Fits guess → bytes_eq (line_text guess) text ≡ b → cond b (Some guess) None ≡ Some line → Fits line × (text ≡ line_text line)
+found_by : (b : Bool) (guess line : JournalLine) (text : List ℕ) → Fits guess → bytes_eq (journal_line_text guess) text ≡ b → cond b (Some guess) None ≡ Some line → Fits line × (text ≡ journal_line_text line)
 found_by true guess line text fit is said =
-    let same : guess ≡ line = cc in (subst Fits same fit, sym ((bytes_eq-Decides (line_text guess) text).0 is) ∙ ap line_text same)
+    let same : guess ≡ line = cc in (subst Fits same fit, sym ((bytes_eq-Decides (journal_line_text guess) text).0 is) ∙ ap journal_line_text same)
 found_by false guess line text fit is said = cc
 
 -- a line is said exactly where the text is that line, and its numbers are in their ranges
 pub says : (text : List ℕ) → Says text (said_in text)
 says text line = (
-  λ said. found_by (bytes_eq (line_text (guess_in text)) text) (guess_in text) line text (by_words (pieces 32 text)) refl said,
+  λ said. found_by (bytes_eq (journal_line_text (guess_in text)) text) (guess_in text) line text (by_words (pieces 32 text)) refl said,
   λ is.
       ap said_in is.1
-      ∙ ap (λ guess. cond (bytes_eq (line_text guess) (line_text line)) (Some guess) None) (line_again line is.0)
-      ∙ ap (λ b. cond b (Some line) None) ((bytes_eq-Decides (line_text line) (line_text line)).1 refl),
+      ∙ ap (λ guess. cond (bytes_eq (journal_line_text guess) (journal_line_text line)) (Some guess) None) (line_again line is.0)
+      ∙ ap (λ b. cond b (Some line) None) ((bytes_eq-Decides (journal_line_text line) (journal_line_text line)).1 refl),
 )

@@ -8,8 +8,8 @@ use Rattle.std.proofs.lemmas.Bool.{ne_eqb}
 use Rattle.std.proofs.lemmas.Fmt.{decimal_is_IsNumeral}
 use Rattle.std.proofs.lemmas.Str.{digit_value_digit}
 use Rattle.std.proofs.lemmas.Str.Parse.{digit_from_value}
-use Rattle.ct_journal.specs.Journal.{IsShort, IsCode}
-use Rattle.ct_journal.specs.Guess.{with_digit, number_in, short_in, code_in}
+use Rattle.ct_journal.specs.Journal.{IsOf32Bits, IsCode}
+use Rattle.ct_journal.specs.Guess.{with_digit, number_written, short_in, code_written}
 
 -- digits behind a number make it no less
 digits_up : (n : ℕ) (ds : List ℕ) → n ≤ digits_value_after 10 n ds
@@ -26,30 +26,30 @@ number_after n (d ∷ ds) digits small =
     ap (λ m. fold with_digit m ds) step ∙ number_after (n * 10 + digit_value d) ds digits.1 small
 
 -- a number of 64 bits
-pub number_again : (n : ℕ) → n < 2 ^ 64 → number_in (decimal n) ≡ n
+pub number_again : (n : ℕ) → n < 2 ^ 64 → number_written (decimal n) ≡ n
 number_again n small =
     let is : IsNumeral 10 (decimal n) × (digits_value 10 (decimal n) ≡ n) = decimal_is_IsNumeral n small in
     number_after 0 (decimal n) is.0.1 (omega (arith, is.1, small)) ∙ is.1
 
 -- a number of 32 bits
-pub short_again : (n : ℕ) → IsShort n → short_in (decimal n) ≡ n
+pub short_again : (n : ℕ) → IsOf32Bits n → short_in (decimal n) ≡ n
 short_again n small = omega (arith, number_again n (omega (arith, small)), small)
 
-code_digits : (ds : List ℕ) → IsNumeral 10 ds → code_in ds ≡ pos (min (number_in ds) (2 ^ 31 - 1))
+code_digits : (ds : List ℕ) → IsNumeral 10 ds → code_written ds ≡ pos (min (number_written ds) (2 ^ 31 - 1))
 code_digits [] is = absurd (omega (arith, is.0))
 code_digits (d ∷ ds) is =
     let digit = digit_from_value d is.1.0 in
-    ap (λ b. cond b (neg_ℤ (pos (min (number_in ds) (2 ^ 31)))) (pos (min (number_in (d ∷ ds)) (2 ^ 31 - 1)))) (ne_eqb d 45 (λ e. omega (arith, digit.0, e)))
+    ap (λ b. cond b (neg_ℤ (pos (min (number_written ds) (2 ^ 31)))) (pos (min (number_written (d ∷ ds)) (2 ^ 31 - 1)))) (ne_eqb d 45 (λ e. omega (arith, digit.0, e)))
 
 -- an exit code of 32 bits
-pub code_again : (code : ℤ) → IsCode code → code_in (signed_decimal code) ≡ code
+pub code_again : (code : ℤ) → IsCode code → code_written (signed_decimal code) ≡ code
 code_again (pos n) small =
-    let again : number_in (decimal n) ≡ n = number_again n (omega (arith, small)) in
-    let same : min (number_in (decimal n)) (2 ^ 31 - 1) ≡ n = omega (arith, again, small) in
+    let again : number_written (decimal n) ≡ n = number_again n (omega (arith, small)) in
+    let same : min (number_written (decimal n)) (2 ^ 31 - 1) ≡ n = omega (arith, again, small) in
     code_digits (decimal n) (decimal_is_IsNumeral n (omega (arith, small))).0 ∙ ap pos same
 code_again (negsuc n) small =
-    let again : number_in (decimal (suc n)) ≡ suc n = number_again (suc n) (omega (arith, small)) in
-    let same : min (number_in (decimal (suc n))) (2 ^ 31) ≡ suc n = omega (arith, again, small) in
+    let again : number_written (decimal (suc n)) ≡ suc n = number_again (suc n) (omega (arith, small)) in
+    let same : min (number_written (decimal (suc n))) (2 ^ 31) ≡ suc n = omega (arith, again, small) in
     ap (λ m. neg_ℤ (pos m)) same
 
 -- a text without this byte
@@ -76,11 +76,11 @@ kept_small n [] small = small
 kept_small n (byte ∷ text) small = kept_small (with_digit n byte) text (omega arith)
 
 -- what a text is taken for is a number of 64 bits
-pub number_fits : (text : List ℕ) → number_in text < 2 ^ 64
+pub number_fits : (text : List ℕ) → number_written text < 2 ^ 64
 number_fits text = kept_small 0 text (omega arith)
 
 -- what a text is taken for is a number of 32 bits
-pub short_fits : (text : List ℕ) → IsShort (short_in text)
+pub short_fits : (text : List ℕ) → IsOf32Bits (short_in text)
 short_fits text = omega arith
 
 below_fits : (n : ℕ) → n ≤ 2 ^ 31 → IsCode (neg_ℤ (pos n))
@@ -92,6 +92,6 @@ code_by true n m = below_fits (min n (2 ^ 31)) (omega arith)
 code_by false n m = omega arith
 
 -- what a text is taken for is an exit code of 32 bits
-pub code_fits : (text : List ℕ) → IsCode (code_in text)
+pub code_fits : (text : List ℕ) → IsCode (code_written text)
 code_fits [] = omega arith
-code_fits (first ∷ rest) = code_by (first == 45) (number_in rest) (number_in (first ∷ rest))
+code_fits (first ∷ rest) = code_by (first == 45) (number_written rest) (number_written (first ∷ rest))

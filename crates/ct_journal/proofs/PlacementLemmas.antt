@@ -9,7 +9,7 @@ use Rattle.ct_base.specs.declared.defs.Resource.{Resource}
 use Rattle.ct_alloc.specs.declared.placement.Pick.{Pick}
 use Rattle.ct_alloc.specs.declared.placement.Placement.{Placement}
 use Rattle.ct_alloc.specs.Placement.{is_placement, meets, names_resource}
-use Rattle.ct_journal.specs.Completed.{Completes, pick_by, with_pick, picks_by, of_picks}
+use Rattle.ct_journal.specs.Completed.{IsPlacementAt, pick_by, with_pick, picks_by, of_picks}
 use Rattle.ct_journal.proofs.WordLemmas.{both}
 
 -- the pick is right for the need on this resource
@@ -98,7 +98,7 @@ none_by None placement is = cc
 none_by (Some picks) placement is = let it : of_picks picks ≡ placement = cc in ap (λ (p : Placement). Some p.picks) it
 
 -- places are completed exactly
-pub completes : (resources : List Resource) (needs : List Need) (places : List ℕ) → Completes resources needs places (option_map of_picks (picks_by resources needs places))
+pub completes : (resources : List Resource) (needs : List Need) (places : List ℕ) → IsPlacementAt resources needs places (option_map of_picks (picks_by resources needs places))
 completes resources needs places placement = (
   λ is. picks_found resources needs places placement.picks (none_by (picks_by resources needs places) placement is),
   λ is. ap (λ ps. option_map of_picks (picks_by resources needs ps)) is.1 ∙ ap (option_map of_picks) (placement_found resources needs placement.picks is.0),

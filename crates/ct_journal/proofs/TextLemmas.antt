@@ -15,12 +15,12 @@ use Rattle.ct_history.specs.Verdicts.{are_all_final}
 use Rattle.ct_history.specs.Legal.{IsComplete, is_allowed_so_far, is_legal, is_stop_due}
 use Rattle.ct_history.proofs.LegalLemmas.{allowed-snoc}
 use Rattle.ct_audit.specs.declared.audit.Audit.{Audit}
-use Rattle.ct_audit.specs.Tells.{Tells, is_at_end}
+use Rattle.ct_audit.specs.Tells.{TellsHistory, is_at_end}
 use Rattle.ct_journal.specs.declared.check.Step.TheVariants.{GoesOn, Ends, IsBad}
 use Rattle.ct_journal.specs.declared.lines.JournalLine.TheVariants as Line
 use Rattle.ct_journal.specs.Guess.{guess_in}
-use Rattle.ct_journal.specs.Journal.{entry_lines, full_line, line_text, noted}
-use Rattle.ct_journal.specs.Checked.{IsNoEntry, Takes}
+use Rattle.ct_journal.specs.Journal.{entry_lines, full_line, journal_line_text, noted}
+use Rattle.ct_journal.specs.Checked.{IsNoEntry, TakesLine}
 use Rattle.ct_journal.specs.Found.{Finds, FindsBehind, IsReading, StandsAt}
 use Rattle.ct_journal.proofs.LineLemmas.{line_again}
 
@@ -30,7 +30,7 @@ idle_closed (r ∷ rs) idle = cc
 
 module _ (plan : PlanParts) (text : List ℕ) where
   -- nothing was read yet
-  pub reads_none : (audit : Audit) (line : List ℕ) → Tells plan [] audit → line ≡ [] → IsReading plan text 0 audit line 0 []
+  pub reads_none : (audit : Audit) (line : List ℕ) → TellsHistory plan [] audit → line ≡ [] → IsReading plan text 0 audit line 0 []
   reads_none audit line told none = record {
     told = told;
     stands = record { allowed = refl; text_is = ap (λ (l : List ℕ). l ++ text) (sym none); one = ap (list_any (λ (byte : ℕ). byte == 10)) none };
@@ -55,7 +55,7 @@ module _ (plan : PlanParts) (text : List ℕ) where
       }
 
   -- the line of one entry more
-  pub reads_entry : (at count byte : ℕ) (old new : Audit) (line none : List ℕ) (entries : List Entry) → at < length text → byte ≡ get_or text at 0 → byte ≡ 10 → none ≡ [] → IsReading plan text at old line count entries → (takes : Takes plan entries line GoesOn new) → IsReading plan text (at + 1) new none (count + 1) (entries ++ takes.entry ∷ [])
+  pub reads_entry : (at count byte : ℕ) (old new : Audit) (line none : List ℕ) (entries : List Entry) → at < length text → byte ≡ get_or text at 0 → byte ≡ 10 → none ≡ [] → IsReading plan text at old line count entries → (takes : TakesLine plan entries line GoesOn new) → IsReading plan text (at + 1) new none (count + 1) (entries ++ takes.entry ∷ [])
   reads_entry at count byte old new line none entries lt is feed empty reading takes =
       let e = takes.entry in
       let next : drop at text ≡ 10 ∷ drop (at + 1) text = drop_more text at 0 lt ∙ ap (λ (b : ℕ). b ∷ drop (at + 1) text) (sym is ∙ feed) in
@@ -80,7 +80,7 @@ module _ (plan : PlanParts) (text : List ℕ) where
       }
 
   -- a line that is not good
-  pub finds_bad : (at count byte : ℕ) (old new : Audit) (line : List ℕ) (entries : List Entry) → at < length text → byte ≡ get_or text at 0 → byte ≡ 10 → IsReading plan text at old line count entries → Takes plan entries line IsBad new → FindsBehind plan text (Some (count + 2))
+  pub finds_bad : (at count byte : ℕ) (old new : Audit) (line : List ℕ) (entries : List Entry) → at < length text → byte ≡ get_or text at 0 → byte ≡ 10 → IsReading plan text at old line count entries → TakesLine plan entries line IsBad new → FindsBehind plan text (Some (count + 2))
   finds_bad at count byte old new line entries lt is feed reading takes =
       let next : drop at text ≡ 10 ∷ drop (at + 1) text = drop_more text at 0 lt ∙ ap (λ (b : ℕ). b ∷ drop (at + 1) text) (sym is ∙ feed) in
       record {
@@ -104,9 +104,9 @@ module _ (plan : PlanParts) (text : List ℕ) where
   }
 
   -- the last line is that of no entry
-  no_entry_done : (entries front : List Entry) (line : List ℕ) → length entries < 2 ^ 64 → line ≡ line_text (Line.Done (length entries)) → IsNoEntry plan front line
+  no_entry_done : (entries front : List Entry) (line : List ℕ) → length entries < 2 ^ 64 → line ≡ journal_line_text (Line.Done (length entries)) → IsNoEntry plan front line
   no_entry_done entries front line small is = λ e fits allowed same. (
-      let both : line_text (Line.Done (length entries)) ≡ line_text (Line.Entry (noted e)) = sym is ∙ same in
+      let both : journal_line_text (Line.Done (length entries)) ≡ journal_line_text (Line.Entry (noted e)) = sym is ∙ same in
       let one : Line.Done (length entries) ≡ Line.Entry (noted e) = sym (line_again (Line.Done (length entries)) small) ∙ ap guess_in both ∙ line_again (Line.Entry (noted e)) fits in
       cc)
 
@@ -117,7 +117,7 @@ module _ (plan : PlanParts) (text : List ℕ) where
       (and_from (is_allowed_so_far plan entries) (not (is_stop_due plan entries)) allowed two.1, record { final = one.0; closed = idle_closed (open_starts entries) one.1 })
 
   -- the last line, and what stands behind it
-  pub finds_last : (at count byte : ℕ) (old new : Audit) (line : List ℕ) (entries : List Entry) (ends : Bool) → length text < 2 ^ 64 → at < length text → byte ≡ get_or text at 0 → byte ≡ 10 → ends ≡ (at + 1 == length text) → IsReading plan text at old line count entries → Takes plan entries line Ends new → FindsBehind plan text (if ends then None else Some (count + 2))
+  pub finds_last : (at count byte : ℕ) (old new : Audit) (line : List ℕ) (entries : List Entry) (ends : Bool) → length text < 2 ^ 64 → at < length text → byte ≡ get_or text at 0 → byte ≡ 10 → ends ≡ (at + 1 == length text) → IsReading plan text at old line count entries → TakesLine plan entries line Ends new → FindsBehind plan text (if ends then None else Some (count + 2))
   finds_last at count byte old new line entries true small lt is feed ends reading takes =
       let next : drop at text ≡ 10 ∷ drop (at + 1) text = drop_more text at 0 lt ∙ ap (λ (b : ℕ). b ∷ drop (at + 1) text) (sym is ∙ feed) in
       let whole : length text ≡ at + 1 = grind (arith, nat_tests, ends) in

@@ -10,8 +10,8 @@ use Rattle.ct_verdict.specs.declared.attempt.How.{How}
 use Rattle.ct_verdict.specs.declared.attempt.How.TheVariants.{Exited, Signalled, TimedOut, NotStarted, Lacks, NoMemory}
 use Rattle.ct_verdict.specs.declared.verdict.Cause.{Cause}
 use Rattle.ct_verdict.specs.declared.verdict.Cause.TheVariants as Why
-use Rattle.ct_journal.specs.Journal.{how_text, cause_text, hit_digit, listed, IsShort, HowFits, CauseFits}
-use Rattle.ct_journal.specs.Guess.{pieces, short_in, code_in, how_in, numbered_cause_in, cause_in, places_in}
+use Rattle.ct_journal.specs.Journal.{how_text, not_run_word, hit_digit, listed, IsOf32Bits, HowFits, CauseFits}
+use Rattle.ct_journal.specs.Guess.{pieces, short_in, code_written, how_in, numbered_cause_in, cause_in, places_in_word}
 use Rattle.ct_journal.proofs.NumberLemmas.{is_free, decimal_free, code_free, short_again, code_again, short_fits, code_fits}
 
 not_true : (b : Bool) → not b ≡ true → b ≡ false
@@ -55,7 +55,7 @@ how_free (Lacks place) fits = decimal_free 32 place (omega arith) (omega (arith,
 how_free NoMemory fits = refl
 
 -- why a test did not run
-pub cause_again : (cause : Cause) → CauseFits cause → cause_in (cause_text cause) ≡ cause
+pub cause_again : (cause : Cause) → CauseFits cause → cause_in (not_run_word cause) ≡ cause
 cause_again Why.Unstarted fits = refl
 cause_again (Why.Lacks place) fits = ap Why.Lacks (short_again place fits)
 cause_again (Why.Fixture setup) fits = ap Why.Fixture (short_again setup fits)
@@ -65,7 +65,7 @@ cause_again Why.Insufficient fits = refl
 cause_again Why.Stopped fits = refl
 cause_again Why.Memory fits = refl
 
-pub cause_free : (cause : Cause) → CauseFits cause → is_free 32 (cause_text cause) ≡ true
+pub cause_free : (cause : Cause) → CauseFits cause → is_free 32 (not_run_word cause) ≡ true
 cause_free Why.Unstarted fits = refl
 cause_free (Why.Lacks place) fits = decimal_free 32 place (omega arith) (omega (arith, fits))
 cause_free (Why.Fixture setup) fits = decimal_free 32 setup (omega arith) (omega (arith, fits))
@@ -94,16 +94,16 @@ in_words : (places : List ℕ) → flat_map (λ other. codes "," ++ decimal othe
 in_words [] = refl
 in_words (place ∷ places) = ap (λ rest. 44 ∷ (decimal place ++ rest)) (in_words places)
 
-shorts_again : (places : List ℕ) → AllByRecursion IsShort places → map short_in (map decimal places) ≡ places
+shorts_again : (places : List ℕ) → AllByRecursion IsOf32Bits places → map short_in (map decimal places) ≡ places
 shorts_again [] fit = refl
 shorts_again (place ∷ places) fit = λ i. short_again place fit.0 i ∷ shorts_again places fit.1 i
 
-decimals_free : (places : List ℕ) → AllByRecursion IsShort places → list_all (is_free 44) (map decimal places) ≡ true
+decimals_free : (places : List ℕ) → AllByRecursion IsOf32Bits places → list_all (is_free 44) (map decimal places) ≡ true
 decimals_free [] fit = refl
 decimals_free (place ∷ places) fit = both (is_free 44 (decimal place)) (list_all (is_free 44) (map decimal places)) (decimal_free 44 place (omega arith) (omega (arith, fit.0))) (decimals_free places fit.1)
 
 -- the places of resources
-pub places_again : (places : List ℕ) → AllByRecursion IsShort places → places_in (listed places) ≡ places
+pub places_again : (places : List ℕ) → AllByRecursion IsOf32Bits places → places_in_word (listed places) ≡ places
 places_again [] fit = refl
 places_again (place ∷ places) fit =
     let rest = flat_map (λ other. codes "," ++ decimal other) places in
@@ -114,13 +114,13 @@ places_again (place ∷ places) fit =
     ∙ ap (map short_in) (cut_again 44 (decimal place) (map decimal places) (decimal_free 44 place (omega arith) (omega (arith, fit.0))) (decimals_free places fit.1))
     ∙ shorts_again (place ∷ places) fit
 
-others_free : (places : List ℕ) → AllByRecursion IsShort places → is_free 32 (flat_map (λ other. codes "," ++ decimal other) places) ≡ true
+others_free : (places : List ℕ) → AllByRecursion IsOf32Bits places → is_free 32 (flat_map (λ other. codes "," ++ decimal other) places) ≡ true
 others_free [] fit = refl
 others_free (place ∷ places) fit =
     let rest = flat_map (λ other. codes "," ++ decimal other) places in
     list_all-append (λ byte. not (byte == 32)) (decimal place) rest ∙ both (is_free 32 (decimal place)) (is_free 32 rest) (decimal_free 32 place (omega arith) (omega (arith, fit.0))) (others_free places fit.1)
 
-pub listed_free : (places : List ℕ) → AllByRecursion IsShort places → is_free 32 (listed places) ≡ true
+pub listed_free : (places : List ℕ) → AllByRecursion IsOf32Bits places → is_free 32 (listed places) ≡ true
 listed_free [] fit = refl
 listed_free (place ∷ places) fit =
     let rest = flat_map (λ other. codes "," ++ decimal other) places in
@@ -133,7 +133,7 @@ how_by false one other fits also = also
 -- how an attempt ended has its numbers in their ranges, whatever the word is
 pub how_fits : (word : List ℕ) → HowFits (how_in word)
 how_fits word =
-    let ended = Exited (code_in (drop 5 word)) in
+    let ended = Exited (code_written (drop 5 word)) in
     let lacks = cond (bytes_eq (take 6 word) (codes "lacks:")) (Lacks (short_in (drop 6 word))) ended in
     let memory = cond (bytes_eq word (codes "memory")) NoMemory lacks in
     let unstarted = cond (bytes_eq word (codes "unstarted")) NotStarted memory in
@@ -168,14 +168,14 @@ cause_fits word =
     (cause_by (bytes_eq word (codes "insufficient")) Why.Insufficient stopped tt
     (cause_by (bytes_eq word (codes "stopped")) Why.Stopped memory tt (cause_by (bytes_eq word (codes "memory")) Why.Memory numbered tt (numbered_fits word)))))
 
-shorts_fit : (words : List (List ℕ)) → AllByRecursion IsShort (map short_in words)
+shorts_fit : (words : List (List ℕ)) → AllByRecursion IsOf32Bits (map short_in words)
 shorts_fit [] = tt
 shorts_fit (word ∷ words) = (short_fits word, shorts_fit words)
 
-places_by : (b : Bool) (words : List (List ℕ)) → AllByRecursion IsShort (cond b [] (map short_in words))
+places_by : (b : Bool) (words : List (List ℕ)) → AllByRecursion IsOf32Bits (cond b [] (map short_in words))
 places_by true words = tt
 places_by false words = shorts_fit words
 
 -- places have their range, whatever the word is
-pub places_fit : (word : List ℕ) → AllByRecursion IsShort (places_in word)
+pub places_fit : (word : List ℕ) → AllByRecursion IsOf32Bits (places_in_word word)
 places_fit word = places_by (length word == 0) (pieces 44 word)

@@ -6,9 +6,9 @@ use Rattle.ct_history.specs.declared.plan.PlanParts.{PlanParts}
 use Rattle.ct_history.specs.declared.history.Entry.{Entry}
 use Rattle.ct_history.specs.Legal.{IsComplete, is_allowed_so_far, is_legal}
 use Rattle.ct_audit.specs.declared.audit.Audit.{Audit}
-use Rattle.ct_audit.specs.Tells.{Tells, is_at_end}
+use Rattle.ct_audit.specs.Tells.{TellsHistory, is_at_end}
 use Rattle.ct_journal.specs.declared.lines.JournalLine.TheVariants as Line
-use Rattle.ct_journal.specs.Journal.{entry_lines, full_line, journal_of, line_text}
+use Rattle.ct_journal.specs.Journal.{entry_lines, full_line, journal_of, journal_line_text}
 use Rattle.ct_journal.specs.Checked.{IsNoEntry}
 
 -- the text is the journal of a complete legal history
@@ -27,10 +27,13 @@ IsOneLine line = list_any (λ (byte : ℕ). byte == 10) line ≡ false
 abbrev pub IsBadLine : PlanParts → List Entry → List ℕ → List ℕ → Type 0
 IsBadLine plan entries line [] = ⊤
 IsBadLine plan entries line (byte ∷ rest) =
-    (byte ≡ 10) × IsNoEntry plan entries line × (line ≡ line_text (Line.Done (length entries)) → is_at_end plan entries ≡ true → rest ≡ [] → ⊥)
+    (byte ≡ 10)
+    × IsNoEntry plan entries line
+    × (line ≡ journal_line_text (Line.Done (length entries)) → is_at_end plan entries ≡ true → rest ≡ [] → ⊥)
 
 -- the text is the lines of these entries, each allowed behind those in front, then this line, then the rest
-pub record StandsAt (plan : PlanParts) (text : List ℕ) (entries : List Entry) (line rest : List ℕ) : Type 0 where
+pub record StandsAt (plan : PlanParts) (text : List ℕ) (entries : List Entry) (line rest : List ℕ)
+    : Type 0 where
   pub allowed : is_allowed_so_far plan entries ≡ true
   pub text_is : text ≡ entry_lines entries ++ (line ++ rest)
   pub one : IsOneLine line
@@ -72,8 +75,9 @@ Finds plan text None = IsAccepted plan text
 Finds plan text (Some number) = ((number ≡ 1) × LacksFirst text) ⊎ IsRefusedAt plan text number
 
 -- so far, the audit tells the entries whose lines were read, and the rest of the text stands behind them
-pub record IsReading (plan : PlanParts) (text : List ℕ) (at : ℕ) (audit : Audit) (line : List ℕ) (count : ℕ) (entries : List Entry) : Type 0 where
-  pub told : Tells plan entries audit
+pub record IsReading (plan : PlanParts) (text : List ℕ) (at : ℕ) (audit : Audit) (line : List ℕ) (count : ℕ)
+    (entries : List Entry) : Type 0 where
+  pub told : TellsHistory plan entries audit
   pub stands : StandsAt plan text entries line (drop at text)
   pub count_is : count ≡ length entries
   pub few : count ≤ at

@@ -26,15 +26,15 @@ how_text (Lacks place) = codes "lacks:" ++ decimal place
 how_text NoMemory = codes "memory"
 
 -- why a test did not run, as a word
-abbrev pub cause_text : Cause → List ℕ
-cause_text Why.Unstarted = codes "unstarted"
-cause_text (Why.Lacks place) = codes "lacks:" ++ decimal place
-cause_text (Why.Fixture setup) = codes "fixture:" ++ decimal setup
-cause_text Why.NotAvailable = codes "notavailable"
-cause_text (Why.BadOperation place) = codes "badoperation:" ++ decimal place
-cause_text Why.Insufficient = codes "insufficient"
-cause_text Why.Stopped = codes "stopped"
-cause_text Why.Memory = codes "memory"
+abbrev pub not_run_word : Cause → List ℕ
+not_run_word Why.Unstarted = codes "unstarted"
+not_run_word (Why.Lacks place) = codes "lacks:" ++ decimal place
+not_run_word (Why.Fixture setup) = codes "fixture:" ++ decimal setup
+not_run_word Why.NotAvailable = codes "notavailable"
+not_run_word (Why.BadOperation place) = codes "badoperation:" ++ decimal place
+not_run_word Why.Insufficient = codes "insufficient"
+not_run_word Why.Stopped = codes "stopped"
+not_run_word Why.Memory = codes "memory"
 
 -- the digit of a hit: 1, and 0 where there is none
 abbrev pub hit_digit : Bool → ℕ
@@ -57,36 +57,40 @@ places_text (Some places) = codes " at " ++ listed places
 
 -- the front of a line that speaks of an attempt: a name, test, attempt and worker
 abbrev pub attempt_text : List ℕ → ℕ → ℕ → ℕ → List ℕ
-attempt_text name test attempt worker = name ++ decimal test ++ codes " " ++ decimal attempt ++ codes " " ++ decimal worker
+attempt_text name test attempt worker =
+    name ++ decimal test ++ codes " " ++ decimal attempt ++ codes " " ++ decimal worker
 
 -- what was seen of an attempt, as three words
 abbrev pub seen_text : Seen → List ℕ
-seen_text seen = codes " " ++ how_text seen.how ++ codes " " ++ hits_text seen ++ codes " " ++ decimal seen.micros
+seen_text seen =
+    codes " " ++ how_text seen.how ++ codes " " ++ hits_text seen ++ codes " " ++ decimal seen.micros
 
 -- the line of an entry, without its line feed
 abbrev pub entry_text : EntryLine → List ℕ
-entry_text (Start test attempt worker places) = attempt_text (codes "start ") test attempt worker ++ places_text places
+entry_text (Start test attempt worker places) =
+    attempt_text (codes "start ") test attempt worker ++ places_text places
 entry_text (End test attempt worker seen) = attempt_text (codes "end ") test attempt worker ++ seen_text seen
-entry_text (Settle test cause) = codes "settle " ++ decimal test ++ codes " " ++ cause_text cause
+entry_text (Settle test cause) = codes "settle " ++ decimal test ++ codes " " ++ not_run_word cause
 entry_text Stop = codes "stop"
 
 -- a line of a journal, without its line feed
-abbrev pub line_text : JournalLine → List ℕ
-line_text Line.First = codes "ct-journal 1"
-line_text (Line.Entry entry) = entry_text entry
-line_text (Line.Done count) = codes "done " ++ decimal count
+abbrev pub journal_line_text : JournalLine → List ℕ
+journal_line_text Line.First = codes "ct-journal 1"
+journal_line_text (Line.Entry entry) = entry_text entry
+journal_line_text (Line.Done count) = codes "done " ++ decimal count
 
 -- a line of a journal, with its line feed
 abbrev pub full_line : JournalLine → List ℕ
-full_line line = line_text line ++ codes "\n"
+full_line line = journal_line_text line ++ codes "\n"
 
 -- the places of the resources of a placement
-abbrev pub places_of : Placement → List ℕ
-places_of placement = map (λ (pick : Pick). pick.resource) placement.picks
+abbrev pub places_of_placement : Placement → List ℕ
+places_of_placement placement = map (λ (pick : Pick). pick.resource) placement.picks
 
 -- what a journal says of an entry: all of it, but of a placement the places of its resources alone
 abbrev pub noted : Entry → EntryLine
-noted (Happened.Start test attempt worker placement) = Start test attempt worker (option_map places_of placement)
+noted (Happened.Start test attempt worker placement) =
+    Start test attempt worker (option_map places_of_placement placement)
 noted (Happened.End test attempt worker seen) = End test attempt worker seen
 noted (Happened.Settle test cause) = Settle test cause
 noted Happened.Stop = Stop
@@ -95,13 +99,14 @@ noted Happened.Stop = Stop
 abbrev pub entry_lines : List Entry → List ℕ
 entry_lines entries = flat_map (λ (entry : Entry). full_line (Line.Entry (noted entry))) entries
 
--- the journal of a history: its first line, a line for each entry, and its last line with the number of entries
+-- the journal of a history: its first line, a line for each entry, and its last line with the number of
+-- entries
 abbrev pub journal_of : List Entry → List ℕ
 journal_of entries = full_line Line.First ++ entry_lines entries ++ full_line (Line.Done (length entries))
 
 -- a number of 32 bits
-abbrev pub IsShort : ℕ → Type 0
-IsShort number = number < 2 ^ 32
+abbrev pub IsOf32Bits : ℕ → Type 0
+IsOf32Bits number = number < 2 ^ 32
 
 -- an exit code of 32 bits, with its sign
 abbrev pub IsCode : ℤ → Type 0
@@ -111,26 +116,28 @@ IsCode (negsuc number) = number < 2 ^ 31
 -- the numbers in how an attempt ended are in their ranges
 abbrev pub HowFits : How → Type 0
 HowFits (Exited code) = IsCode code
-HowFits (Lacks place) = IsShort place
+HowFits (Lacks place) = IsOf32Bits place
 HowFits _ = ⊤
 
 -- the numbers in a cause are in their ranges
 abbrev pub CauseFits : Cause → Type 0
-CauseFits (Why.Lacks place) = IsShort place
-CauseFits (Why.Fixture setup) = IsShort setup
-CauseFits (Why.BadOperation place) = IsShort place
+CauseFits (Why.Lacks place) = IsOf32Bits place
+CauseFits (Why.Fixture setup) = IsOf32Bits setup
+CauseFits (Why.BadOperation place) = IsOf32Bits place
 CauseFits _ = ⊤
 
 -- the places of a placement are in their range, where there is one
 abbrev pub PlacesFit : Option (List ℕ) → Type 0
 PlacesFit None = ⊤
-PlacesFit (Some places) = AllByRecursion IsShort places
+PlacesFit (Some places) = AllByRecursion IsOf32Bits places
 
 -- the numbers of an entry's line are in their ranges
 abbrev pub EntryFits : EntryLine → Type 0
-EntryFits (Start test attempt worker places) = IsShort test × IsShort attempt × IsShort worker × PlacesFit places
-EntryFits (End test attempt worker seen) = IsShort test × IsShort attempt × IsShort worker × HowFits seen.how × (seen.micros < 2 ^ 64)
-EntryFits (Settle test cause) = IsShort test × CauseFits cause
+EntryFits (Start test attempt worker places) =
+    IsOf32Bits test × IsOf32Bits attempt × IsOf32Bits worker × PlacesFit places
+EntryFits (End test attempt worker seen) =
+    IsOf32Bits test × IsOf32Bits attempt × IsOf32Bits worker × HowFits seen.how × (seen.micros < 2 ^ 64)
+EntryFits (Settle test cause) = IsOf32Bits test × CauseFits cause
 EntryFits Stop = ⊤
 
 -- the numbers of a line are in the ranges of their types
@@ -139,6 +146,7 @@ Fits Line.First = ⊤
 Fits (Line.Entry entry) = EntryFits entry
 Fits (Line.Done count) = count < 2 ^ 64
 
--- a text says a line exactly where it is that line, with the numbers in their ranges; any other text says none
+-- a text says a line exactly where it is that line, with the numbers in their ranges; any other text says
+-- none
 abbrev pub Says : List ℕ → Option JournalLine → Type 0
-Says text said = (line : JournalLine) → (said ≡ Some line) ↔ (Fits line × (text ≡ line_text line))
+Says text said = (line : JournalLine) → (said ≡ Some line) ↔ (Fits line × (text ≡ journal_line_text line))

@@ -1,5 +1,5 @@
 ghost use Rattle.std.specs.Prelude.{◌≡◌, IfOk, map};
-ghost use Rattle.ct_journal.specs.Guess.{end_in as end_by, guess_by as guess_of_words, guess_in, placement_in as placement_by, places_in as places_by, seen_in as seen_by, settle_in as settle_by, short_in as short_by, start_in as start_by, word_at as word_of};
+ghost use Rattle.ct_journal.specs.Guess.{end_in as end_by, guess_by as guess_of_words, guess_in, placement_in as placement_by, places_in_word as places_by, seen_in as seen_by, settle_in as settle_by, short_in as short_by, start_in as start_by, word_at as word_of};
 
 use crate::numbers::{number_in, short_in};
 use crate::pieces::pieces_of;

@@ -2,7 +2,6 @@
 //!
 //! Hands up: `journal_text`, which writes the journal of a history; `check_text`, which finds the first line
 //! of a text that is not good; and what it is made of: `read_line`, `placement_at`, `take_line`.
-//! Stands on: ct_base, ct_alloc, ct_verdict, ct_history, ct_audit, and on no crate that runs tests.
 //! Read first: `specs/Journal.antt`, `specs/Found.antt`, `specs/Completed.antt`, then `writer.rt`, `text.rt`.
 #![tactic(auto)]
 

@@ -1,6 +1,6 @@
 ghost use Rattle.std.specs.Prelude.{◌≡◌, ◌++◌, OnOk, decimal};
 ghost use Rattle.std.specs.Fmt.{signed_decimal};
-ghost use Rattle.ct_journal.specs.Guess.{code_in as code_by, number_in as number_by, short_in as short_by};
+ghost use Rattle.ct_journal.specs.Guess.{code_written as code_by, number_written as number_by, short_in as short_by};
 
 use ct_base::{Blob, NoMemory};
 use std::alloc::Global;

@@ -1,5 +1,5 @@
 ghost use Rattle.std.specs.Prelude.{◌≡◌, IfOk, option_map, slice_get};
-ghost use Rattle.ct_journal.specs.Completed.{Completes, of_picks, pick_by, picks_by};
+ghost use Rattle.ct_journal.specs.Completed.{IsPlacementAt, of_picks, pick_by, picks_by};
 
 use ct_alloc::{Pick, Placement};
 use ct_base::{List, Need, NoMemory, Resource};
@@ -16,7 +16,7 @@ pub fn placement_at(
     needs: &[Need],
     places: &[u32],
 ) -> Result<Option<Placement>, NoMemory>
-    ensures { IfOk result (λ found. Completes resources.now needs.now places.now found) }
+    ensures { IfOk result (λ found. IsPlacementAt resources.now needs.now places.now found) }
 {
     Ok(placement_of(alloc, resources, needs, places)?)
 }

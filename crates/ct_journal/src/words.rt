@@ -1,5 +1,5 @@
 ghost use Rattle.std.specs.Prelude.{◌≡◌, ◌++◌, IfOk, take, drop, decimal};
-ghost use Rattle.ct_journal.specs.Journal.{cause_text as cause_written, hit_digit as digit_of, hits_text as hits_written, how_text as how_written};
+ghost use Rattle.ct_journal.specs.Journal.{not_run_word as cause_written, hit_digit as digit_of, hits_text as hits_written, how_text as how_written};
 ghost use Rattle.ct_journal.specs.Guess.{cause_in as cause_by, numbered_cause_in as numbered_cause_by, hit_in as hit_by, how_in as how_by};
 
 use crate::numbers::{append_code, append_number, code_in, short_in};

@@ -1,6 +1,6 @@
 ghost use Rattle.std.specs.Prelude.{◌≡◌, ◌++◌, IfOk, OnOk, codes, decimal, flat_map, option_map};
 ghost use Rattle.std.specs.Option.{option_copied};
-ghost use Rattle.ct_journal.specs.Journal.{attempt_text as front_of_line, cause_text as cause_written, entry_text as line_of_entry, full_line, journal_of, line_text as written, listed, noted as said, places_of as resources_of, places_text as said_of_places, seen_text as said_of_attempt};
+ghost use Rattle.ct_journal.specs.Journal.{attempt_text as front_of_line, not_run_word as cause_written, entry_text as line_of_entry, full_line, journal_of, journal_line_text as written, listed, noted as said, places_of_placement as resources_of, places_text as said_of_places, seen_text as said_of_attempt};
 
 use crate::numbers::append_number;
 use crate::words::{cause_text, hits_text, how_text};

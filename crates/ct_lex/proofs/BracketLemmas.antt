@@ -8,7 +8,7 @@ use Rattle.std.proofs.lemmas.List.Folds.{prefix_len-replicate, list_all-append}
 use Rattle.std.proofs.Math.Seq.{get_or-append_seam}
 use Rattle.std.specs.List.{prefix_len, list_all}
 use Rattle.ct_lex.specs.Bytes.{stands, is_gap, is_blank, feeds}
-use Rattle.ct_lex.specs.Bracket.{equals, opening, closes, closing, bracket_len, line_len, bracket_comment, comment_by, comment, gap_at}
+use Rattle.ct_lex.specs.Bracket.{equals_count, opening, closes, closing, bracket_len, line_len, bracket_comment, comment_by, comment, gap_at}
 use Rattle.ct_lex.specs.Grammar as grammar
 use Rattle.ct_lex.specs.Grammar.{opens_with, closes_with, BeginsBracket, IsInside, IsBracket, IsSpace, IsLineComment, IsLineEnd}
 use Rattle.ct_lex.specs.declared.stop.Stop.{Stop}
@@ -36,7 +36,7 @@ run-is byte (first ∷ rest) = by_test (first == byte) refl (run-is byte rest)
         let more : 1 + prefix_len (λ b. b == byte) rest ≡ suc (prefix_len (λ b. b == byte) rest) = omega arith in
         rw (e, more, same, again) refl
 
-pub mark-run : (edge n : ℕ) (more : List ℕ) → (edge == 61) ≡ false → equals (replicate n 61 ++ edge ∷ more) ≡ n
+pub mark-run : (edge n : ℕ) (more : List ℕ) → (edge == 61) ≡ false → equals_count (replicate n 61 ++ edge ∷ more) ≡ n
 mark-run edge n more other =
     let all : prefix_len (λ b. b == 61) (replicate n 61) ≡ length (replicate n 61) = prefix_len-replicate (λ b. b == 61) n 61 refl ∙ sym (length-replicate {A = ℕ} n 61) in
     run-read (λ b. b == 61) (replicate n 61) edge more all other ∙ length-replicate {A = ℕ} n 61
@@ -56,7 +56,7 @@ mark-stands edge n more =
     stands-at edge (n + 1) (edge ∷ inner) (omega (arith, length-append (replicate n 61) (edge ∷ more), length-replicate {A = ℕ} n 61)) there
 
 -- if the tests of the reader find a mark, the text begins with that mark
-pub mark-is : (edge n byte : ℕ) (rest : List ℕ) → byte ≡ edge → equals rest ≡ n → stands edge (n + 1) (byte ∷ rest) ≡ true → (more : List ℕ) × (byte ∷ rest ≡ mark edge n ++ more)
+pub mark-is : (edge n byte : ℕ) (rest : List ℕ) → byte ≡ edge → equals_count rest ≡ n → stands edge (n + 1) (byte ∷ rest) ≡ true → (more : List ℕ) × (byte ∷ rest ≡ mark edge n ++ more)
 mark-is edge n byte rest first count last =
     let there = stands-is edge (n + 1) (byte ∷ rest) last in
     let inside : n + 1 < length (byte ∷ rest) = there.0 in
@@ -71,20 +71,20 @@ mark-is edge n byte rest first count last =
 pub opening-read : (n : ℕ) (more : List ℕ) → opening (opens_with n ++ more) ≡ Some n
 opening-read n more =
     let inner : List ℕ = replicate n 61 ++ 91 ∷ more in
-    let count : equals inner ≡ n = mark-run 91 n more refl in
+    let count : equals_count inner ≡ n = mark-run 91 n more refl in
     let first : stands 91 0 (91 ∷ inner) ≡ true = stands-front 91 91 inner in
     let last : stands 91 (n + 1) (91 ∷ inner) ≡ true = mark-stands 91 n more in
     ap (λ t. opening t) (mark-split 91 n more) ∙ rw (first, count, last) refl
 
 pub opening-is : (text : List ℕ) (n : ℕ) → opening text ≡ Some n → (more : List ℕ) × (text ≡ opens_with n ++ more)
 opening-is [] n e = cc
-opening-is (byte ∷ rest) n e = by_test (stands 91 0 (byte ∷ rest) && stands 91 (equals rest + 1) (byte ∷ rest)) refl e
+opening-is (byte ∷ rest) n e = by_test (stands 91 0 (byte ∷ rest) && stands 91 (equals_count rest + 1) (byte ∷ rest)) refl e
   where
-    by_test : (test : Bool) → (stands 91 0 (byte ∷ rest) && stands 91 (equals rest + 1) (byte ∷ rest)) ≡ test → cond test (Some (equals rest)) None ≡ Some n → (more : List ℕ) × (byte ∷ rest ≡ opens_with n ++ more)
+    by_test : (test : Bool) → (stands 91 0 (byte ∷ rest) && stands 91 (equals_count rest + 1) (byte ∷ rest)) ≡ test → cond test (Some (equals_count rest)) None ≡ Some n → (more : List ℕ) × (byte ∷ rest ≡ opens_with n ++ more)
     by_test false t f = cc
     by_test true t f =
-        let count : equals rest ≡ n = cc in
-        let both = and_parts (stands 91 0 (byte ∷ rest)) (stands 91 (equals rest + 1) (byte ∷ rest)) t in
+        let count : equals_count rest ≡ n = cc in
+        let both = and_parts (stands 91 0 (byte ∷ rest)) (stands 91 (equals_count rest + 1) (byte ∷ rest)) t in
         mark-is 91 n byte rest (stands-is 91 0 (byte ∷ rest) both.0).1 count (ap (λ k. stands 91 (k + 1) (byte ∷ rest)) (sym count) ∙ both.1)
 
 pub opening-none : (text : List ℕ) → opening text ≡ None → BeginsBracket text → ⊥
@@ -94,7 +94,7 @@ opening-none text e begins = let found : opening text ≡ Some begins.0 = ap (λ
 pub closes-read : (n : ℕ) (more : List ℕ) → closes n (closes_with n ++ more) ≡ true
 closes-read n more =
     let inner : List ℕ = replicate n 61 ++ 93 ∷ more in
-    let count : (equals inner == n) ≡ true = let same : equals inner ≡ n = mark-run 93 n more refl in grind (arith, nat_tests) in
+    let count : (equals_count inner == n) ≡ true = let same : equals_count inner ≡ n = mark-run 93 n more refl in grind (arith, nat_tests) in
     let first : stands 93 0 (93 ∷ inner) ≡ true = stands-front 93 93 inner in
     let last : stands 93 (n + 1) (93 ∷ inner) ≡ true = mark-stands 93 n more in
     ap (λ t. closes n t) (mark-split 93 n more) ∙ rw (first, count, last) refl
@@ -102,9 +102,9 @@ closes-read n more =
 pub closes-is : (n : ℕ) (text : List ℕ) → closes n text ≡ true → (more : List ℕ) × (text ≡ closes_with n ++ more)
 closes-is n [] e = absurd (true≢false (sym e))
 closes-is n (byte ∷ rest) e =
-    let all = and_parts (stands 93 0 (byte ∷ rest) && equals rest == n) (stands 93 (n + 1) (byte ∷ rest)) e in
-    let both = and_parts (stands 93 0 (byte ∷ rest)) (equals rest == n) all.0 in
-    let same : (equals rest == n) ≡ true = both.1 in
+    let all = and_parts (stands 93 0 (byte ∷ rest) && equals_count rest == n) (stands 93 (n + 1) (byte ∷ rest)) e in
+    let both = and_parts (stands 93 0 (byte ∷ rest)) (equals_count rest == n) all.0 in
+    let same : (equals_count rest == n) ≡ true = both.1 in
     mark-is 93 n byte rest (stands-is 93 0 (byte ∷ rest) both.0).1 (grind (arith, nat_tests)) all.1
 
 -- the first closing stands behind k bytes

@@ -4,7 +4,7 @@ use Rattle.ct_lex.specs.Bytes.{stands, lower}
 use Rattle.ct_lex.specs.Text.{arguments_from}
 use Rattle.ct_lex.specs.Command.{CommandRead, named, word_len, command_by, command, paren_at, start_from}
 use Rattle.ct_lex.specs.Place.{Place, behind_command, call_at, next_by, next_of, line_behind}
-use Rattle.ct_lex.specs.Reads.{Ending, ReadsFrom, reading_by, reading_within, reading, HasOneReading, AnswersNext, ReadsOn}
+use Rattle.ct_lex.specs.Reads.{Ending, ReadsFrom, reading_by, reading_within, commands_read, HasOneReading, AnswersNext, ReadsOn}
 use Rattle.ct_lex.specs.declared.call.Arg.{Arg}
 use Rattle.ct_lex.specs.declared.call.Call.{Call}
 use Rattle.ct_lex.specs.declared.fault.LexFault.{LexFault}
@@ -95,32 +95,32 @@ reading_within-same (suc n) (suc m) place less other =
     reading_by-same (next_of place) (λ after. reading_within n after) (λ after. reading_within m after) (λ call after e. let shorter : length after.rest < length place.rest = next-shorter place call after e in reading_within-same n m after (omega arith) (omega arith))
 
 -- one step of the reading
-pub reading-step : (place : Place) → reading place ≡ reading_by (next_of place) reading
-unfolding reading
+pub reading-step : (place : Place) → commands_read place ≡ reading_by (next_of place) commands_read
+unfolding commands_read
 reading-step place =
-    reading_by-same (next_of place) (λ after. reading_within (length place.rest) after) reading
+    reading_by-same (next_of place) (λ after. reading_within (length place.rest) after) commands_read
     (λ call after e. let shorter : length after.rest < length place.rest = next-shorter place call after e in reading_within-same (length place.rest) (suc (length after.rest)) after (omega arith) (omega arith))
 
-pub call-only : (place : Place) (call : Call) (after : Place) (one : HasOneReading after) → next_of place ≡ Ok (Some (call, after)) → (others : List Call) (other : Ending) → ReadsFrom place others other → (others ≡ call ∷ (reading after).0) × (other ≡ (reading after).1)
+pub call-only : (place : Place) (call : Call) (after : Place) (one : HasOneReading after) → next_of place ≡ Ok (Some (call, after)) → (others : List Call) (other : Ending) → ReadsFrom place others other → (others ≡ call ∷ (commands_read after).0) × (other ≡ (commands_read after).1)
 call-only place call after one e [] None read = cc
 call-only place call after one e [] (Some found) read = cc
 call-only place call after one e (found ∷ calls) other read =
     let P : Place → Type 0 = λ p. ReadsFrom p calls other in
     let rest = one.only calls other (subst P (same_place (next_of place) found call read.0 after read.1 e) read.2) in
-    (list_of_same found call calls (reading after).0 (same_call (next_of place) found call read.0 after read.1 e) rest.0, rest.1)
+    (list_of_same found call calls (commands_read after).0 (same_call (next_of place) found call read.0 after read.1 e) rest.0, rest.1)
 
 -- `all` is the reading from a place on, and the only one
 pub record IsOne (place : Place) (all : List Call × Ending) : Type 0 where
   pub read : ReadsFrom place all.0 all.1
   pub only : (calls : List Call) (ending : Ending) → ReadsFrom place calls ending → (calls ≡ all.0) × (ending ≡ all.1)
 
-pub one_by : (place : Place) (next : Result (Option (Call × Place)) LexFault) → next_of place ≡ next → ((call : Call) (after : Place) → next_of place ≡ Ok (Some (call, after)) → HasOneReading after) → IsOne place (reading_by next reading)
+pub one_by : (place : Place) (next : Result (Option (Call × Place)) LexFault) → next_of place ≡ next → ((call : Call) (after : Place) → next_of place ≡ Ok (Some (call, after)) → HasOneReading after) → IsOne place (reading_by next commands_read)
 one_by place (Ok None) e later = record { read = e; only = none-only place e }
 one_by place (Err fault) e later = record { read = e; only = fault-only place fault e }
 one_by place (Ok (Some x)) e later =
     let one = later x.0 x.1 e in record { read = (x.1, e, one.read); only = call-only place x.0 x.1 one e }
 
-pub one_of : (place : Place) → IsOne place (reading place) → HasOneReading place
+pub one_of : (place : Place) → IsOne place (commands_read place) → HasOneReading place
 one_of place one = record { read = one.read; only = one.only }
 
 pub one_within : (n : ℕ) (place : Place) → length place.rest < n → HasOneReading place
@@ -132,21 +132,21 @@ one_within (suc n) place fits =
 pub one_reading : (place : Place) → HasOneReading place
 one_reading place = one_within (length place.rest + 1) place (omega arith)
 
-pub fault-step : (old : Place) (fault : LexFault) → next_of old ≡ Err fault → ((reading old).0 ≡ []) × ((reading old).1 ≡ Some fault)
+pub fault-step : (old : Place) (fault : LexFault) → next_of old ≡ Err fault → ((commands_read old).0 ≡ []) × ((commands_read old).1 ≡ Some fault)
 fault-step old fault e =
-    let P : Result (Option (Call × Place)) LexFault → List Call × Ending = λ next. reading_by next reading in
-    let step : reading old ≡ ([], Some fault) = reading-step old ∙ ap P e in
+    let P : Result (Option (Call × Place)) LexFault → List Call × Ending = λ next. reading_by next commands_read in
+    let step : commands_read old ≡ ([], Some fault) = reading-step old ∙ ap P e in
     (ap (λ (r : List Call × Ending). r.0) step, ap (λ (r : List Call × Ending). r.1) step)
 
 -- what `next` returns is the next item of the reading
 pub reads_on : (old new : Place) (answer : Result (Option Call) LexFault) → AnswersNext old answer new → ReadsOn old answer new
 reads_on old new (Ok (Some call)) e =
-    let P : Result (Option (Call × Place)) LexFault → List Call × Ending = λ next. reading_by next reading in
-    let step : reading old ≡ (call ∷ (reading new).0, (reading new).1) = reading-step old ∙ ap P e in
+    let P : Result (Option (Call × Place)) LexFault → List Call × Ending = λ next. reading_by next commands_read in
+    let step : commands_read old ≡ (call ∷ (commands_read new).0, (commands_read new).1) = reading-step old ∙ ap P e in
     (ap (λ (r : List Call × Ending). r.0) step, ap (λ (r : List Call × Ending). r.1) step)
 reads_on old new (Ok None) e =
-    let P : Result (Option (Call × Place)) LexFault → List Call × Ending = λ next. reading_by next reading in
-    let step : reading old ≡ ([], None) = reading-step old ∙ ap P e.0 in
+    let P : Result (Option (Call × Place)) LexFault → List Call × Ending = λ next. reading_by next commands_read in
+    let step : commands_read old ≡ ([], None) = reading-step old ∙ ap P e.0 in
     (ap (λ (r : List Call × Ending). r.0) step, ap (λ (r : List Call × Ending). r.1) step)
 reads_on old new (Err NoMemory) e = tt
 reads_on old new (Err (OpenString line)) e = fault-step old (OpenString line) e.0

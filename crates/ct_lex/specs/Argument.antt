@@ -12,7 +12,8 @@ use Rattle.ct_lex.specs.declared.call.Part.TheVariants.{Bytes, Ref}
 -- the byte ends the text of an argument; quoted: a `"`; unquoted: a blank, a line feed, `(`, `)`, `#` or `"`
 abbrev pub ends_text : ArgKind → ℕ → Bool
 ends_text Quoted byte = byte == char "\""
-ends_text Unquoted byte = is_gap byte || byte == char "(" || byte == char ")" || byte == char "#" || byte == char "\""
+ends_text Unquoted byte =
+    is_gap byte || byte == char "(" || byte == char ")" || byte == char "#" || byte == char "\""
 ends_text Bracket byte = false
 
 -- the byte stands for itself in the text of an argument
@@ -40,7 +41,8 @@ escaped kind byte =
 -- the last two are refused
 abbrev pub begins_reference : List ℕ → Bool
 begins_reference text =
-    starts_with ◌==◌ text (codes "{") || (starts_with ◌==◌ text (codes "ENV{") || starts_with ◌==◌ text (codes "CACHE{"))
+    starts_with ◌==◌ text (codes "{")
+    || (starts_with ◌==◌ text (codes "ENV{") || starts_with ◌==◌ text (codes "CACHE{"))
 
 -- the text inside a bracket, without the line feed, or carriage return and line feed, at its front
 abbrev pub without_feed : List ℕ → List ℕ

@@ -7,16 +7,19 @@ use Rattle.ct_lex.specs.declared.stop.Stop.{Stop}
 use Rattle.ct_lex.specs.declared.stop.Cause.TheVariants.{OpenBracket}
 
 -- how many `=` a text begins with
-abbrev pub equals : List ℕ → ℕ
-equals text = prefix_len (λ byte. byte == char "=") text
+abbrev pub equals_count : List ℕ → ℕ
+equals_count text = prefix_len (λ byte. byte == char "=") text
 
 -- n, if the text begins with `[`, n times `=`, and `[`
 abbrev pub opening : List ℕ → Option ℕ
-opening text = if stands (char "[") 0 text && stands (char "[") (equals (drop 1 text) + 1) text then Some (equals (drop 1 text)) else None
+opening text =
+    if stands (char "[") 0 text && stands (char "[") (equals_count (drop 1 text) + 1) text
+    then Some (equals_count (drop 1 text))
+    else None
 
 -- the text begins with `]`, n times `=`, and `]`
 abbrev pub closes : ℕ → List ℕ → Bool
-closes n text = stands (char "]") 0 text && equals (drop 1 text) == n && stands (char "]") (n + 1) text
+closes n text = stands (char "]") 0 text && equals_count (drop 1 text) == n && stands (char "]") (n + 1) text
 
 -- how many bytes stand in front of the first closing with n times `=`, if there is one
 abbrev pub closing : ℕ → List ℕ → Option ℕ
@@ -50,4 +53,5 @@ comment text = comment_by text (opening (drop 1 text))
 -- 0 where something else stands there
 abbrev pub gap_at : List ℕ → Result ℕ Stop
 gap_at [] = Ok 0
-gap_at (byte ∷ rest) = if is_gap byte then Ok 1 else (if byte == char "#" then comment (byte ∷ rest) else Ok 0)
+gap_at (byte ∷ rest) =
+    if is_gap byte then Ok 1 else (if byte == char "#" then comment (byte ∷ rest) else Ok 0)

@@ -109,7 +109,8 @@ pub data IsRest : (behind : Bool) → (line : ℕ) → List ℕ → List Call �
   space : {behind : Bool} {line : ℕ} {front text : List ℕ} {calls : List Call} →
       IsSpace front → IsRest behind (line + feeds front) text calls → IsRest behind line (front ++ text) calls
   line_end : {behind : Bool} {line : ℕ} {front text : List ℕ} {calls : List Call} →
-      IsLineEnd front → IsRest false (line + feeds front) text calls → IsRest behind line (front ++ text) calls
+      IsLineEnd front → IsRest false (line + feeds front) text calls
+      → IsRest behind line (front ++ text) calls
   command : {line : ℕ} {front text name : List ℕ} {args : List Arg} {calls : List Call} →
       IsCommand front name args → IsRest true (line + feeds front) text calls →
       IsRest false line (front ++ text) (record { name = name; args = args; line = line } ∷ calls)

@@ -57,7 +57,12 @@ behind_command place n = record { rest = drop n place.rest; line = line_behind p
 abbrev pub call_at : Place → ℕ → Result CommandRead Stop → Result (Option (Call × Place)) LexFault
 call_at place n (Err stop) = Err (fault_at place n stop)
 call_at place n (Ok read) =
-    Ok (Some (record { name = read.0; args = read.1; line = line_behind place n }, behind_command place (n + read.2)))
+    Ok
+    (Some (
+      record { name = read.0; args = read.1; line = line_behind place n },
+      behind_command place
+          (n + read.2),
+    ))
 
 -- what comes next from a place on, given where the next command begins
 abbrev pub next_by : Place → Result (Option ℕ) Stop → Result (Option (Call × Place)) LexFault

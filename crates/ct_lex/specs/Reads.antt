@@ -29,7 +29,8 @@ abbrev pub Refuses : List ℕ → List Call → LexFault → Type 0
 Refuses text calls fault = ReadsFrom (beginning text) calls (Some fault)
 
 -- the reading, given what comes next: a call in front of the reading behind it, or the ending
-abbrev pub reading_by : Result (Option (Call × Place)) LexFault → (Place → List Call × Ending) → List Call × Ending
+abbrev pub reading_by : Result (Option (Call × Place)) LexFault
+    → (Place → List Call × Ending) → List Call × Ending
 reading_by (Ok None) later = ([], None)
 reading_by (Err fault) later = ([], Some fault)
 reading_by (Ok (Some x)) later = (x.0 ∷ (later x.1).0, (later x.1).1)
@@ -40,13 +41,14 @@ reading_within zero place = ([], None)
 reading_within (suc n) place = reading_by (next_of place) (λ after. reading_within n after)
 
 -- the whole reading from a place on, the calls and the ending; it has at most as many calls as bytes are left
-unfoldable pub reading : Place → List Call × Ending
-reading place = reading_within (suc (length place.rest)) place
+unfoldable pub commands_read : Place → List Call × Ending
+commands_read place = reading_within (suc (length place.rest)) place
 
 -- there is one reading from a place on: one list of calls, and then the end of the text or one first fault
 pub record HasOneReading (place : Place) : Type 0 where
-  pub read : ReadsFrom place (reading place).0 (reading place).1
-  pub only : (calls : List Call) (ending : Ending) → ReadsFrom place calls ending → (calls ≡ (reading place).0) × (ending ≡ (reading place).1)
+  pub read : ReadsFrom place (commands_read place).0 (commands_read place).1
+  pub only : (calls : List Call) (ending : Ending) → ReadsFrom place calls ending
+      → (calls ≡ (commands_read place).0) × (ending ≡ (commands_read place).1)
 
 -- what `next` returns at a place, and the place of the lexer afterwards; without a command the place stays
 abbrev pub AnswersNext : Place → Result (Option Call) LexFault → Place → Type 0
@@ -57,7 +59,8 @@ AnswersNext old (Err fault) new = (next_of old ≡ Err fault) × (new ≡ old)
 
 -- what `next` returns in terms of the whole reading: its first call, its end, or its fault
 abbrev pub ReadsOn : Place → Result (Option Call) LexFault → Place → Type 0
-ReadsOn old (Ok (Some call)) new = ((reading old).0 ≡ call ∷ (reading new).0) × ((reading old).1 ≡ (reading new).1)
-ReadsOn old (Ok None) new = ((reading old).0 ≡ []) × ((reading old).1 ≡ None)
+ReadsOn old (Ok (Some call)) new =
+    ((commands_read old).0 ≡ call ∷ (commands_read new).0) × ((commands_read old).1 ≡ (commands_read new).1)
+ReadsOn old (Ok None) new = ((commands_read old).0 ≡ []) × ((commands_read old).1 ≡ None)
 ReadsOn old (Err NoMemory) new = ⊤
-ReadsOn old (Err fault) new = ((reading old).0 ≡ []) × ((reading old).1 ≡ Some fault)
+ReadsOn old (Err fault) new = ((commands_read old).0 ≡ []) × ((commands_read old).1 ≡ Some fault)

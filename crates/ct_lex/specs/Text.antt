@@ -28,13 +28,15 @@ text_from kind skip [] = Err Ended
 text_from kind (suc skip) (byte ∷ rest) = moved 1 (text_from kind skip rest)
 text_from kind zero (byte ∷ rest) =
     if ends_text kind byte then Ok ([], 0)
-    else (unit_at kind (byte ∷ rest) >>= λ unit. piece_before unit.0 (moved 1 (text_from kind (unit.1 - 1) rest)))
+    else (unit_at kind
+    (byte ∷ rest) >>= λ unit. piece_before unit.0 (moved 1 (text_from kind (unit.1 - 1) rest)))
 
 -- the bracket argument with n times `=` at the front of the text, given the place of its closing
 abbrev pub bracket_by : List ℕ → ℕ → Option ℕ → Result (Arg × ℕ) Stop
 bracket_by text n None = refused OpenBracket text
 bracket_by text n (Some inside) =
-    Ok (record { kind = Bracket; parts = with_bytes (without_feed (take inside (drop (n + 2) text))) [] }, bracket_len n inside)
+    Ok
+    (record { kind = Bracket; parts = with_bytes (without_feed (take inside (drop (n + 2) text))) [] }, bracket_len n inside)
 
 -- the quoted argument at the front of the text, given what was read of the text inside
 abbrev pub quoted_by : List ℕ → Result (List Part × ℕ) Stop → Result (Arg × ℕ) Stop

@@ -70,7 +70,8 @@ pub record IsInBracket (bytes : List ℕ) : Type 0 where
 -- a word that needs no quotes: one or more plain bytes, of which the first is no `[`
 abbrev pub IsPlainWord : List ℕ → Type 0
 IsPlainWord [] = ⊥
-IsPlainWord (byte ∷ bytes) = ((byte == char "[") ≡ false) × (list_all (is_plain Unquoted) (byte ∷ bytes) ≡ true)
+IsPlainWord (byte ∷ bytes) =
+    ((byte == char "[") ≡ false) × (list_all (is_plain Unquoted) (byte ∷ bytes) ≡ true)
 
 -- parts that an argument of that kind can have, and that can be written
 abbrev pub IsArg : ArgKind → List Part → Type 0
@@ -91,7 +92,10 @@ IsCommandName name = IsIdentifier name × (lower name ≡ name)
 abbrev pub CanBeWritten : ℕ → List Call → Type 0
 CanBeWritten line [] = ⊤
 CanBeWritten line (call ∷ calls) =
-    IsCommandName call.name × AreArgs call.args × (call.line ≡ line) × CanBeWritten (line + feeds (written_call call)) calls
+    IsCommandName call.name
+    × AreArgs call.args
+    × (call.line ≡ line)
+    × CanBeWritten (line + feeds (written_call call)) calls
 
 -- a text that is written for commands in this way is read as exactly these commands
 abbrev pub ReadsWritten : List ℕ → Type 0

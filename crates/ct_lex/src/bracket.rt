@@ -1,13 +1,13 @@
 ghost use Rattle.std.specs.Prelude.{◌≡◌, ◌≤◌, ◌<◌, ◌+◌, ◌*◌, length, IfSome, IfOk, IsTrue};
 ghost use Rattle.ct_lex.specs.Text.{HasNoGap};
-ghost use Rattle.ct_lex.specs.Bracket.{equals, opening, closes, closing, line_len, bracket_len, comment, gap_at};
+ghost use Rattle.ct_lex.specs.Bracket.{equals_count, opening, closes, closing, line_len, bracket_len, comment, gap_at};
 
 use crate::bytes::{is_gap, stands};
 use crate::stop::{Cause, Stop};
 
 /// Counts the `=` at the front of a text.
 fn equals(text: &[u8]) -> usize
-    ensures count { result ≡ equals text.now }
+    ensures count { result ≡ equals_count text.now }
     ensures within { result ≤ length text.now }
 {
     text.iter().take_while(|byte| **byte == b'=').count()

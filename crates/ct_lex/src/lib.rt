@@ -2,7 +2,6 @@
 //!
 //! Hands up: `Lexer`, which returns each `Call` or the first `LexFault`, and `ArgReader`, which
 //! makes or lends the arguments of a call one by one.
-//! Stands on: ct_base for names and lists.
 //! Read first: `specs/Grammar.antt`, then `lexer.rt`.
 #![tactic(auto)]
 

@@ -11,22 +11,22 @@ use Rattle.ct_app.specs.Ends.{history_entries}
 use Rattle.ct_load.specs.Run.{IsLoadRun, LoadRun}
 
 -- the greatest number of tests
-abbrev pub most_tests : ℕ
-most_tests = 100000
+abbrev pub most_load_tests : ℕ
+most_load_tests = 100000
 
 -- a number of tests, if it is from 1 to the greatest number
 abbrev pub count_within : ℕ → Option ℕ
-count_within count = if nat_le 1 count && nat_le count most_tests then Some count else None
+count_within count = if nat_le 1 count && nat_le count most_load_tests then Some count else None
 
 -- the number of tests that a word asks for, if the word is a number from 1 to the greatest number
-abbrev pub count_of : Option ℕ → Option ℕ
-count_of None = None
-count_of (Some count) = count_within count
+abbrev pub count_in_word : Option ℕ → Option ℕ
+count_in_word None = None
+count_in_word (Some count) = count_within count
 
 -- the number of tests that these words ask for, if they are one word, a number from 1 to the greatest number
 abbrev pub asked_count : List (List ℕ) → Option ℕ
 asked_count [] = None
-asked_count (word ∷ []) = count_of (number_in word)
+asked_count (word ∷ []) = count_in_word (number_in word)
 asked_count (word ∷ other ∷ words) = None
 
 -- the line that says which words a load takes

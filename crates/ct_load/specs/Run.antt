@@ -14,7 +14,7 @@ use Rattle.ct_app.specs.Ends.{history_entries}
 use Rattle.ct_app.specs.MeantRuns.{HasRunAsMeant}
 use Rattle.ct_app.specs.Run.{OthersStay}
 use Rattle.ct_load.specs.Tree.{tree_files}
-use Rattle.ct_load.specs.World.{gate_count, gates_of}
+use Rattle.ct_load.specs.World.{load_gate_count, gates_of}
 
 -- what a run over files, gates and a sink in memory returns
 abbrev pub LoadRun : Type 0
@@ -51,5 +51,5 @@ pub record IsLoadRun (count : ℕ) (run : LoadRun) : Type 0 where
   pub meant : HasRunAsMeant (run_sides count run) run.status
   pub answer : Answers (run_sides count run) run.outcome run.status
   pub complete : Completes (run_sides count run) run.outcome
-  pub all : length run.gates.items ≡ gate_count
+  pub all : length run.gates.items ≡ load_gate_count
   pub others : OthersStay run.plan (gates_of count) run.gates.items

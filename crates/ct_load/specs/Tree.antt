@@ -8,16 +8,17 @@ abbrev pub numbers : ℕ → List ℕ
 numbers count = range_with_len 1 count
 
 -- the name of a test
-abbrev pub name_of : ℕ → List ℕ
-name_of number = codes "t" ++ decimal number
+abbrev pub load_test_name : ℕ → List ℕ
+load_test_name number = codes "t" ++ decimal number
 
 -- the line that adds a test
 abbrev pub add_line : ℕ → List ℕ
-add_line number = codes "add_test(" ++ name_of number ++ codes " \"true\")\n"
+add_line number = codes "add_test(" ++ load_test_name number ++ codes " \"true\")\n"
 
 -- the property by which every tenth test waits for the test in front of it
 abbrev pub depends : ℕ → List ℕ
-depends number = if number % 10 == 0 then codes " DEPENDS \"" ++ name_of (number - 1) ++ codes "\"" else []
+depends number =
+    if number % 10 == 0 then codes " DEPENDS \"" ++ load_test_name (number - 1) ++ codes "\"" else []
 
 -- the property of the lock that every fourth test holds, one of five
 abbrev pub lock : ℕ → List ℕ
@@ -27,7 +28,7 @@ lock number = if number % 4 == 0 then codes " RESOURCE_LOCK \"l" ++ decimal (num
 -- for, and its lock
 abbrev pub properties_line : ℕ → List ℕ
 properties_line number =
-    codes "set_tests_properties(" ++ name_of number
+    codes "set_tests_properties(" ++ load_test_name number
     ++ codes " PROPERTIES PROCESSORS \"" ++ decimal (1 + number % 3)
     ++ codes "\" COST \"" ++ decimal (number % 7)
     ++ codes "\"" ++ depends number ++ lock number ++ codes ")\n"

@@ -10,8 +10,8 @@ abbrev pub code_of : ℕ → ℤ
 code_of number = if number % 97 == 0 then pos 1 else pos 0
 
 -- what is told of the first attempt of a test: nothing is heard, and it takes its number of microseconds
-abbrev pub told_of : ℕ → Told
-told_of number = record {
+abbrev pub load_told : ℕ → Told
+load_told number = record {
   test = number;
   attempt = 1;
   heard = [];
@@ -20,16 +20,16 @@ told_of number = record {
 
 -- the world of `count` tests
 abbrev pub world_of : ℕ → List Told
-world_of count = map told_of (numbers count)
+world_of count = map load_told (numbers count)
 
 -- a gate of this world that was not asked yet
 abbrev pub gate_of : ℕ → ScriptValue
 gate_of count = record { world = world_of count; asked = []; sent = []; faults = 0 }
 
 -- how many gates a load has
-abbrev pub gate_count : ℕ
-gate_count = 4
+abbrev pub load_gate_count : ℕ
+load_gate_count = 4
 
 -- the gates of a load
 abbrev pub gates_of : ℕ → List ScriptValue
-gates_of count = replicate gate_count (gate_of count)
+gates_of count = replicate load_gate_count (gate_of count)

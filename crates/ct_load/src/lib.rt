@@ -1,7 +1,6 @@
 //! A load: a run of many generated tests over files, gates and a sink in memory.
 //!
 //! Hands up: `load_main`, which makes the tests, runs them and puts the summary of their run.
-//! Stands on: ct_base, ct_verdict, ct_history, ct_core, ct_app; for the summary, ct_report.
 //! Read first: `specs/Tree.antt`, `specs/World.antt`, `specs/Run.antt`, `specs/Load.antt`, then `load.rt` and
 //! what it calls: `run.rt`, `tree.rt`, `world.rt`.
 #![tactic(auto)]

@@ -1,5 +1,5 @@
 ghost use Rattle.std.specs.Prelude.{◌≡◌, ◌<◌, ◌++◌, ◌^◌, IfOk, OnOk, decimal};
-ghost use Rattle.ct_load.specs.Tree.{add_line, depends, lines_of, lock, name_of, properties_line, tree_files, tree_text};
+ghost use Rattle.ct_load.specs.Tree.{add_line, depends, lines_of, lock, load_test_name, properties_line, tree_files, tree_text};
 
 use ct_base::{Blob, CalmFiles, List, Name, NoMemory, Pair};
 use std::alloc::Global;
@@ -95,7 +95,7 @@ fn lock(alloc: Global, number: u32) -> Result<Blob, NoMemory>
 
 /// Writes the name of a test.
 fn name_of(alloc: Global, number: u32) -> Result<Blob, NoMemory>
-    ensures { IfOk result (λ name. name ≡ name_of number) }
+    ensures { IfOk result (λ name. name ≡ load_test_name number) }
 {
     let mut name = Blob::of(alloc, b"t")?;
     append_number(alloc, &mut name, number)?;

@@ -1,5 +1,5 @@
 ghost use Rattle.std.specs.Prelude.{◌≡◌, IfOk, vec_len};
-ghost use Rattle.ct_load.specs.World.{code_of, gate_count, gate_of, gates_of, told_of, world_of};
+ghost use Rattle.ct_load.specs.World.{code_of, load_gate_count, gate_of, gates_of, load_told, world_of};
 
 use ct_base::{Blob, List, NoMemory};
 use ct_core::{Ended, ScriptGate, Told};
@@ -11,7 +11,7 @@ const GATES: usize = 4;
 
 /// Makes the gates of a load of `count` tests, all of one world.
 pub(crate) fn gates_of(alloc: Global, count: u32) -> Result<Vec<ScriptGate>, NoMemory>
-    ensures all { IfOk result (λ gates. vec_len gates ≡ gate_count) }
+    ensures all { IfOk result (λ gates. vec_len gates ≡ load_gate_count) }
     ensures are { IfOk result (λ gates. gates.items ≡ gates_of count) }
 {
     let mut gates = Vec::new(alloc);
@@ -41,7 +41,7 @@ fn world_of(alloc: Global, count: u32) -> Result<List<Told>, NoMemory>
 
 /// Returns what is told of the first attempt of a test.
 fn told_of(alloc: Global, number: u32) -> Told
-    ensures { result ≡ told_of number }
+    ensures { result ≡ load_told number }
 {
     Told {
         test: number,

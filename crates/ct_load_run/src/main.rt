@@ -2,7 +2,6 @@
 //! It prints the summary of that run.
 //!
 //! Hands up: nothing; it is the program.
-//! Stands on: ct_base, ct_load, ct_edge.
 //! Read first: `start.rt`.
 #![tactic(auto)]
 

@@ -3,7 +3,7 @@ ghost use Rattle.std.specs.IoError.{error_kind};
 ghost use Rattle.std.specs.Process.{exit_status};
 ghost use Rattle.std.specs.declared.io.ErrorKind.TheVariants as ErrorKind;
 ghost use Rattle.ct_load_run.specs.declared.start.BeginFault.TheVariants as BeginCause;
-ghost use Rattle.ct_load_run.specs.Start.{LoadsOnMachine, status_of_fault, status_of_load, words_in};
+ghost use Rattle.ct_load_run.specs.Start.{LoadsOnMachine, load_fault_status, status_of_load, load_words};
 
 use ct_base::{Name, NoMemory};
 use ct_edge::RealSink;
@@ -34,7 +34,7 @@ impl BeginFault {
     ///
     /// Source: this project's choice.
     pub fn status(self) -> u8
-        ensures { result ≡ status_of_fault self }
+        ensures { result ≡ load_fault_status self }
     {
         match self {
             BeginFault::NoMemory => 5,
@@ -96,7 +96,7 @@ fn run<R: Threads + Wait + Sync>(
     rt: HostRuntime,
     args: &[String],
 ) -> Result<Load, BeginFault>
-    ensures run { IfOk result (λ load. LoadsOnMachine (words_in args.now) load) }
+    ensures run { IfOk result (λ load. LoadsOnMachine (load_words args.now) load) }
     ensures many { IsErrOf result BeginCause.Failed → 2 ^ 32 ≤ length args.now }
 {
     let words = words_of(rt.alloc(), args)?;
@@ -118,7 +118,7 @@ pub fn exit_code<S: Drop>(begun: Result<Loaded<S>, BeginFault>) -> ExitCode
 
 /// Returns the words behind the program's own name.
 fn words_of(alloc: Global, args: &[String]) -> Result<Vec<Name>, BeginFault>
-    ensures words { IfOk result (λ words. words.items ≡ words_in args.now) }
+    ensures words { IfOk result (λ words. words.items ≡ load_words args.now) }
     ensures many { IsErrOf result BeginCause.Failed → 2 ^ 32 ≤ length args.now }
 {
     let words = args.get(1..).unwrap_or(&[]);

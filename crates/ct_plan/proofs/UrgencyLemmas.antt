@@ -15,7 +15,6 @@ use Rattle.std.proofs.lemmas.Map.Made.{IsDistinct-from_AllPairs}
 use Rattle.ct_base.specs.declared.defs.TestDef.{TestDef}
 use Rattle.ct_props.specs.declared.props.Props.{Props}
 use Rattle.ct_props.specs.Numbered.{at_number}
-use Rattle.ct_history.specs.Rules.{is_among}
 use Rattle.ct_history.specs.Plan.{IsAscendingFrom}
 use Rattle.ct_cost.specs.declared.cost_data.CostData.{CostData}
 use Rattle.ct_plan.specs.declared.standing.Standing.{Standing}
@@ -23,6 +22,7 @@ use Rattle.ct_plan.specs.Queue.{costs_more, cost_in, is_more_urgent, goes_first_
 use Rattle.ct_plan.specs.Linked.{standing_in}
 use Rattle.ct_props.proofs.NumberedLemmas.{at_number_within}
 use Rattle.ct_plan.proofs.NumberLemmas.{AreSome, pairs_ascend}
+use Rattle.ct_base.specs.Names.{is_among}
 
 -- what costs less does not go in front
 costs_one_way : (x y : Standing) → costs_more x y ≡ true → costs_more y x ≡ false

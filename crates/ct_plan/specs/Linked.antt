@@ -49,7 +49,9 @@ test_from level link def props fixed = record {
 
 -- the test is made of these links and of its definition and properties, with the cause that keeps it from
 -- running where these resources are lent
-pub record IsLinked (resources : Option (List Resource)) (level : ℕ) (defs : List TestDef) (props : List Props) (links : Links) (test : PlanTest) : Type 0 where
+pub record IsLinked
+    (resources : Option (List Resource)) (level : ℕ) (defs : List TestDef) (props : List Props)
+    (links : Links) (test : PlanTest) : Type 0 where
   pub def : TestDef
   pub own : Props
   pub def_is : at_number defs links.number ≡ Some def
@@ -58,19 +60,23 @@ pub record IsLinked (resources : Option (List Resource)) (level : ℕ) (defs : L
   pub is : test ≡ test_from level links def own test.fixed
 
 -- these tests are made of these links, one for each, in order
-abbrev pub AreLinked : Option (List Resource) → ℕ → List TestDef → List Props → List Links → List PlanTest → Type 0
+abbrev pub AreLinked : Option (List Resource)
+    → ℕ → List TestDef → List Props → List Links → List PlanTest → Type 0
 AreLinked resources level defs props [] [] = ⊤
 AreLinked resources level defs props [] (test ∷ tests) = ⊥
 AreLinked resources level defs props (link ∷ links) [] = ⊥
-AreLinked resources level defs props (link ∷ links) (test ∷ tests) = IsLinked resources level defs props link test × AreLinked resources level defs props links tests
+AreLinked resources level defs props (link ∷ links) (test ∷ tests) =
+    IsLinked resources level defs props link test × AreLinked resources level defs props links tests
 
 -- the standing of the test with this number, if it is there
 abbrev pub standing_in : List TestDef → List Props → CostData → ℕ → Option Standing
-standing_in defs props costs number = standing_there costs number (at_number defs number) (at_number props number)
+standing_in defs props costs number =
+    standing_there costs number (at_number defs number) (at_number props number)
 
 -- this is the queue of these tests, whatever resources are lent
 abbrev pub QueuesTests : List TestDef → List Props → Wanted → CostData → List PlanTest → List ℕ → Type 0
-QueuesTests defs props wanted costs tests queue = (resources : Option (List Resource)) → IsQueue (source defs props wanted resources costs) tests queue
+QueuesTests defs props wanted costs tests queue =
+    (resources : Option (List Resource)) → IsQueue (source defs props wanted resources costs) tests queue
 
 -- the fault of planning for a fault of ordering
 abbrev pub plan_fault : GraphFault → PlanFault

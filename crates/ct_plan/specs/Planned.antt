@@ -14,12 +14,16 @@ use Rattle.ct_verdict.specs.declared.rules.Rules.{Rules}
 use Rattle.ct_verdict.specs.declared.verdict.Cause.{Cause}
 use Rattle.ct_verdict.specs.declared.verdict.Cause.TheVariants.{NotAvailable, BadOperation, Insufficient}
 use Rattle.ct_history.specs.declared.plan.PlanTest.{PlanTest}
-use Rattle.ct_history.specs.Rules.{is_among}
 use Rattle.ct_plan.specs.Source.{Source, members_before, setup_members}
+use Rattle.ct_base.specs.Names.{is_among}
 
 -- how an exit of the test is judged
 abbrev pub rules_of : Props → Rules
-rules_of props = record { pass_wanted = not (length props.pass == 0); skip_code = props.skip_code; will_fail = props.will_fail }
+rules_of props = record {
+  pass_wanted = not (length props.pass == 0);
+  skip_code = props.skip_code;
+  will_fail = props.will_fail;
+}
 
 -- the command is the word that stands for a program that is not there
 abbrev pub is_not_available : List (List ℕ) → Bool
@@ -30,7 +34,10 @@ is_not_available (word ∷ other ∷ others) = false
 -- why the test can't run because of its own command or properties: its program is not there, or an entry of
 -- its ENVIRONMENT_MODIFICATION names no operation
 abbrev pub own_cause : TestDef → Props → Option Cause
-own_cause def props = if is_not_available def.command then Some NotAvailable else option_map BadOperation (first_bad props.modification)
+own_cause def props =
+    if is_not_available def.command
+    then Some NotAvailable
+    else option_map BadOperation (first_bad props.modification)
 
 -- the needs fit on the resources while nothing is used; where no resources are given, they always do
 abbrev pub ArePlaceable : Option (List Resource) → List Need → Type 0
@@ -48,7 +55,8 @@ IsFixedBy None Fits (Some _) = ⊥
 -- the cause that keeps the test from running: its own one; else Insufficient,
 -- where its needs fit nowhere; else none
 abbrev pub IsFixed : Option (List Resource) → TestDef → Props → Option Cause → Type 0
-IsFixed resources def props cause = IsFixedBy (own_cause def props) (ArePlaceable resources props.groups.needs) cause
+IsFixed resources def props cause =
+    IsFixedBy (own_cause def props) (ArePlaceable resources props.groups.needs) cause
 
 -- the names without those of the locks
 abbrev pub without : List (List ℕ) → List (List ℕ) → List (List ℕ)
@@ -91,4 +99,5 @@ abbrev pub ArePlannedTests : Source → List ℕ → List PlanTest → Type 0
 ArePlannedTests s [] [] = ⊤
 ArePlannedTests s [] (test ∷ tests) = ⊥
 ArePlannedTests s (number ∷ numbers) [] = ⊥
-ArePlannedTests s (number ∷ numbers) (test ∷ tests) = IsPlannedTest s number test × ArePlannedTests s numbers tests
+ArePlannedTests s (number ∷ numbers) (test ∷ tests) =
+    IsPlannedTest s number test × ArePlannedTests s numbers tests

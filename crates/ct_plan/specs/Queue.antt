@@ -8,11 +8,11 @@ use Rattle.ct_props.specs.declared.props.Props.{Props}
 use Rattle.ct_props.specs.Numbered.{at_number}
 use Rattle.ct_history.specs.declared.plan.PlanTest.{PlanTest}
 use Rattle.ct_history.specs.Plan.{enabled}
-use Rattle.ct_history.specs.Rules.{is_among}
 use Rattle.ct_cost.specs.CostLine.{cost_of}
 use Rattle.ct_cost.specs.declared.cost_data.CostData.{CostData}
 use Rattle.ct_plan.specs.declared.standing.Standing.{Standing}
 use Rattle.ct_plan.specs.Source.{Source}
+use Rattle.ct_base.specs.Names.{is_among}
 
 -- the cost of a test: what its property says, else what earlier runs tell of its name, else 0
 abbrev pub cost_in : CostData → TestDef → Props → ℕ
@@ -31,7 +31,8 @@ standing_of s number = standing_there s.costs number (at_number s.defs number) (
 
 -- one test costs more than another, or as much and has a lesser number
 abbrev pub costs_more : Standing → Standing → Bool
-costs_more one other = if one.cost == other.cost then nat_lt one.number other.number else nat_lt other.cost one.cost
+costs_more one other =
+    if one.cost == other.cost then nat_lt one.number other.number else nat_lt other.cost one.cost
 
 -- where several tests may run at once, one goes in front of another: it alone failed in the last run, or both
 -- or neither did and it costs more
@@ -51,4 +52,5 @@ goes_first_there level _ _ = false
 -- front of those that it goes before
 pub record IsQueue (s : Source) (tests : List PlanTest) (queue : List ℕ) : Type 0 where
   pub all : IsPermutation queue (map (λ (t : PlanTest). t.number) (enabled tests))
-  pub order : AllPairs (λ one other. goes_first_there s.wanted.level (standing_of s one) (standing_of s other) ≡ true) queue
+  pub order : AllPairs
+      (λ one other. goes_first_there s.wanted.level (standing_of s one) (standing_of s other) ≡ true) queue

@@ -52,4 +52,10 @@ edge_count s = edges_of s.defs s.props (run_members s)
 -- the source of a plan: tests, their properties, what is wanted, the resources of a specification, if one is
 -- given, and the cost data
 abbrev pub source : List TestDef → List Props → Wanted → Option (List Resource) → CostData → Source
-source defs props wanted resources costs = record { defs = defs; props = props; wanted = wanted; resources = resources; costs = costs }
+source defs props wanted resources costs = record {
+  defs = defs;
+  props = props;
+  wanted = wanted;
+  resources = resources;
+  costs = costs;
+}

@@ -2,7 +2,7 @@ ghost use Rattle.std.specs.Prelude.{◌≡◌, ◌<◌, ◌≤◌, ◌^◌, All,
 ghost use Rattle.std.specs.Option.{option_copied};
 ghost use Rattle.ct_plan.specs.Linked.{AreLinked, IsUnused, lent, test_from};
 ghost use Rattle.ct_plan.specs.Planned.{ArePlaceable, IsFixed, IsFixedBy, is_not_available as stands_for_none, own_cause as cause_of_words, rules_of, without as names_without};
-ghost use Rattle.ct_history.specs.Rules.{is_among};
+ghost use Rattle.ct_base.specs.Names.{is_among};
 
 use ct_alloc::Free;
 use ct_base::{List, Name, Need, NoMemory, TestDef};

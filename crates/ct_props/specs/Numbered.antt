@@ -7,10 +7,6 @@ abbrev pub at_number : {X : Type 0} → List X → ℕ → Option X
 at_number items zero = None
 at_number items (suc place) = slice_get items place
 
--- the name is one of these names
-abbrev pub is_among : List ℕ → List (List ℕ) → Bool
-is_among name others = list_any (λ other. bytes_eq name other) others
-
 -- the number is one of these numbers
 abbrev pub is_in : List ℕ → ℕ → Bool
 is_in numbers number = list_any (λ n. n == number) numbers

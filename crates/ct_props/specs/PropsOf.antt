@@ -13,9 +13,12 @@ use Rattle.ct_props.specs.Values.{value_of_key, text_of_key, is_true_text, proce
 -- the fields whose keys can be refused
 pub record HasChecked (props : List Pair) (checked : Checked) : Type 0 where
   pub processors : processors_in (value_of_key props (codes "PROCESSORS")) ≡ Ok checked.processors
-  pub fail : patterns_in (text_of_key props (codes "FAIL_REGULAR_EXPRESSION")) ≡ Ok (map regex_tree checked.fail)
-  pub pass : patterns_in (text_of_key props (codes "PASS_REGULAR_EXPRESSION")) ≡ Ok (map regex_tree checked.pass)
-  pub skip : patterns_in (text_of_key props (codes "SKIP_REGULAR_EXPRESSION")) ≡ Ok (map regex_tree checked.skip)
+  pub fail :
+      patterns_in (text_of_key props (codes "FAIL_REGULAR_EXPRESSION")) ≡ Ok (map regex_tree checked.fail)
+  pub pass :
+      patterns_in (text_of_key props (codes "PASS_REGULAR_EXPRESSION")) ≡ Ok (map regex_tree checked.pass)
+  pub skip :
+      patterns_in (text_of_key props (codes "SKIP_REGULAR_EXPRESSION")) ≡ Ok (map regex_tree checked.skip)
   pub skip_code : skip_code_in (value_of_key props (codes "SKIP_RETURN_CODE")) ≡ Ok checked.skip_code
   pub timeout : seconds_in (value_of_key props (codes "TIMEOUT")) ≡ Ok checked.timeout
   pub cost : seconds_in (value_of_key props (codes "COST")) ≡ Ok checked.cost
@@ -27,7 +30,8 @@ working_dir_of def = working_dir_in def.dir (text_of_key def.props (codes "WORKI
 
 -- the files that a test needs, each below the folder in which it runs
 abbrev pub required_files_of : TestDef → List (List ℕ)
-required_files_of def = map (joined (working_dir_of def)) (entries_of (text_of_key def.props (codes "REQUIRED_FILES")))
+required_files_of def =
+    map (joined (working_dir_of def)) (entries_of (text_of_key def.props (codes "REQUIRED_FILES")))
 
 -- the labels of a test, and behind them those of its folder, each once
 abbrev pub test_labels : TestDef → List (List ℕ)
@@ -44,15 +48,19 @@ pub record HasProps (def : TestDef) (props : Props) : Type 0 where
   pub locks : props.locks ≡ entries_of (text_of_key def.props (codes "RESOURCE_LOCK"))
   pub shared : props.shared ≡ entries_of (text_of_key def.props (codes "RESOURCE_LOCK_SHARED"))
   pub serial : props.serial ≡ is_true_text (text_of_key def.props (codes "RUN_SERIAL"))
-  pub fail : patterns_in (text_of_key def.props (codes "FAIL_REGULAR_EXPRESSION")) ≡ Ok (map regex_tree props.fail)
-  pub pass : patterns_in (text_of_key def.props (codes "PASS_REGULAR_EXPRESSION")) ≡ Ok (map regex_tree props.pass)
-  pub skip : patterns_in (text_of_key def.props (codes "SKIP_REGULAR_EXPRESSION")) ≡ Ok (map regex_tree props.skip)
+  pub fail :
+      patterns_in (text_of_key def.props (codes "FAIL_REGULAR_EXPRESSION")) ≡ Ok (map regex_tree props.fail)
+  pub pass :
+      patterns_in (text_of_key def.props (codes "PASS_REGULAR_EXPRESSION")) ≡ Ok (map regex_tree props.pass)
+  pub skip :
+      patterns_in (text_of_key def.props (codes "SKIP_REGULAR_EXPRESSION")) ≡ Ok (map regex_tree props.skip)
   pub skip_code : skip_code_in (value_of_key def.props (codes "SKIP_RETURN_CODE")) ≡ Ok props.skip_code
   pub will_fail : props.will_fail ≡ is_true_text (text_of_key def.props (codes "WILL_FAIL"))
   pub timeout : seconds_in (value_of_key def.props (codes "TIMEOUT")) ≡ Ok props.timeout
   pub cost : seconds_in (value_of_key def.props (codes "COST")) ≡ Ok props.cost
   pub environment : props.environment ≡ entries_of (text_of_key def.props (codes "ENVIRONMENT"))
-  pub modification : props.modification ≡ entries_of (text_of_key def.props (codes "ENVIRONMENT_MODIFICATION"))
+  pub modification :
+      props.modification ≡ entries_of (text_of_key def.props (codes "ENVIRONMENT_MODIFICATION"))
   pub required_files : props.required_files ≡ required_files_of def
   pub labels : props.labels ≡ test_labels def
   pub working_dir : props.working_dir ≡ working_dir_of def

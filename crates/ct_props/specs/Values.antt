@@ -20,7 +20,8 @@ use Rattle.ct_props.specs.declared.fault.PropKind.TheVariants.{BadNumber, BadPat
 
 -- the value of a key, if the test has the key
 abbrev pub value_of_key : List Pair → List ℕ → Option (List ℕ)
-value_of_key props key = option_map (λ (pair : Pair). pair.value) (find (λ (pair : Pair). bytes_eq pair.name key) props)
+value_of_key props key =
+    option_map (λ (pair : Pair). pair.value) (find (λ (pair : Pair). bytes_eq pair.name key) props)
 
 -- a text, or an empty one where there is none
 abbrev pub or_empty : Option (List ℕ) → List ℕ
@@ -37,7 +38,12 @@ is_same_word text word = bytes_eq (map to_ascii_lowercase text) (map to_ascii_lo
 
 -- a truth value: true for 1, ON, YES, TRUE and Y alone, without regard to case
 abbrev pub is_true_text : List ℕ → Bool
-is_true_text text = is_same_word text (codes "1") || is_same_word text (codes "ON") || is_same_word text (codes "YES") || is_same_word text (codes "TRUE") || is_same_word text (codes "Y")
+is_true_text text =
+    is_same_word text (codes "1")
+    || is_same_word text (codes "ON")
+    || is_same_word text (codes "YES")
+    || is_same_word text (codes "TRUE")
+    || is_same_word text (codes "Y")
 
 -- a number, or the fault of a bad number where there is none
 abbrev pub or_bad_number : {X : Type 0} → Option X → Result X PropKind
@@ -69,7 +75,10 @@ code_to_zero n = if nat_le n (2 ^ 31) then Some (neg_ℤ (pos n)) else None
 -- the exit code in a text: an optional `-` and digits, within 32 bits
 abbrev pub code_in : List ℕ → Option ℤ
 code_in [] = None
-code_in (first ∷ rest) = if first == minus then option_and_then code_to_zero (number_in rest) else option_and_then code_from_zero (number_in (first ∷ rest))
+code_in (first ∷ rest) =
+    if first == minus
+    then option_and_then code_to_zero (number_in rest)
+    else option_and_then code_from_zero (number_in (first ∷ rest))
 
 -- SKIP_RETURN_CODE: an exit code, if the key is set
 abbrev pub skip_code_in : Option (List ℕ) → Result (Option ℤ) PropKind
@@ -79,7 +88,8 @@ skip_code_in (Some text) = or_bad_number (option_map Some (code_in text))
 -- the patterns of these texts, or the fault of the first text that is no pattern
 abbrev pub patterns_of : List (List ℕ) → Result (List Tree) RegexFault
 patterns_of [] = Ok []
-patterns_of (text ∷ texts) = and_then (reading text) (λ one. and_then (patterns_of texts) (λ others. Ok (one ∷ others)))
+patterns_of (text ∷ texts) =
+    and_then (reading text) (λ one. and_then (patterns_of texts) (λ others. Ok (one ∷ others)))
 
 -- the patterns, or the fault of a bad pattern
 abbrev pub or_bad_pattern : Result (List Tree) RegexFault → Result (List Tree) PropKind

@@ -2,7 +2,6 @@
 //!
 //! Hands up: `Props::of` reads the properties of a test, or names the least key with a bad value;
 //! `Wanted` says which tests a run is asked for, and how.
-//! Stands on: ct_base, ct_regex, ct_groups and ct_verdict.
 //! Read first: `specs/Values.antt`, then `specs/Refusal.antt`, `specs/PropsOf.antt` and `props.rt`.
 #![tactic(auto)]
 

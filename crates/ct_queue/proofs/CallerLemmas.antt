@@ -4,7 +4,7 @@ use Rattle.std.proofs.Common.{ℕ, ◌≡◌, ◌-◌, ◌<◌, ◌≤◌, zero,
 use Rattle.std.proofs.lemmas.Bool.{cases_Bool, cases_eq, eqb-true, eq-eqb, ne_eqb}
 use Rattle.std.proofs.lemmas.List.{get_or-set_same, get_or-set_other}
 use Rattle.std.proofs.lemmas.List.Sums.{passes_at_first, position_or_len_is}
-use Rattle.ct_queue.specs.Ready.{ReadyValue, NamesOnce, StandsIn, place_of, count_at, is_out_at, is_member, count_of, is_out, is_ready, lowered, with_out}
+use Rattle.ct_queue.specs.Ready.{ReadyValue, NamesOnce, StandsIn, place_of, count_at, is_out_at, is_member, predecessors_left, is_out, is_in_ready_set, lowered, with_out}
 use Rattle.ct_queue.specs.Lines.{IsHeadOf}
 
 -- at the place of a test stands the test
@@ -26,7 +26,7 @@ places_apart order one other first second same =
 -- a lowered count leaves membership at each other place
 pub lowered_elsewhere : (ready : ReadyValue) (test place : ℕ) → (place ≡ place_of ready.order test → ⊥) → is_member (lowered ready test) place ≡ is_member ready place
 lowered_elsewhere ready test place other =
-    ap (λ (n : ℕ). ltb place (length ready.order) && eqb n 0 && not (is_out_at ready place)) (get_or-set_other ready.counts (place_of ready.order test) place (count_of ready test - 1) 0 other)
+    ap (λ (n : ℕ). ltb place (length ready.order) && eqb n 0 && not (is_out_at ready place)) (get_or-set_other ready.counts (place_of ready.order test) place (predecessors_left ready test - 1) 0 other)
 
 -- a change of whether one test is out leaves membership at each other place
 pub with_out_elsewhere : (ready : ReadyValue) (test place : ℕ) (is : Bool) → (place ≡ place_of ready.order test → ⊥) → is_member (with_out ready test is) place ≡ is_member ready place
@@ -34,11 +34,11 @@ with_out_elsewhere ready test place is other =
     ap (λ (b : Bool). ltb place (length ready.order) && eqb (count_at ready place) 0 && not b) (get_or-set_other ready.outs (place_of ready.order test) place is false other)
 
 -- a change of one test leaves whether each other test of the order is ready
-pub lowered_others : (ready : ReadyValue) (test other : ℕ) → StandsIn ready.order test → StandsIn ready.order other → (other ≡ test → ⊥) → is_ready (lowered ready test) other ≡ is_ready ready other
+pub lowered_others : (ready : ReadyValue) (test other : ℕ) → StandsIn ready.order test → StandsIn ready.order other → (other ≡ test → ⊥) → is_in_ready_set (lowered ready test) other ≡ is_in_ready_set ready other
 lowered_others ready test other stands there apart =
     lowered_elsewhere ready test (place_of ready.order other) (λ same. apart (places_apart ready.order other test there stands same))
 
-pub with_out_others : (ready : ReadyValue) (test other : ℕ) (is : Bool) → StandsIn ready.order test → StandsIn ready.order other → (other ≡ test → ⊥) → is_ready (with_out ready test is) other ≡ is_ready ready other
+pub with_out_others : (ready : ReadyValue) (test other : ℕ) (is : Bool) → StandsIn ready.order test → StandsIn ready.order other → (other ≡ test → ⊥) → is_in_ready_set (with_out ready test is) other ≡ is_in_ready_set ready other
 with_out_others ready test other is stands there apart =
     with_out_elsewhere ready test (place_of ready.order other) is (λ same. apart (places_apart ready.order other test there stands same))
 
@@ -80,8 +80,8 @@ pub head_of_line : (ready : ReadyValue) (place : ℕ) → is_member ready place 
 head_of_line ready place is = head_of ready.lines (is_member ready) place is
 
 -- the changed test itself: its count is one less, or it is out as the call set it
-pub count_lowered : (ready : ReadyValue) (test : ℕ) → place_of ready.order test < length ready.counts → count_of (lowered ready test) test ≡ count_of ready test - 1
-count_lowered ready test within = get_or-set_same ready.counts (place_of ready.order test) (count_of ready test - 1) 0 within
+pub count_lowered : (ready : ReadyValue) (test : ℕ) → place_of ready.order test < length ready.counts → predecessors_left (lowered ready test) test ≡ predecessors_left ready test - 1
+count_lowered ready test within = get_or-set_same ready.counts (place_of ready.order test) (predecessors_left ready test - 1) 0 within
 
 pub out_said : (ready : ReadyValue) (test : ℕ) (is : Bool) → place_of ready.order test < length ready.outs → is_out (with_out ready test is) test ≡ is
 out_said ready test is within = get_or-set_same ready.outs (place_of ready.order test) is false within

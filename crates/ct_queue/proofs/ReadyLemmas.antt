@@ -9,8 +9,8 @@ use Rattle.std.proofs.lemmas.List.FromFn.{get_or-range_with_len, length-range_wi
 use Rattle.std.proofs.lemmas.Grind.{get_or-set_at}
 use Rattle.ct_queue.specs.Ready.{ReadyValue, NamesOnce, StandsIn, place_of, count_at, is_out_at, is_member, none_out, lowered, with_out, IsBehind, NoneBehind, IsLeastBehind, IsHead, IsOfSeenBunch, NoNewBunch, IsOfNewBunch, NoHeadBehind, IsNextHead}
 use Rattle.ct_queue.specs.Marks.{is_marked}
-use Rattle.ct_queue.specs.Lines.{AreNumbered, BunchedValue, own_lines, lines_in, IsHeadIn, IsOfBunchBefore, IsOfNewBunchFrom, NoNewBunchFrom, IsNextHeadOfBunch, NoHeadOfBunchBehind, with_bunched}
-use Rattle.ct_queue.specs.Kept.{AreFound, AreMarkedAtZero, IsReadySet, waiting, ready_of, standing_at, with_standing}
+use Rattle.ct_queue.specs.Lines.{AreNumbered, BunchedValue, own_lines, without_bunches, IsHeadIn, IsOfBunchBefore, IsOfNewBunchFrom, NoNewBunchFrom, IsNextHeadOfBunch, NoHeadOfBunchBehind, with_bunched}
+use Rattle.ct_queue.specs.Kept.{AreFoundByNumber, AreMarkedAtZero, IsReadySet, waiting, ready_of, standing_at, with_standing}
 use Rattle.ct_queue.specs.declared.ready.Standing.{Standing}
 use Rattle.ct_queue.proofs.CallerLemmas.{test_at_place}
 
@@ -25,7 +25,7 @@ abbrev tests_of : List ℕ → List ℕ → List Bool → List ℕ → List ℕ 
 tests_of order counts outs lines bunches = record { order = order; counts = counts; outs = outs; lines = lines; bunches = bunches }
 
 -- a test is found by its number
-pub found_at : (places : tree.BTreeMap ℕ ℕ) (order : List ℕ) (test : ℕ) → AreFound places order → StandsIn order test → tree.get nat_cmp places test ≡ Some (place_of order test)
+pub found_at : (places : tree.BTreeMap ℕ ℕ) (order : List ℕ) (test : ℕ) → AreFoundByNumber places order → StandsIn order test → tree.get nat_cmp places test ≡ Some (place_of order test)
 found_at places order test found stands =
     subst (λ (t : ℕ). tree.get nat_cmp places t ≡ Some (place_of order test)) (test_at_place order test stands) (found (place_of order test) stands)
 
@@ -138,7 +138,7 @@ marked_new order counts lines bunches marks one marked q =
     and_true true = refl
     and_true false = refl
 
-pub kept_new : (order counts : List ℕ) (places : tree.BTreeMap ℕ ℕ) (lines : BunchedValue) → length order < 2 ^ 32 - 1 → AreFound places order → length counts ≡ length order → length lines.lines ≡ length order → length lines.bunches ≡ length order → length lines.members ≡ length order → AreMarkedAtZero counts lines.members → IsReadySet order places (map waiting counts) lines
+pub kept_new : (order counts : List ℕ) (places : tree.BTreeMap ℕ ℕ) (lines : BunchedValue) → length order < 2 ^ 32 - 1 → AreFoundByNumber places order → length counts ≡ length order → length lines.lines ≡ length order → length lines.bunches ≡ length order → length lines.members ≡ length order → AreMarkedAtZero counts lines.members → IsReadySet order places (map waiting counts) lines
 kept_new order counts places lines few found one lined bunched seated in_lines = record {
   few = few;
   found = found;
@@ -183,19 +183,19 @@ module _ (ready : ReadyValue) (given : Option ℕ) (from : ℕ) (reaches : (plac
 
 module _ (order : List ℕ) (places : tree.BTreeMap ℕ ℕ) (standings : List Standing) (lines : BunchedValue) (kept : IsReadySet order places standings lines) where
   -- a place has a head of the ready set exactly if it has a head of the lines
-  head_here : (place : ℕ) → IsHeadIn (lines_in lines) place → IsHead (ready_of order standings lines.lines lines.bunches) place
+  head_here : (place : ℕ) → IsHeadIn (without_bunches lines) place → IsHead (ready_of order standings lines.lines lines.bunches) place
   head_here place head = record {
     member = sym (kept.in_lines place) ∙ head.member;
     first = λ other before same. sym (kept.in_lines other) ∙ head.first other before same;
   }
 
-  head_there : (place : ℕ) → IsHead (ready_of order standings lines.lines lines.bunches) place → IsHeadIn (lines_in lines) place
+  head_there : (place : ℕ) → IsHead (ready_of order standings lines.lines lines.bunches) place → IsHeadIn (without_bunches lines) place
   head_there place head = record {
     member = kept.in_lines place ∙ head.member;
     first = λ other before same. kept.in_lines other ∙ head.first other before same;
   }
 
-  pub head_fits : (found : ℕ) → IsHeadIn (lines_in lines) found → found < 2 ^ 32
+  pub head_fits : (found : ℕ) → IsHeadIn (without_bunches lines) found → found < 2 ^ 32
   head_fits found head =
       let few = kept.few in
       let within = member_within (ready_of order standings lines.lines lines.bunches) found (sym (kept.in_lines found) ∙ head.member) in
@@ -213,7 +213,7 @@ module _ (order : List ℕ) (places : tree.BTreeMap ℕ ℕ) (standings : List S
   }
 
   module _ (given : Option ℕ) (from : ℕ) (reaches : (place : ℕ) → IsBehind given place → from ≤ place) (begins : (place : ℕ) → from ≤ place → IsBehind given place) where
-    seen_here : (place : ℕ) → IsOfBunchBefore lines.bunches (IsHeadIn (lines_in lines)) from place → IsOfSeenBunch (ready_of order standings lines.lines lines.bunches) given place
+    seen_here : (place : ℕ) → IsOfBunchBefore lines.bunches (IsHeadIn (without_bunches lines)) from place → IsOfSeenBunch (ready_of order standings lines.lines lines.bunches) given place
     seen_here place known = record {
       at = known.at;
       seen = λ behind. let before = known.before in let upto = reaches known.at behind in absurd (omega arith);

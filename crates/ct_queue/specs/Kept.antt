@@ -9,12 +9,14 @@ use Rattle.ct_queue.specs.Lines.{BunchedValue}
 use Rattle.ct_queue.specs.declared.ready.Standing.{Standing}
 
 -- each test of the order is found by its number
-abbrev pub AreFound : tree.BTreeMap ℕ ℕ → List ℕ → Type 0
-AreFound places order = (place : ℕ) → place < length order → tree.get nat_cmp places (slice_index order place) ≡ Some place
+abbrev pub AreFoundByNumber : tree.BTreeMap ℕ ℕ → List ℕ → Type 0
+AreFoundByNumber places order =
+    (place : ℕ) → place < length order → tree.get nat_cmp places (slice_index order place) ≡ Some place
 
 -- exactly the places whose count is 0 are marked
 abbrev pub AreMarkedAtZero : List ℕ → List Bool → Type 0
-AreMarkedAtZero counts marks = (place : ℕ) → is_marked marks place ≡ (nat_lt place (length counts) && (slice_index counts place == 0))
+AreMarkedAtZero counts marks =
+    (place : ℕ) → is_marked marks place ≡ (nat_lt place (length counts) && (slice_index counts place == 0))
 
 -- the ready set of this order, with these standings, lines and bunches
 abbrev pub ready_of : List ℕ → List Standing → List ℕ → List ℕ → ReadyValue
@@ -36,11 +38,14 @@ with_standing ready place s =
 
 -- what holds of each ready set: each test is found by its number,
 -- and exactly the ready tests are members in their lines and bunches
-pub record IsReadySet (order : List ℕ) (places : tree.BTreeMap ℕ ℕ) (standings : List Standing) (lines : BunchedValue) : Type 0 where
+pub record IsReadySet
+    (order : List ℕ) (places : tree.BTreeMap ℕ ℕ) (standings : List Standing) (lines : BunchedValue)
+    : Type 0 where
   pub few : length order < 2 ^ 32 - 1
-  pub found : AreFound places order
+  pub found : AreFoundByNumber places order
   pub stand : length standings ≡ length order
   pub lined : length lines.lines ≡ length order
   pub bunched : length lines.bunches ≡ length order
   pub seated : length lines.members ≡ length order
-  pub in_lines : (place : ℕ) → is_marked lines.members place ≡ is_member (ready_of order standings lines.lines lines.bunches) place
+  pub in_lines : (place : ℕ)
+      → is_marked lines.members place ≡ is_member (ready_of order standings lines.lines lines.bunches) place

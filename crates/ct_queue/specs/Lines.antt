@@ -20,7 +20,8 @@ own_lines places = range_with_len 0 places
 -- a head is at the place: a member, and no earlier place of its line has a member
 pub record IsHeadOf (lines : List ℕ) (is_member : ℕ → Bool) (place : ℕ) : Type 0 where
   pub member : is_member place ≡ true
-  pub first : (other : ℕ) → other < place → slice_index lines other ≡ slice_index lines place → is_member other ≡ false
+  pub first : (other : ℕ) → other < place → slice_index lines other ≡ slice_index lines place
+      → is_member other ≡ false
 
 -- a head of these lines is at the place
 abbrev pub IsHeadIn : LinesValue → ℕ → Type 0
@@ -42,11 +43,15 @@ none_in lines = record { lines = lines; members = replicate (length lines) false
 
 -- the same lines, but for whether the place has a member
 abbrev pub with_member : LinesValue → ℕ → Bool → LinesValue
-with_member value place member = record { lines = value.lines; members = slice_set value.members place member }
+with_member value place member = record {
+  lines = value.lines;
+  members = slice_set value.members place member;
+}
 
 -- the line has no member
 abbrev pub NoneOfLine : LinesValue → ℕ → Type 0
-NoneOfLine value line = (place : ℕ) → slice_index value.lines place ≡ line → is_marked value.members place ≡ false
+NoneOfLine value line =
+    (place : ℕ) → slice_index value.lines place ≡ line → is_marked value.members place ≡ false
 
 -- the head of the line is at the place
 pub record IsHeadOfLine (value : LinesValue) (line place : ℕ) : Type 0 where
@@ -56,7 +61,9 @@ pub record IsHeadOfLine (value : LinesValue) (line place : ℕ) : Type 0 where
 
 -- the line of the place has no member behind it
 abbrev pub NoneOfLineBehind : LinesValue → ℕ → Type 0
-NoneOfLineBehind value place = (other : ℕ) → place < other → slice_index value.lines other ≡ slice_index value.lines place → is_marked value.members other ≡ false
+NoneOfLineBehind value place =
+    (other : ℕ) → place < other → slice_index value.lines other ≡ slice_index value.lines place
+    → is_marked value.members other ≡ false
 
 -- the next member, behind the place, of its line
 pub record IsNextOfLine (value : LinesValue) (place found : ℕ) : Type 0 where
@@ -64,7 +71,8 @@ pub record IsNextOfLine (value : LinesValue) (place found : ℕ) : Type 0 where
   pub behind : place < found
   pub of_line : slice_index value.lines found ≡ slice_index value.lines place
   pub member : is_marked value.members found ≡ true
-  pub least : (other : ℕ) → place < other → other < found → slice_index value.lines other ≡ slice_index value.lines place → is_marked value.members other ≡ false
+  pub least : (other : ℕ) → place < other → other < found
+      → slice_index value.lines other ≡ slice_index value.lines place → is_marked value.members other ≡ false
 
 -- the line and the bunch of each place, and whether the place has a member
 pub record BunchedValue : Type 0 where
@@ -73,16 +81,24 @@ pub record BunchedValue : Type 0 where
   pub members : List Bool
 
 -- the lines and the members, without the bunches
-abbrev pub lines_in : BunchedValue → LinesValue
-lines_in value = record { lines = value.lines; members = value.members }
+abbrev pub without_bunches : BunchedValue → LinesValue
+without_bunches value = record { lines = value.lines; members = value.members }
 
 -- these lines and bunches without a member
 abbrev pub none_bunched : List ℕ → List ℕ → BunchedValue
-none_bunched lines bunches = record { lines = lines; bunches = bunches; members = replicate (length lines) false }
+none_bunched lines bunches = record {
+  lines = lines;
+  bunches = bunches;
+  members = replicate (length lines) false;
+}
 
 -- the same lines and bunches, but for whether the place has a member
 abbrev pub with_bunched : BunchedValue → ℕ → Bool → BunchedValue
-with_bunched value place member = record { lines = value.lines; bunches = value.bunches; members = slice_set value.members place member }
+with_bunched value place member = record {
+  lines = value.lines;
+  bunches = value.bunches;
+  members = slice_set value.members place member;
+}
 
 -- the bunch of the place has a head before `from`, at the place or before it
 pub record IsOfBunchBefore (bunches : List ℕ) (IsHead : ℕ → Type 0) (from place : ℕ) : Type 0 where
@@ -94,22 +110,29 @@ pub record IsOfBunchBefore (bunches : List ℕ) (IsHead : ℕ → Type 0) (from 
 
 -- the bunch of each head has a head before `from`
 abbrev pub NoNewBunchFrom : BunchedValue → ℕ → Type 0
-NoNewBunchFrom value from = (place : ℕ) → IsHeadIn (lines_in value) place → IsOfBunchBefore value.bunches (IsHeadIn (lines_in value)) from place
+NoNewBunchFrom value from =
+    (place : ℕ) → IsHeadIn (without_bunches value) place
+    → IsOfBunchBefore value.bunches (IsHeadIn (without_bunches value)) from place
 
 -- the first head of a new bunch: it is at `from` or behind,
 -- and the bunch of each earlier head has a head before `from`
 pub record IsOfNewBunchFrom (value : BunchedValue) (from found : ℕ) : Type 0 where
   pub from_there : from ≤ found
-  pub head : IsHeadIn (lines_in value) found
-  pub earlier : (place : ℕ) → place < found → IsHeadIn (lines_in value) place → IsOfBunchBefore value.bunches (IsHeadIn (lines_in value)) from place
+  pub head : IsHeadIn (without_bunches value) found
+  pub earlier : (place : ℕ) → place < found → IsHeadIn (without_bunches value) place
+      → IsOfBunchBefore value.bunches (IsHeadIn (without_bunches value)) from place
 
 -- the bunch of the place has no head behind it
 abbrev pub NoHeadOfBunchBehind : BunchedValue → ℕ → Type 0
-NoHeadOfBunchBehind value place = (other : ℕ) → place < other → slice_index value.bunches other ≡ slice_index value.bunches place → IsHeadIn (lines_in value) other → ⊥
+NoHeadOfBunchBehind value place =
+    (other : ℕ) → place < other → slice_index value.bunches other ≡ slice_index value.bunches place
+    → IsHeadIn (without_bunches value) other → ⊥
 
 -- the next head, behind the place, of its bunch
 pub record IsNextHeadOfBunch (value : BunchedValue) (place found : ℕ) : Type 0 where
   pub behind : place < found
   pub of_bunch : slice_index value.bunches found ≡ slice_index value.bunches place
-  pub head : IsHeadIn (lines_in value) found
-  pub least : (other : ℕ) → place < other → other < found → slice_index value.bunches other ≡ slice_index value.bunches place → IsHeadIn (lines_in value) other → ⊥
+  pub head : IsHeadIn (without_bunches value) found
+  pub least : (other : ℕ) → place < other → other < found
+      → slice_index value.bunches other ≡ slice_index value.bunches place
+      → IsHeadIn (without_bunches value) other → ⊥

@@ -13,7 +13,8 @@ with_mark marks (Some place) mark = slice_set marks place mark
 
 -- no place from `from` on is marked, among the places from `low` on and before `end`
 abbrev pub NoneWithin : List Bool → ℕ → ℕ → ℕ → Type 0
-NoneWithin marks from low end = (place : ℕ) → from ≤ place → low ≤ place → place < end → is_marked marks place ≡ false
+NoneWithin marks from low end =
+    (place : ℕ) → from ≤ place → low ≤ place → place < end → is_marked marks place ≡ false
 
 -- the least marked place from `from` on, among the places from `low` on and before `end`
 pub record IsLeastWithin (marks : List Bool) (from low end place : ℕ) : Type 0 where
@@ -25,7 +26,8 @@ pub record IsLeastWithin (marks : List Bool) (from low end place : ℕ) : Type 0
 
 -- the answer of a search: the least marked place, or none if no place is marked
 abbrev pub IsFirstWithin : List Bool → ℕ → ℕ → ℕ → Option ℕ → Type 0
-IsFirstWithin marks from low end found = MatchOption found (NoneWithin marks from low end) (IsLeastWithin marks from low end)
+IsFirstWithin marks from low end found =
+    MatchOption found (NoneWithin marks from low end) (IsLeastWithin marks from low end)
 
 -- the marks of the places: the second half of the nodes
 abbrev pub marks_of : List Bool → List Bool
@@ -35,4 +37,5 @@ marks_of nodes = drop (length nodes / 2) nodes
 pub record IsTree (nodes : List Bool) : Type 0 where
   pub even : length nodes ≡ 2 * (length nodes / 2)
   pub power : IsPowerOfTwo (length nodes / 2)
-  pub inner : (node : ℕ) → 0 < node → node < length nodes / 2 → is_marked nodes node ≡ (is_marked nodes (2 * node) || is_marked nodes (2 * node + 1))
+  pub inner : (node : ℕ) → 0 < node → node < length nodes / 2
+      → is_marked nodes node ≡ (is_marked nodes (2 * node) || is_marked nodes (2 * node + 1))

@@ -35,19 +35,20 @@ is_out_at ready place = slice_index_or ready.outs place false
 
 -- a member is at the place: a test whose predecessors are final and that is not out
 abbrev pub is_member : ReadyValue → ℕ → Bool
-is_member ready place = nat_lt place (length ready.order) && (count_at ready place == 0) && not (is_out_at ready place)
+is_member ready place =
+    nat_lt place (length ready.order) && (count_at ready place == 0) && not (is_out_at ready place)
 
 -- how many predecessors of a test are not final
-abbrev pub count_of : ReadyValue → ℕ → ℕ
-count_of ready test = count_at ready (place_of ready.order test)
+abbrev pub predecessors_left : ReadyValue → ℕ → ℕ
+predecessors_left ready test = count_at ready (place_of ready.order test)
 
 -- the test is out
 abbrev pub is_out : ReadyValue → ℕ → Bool
 is_out ready test = is_out_at ready (place_of ready.order test)
 
 -- the test is a member
-abbrev pub is_ready : ReadyValue → ℕ → Bool
-is_ready ready test = is_member ready (place_of ready.order test)
+abbrev pub is_in_ready_set : ReadyValue → ℕ → Bool
+is_in_ready_set ready test = is_member ready (place_of ready.order test)
 
 -- the tests in this order with these counts, lines and bunches; none of them is out
 abbrev pub none_out : List ℕ → List ℕ → List ℕ → List ℕ → ReadyValue
@@ -57,7 +58,7 @@ none_out order counts lines bunches =
 -- the same set, with one less predecessor of the test that is not final
 abbrev pub lowered : ReadyValue → ℕ → ReadyValue
 lowered ready test =
-    record { order = ready.order; counts = slice_set ready.counts (place_of ready.order test) (count_of ready test - 1); outs = ready.outs; lines = ready.lines; bunches = ready.bunches }
+    record { order = ready.order; counts = slice_set ready.counts (place_of ready.order test) (predecessors_left ready test - 1); outs = ready.outs; lines = ready.lines; bunches = ready.bunches }
 
 -- the same set, but for whether the test is out
 abbrev pub with_out : ReadyValue → ℕ → Bool → ReadyValue
@@ -105,11 +106,14 @@ pub record IsOfNewBunch (ready : ReadyValue) (given : Option ℕ) (found : ℕ) 
 
 -- the bunch of the place has no head behind it
 abbrev pub NoHeadBehind : ReadyValue → ℕ → Type 0
-NoHeadBehind ready place = (other : ℕ) → place < other → slice_index ready.bunches other ≡ slice_index ready.bunches place → IsHead ready other → ⊥
+NoHeadBehind ready place =
+    (other : ℕ) → place < other → slice_index ready.bunches other ≡ slice_index ready.bunches place
+    → IsHead ready other → ⊥
 
 -- the next head, behind the place, of its bunch
 pub record IsNextHead (ready : ReadyValue) (place found : ℕ) : Type 0 where
   pub behind : place < found
   pub of_bunch : slice_index ready.bunches found ≡ slice_index ready.bunches place
   pub head : IsHead ready found
-  pub least : (other : ℕ) → place < other → other < found → slice_index ready.bunches other ≡ slice_index ready.bunches place → IsHead ready other → ⊥
+  pub least : (other : ℕ) → place < other → other < found
+      → slice_index ready.bunches other ≡ slice_index ready.bunches place → IsHead ready other → ⊥

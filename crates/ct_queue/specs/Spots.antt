@@ -14,7 +14,8 @@ first_spot lines line = count_by (λ l. nat_lt l line) lines
 
 -- the spot of a place: behind the spots of the earlier places of its line
 abbrev pub spot_of : List ℕ → ℕ → ℕ
-spot_of lines place = first_spot lines (slice_index lines place) + size_of (take place lines) (slice_index lines place)
+spot_of lines place =
+    first_spot lines (slice_index lines place) + size_of (take place lines) (slice_index lines place)
 
 -- the list has this length, and the function's value at each place
 pub record IsTable (of : ℕ → ℕ) (size : ℕ) (table : List ℕ) : Type 0 where

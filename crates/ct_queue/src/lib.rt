@@ -3,7 +3,6 @@
 //! Hands up, for the scheduling core: `Ready` and `Marks`. `Ready` finds the
 //! first ready test behind a place of the order, and goes through the heads
 //! of lines bunch by bunch. `Marks` finds the least marked place from one on.
-//! Stands on: ct_base.
 //! Read first: `specs/Ready.antt`, then `ready.rt`.
 #![tactic(auto)]
 

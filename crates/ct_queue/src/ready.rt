@@ -1,7 +1,7 @@
 ghost use Rattle.std.specs.Prelude.{◌≡◌, ℕ, ◌-◌, ◌<◌, ◌≤◌, ◌^◌, ◌&&◌, ◌==◌, not, true, false, IfOk, MatchOption, length, map, slice_index, nat_lt};
-ghost use Rattle.ct_queue.specs.Ready.{IsBehind, IsLeastBehind, IsNextHead, IsOfNewBunch, NamesOnce, NoHeadBehind, NoNewBunch, NoneBehind, StandsIn, count_of, is_out, is_ready, lowered, none_out, place_of, with_out};
+ghost use Rattle.ct_queue.specs.Ready.{IsBehind, IsLeastBehind, IsNextHead, IsOfNewBunch, NamesOnce, NoHeadBehind, NoNewBunch, NoneBehind, StandsIn, predecessors_left, is_out, is_in_ready_set, lowered, none_out, place_of, with_out};
 ghost use Rattle.ct_queue.specs.Lines.{AreNumbered, own_lines};
-ghost use Rattle.ct_queue.specs.Kept.{AreFound, AreMarkedAtZero, waiting, standing_at, with_standing};
+ghost use Rattle.ct_queue.specs.Kept.{AreFoundByNumber, AreMarkedAtZero, waiting, standing_at, with_standing};
 
 use crate::lines::Lines;
 use ct_base::{List, NoMemory};
@@ -98,7 +98,7 @@ impl Ready {
     /// Lowers by one the number of a test's predecessors that are not final.
     pub fn lower(&mut self, test: u32)
         requires stands { StandsIn self.old.order test }
-        requires open_before { 0 < count_of self.old test }
+        requires open_before { 0 < predecessors_left self.old test }
         ensures { self.new ≡ lowered self.old test }
     {
         let place = self.place(test);
@@ -110,7 +110,7 @@ impl Ready {
     /// Takes a member out, when its attempt starts or it becomes final.
     pub fn out(&mut self, test: u32)
         requires stands { StandsIn self.old.order test }
-        requires member { is_ready self.old test ≡ true }
+        requires member { is_in_ready_set self.old test ≡ true }
         ensures { self.new ≡ with_out self.old test true }
     {
         let place = self.place(test);
@@ -134,7 +134,7 @@ impl Ready {
     /// Tells whether a test is a member.
     pub fn is_ready(&self, test: u32) -> bool
         requires stands { StandsIn self.now.order test }
-        ensures { result ≡ is_ready self.now test }
+        ensures { result ≡ is_in_ready_set self.now test }
     {
         let place = self.place(test);
         self.standing(place).is_ready()
@@ -236,7 +236,7 @@ fn first_behind(place: Option<u32>) -> usize
 fn places(alloc: Global, order: &[u32]) -> Result<BTreeMap<u32, u32>, NoMemory>
     requires few { length order.now < 2 ^ 32 - 1 }
     requires once { NamesOnce order.now }
-    ensures { IfOk result (λ places. AreFound places order.now) }
+    ensures { IfOk result (λ places. AreFoundByNumber places order.now) }
 {
     let mut places = BTreeMap::new(alloc);
     for (place, test) in order.iter().enumerate() {

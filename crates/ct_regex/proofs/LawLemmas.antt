@@ -4,7 +4,7 @@ use Rattle.std.specs.List.{flat_map, list_all}
 use Rattle.std.proofs.lemmas.List.{drop_more, take-append-drop, length-append, length-drop}
 use Rattle.std.proofs.lemmas.Option.{slice_get-get_or, slice_get_past}
 use Rattle.std.proofs.lemmas.Bool.Decides.{nat_tests}
-use Rattle.ct_regex.specs.Tree.{Tree, never, one, same, choice, sequence_of, choice_of}
+use Rattle.ct_regex.specs.Tree.{Tree, never, one, same, choice, sequence_of, branch_of}
 use Rattle.ct_regex.specs.Ends.{ends, behind, place_if, has_place, hits, hits_up_to}
 use Rattle.ct_regex.specs.Signs.{atom, signs}
 use Rattle.ct_regex.specs.Reading.{Group, read, reading, all_parts, opened_at, with_atom}
@@ -20,16 +20,16 @@ single : (xs : List ℕ) → flat_map (λ place. place ∷ []) xs ≡ xs
 single [] = refl
 single (x ∷ xs) = ap (λ ys. x ∷ ys) (single xs)
 
-bracketed : (text : List ℕ) (tree : Tree) (place : ℕ) → ends text (choice_of (sequence_of (tree ∷ []) ∷ [])) place ≡ ends text tree place
+bracketed : (text : List ℕ) (tree : Tree) (place : ℕ) → ends text (branch_of (sequence_of (tree ∷ []) ∷ [])) place ≡ ends text tree place
 bracketed text tree place = append-nil (flat_map (λ place. place ∷ []) (ends text tree place)) ∙ single (ends text tree place)
 
-pub bracketed_hits_to : (last : ℕ) (text : List ℕ) (tree : Tree) → hits_up_to last text (choice_of (sequence_of (tree ∷ []) ∷ [])) ≡ hits_up_to last text tree
+pub bracketed_hits_to : (last : ℕ) (text : List ℕ) (tree : Tree) → hits_up_to last text (branch_of (sequence_of (tree ∷ []) ∷ [])) ≡ hits_up_to last text tree
 bracketed_hits_to zero text tree = ap has_place (bracketed text tree 0)
 bracketed_hits_to (suc last) text tree =
-    ap (λ b. b || hits_up_to last text (choice_of (sequence_of (tree ∷ []) ∷ []))) (ap has_place (bracketed text tree (suc last)))
+    ap (λ b. b || hits_up_to last text (branch_of (sequence_of (tree ∷ []) ∷ []))) (ap has_place (bracketed text tree (suc last)))
     ∙ ap (λ b. has_place (ends text tree (suc last)) || b) (bracketed_hits_to last text tree)
 
-pub bracketed_hits : (tree : Tree) (text : List ℕ) → hits (choice_of (sequence_of (tree ∷ []) ∷ [])) text ≡ hits tree text
+pub bracketed_hits : (tree : Tree) (text : List ℕ) → hits (branch_of (sequence_of (tree ∷ []) ∷ [])) text ≡ hits tree text
 bracketed_hits tree text = bracketed_hits_to (length text) text tree
 
 or_swap : (a b c d : Bool) → ((a || b) || (c || d)) ≡ ((a || c) || (b || d))
@@ -83,7 +83,7 @@ plain_is place byte rest h =
 plain_read : (bytes : List ℕ) (place : ℕ) (group : Group) → group.branches ≡ [] → are_plain bytes ≡ true →
     read (record { inner = group; outer = [] }) (signs place bytes) ≡ Ok (choice (sequence_of (all_parts group ++ parts_of bytes)) never)
 plain_read [] place group e h =
-    ap (λ bs. Ok (choice_of (bs ++ sequence_of (all_parts group) ∷ []))) e
+    ap (λ bs. Ok (branch_of (bs ++ sequence_of (all_parts group) ∷ []))) e
     ∙ ap (λ ps. Ok (choice (sequence_of ps) never)) (sym (append-nil (all_parts group)))
 plain_read (byte ∷ bytes) place group e h =
     let both = and_both (stands_for_itself byte) (list_all stands_for_itself bytes) h in

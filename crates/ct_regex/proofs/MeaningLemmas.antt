@@ -1,7 +1,7 @@
 -- The equations of `meaning`, one for each variant.
 use Rattle.std.proofs.Common.{◌≡◌, ℕ, ◌+◌, ◌<◌, List, ◌∷◌, map, drop, get_or, length, Vec, Box, Global, sym, ap, ◌∙◌}
 use Rattle.std.proofs.lemmas.List.{drop_more}
-use Rattle.ct_regex.specs.Tree.{Tree, start, end, one, sequence_of, choice_of, repeat}
+use Rattle.ct_regex.specs.Tree.{Tree, start, end, one, sequence_of, branch_of, repeat}
 use Rattle.ct_regex.specs.Meaning.{meaning, node_meaning, byte_test}
 use Rattle.ct_regex.specs.declared.tree.ByteTest.{ByteTest}
 use Rattle.ct_regex.specs.declared.tree.Quantifier.{Quantifier}
@@ -20,7 +20,7 @@ meaning-One test = ap meaning (sym (rolls-One test)) ∙ fold-roll-Node Tree nod
 pub meaning-Sequence : (parts : Vec Node Global) → meaning (Sequence parts) ≡ sequence_of (map meaning parts.items)
 meaning-Sequence parts = ap meaning (sym (rolls-Sequence parts)) ∙ fold-roll-Node Tree node_meaning (Node-F.Sequence parts)
 
-pub meaning-Choice : (branches : Vec Node Global) → meaning (Choice branches) ≡ choice_of (map meaning branches.items)
+pub meaning-Choice : (branches : Vec Node Global) → meaning (Choice branches) ≡ branch_of (map meaning branches.items)
 meaning-Choice branches = ap meaning (sym (rolls-Choice branches)) ∙ fold-roll-Node Tree node_meaning (Node-F.Choice branches)
 
 pub meaning-Repeat : (quantifier : Quantifier) (inner : Box Node Global) → meaning (Repeat quantifier inner) ≡ repeat quantifier (meaning inner.value)

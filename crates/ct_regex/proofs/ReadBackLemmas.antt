@@ -6,7 +6,7 @@ use Rattle.ct_regex.specs.declared.tree.Quantifier.{Quantifier}
 use Rattle.ct_regex.specs.declared.tree.Quantifier.TheVariants.{ZeroOrOne, ZeroOrMore, OneOrMore}
 use Rattle.ct_regex.specs.declared.fault.RegexFault.{RegexFault}
 use Rattle.ct_regex.specs.declared.fault.RegexFault.TheVariants.{OpenGroup, StrayClose, OpenSet, BadRange, NothingToRepeat, EmptyRepeat, NestedRepeat, EndsInBackslash, TooLarge, NoMemory}
-use Rattle.ct_regex.specs.Tree.{Tree, one, repeat, sequence_of, choice_of}
+use Rattle.ct_regex.specs.Tree.{Tree, one, repeat, sequence_of, branch_of}
 use Rattle.ct_regex.specs.Signs.{atom, often, signs, set_signs, begins_negated, is_range, second, item_high, is_none, set_of}
 use Rattle.ct_regex.specs.Reading.{quantified, Group, opened_at, all_parts, with_atom, with_branch, closed, read, reading}
 use Rattle.ct_regex.specs.Grammar as grammar
@@ -157,15 +157,15 @@ mutual
   pattern_read : {text : List ℕ} {tree : Tree} → IsPattern text tree → (place : ℕ) (outer : List Group) (at : ℕ) (back : List ℕ) →
       GoesOn (opened_at place) outer at text back (λ next. closed next ≡ tree)
   pattern_read (grammar.pattern {front = front} {text = text} {trees = trees} {parts = parts} bs b) place outer at back =
-      goes_along (λ next. (next.branches ≡ trees) × (all_parts next ≡ [])) (λ next. closed next ≡ choice_of (trees ++ sequence_of parts ∷ [])) (opened_at place) outer at front text back
+      goes_along (λ next. (next.branches ≡ trees) × (all_parts next ≡ [])) (λ next. closed next ≡ branch_of (trees ++ sequence_of parts ∷ [])) (opened_at place) outer at front text back
       (branches_read bs place outer at (text ++ back))
       (λ mid behind m. ⊎_elim
       (λ g. inl (
         g.0,
         g.1,
         g.2,
-        ap (λ ts. choice_of (ts ++ sequence_of (all_parts g.1) ∷ [])) (g.3.0 ∙ m.0)
-            ∙ ap (λ ts. choice_of (trees ++ sequence_of ts ∷ [])) (g.3.1 ∙ ap (λ ts. ts ++ parts) m.1),
+        ap (λ ts. branch_of (ts ++ sequence_of (all_parts g.1) ∷ [])) (g.3.0 ∙ m.0)
+            ∙ ap (λ ts. branch_of (trees ++ sequence_of ts ∷ [])) (g.3.1 ∙ ap (λ ts. ts ++ parts) m.1),
       ))
       (λ g. inr g)
       (branch_read b mid outer behind back))
@@ -266,12 +266,12 @@ read_as {X = X} view text tree answer g p = by_cases answer g (written_read text
 
 -- a whole pattern between brackets hits the same texts
 pub brackets_alike : (pattern text : List ℕ) (tree : Tree) → reading pattern ≡ Ok tree → HitsAlike tree text (reading (40 ∷ pattern ++ 41 ∷ []))
-brackets_alike pattern text tree h = by_reading (written_read (40 ∷ pattern ++ 41 ∷ []) (choice_of (sequence_of (tree ∷ []) ∷ [])) bracketed)
+brackets_alike pattern text tree h = by_reading (written_read (40 ∷ pattern ++ 41 ∷ []) (branch_of (sequence_of (tree ∷ []) ∷ [])) bracketed)
   where
-    bracketed : IsPattern (40 ∷ pattern ++ 41 ∷ []) (choice_of (sequence_of (tree ∷ []) ∷ []))
+    bracketed : IsPattern (40 ∷ pattern ++ 41 ∷ []) (branch_of (sequence_of (tree ∷ []) ∷ []))
     bracketed = grammar.pattern grammar.no_branch (grammar.and_part grammar.no_part (grammar.bare (grammar.group (reading_written pattern tree h))))
 
-    by_reading : (reading (40 ∷ pattern ++ 41 ∷ []) ≡ Ok (choice_of (sequence_of (tree ∷ []) ∷ []))) ⊎ ((place : ℕ) × (reading (40 ∷ pattern ++ 41 ∷ []) ≡ Err (TooLarge place))) →
+    by_reading : (reading (40 ∷ pattern ++ 41 ∷ []) ≡ Ok (branch_of (sequence_of (tree ∷ []) ∷ []))) ⊎ ((place : ℕ) × (reading (40 ∷ pattern ++ 41 ∷ []) ≡ Err (TooLarge place))) →
         HitsAlike tree text (reading (40 ∷ pattern ++ 41 ∷ []))
     by_reading (inl r) = subst (λ (answer : Result Tree RegexFault). HitsAlike tree text answer) (sym r) (bracketed_hits tree text)
     by_reading (inr r) = subst (λ (answer : Result Tree RegexFault). HitsAlike tree text answer) (sym r.1) tt

@@ -8,7 +8,7 @@ use Rattle.ct_regex.specs.Reading.{can_be_empty}
 use Rattle.ct_regex.specs.Sound.{is_sound}
 use Rattle.ct_regex.specs.Walk.{Step, step_of, all_flow, walked, steps_of, no_marks}
 use Rattle.ct_regex.specs.Stand.{Stand, a_stand, stand_with, stand_by, behind_byte, behind_bytes, answer}
-use Rattle.ct_regex.specs.Scan.{stand_of, answer_behind, StandsFor, GoesOn}
+use Rattle.ct_regex.specs.Scan.{stand_of, answer_behind, StandsFor, ScansOn}
 use Rattle.ct_regex.specs.declared.walk.Flow.{Flow}
 use Rattle.ct_regex.specs.declared.scan.Scan.{Scan}
 use Rattle.ct_regex.proofs.HitLemmas.{hits_from, hits_to}
@@ -211,7 +211,7 @@ walk_stands steps stand byte marks flow found e m now =
     ∙ ap (λ (b : Bool). stand_with b (a_stand marks flow.last)) now
 
 -- a scan that goes on to the end of a piece stands for the text with the piece behind it
-pub goes_on_all : (tree : Tree) (text piece rest : List ℕ) (before after : Scan) → GoesOn before piece rest after → length rest ≡ 0 →
+pub goes_on_all : (tree : Tree) (text piece rest : List ℕ) (before after : Scan) → ScansOn before piece rest after → length rest ≡ 0 →
     StandsFor tree text before → StandsFor tree (text ++ piece) after
 goes_on_all tree text piece (byte ∷ rest) before after goes none stands = absurd (omega (arith, none))
 goes_on_all tree text piece [] before after goes none stands = record {
@@ -221,7 +221,7 @@ goes_on_all tree text piece [] before after goes none stands = record {
 }
 
 -- a scan that has found a match stands for the text with the whole piece behind it
-pub goes_on_some : (tree : Tree) (text piece rest : List ℕ) (before after : Scan) → GoesOn before piece rest after → after.found ≡ true →
+pub goes_on_some : (tree : Tree) (text piece rest : List ℕ) (before after : Scan) → ScansOn before piece rest after → after.found ≡ true →
     StandsFor tree text before → StandsFor tree (text ++ piece) after
 goes_on_some tree text piece rest before after goes found stands = record {
   answers = λ more.

@@ -2,7 +2,7 @@
 use Rattle.std.proofs.Common.{◌≡◌, ◌&&◌, Bool, true, false, ℕ, List, [], ◌∷◌, ◌++◌, refl}
 use Rattle.ct_regex.specs.declared.tree.Quantifier.{Quantifier}
 use Rattle.ct_regex.specs.declared.tree.Quantifier.TheVariants.{ZeroOrOne, ZeroOrMore, OneOrMore}
-use Rattle.ct_regex.specs.Tree.{Tree, repeat, sequence_of, choice_of}
+use Rattle.ct_regex.specs.Tree.{Tree, repeat, sequence_of, branch_of}
 use Rattle.ct_regex.specs.Reading.{may_repeat}
 use Rattle.ct_regex.specs.Sound.{is_sound}
 use Rattle.ct_regex.specs.Grammar as grammar
@@ -16,11 +16,11 @@ and_make : (a b : Bool) → a ≡ true → b ≡ true → (a && b) ≡ true
 and_make true b h k = k
 and_make false b h k = absurd (let clash : false ≡ true = h in cc)
 
-choice_sound : (trees : List Tree) (tree : Tree) → is_sound (choice_of trees) ≡ true → is_sound tree ≡ true → is_sound (choice_of (trees ++ tree ∷ [])) ≡ true
+choice_sound : (trees : List Tree) (tree : Tree) → is_sound (branch_of trees) ≡ true → is_sound tree ≡ true → is_sound (branch_of (trees ++ tree ∷ [])) ≡ true
 choice_sound [] tree h k = and_make (is_sound tree) true k refl
 choice_sound (first ∷ trees) tree h k =
-    let both = and_both (is_sound first) (is_sound (choice_of trees)) h in
-    and_make (is_sound first) (is_sound (choice_of (trees ++ tree ∷ []))) both.0 (choice_sound trees tree both.1 k)
+    let both = and_both (is_sound first) (is_sound (branch_of trees)) h in
+    and_make (is_sound first) (is_sound (branch_of (trees ++ tree ∷ []))) both.0 (choice_sound trees tree both.1 k)
 
 sequence_sound : (trees : List Tree) (tree : Tree) → is_sound (sequence_of trees) ≡ true → is_sound tree ≡ true → is_sound (sequence_of (trees ++ tree ∷ [])) ≡ true
 sequence_sound [] tree h k = and_make (is_sound tree) true k refl
@@ -46,7 +46,7 @@ mutual
   pub pattern_sound : {text : List ℕ} {tree : Tree} → IsPattern text tree → is_sound tree ≡ true
   pattern_sound (grammar.pattern {trees = trees} {parts = parts} bs b) = choice_sound trees (sequence_of parts) (branches_sound bs) (branch_sound b)
 
-  branches_sound : {text : List ℕ} {trees : List Tree} → IsBranches text trees → is_sound (choice_of trees) ≡ true
+  branches_sound : {text : List ℕ} {trees : List Tree} → IsBranches text trees → is_sound (branch_of trees) ≡ true
   branches_sound grammar.no_branch = refl
   branches_sound (grammar.and_branch {trees = trees} {parts = parts} bs b) = choice_sound trees (sequence_of parts) (branches_sound bs) (branch_sound b)
 

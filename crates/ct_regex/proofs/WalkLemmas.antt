@@ -1,7 +1,7 @@
 -- A walk over the steps of a pattern changes the marks as a byte changes the live positions of the tree.
 use Rattle.std.proofs.Common.{◌≡◌, ℕ, suc, not, ◌+◌, Bool, true, false, ◌&&◌, ◌||◌, List, [], ◌∷◌, ◌++◌, length, slice_set, map, refl, sym, ◌∙◌, ap, subst, append-nil, append_assoc}
 use Rattle.std.proofs.lemmas.List.{length-append, set_at, get_or_at}
-use Rattle.ct_regex.specs.Tree.{Test, Tree, empty, never, start, end, one, sequence, choice, repeat, takes, choice_of}
+use Rattle.ct_regex.specs.Tree.{Test, Tree, empty, never, start, end, one, sequence, choice, repeat, takes, branch_of}
 use Rattle.ct_regex.specs.declared.tree.Quantifier.TheVariants.{ZeroOrOne, ZeroOrMore, OneOrMore}
 use Rattle.ct_regex.specs.declared.walk.Flow.{Flow}
 use Rattle.ct_regex.specs.declared.walk.Branches.{Branches}
@@ -160,7 +160,7 @@ leaves_empty (repeat OneOrMore tree) enters s =
 
 -- the steps of a choice with no branch or with several
 pub many_steps : (at : ℕ) (nodes : List Node) → (length nodes ≡ 1 → ⊥) →
-    steps_of false at (choice_of (map meaning nodes)) ≡ fork ∷ steps_of true at (choice_of (map meaning nodes))
+    steps_of false at (branch_of (map meaning nodes)) ≡ fork ∷ steps_of true at (branch_of (map meaning nodes))
 many_steps at [] h = refl
 many_steps at (node ∷ []) h = absurd (h refl)
 many_steps at (node ∷ other ∷ nodes) h = refl

@@ -30,7 +30,8 @@ ends text (sequence first then_come) place = flat_map (ends text then_come) (end
 ends text (choice left right) place = ends text left place ++ ends text right place
 ends text (repeat ZeroOrOne tree) place = place ∷ ends text tree place
 ends text (repeat ZeroOrMore tree) place = rounds (suc (length text)) (ends text tree) place
-ends text (repeat OneOrMore tree) place = flat_map (rounds (length text) (ends text tree)) (ends text tree place)
+ends text (repeat OneOrMore tree) place =
+    flat_map (rounds (length text) (ends text tree)) (ends text tree place)
 
 -- whether there is a place in the list
 abbrev pub has_place : List ℕ → Bool

@@ -2,7 +2,7 @@
 -- Source: CMake manual, string(REGEX), Regex Specification.
 use Rattle.std.specs.Prelude.{◌≡◌, ◌⊎◌, ◌≤◌, ℕ, ◌==◌, Bool, true, false, List, [], ◌∷◌, ◌++◌}
 use Rattle.ct_regex.specs.Bytes.{caret, dollar, dot, open_group, close_group, upright, star, plus, question, escaping_byte, open_set, close_set, dash}
-use Rattle.ct_regex.specs.Tree.{any, same, inside, outside, Tree, start, end, one, repeat, sequence_of, choice_of}
+use Rattle.ct_regex.specs.Tree.{any, same, inside, outside, Tree, start, end, one, repeat, sequence_of, branch_of}
 use Rattle.ct_regex.specs.Signs.{begins_negated, is_range}
 use Rattle.ct_regex.specs.Reading.{may_repeat}
 use Rattle.ct_regex.specs.Laws.{stands_for_itself}
@@ -43,7 +43,7 @@ mutual
   -- a whole pattern, or the inside of a group: branches with a bar between each two
   pub data IsPattern : List ℕ → Tree → Type 0 where
     pattern : {front text : List ℕ} {trees parts : List Tree} → IsBranches front trees → IsBranch text parts →
-        IsPattern (front ++ text) (choice_of (trees ++ sequence_of parts ∷ []))
+        IsPattern (front ++ text) (branch_of (trees ++ sequence_of parts ∷ []))
 
   -- branches, each with a bar behind it
   pub data IsBranches : List ℕ → List Tree → Type 0 where

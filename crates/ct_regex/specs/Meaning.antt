@@ -6,7 +6,7 @@ use Rattle.ct_regex.specs.declared.sign.Sign as sign_type
 use Rattle.ct_regex.specs.declared.reader.Last as last_type
 use Rattle.ct_regex.specs.declared.reader.Level.{Level}
 use Rattle.ct_regex.specs.declared.reader.Reader.{Reader}
-use Rattle.ct_regex.specs.Tree.{Test, any, same, inside, outside, Tree, start, end, one, sequence_of, choice_of, repeat}
+use Rattle.ct_regex.specs.Tree.{Test, any, same, inside, outside, Tree, start, end, one, sequence_of, branch_of, repeat}
 use Rattle.ct_regex.specs.declared.tree.ByteTest.{ByteTest}
 use Rattle.ct_regex.specs.declared.tree.ByteTest.TheVariants.{Any, Same, Inside, Outside}
 use Rattle.ct_regex.specs.declared.tree.Node.{Node}
@@ -26,7 +26,7 @@ node_meaning Node-F.Start = start
 node_meaning Node-F.End = end
 node_meaning (Node-F.One test) = one (byte_test test)
 node_meaning (Node-F.Sequence parts) = sequence_of parts.items
-node_meaning (Node-F.Choice branches) = choice_of branches.items
+node_meaning (Node-F.Choice branches) = branch_of branches.items
 node_meaning (Node-F.Repeat quantifier inner) = repeat quantifier inner.value
 
 -- the tree of a node

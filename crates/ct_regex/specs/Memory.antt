@@ -2,7 +2,7 @@
 use Rattle.std.specs.Prelude.{◌≡◌, ◌<◌, ℕ, ◌+◌, ◌*◌, Bool, false, List, Option, Some, None, slice_get, slice_index_or}
 use Rattle.ct_regex.specs.Walk.{Step}
 use Rattle.ct_regex.specs.Stand.{Stand, a_stand, behind_byte, behind_bytes}
-use Rattle.ct_regex.specs.Met.{marks_of}
+use Rattle.ct_regex.specs.Met.{marks_of_met}
 use Rattle.ct_regex.specs.declared.memory.Met.{Met}
 use Rattle.ct_regex.specs.declared.memory.Memory.{Memory}
 
@@ -13,7 +13,7 @@ last_of (Some met) = met.last
 
 -- where a scan stands at the set with a number, in a list of sets
 abbrev pub stand_in : List Met → ℕ → Stand
-stand_in sets at = a_stand (marks_of (slice_get sets at)) (last_of (slice_get sets at))
+stand_in sets at = a_stand (marks_of_met (slice_get sets at)) (last_of (slice_get sets at))
 
 -- where a scan stands at the set with a number
 abbrev pub stand_at : Memory → ℕ → Stand
@@ -25,12 +25,19 @@ entry_at memory at byte = slice_index_or memory.next.items (at * 256 + byte) Non
 
 -- both sets were met, and the bytes lead from the first to the second
 abbrev pub LeadsBy : List Step → Memory → ℕ → List ℕ → ℕ → Type 0
-LeadsBy steps memory at bytes to = (at < memory.count) × (to < memory.count) × (behind_bytes steps (stand_at memory at) bytes ≡ stand_at memory to)
+LeadsBy steps memory at bytes to =
+    (at < memory.count)
+    × (to < memory.count)
+    × (behind_bytes steps (stand_at memory at) bytes ≡ stand_at memory to)
 
 -- both sets were met, and the byte leads from the first to the second
 abbrev pub Leads : List Step → Memory → ℕ → ℕ → ℕ → Type 0
-Leads steps memory at byte to = (at < memory.count) × (to < memory.count) × (behind_byte steps (stand_at memory at) byte ≡ stand_at memory to)
+Leads steps memory at byte to =
+    (at < memory.count)
+    × (to < memory.count)
+    × (behind_byte steps (stand_at memory at) byte ≡ stand_at memory to)
 
 -- each step that the memory knows is the step that a walk would take
 abbrev pub Remembers : List Step → Memory → Type 0
-Remembers steps memory = (at byte to : ℕ) → byte < 256 → entry_at memory at byte ≡ Some to → Leads steps memory at byte to
+Remembers steps memory =
+    (at byte to : ℕ) → byte < 256 → entry_at memory at byte ≡ Some to → Leads steps memory at byte to

@@ -1,7 +1,7 @@
 -- What a pattern's text says: its tree, or its first fault from the left.
 -- Source: CMake manual, string(REGEX), Regex Specification; the faults are this project's.
 use Rattle.std.specs.Prelude.{ℕ, nat_lt, Bool, true, false, ◌&&◌, ◌||◌, not, List, [], ◌∷◌, ◌++◌, length, Result, Ok, Err, if◌then◌else◌}
-use Rattle.ct_regex.specs.Tree.{Tree, empty, never, start, end, one, sequence, choice, repeat, sequence_of, choice_of}
+use Rattle.ct_regex.specs.Tree.{Tree, empty, never, start, end, one, sequence, choice, repeat, sequence_of, branch_of}
 use Rattle.ct_regex.specs.Signs.{Sign, atom, opens, closes, bar, often, fault, signs}
 use Rattle.ct_regex.specs.declared.tree.Quantifier.{Quantifier}
 use Rattle.ct_regex.specs.declared.tree.Quantifier.TheVariants.{ZeroOrOne, ZeroOrMore, OneOrMore}
@@ -52,15 +52,25 @@ all_parts group = group.parts ++ last_parts group.last
 
 -- the group with one more atom at its end
 abbrev pub with_atom : Tree → Group → Group
-with_atom tree group = record { place = group.place; branches = group.branches; parts = all_parts group; last = bare tree }
+with_atom tree group = record {
+  place = group.place;
+  branches = group.branches;
+  parts = all_parts group;
+  last = bare tree;
+}
 
 -- the group with its last branch ended
 abbrev pub with_branch : Group → Group
-with_branch group = record { place = group.place; branches = group.branches ++ sequence_of (all_parts group) ∷ []; parts = []; last = no_part }
+with_branch group = record {
+  place = group.place;
+  branches = group.branches ++ sequence_of (all_parts group) ∷ [];
+  parts = [];
+  last = no_part;
+}
 
 -- the tree of a group that is closed
 abbrev pub closed : Group → Tree
-closed group = choice_of (group.branches ++ sequence_of (all_parts group) ∷ [])
+closed group = branch_of (group.branches ++ sequence_of (all_parts group) ∷ [])
 
 -- whether the quantifier may repeat the tree: `*` and `+` repeat only what cannot be empty
 abbrev pub may_repeat : Quantifier → Tree → Bool
@@ -73,7 +83,10 @@ abbrev pub with_quantifier : Quantifier → ℕ → Group → Last → Result Gr
 with_quantifier quantifier place group no_part = Err (NothingToRepeat place)
 with_quantifier quantifier place group (quantified tree) = Err (NestedRepeat place)
 with_quantifier quantifier place group (bare tree) =
-    if may_repeat quantifier tree then Ok (record { place = group.place; branches = group.branches; parts = group.parts; last = quantified (repeat quantifier tree) }) else Err (EmptyRepeat place)
+    if may_repeat quantifier tree
+    then Ok
+    (record { place = group.place; branches = group.branches; parts = group.parts; last = quantified (repeat quantifier tree) })
+    else Err (EmptyRepeat place)
 
 -- the innermost open group, and the groups around it from the inside out
 pub record Groups : Type 0 where
@@ -88,12 +101,15 @@ map_ok f (Err e) = Err e
 -- the groups behind a `(`, or the fault; at most 200 groups may be open at once
 abbrev pub with_group : ℕ → Groups → Result Groups RegexFault
 with_group place groups =
-    if nat_lt (length groups.outer) 200 then Ok (record { inner = opened_at place; outer = groups.inner ∷ groups.outer }) else Err (TooLarge place)
+    if nat_lt (length groups.outer) 200
+    then Ok (record { inner = opened_at place; outer = groups.inner ∷ groups.outer })
+    else Err (TooLarge place)
 
 -- the groups behind a `)`: the innermost one becomes an atom of the one around it; or the fault
 abbrev pub with_close : ℕ → Group → List Group → Result Groups RegexFault
 with_close place group [] = Err (StrayClose place)
-with_close place group (around ∷ outer) = Ok (record { inner = with_atom (closed group) around; outer = outer })
+with_close place group (around ∷ outer) =
+    Ok (record { inner = with_atom (closed group) around; outer = outer })
 
 -- the groups behind one more sign, or the fault
 abbrev pub with_sign : Groups → Sign → Result Groups RegexFault
@@ -102,7 +118,8 @@ with_sign groups bar = Ok (record { inner = with_branch groups.inner; outer = gr
 with_sign groups (opens place) = with_group place groups
 with_sign groups (closes place) = with_close place groups.inner groups.outer
 with_sign groups (often quantifier place) =
-    map_ok (λ group. record { inner = group; outer = groups.outer }) (with_quantifier quantifier place groups.inner groups.inner.last)
+    map_ok (λ group.
+    record { inner = group; outer = groups.outer }) (with_quantifier quantifier place groups.inner groups.inner.last)
 with_sign groups (fault why) = Err why
 
 -- the tree at the end of the text, or the fault where a group is still open

@@ -32,6 +32,6 @@ pub record StandsFor (tree : Tree) (text : List ℕ) (scan : Scan) : Type 0 wher
 
 -- whatever bytes follow, `after` answers on the rest of the piece and these bytes
 -- as `before` answers on the whole piece and these bytes; set back, both answer alike
-pub record GoesOn (before : Scan) (piece rest : List ℕ) (after : Scan) : Type 0 where
+pub record ScansOn (before : Scan) (piece rest : List ℕ) (after : Scan) : Type 0 where
   pub answers : (more : List ℕ) → answer_behind after (rest ++ more) ≡ answer_behind before (piece ++ more)
   pub anew : (bytes : List ℕ) → answer_anew after bytes ≡ answer_anew before bytes

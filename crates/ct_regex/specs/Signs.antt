@@ -67,7 +67,9 @@ abbrev mutual
   pub signs : ℕ → List ℕ → List Sign
   signs place [] = []
   signs place (byte ∷ rest) =
-      if byte == open_set then set_signs place (begins_negated rest) (if begins_negated rest then 1 else 0) (place + 1) [] rest
+      if byte
+      == open_set then set_signs place (begins_negated rest) (if begins_negated rest then 1 else 0)
+      (place + 1) [] rest
       else if byte == escaping_byte then escaped place rest
       else plain_sign place byte ∷ signs (place + 1) rest
 
@@ -81,8 +83,11 @@ abbrev mutual
   -- The first `skip` bytes are already read.
   pub set_signs : ℕ → Bool → ℕ → ℕ → List Span → List ℕ → List Sign
   set_signs opened negated skip place items [] = fault (OpenSet opened) ∷ []
-  set_signs opened negated (suc skip) place items (byte ∷ rest) = set_signs opened negated skip (place + 1) items rest
+  set_signs opened negated (suc skip) place items (byte ∷ rest) =
+      set_signs opened negated skip (place + 1) items rest
   set_signs opened negated zero place items (byte ∷ rest) =
-      if (byte == close_set) && not (is_none items) then atom (one (set_of negated items)) ∷ signs (place + 1) rest
+      if (byte == close_set)
+      && not (is_none items) then atom (one (set_of negated items)) ∷ signs (place + 1) rest
       else if nat_lt (item_high byte rest) byte then fault (BadRange place) ∷ []
-      else set_signs opened negated (if is_range rest then 2 else 0) (place + 1) (items ++ record { low = byte; high = item_high byte rest } ∷ []) rest
+      else set_signs opened negated (if is_range rest then 2 else 0) (place + 1)
+      (items ++ record { low = byte; high = item_high byte rest } ∷ []) rest

@@ -19,11 +19,16 @@ stand_with found stand = record { marks = stand.marks; found = found; last = sta
 
 -- where a scan stands behind a walk
 abbrev pub stand_by : Stand → Walk → Stand
-stand_by stand walk = record { marks = walk.marks; found = stand.found || walk.flow.now; last = walk.flow.last }
+stand_by stand walk = record {
+  marks = walk.marks;
+  found = stand.found || walk.flow.now;
+  last = walk.flow.last;
+}
 
 -- where a scan stands behind one more byte
 abbrev pub behind_byte : List Step → Stand → ℕ → Stand
-behind_byte steps stand byte = stand_by stand (walked steps byte (record { flow = all_flow; opened = []; marks = stand.marks }))
+behind_byte steps stand byte =
+    stand_by stand (walked steps byte (record { flow = all_flow; opened = []; marks = stand.marks }))
 
 -- where a scan stands behind these bytes
 abbrev pub behind_bytes : List Step → Stand → List ℕ → Stand
@@ -34,7 +39,9 @@ behind_bytes steps stand (byte ∷ bytes) = behind_bytes steps (behind_byte step
 abbrev pub answer : Stand → Bool
 answer stand = stand.found || stand.last
 
--- These bytes lead from a stand to these marks, or, where there is no answer, to a match that no later byte takes away.
+-- These bytes lead from a stand to these marks, or, where there is no answer, to a match that no later byte
+-- takes away.
 abbrev pub Comes : List Step → Stand → List ℕ → List Bool → Option Bool → Type 0
-Comes steps stand bytes marks None = (more : List ℕ) → answer (behind_bytes steps stand (bytes ++ more)) ≡ true
+Comes steps stand bytes marks None =
+    (more : List ℕ) → answer (behind_bytes steps stand (bytes ++ more)) ≡ true
 Comes steps stand bytes marks (Some last) = behind_bytes steps stand bytes ≡ a_stand marks last

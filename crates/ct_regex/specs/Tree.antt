@@ -40,6 +40,6 @@ sequence_of [] = empty
 sequence_of (tree ∷ trees) = sequence tree (sequence_of trees)
 
 -- one of the trees; without trees, a pattern that matches nothing
-abbrev pub choice_of : List Tree → Tree
-choice_of [] = never
-choice_of (tree ∷ trees) = choice tree (choice_of trees)
+abbrev pub branch_of : List Tree → Tree
+branch_of [] = never
+branch_of (tree ∷ trees) = choice tree (branch_of trees)

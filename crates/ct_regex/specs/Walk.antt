@@ -37,7 +37,11 @@ step_of (step_type.TheVariants.Back at) = back at
 
 -- two flows together: a match has come if it came by either of them
 abbrev pub merged : Flow → Flow → Flow
-merged left right = record { now = left.now || right.now; next = left.next || right.next; last = left.last || right.last }
+merged left right = record {
+  now = left.now || right.now;
+  next = left.next || right.next;
+  last = left.last || right.last;
+}
 
 -- the flow by which no match has come
 abbrev pub no_flow : Flow
@@ -71,7 +75,8 @@ around (branches ∷ others) = others
 -- the open choices, once a flow has left a branch of the innermost one
 abbrev pub with_left : Flow → List Branches → List Branches
 with_left flow [] = []
-with_left flow (branches ∷ others) = record { entered = branches.entered; left = merged branches.left flow } ∷ others
+with_left flow (branches ∷ others) =
+    record { entered = branches.entered; left = merged branches.left flow } ∷ others
 
 -- the flow behind an atom of one byte: what its mark says, and whether the byte was taken
 abbrev pub behind_one : Bool → Bool → Flow
@@ -84,22 +89,47 @@ behind_step (at_start at) byte walk = record {
   opened = walk.opened;
   marks = slice_set walk.marks at false;
 }
-behind_step at_end byte walk = record { flow = record { now = false; next = false; last = walk.flow.last }; opened = walk.opened; marks = walk.marks }
+behind_step at_end byte walk = record {
+  flow = record { now = false; next = false; last = walk.flow.last };
+  opened = walk.opened;
+  marks = walk.marks;
+}
 behind_step (of_one at test) byte walk = record {
   flow = behind_one (slice_index_or walk.marks at false) (walk.flow.now && takes test byte);
   opened = walk.opened;
   marks = slice_set walk.marks at (walk.flow.now && takes test byte);
 }
-behind_step fork byte walk = record { flow = walk.flow; opened = record { entered = walk.flow; left = no_flow } ∷ walk.opened; marks = walk.marks }
-behind_step maybe byte walk = record { flow = walk.flow; opened = record { entered = walk.flow; left = walk.flow } ∷ walk.opened; marks = walk.marks }
-behind_step or_else byte walk = record { flow = entered walk.opened; opened = with_left walk.flow walk.opened; marks = walk.marks }
-behind_step join byte walk = record { flow = left_of walk.opened; opened = around walk.opened; marks = walk.marks }
+behind_step fork byte walk = record {
+  flow = walk.flow;
+  opened = record { entered = walk.flow; left = no_flow } ∷ walk.opened;
+  marks = walk.marks;
+}
+behind_step maybe byte walk = record {
+  flow = walk.flow;
+  opened = record { entered = walk.flow; left = walk.flow } ∷ walk.opened;
+  marks = walk.marks;
+}
+behind_step or_else byte walk = record {
+  flow = entered walk.opened;
+  opened = with_left walk.flow walk.opened;
+  marks = walk.marks;
+}
+behind_step join byte walk = record {
+  flow = left_of walk.opened;
+  opened = around walk.opened;
+  marks = walk.marks;
+}
 behind_step (loop at) byte walk = record {
-  flow = record { now = walk.flow.now || slice_index_or walk.marks at false; next = walk.flow.next; last = walk.flow.last };
+  flow =
+      record { now = walk.flow.now || slice_index_or walk.marks at false; next = walk.flow.next; last = walk.flow.last };
   opened = walk.opened;
   marks = walk.marks;
 }
-behind_step (back at) byte walk = record { flow = walk.flow; opened = walk.opened; marks = slice_set walk.marks at walk.flow.next }
+behind_step (back at) byte walk = record {
+  flow = walk.flow;
+  opened = walk.opened;
+  marks = slice_set walk.marks at walk.flow.next;
+}
 
 -- the walk after these steps
 abbrev pub walked : List Step → ℕ → Walk → Walk
@@ -154,9 +184,13 @@ steps_of false at never = fork ∷ join ∷ []
 steps_of is_branch at start = branch is_branch (at_start at ∷ [])
 steps_of is_branch at end = branch is_branch (at_end ∷ [])
 steps_of is_branch at (one test) = branch is_branch (of_one at test ∷ [])
-steps_of is_branch at (sequence first others) = branch is_branch (steps_of false at first ++ steps_of false (at + length (no_marks first)) others)
+steps_of is_branch at (sequence first others) =
+    branch is_branch (steps_of false at first ++ steps_of false (at + length (no_marks first)) others)
 steps_of is_branch at (choice left right) =
-    choice_steps is_branch (is_never right) (steps_of false at left) (steps_of true (at + length (no_marks left)) right)
-steps_of is_branch at (repeat ZeroOrOne tree) = branch is_branch (maybe ∷ branch true (steps_of false at tree))
-steps_of is_branch at (repeat ZeroOrMore tree) = branch is_branch (maybe ∷ branch true (rounds_of at (steps_of false (at + 1) tree)))
+    choice_steps is_branch (is_never right) (steps_of false at left)
+    (steps_of true (at + length (no_marks left)) right)
+steps_of is_branch at (repeat ZeroOrOne tree) =
+    branch is_branch (maybe ∷ branch true (steps_of false at tree))
+steps_of is_branch at (repeat ZeroOrMore tree) =
+    branch is_branch (maybe ∷ branch true (rounds_of at (steps_of false (at + 1) tree)))
 steps_of is_branch at (repeat OneOrMore tree) = branch is_branch (rounds_of at (steps_of false (at + 1) tree))

@@ -3,7 +3,7 @@
 ghost use Rattle.std.specs.Prelude.{◌≡◌, ◌≤◌, ◌||◌, ◌↔◌, ℕ, List, [], ◌∷◌, ◌++◌, length, IsTrue, Ok};
 ghost use Rattle.std.specs.Result.{IsOkAnd};
 ghost use Rattle.ct_regex.specs.Bytes.{open_group, close_group};
-ghost use Rattle.ct_regex.specs.Tree.{Tree, choice, sequence_of, choice_of};
+ghost use Rattle.ct_regex.specs.Tree.{Tree, choice, sequence_of, branch_of};
 ghost use Rattle.ct_regex.specs.Ends.{hits};
 ghost use Rattle.ct_regex.specs.Reading.{reading};
 ghost use Rattle.ct_regex.specs.Laws.{are_plain, HasPart, HitsAlike};
@@ -12,7 +12,7 @@ ghost use Rattle.ct_regex.specs.Laws.{are_plain, HasPart, HitsAlike};
 /// whole pattern between `(` and `)` hits what it hits without them.
 pub fn brackets_change_nothing()
     ensures trees { (tree : Tree) (text : List ℕ) →
-        hits (choice_of (sequence_of (tree ∷ []) ∷ [])) text ≡ hits tree text }
+        hits (branch_of (sequence_of (tree ∷ []) ∷ [])) text ≡ hits tree text }
     ensures patterns { (pattern text : List ℕ) (tree : Tree) → reading pattern ≡ Ok tree →
         HitsAlike tree text (reading (open_group ∷ pattern ++ close_group ∷ [])) }
 {}

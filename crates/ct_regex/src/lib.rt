@@ -2,7 +2,6 @@
 //!
 //! Hands up: `Regex::parse` reads a pattern or returns its first fault, `hit` tells whether a text
 //! has a match anywhere, a `Scan` tells the same of a text in pieces, and a `Matcher` of many texts.
-//! Stands on: ct_base and `thiserror`.
 //! Read first: `specs/Tree.antt`, `specs/Ends.antt`, `specs/Signs.antt`, `specs/Reading.antt` and
 //! `specs/Scan.antt`. In `specs/Lib.antt`, the files from `Walk` to `Memory` are internal to the matcher.
 #![tactic(auto)]

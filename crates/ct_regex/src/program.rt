@@ -1,5 +1,5 @@
 ghost use Rattle.std.specs.Prelude.{◌≡◌, true, false, [], ◌∷◌, ◌++◌, IfOk, length, map};
-ghost use Rattle.ct_regex.specs.Tree.{repeat, sequence_of, choice_of};
+ghost use Rattle.ct_regex.specs.Tree.{repeat, sequence_of, branch_of};
 ghost use Rattle.ct_regex.specs.declared.tree.Quantifier.TheVariants.{OneOrMore};
 ghost use Rattle.ct_regex.specs.Meaning.{meaning, byte_test};
 ghost use Rattle.ct_regex.specs.Walk.{step_of, of_one as one_step, fork, or_else, join, no_marks, steps_of};
@@ -126,9 +126,9 @@ fn add_parts(alloc: Global, program: Program, parts: &[Node]) -> Result<Program,
 fn add_choice(alloc: Global, program: Program, branches: &[Node]) -> Result<Program, NoMemory>
     ensures steps { IfOk result (λ all. map step_of all.steps.items
         ≡ map step_of program.steps.items
-        ++ steps_of false (length program.marks.items) (choice_of (map meaning branches.now))) }
+        ++ steps_of false (length program.marks.items) (branch_of (map meaning branches.now))) }
     ensures marks { IfOk result (λ all. all.marks.items
-        ≡ program.marks.items ++ no_marks (choice_of (map meaning branches.now))) }
+        ≡ program.marks.items ++ no_marks (branch_of (map meaning branches.now))) }
 {
     if branches.len() == 1 {
         return add(alloc, program, &branches[0]);
@@ -140,9 +140,9 @@ fn add_choice(alloc: Global, program: Program, branches: &[Node]) -> Result<Prog
 fn add_branches(alloc: Global, program: Program, branches: &[Node]) -> Result<Program, NoMemory>
     ensures steps { IfOk result (λ all. map step_of all.steps.items
         ≡ map step_of program.steps.items ++ fork ∷
-        steps_of true (length program.marks.items) (choice_of (map meaning branches.now))) }
+        steps_of true (length program.marks.items) (branch_of (map meaning branches.now))) }
     ensures marks { IfOk result (λ all. all.marks.items
-        ≡ program.marks.items ++ no_marks (choice_of (map meaning branches.now))) }
+        ≡ program.marks.items ++ no_marks (branch_of (map meaning branches.now))) }
 {
     let mut all = program.with_step(Step::Fork)?;
     for i in 0..branches.len() {

@@ -1,5 +1,5 @@
 ghost use Rattle.std.specs.Prelude.{◌≡◌, [], ◌∷◌, ◌++◌, IfOk, map};
-ghost use Rattle.ct_regex.specs.Tree.{repeat, sequence_of, choice_of};
+ghost use Rattle.ct_regex.specs.Tree.{repeat, sequence_of, branch_of};
 ghost use Rattle.ct_regex.specs.Meaning.{meaning, sign_of, last_of, group_of, groups_of};
 ghost use Rattle.ct_regex.specs.Reading.{can_be_empty as tree_can_be_empty, may_repeat, opened_at, last_parts, with_atom, with_branch, with_quantifier, closed, with_sign, with_group, with_close, at_end};
 ghost use Rattle.ct_regex.specs.Gives.{Gives};
@@ -289,7 +289,7 @@ fn all_can_be_empty(parts: &[Node]) -> bool
 
 #[cycle(can_be_empty)]
 fn any_can_be_empty(branches: &[Node]) -> bool
-    ensures { result ≡ tree_can_be_empty (choice_of (map meaning branches.now)) }
+    ensures { result ≡ tree_can_be_empty (branch_of (map meaning branches.now)) }
 {
     for i in 0..branches.len() {
         if can_be_empty(&branches[i]) {

@@ -49,7 +49,7 @@ impl Scan {
     ghost use Rattle.ct_regex.specs.Tree.{Tree};
     ghost use Rattle.ct_regex.specs.TreeOf.{regex_tree};
     ghost use Rattle.ct_regex.specs.Ends.{hits};
-    ghost use Rattle.ct_regex.specs.Scan.{IsScanOf, StandsFor, GoesOn};
+    ghost use Rattle.ct_regex.specs.Scan.{IsScanOf, StandsFor, ScansOn};
 
     /// Makes a scan of the empty text. It takes here all the memory that it ever takes.
     pub fn new(alloc: Global, regex: &Regex) -> Result<Scan, NoMemory>
@@ -132,7 +132,7 @@ impl Scan {
         requires some { 0 < length piece.now }
         requires goes { self.old.found ≡ false }
         ensures less { length result.now < length piece.now }
-        ensures goes_on { GoesOn self.old piece.now result.now self.new }
+        ensures goes_on { ScansOn self.old piece.now result.now self.new }
     {
         let (at, known) = self.memory.follow(self.at, piece);
         self.at = at;
@@ -149,7 +149,7 @@ impl Scan {
     /// Takes bytes by walks over the pattern, and remembers the set that they lead to.
     fn walk(&mut self, bytes: &[u8])
         requires goes { self.old.found ≡ false }
-        ensures { GoesOn self.old bytes.now [] self.new }
+        ensures { ScansOn self.old bytes.now [] self.new }
     {
         self.marks.copy_from_slice(self.memory.marks(self.at));
         let last = self.memory.last(self.at);

@@ -23,12 +23,18 @@ module _ {Y : Type 0} where
 
   -- one more test is counted at this label, and the other counts stay
   abbrev pub CountsLabel : List ℕ → BTreeMap (Vec ℕ Y) ℕ → BTreeMap (Vec ℕ Y) ℕ → Type 0
-  CountsLabel label before after = (other : List ℕ) → count_at after other ≡ count_at before other + (if bytes_eq label other then 1 else 0)
+  CountsLabel label before after =
+      (other : List ℕ)
+      → count_at after other ≡ count_at before other + (if bytes_eq label other then 1 else 0)
 
   -- one more test is counted at each of these labels, once even where a label is listed twice
   abbrev pub CountsLabels : List (List ℕ) → BTreeMap (Vec ℕ Y) ℕ → BTreeMap (Vec ℕ Y) ℕ → Type 0
-  CountsLabels labels before after = (label : List ℕ) → count_at after label ≡ count_at before label + (if list_any (bytes_eq label) labels then 1 else 0)
+  CountsLabels labels before after =
+      (label : List ℕ)
+      → count_at after label ≡ count_at before label + (if list_any (bytes_eq label) labels then 1 else 0)
 
   -- the test is counted at each of its labels, if it is wanted
   abbrev pub CountsTest : Bool → PlanTest → BTreeMap (Vec ℕ Y) ℕ → BTreeMap (Vec ℕ Y) ℕ → Type 0
-  CountsTest wanted t before after = (label : List ℕ) → count_at after label ≡ count_at before label + (if wanted && has_label label t then 1 else 0)
+  CountsTest wanted t before after =
+      (label : List ℕ)
+      → count_at after label ≡ count_at before label + (if wanted && has_label label t then 1 else 0)

@@ -24,7 +24,12 @@ pub record Listed : Type 0 where
 
 -- the line of a test
 abbrev pub test_entry : Listed → List ℕ
-test_entry t = codes "  Test #" ++ decimal t.number ++ codes ": " ++ t.name ++ (if t.disabled then codes " (Disabled)\n" else codes "\n")
+test_entry t =
+    codes "  Test #"
+    ++ decimal t.number
+    ++ codes ": "
+    ++ t.name
+    ++ (if t.disabled then codes " (Disabled)\n" else codes "\n")
 
 -- how many of these tests are not disabled
 abbrev pub enabled_count : List Listed → ℕ
@@ -36,4 +41,5 @@ total_line count = codes "Total Tests: " ++ decimal count ++ codes "\n"
 
 -- the list of these tests of a folder
 abbrev pub test_list : List ℕ → List Listed → List (List ℕ)
-test_list dir tests = project_line dir ∷ map test_entry tests ++ codes "\n" ∷ total_line (enabled_count tests) ∷ []
+test_list dir tests =
+    project_line dir ∷ map test_entry tests ++ codes "\n" ∷ total_line (enabled_count tests) ∷ []

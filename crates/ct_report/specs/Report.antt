@@ -95,7 +95,18 @@ header_line plan = project_line plan.dir
 -- the line of a test with this verdict, which is the place-th to become final
 abbrev pub verdict_line : PlanParts → List Entry → ℕ → PlanTest → Verdict → List ℕ
 verdict_line plan entries place t verdict =
-    decimal place ++ codes "/" ++ decimal (length (enabled plan.tests)) ++ codes " Test #" ++ decimal t.number ++ codes ": " ++ t.name ++ codes " ... " ++ verdict_text plan.tests verdict ++ codes " " ++ seconds_text (micros_of t.number entries) ++ codes " sec\n"
+    decimal place
+    ++ codes "/"
+    ++ decimal (length (enabled plan.tests))
+    ++ codes " Test #"
+    ++ decimal t.number
+    ++ codes ": "
+    ++ t.name
+    ++ codes " ... "
+    ++ verdict_text plan.tests verdict
+    ++ codes " "
+    ++ seconds_text (micros_of t.number entries)
+    ++ codes " sec\n"
 
 -- the line of a test with this verdict; a test that is not final has none
 abbrev pub line_with : PlanParts → List Entry → ℕ → PlanTest → Option Verdict → List ℕ
@@ -127,11 +138,18 @@ percent good all = if all == 0 then 100 else (100 * good) / all
 
 -- the line of counts: the share that passed, how many tests failed, and how many tests there are
 abbrev pub counts_with : ℕ → ℕ → ℕ → List ℕ
-counts_with good failing all = decimal (percent good all) ++ codes "% tests passed, " ++ decimal failing ++ codes " tests failed out of " ++ decimal all ++ codes "\n"
+counts_with good failing all =
+    decimal (percent good all)
+    ++ codes "% tests passed, "
+    ++ decimal failing
+    ++ codes " tests failed out of "
+    ++ decimal all
+    ++ codes "\n"
 
 -- the line of counts of a run, in which disabled tests are not counted
 abbrev pub counts_line : PlanParts → List Entry → List ℕ
-counts_line plan entries = counts_with (good_count plan entries) (length (failing_tests plan entries)) (length (enabled plan.tests))
+counts_line plan entries =
+    counts_with (good_count plan entries) (length (failing_tests plan entries)) (length (enabled plan.tests))
 
 -- the word of a test in the lists of the summary, by its verdict, if it has one
 abbrev pub word_of : Option Verdict → List ℕ
@@ -140,7 +158,8 @@ word_of (Some verdict) = verdict_word verdict
 
 -- the line of a test with this verdict in a list of the summary
 abbrev pub listed_with : PlanTest → Option Verdict → List ℕ
-listed_with t verdict = codes "\t" ++ decimal t.number ++ codes " - " ++ t.name ++ codes " (" ++ word_of verdict ++ codes ")\n"
+listed_with t verdict =
+    codes "\t" ++ decimal t.number ++ codes " - " ++ t.name ++ codes " (" ++ word_of verdict ++ codes ")\n"
 
 -- the line of a test in a list of the summary, by the verdict that the history gives it
 abbrev pub listed_line : PlanParts → List Entry → PlanTest → List ℕ
@@ -169,7 +188,8 @@ labelled_count plan label = count_by (λ (t : PlanTest). not t.disabled && has_l
 
 -- how many tests with the label count as passed, which a disabled test never does
 abbrev pub labelled_good_count : PlanParts → List Entry → List ℕ → ℕ
-labelled_good_count plan entries label = count_by (λ t. is_good_in (verdict_in plan.repeat t entries) && has_label label t) plan.tests
+labelled_good_count plan entries label =
+    count_by (λ t. is_good_in (verdict_in plan.repeat t entries) && has_label label t) plan.tests
 
 -- the line of a label: how many of its tests count as passed, and how many tests have it
 abbrev pub label_line : List ℕ → ℕ → ℕ → List ℕ
@@ -177,7 +197,9 @@ label_line label good all = label ++ codes " = " ++ decimal good ++ codes "/" ++
 
 -- the line of each label
 abbrev pub label_lines : PlanParts → List Entry → List (List ℕ)
-label_lines plan entries = map (λ label. label_line label (labelled_good_count plan entries label) (labelled_count plan label)) (labels_in_order plan.tests)
+label_lines plan entries =
+    map (λ label. label_line label (labelled_good_count plan entries label) (labelled_count plan label))
+    (labels_in_order plan.tests)
 
 -- a test is listed as one that did not run: Disabled, Skipped or Stopped
 abbrev pub is_unrun_in : Option Verdict → Bool
@@ -193,12 +215,18 @@ unrun_tests plan entries = filter (λ t. is_unrun_in (verdict_in plan.repeat t e
 -- the list of the tests that failed, or nothing where no test failed
 abbrev pub failed_lines : List (List ℕ) → List (List ℕ)
 failed_lines [] = []
-failed_lines (line ∷ lines) = under (codes "The following tests FAILED:\n") (line ∷ lines) ++ codes "Errors while running CTest\n" ∷ []
+failed_lines (line ∷ lines) =
+    under (codes "The following tests FAILED:\n") (line ∷ lines) ++ codes "Errors while running CTest\n" ∷ []
 
 -- the summary of a run: the counts, the labels, the tests that did not run, and those that failed
 abbrev pub summary_lines : PlanParts → List Entry → List (List ℕ)
 summary_lines plan entries =
-    codes "\n" ∷ counts_line plan entries ∷ under (codes "Label Summary:\n") (label_lines plan entries) ++ under (codes "The following tests did not run:\n") (map (listed_line plan entries) (unrun_tests plan entries)) ++ failed_lines (map (listed_line plan entries) (failing_tests plan entries))
+    codes "\n"
+    ∷ counts_line plan entries
+    ∷ under (codes "Label Summary:\n") (label_lines plan entries)
+    ++ under (codes "The following tests did not run:\n")
+    (map (listed_line plan entries) (unrun_tests plan entries))
+    ++ failed_lines (map (listed_line plan entries) (failing_tests plan entries))
 
 -- the test that an entry may make final
 abbrev pub finished_by : Entry → Option ℕ
@@ -216,7 +244,8 @@ lines_with plan entries place (Some t) (Some verdict) = verdict_line plan entrie
 -- the line of the test that an entry may have made final, if that test is now final
 abbrev pub lines_of_test : PlanParts → List Entry → ℕ → Option ℕ → List (List ℕ)
 lines_of_test plan entries place None = []
-lines_of_test plan entries place (Some number) = lines_with plan entries place (test_at plan.tests number) (verdict_of_test plan entries number)
+lines_of_test plan entries place (Some number) =
+    lines_with plan entries place (test_at plan.tests number) (verdict_of_test plan entries number)
 
 -- the lines that these entries add behind the entries in `front`, after which `finals` tests have their line
 abbrev pub lines_behind : PlanParts → ℕ → List Entry → List Entry → List (List ℕ)
@@ -233,7 +262,8 @@ test_lines plan entries = lines_behind plan 0 [] entries
 -- where all tests are final, the summary
 abbrev pub body_lines : PlanParts → List Entry → List PlanTest → List (List ℕ)
 body_lines plan entries [] = codes "No tests were found!!!\n" ∷ []
-body_lines plan entries (t ∷ ts) = test_lines plan entries ++ (if are_all_final plan entries then summary_lines plan entries else [])
+body_lines plan entries (t ∷ ts) =
+    test_lines plan entries ++ (if are_all_final plan entries then summary_lines plan entries else [])
 
 -- the report of a history
 abbrev pub report_lines : PlanParts → List Entry → List (List ℕ)

@@ -12,7 +12,18 @@ use Rattle.ct_report.specs.Report.{micros_of, seconds_text, verdict_text}
 -- the line of a test with this verdict and these numbers
 abbrev pub numbered_line : List PlanTest → PlanTest → Verdict → LineNumbers → List ℕ
 numbered_line tests t verdict numbers =
-    decimal numbers.place ++ codes "/" ++ decimal numbers.enabled ++ codes " Test #" ++ decimal t.number ++ codes ": " ++ t.name ++ codes " ... " ++ verdict_text tests verdict ++ codes " " ++ seconds_text numbers.micros ++ codes " sec\n"
+    decimal numbers.place
+    ++ codes "/"
+    ++ decimal numbers.enabled
+    ++ codes " Test #"
+    ++ decimal t.number
+    ++ codes ": "
+    ++ t.name
+    ++ codes " ... "
+    ++ verdict_text tests verdict
+    ++ codes " "
+    ++ seconds_text numbers.micros
+    ++ codes " sec\n"
 
 -- the microseconds of each test's Ends
 abbrev pub micros_each : List PlanTest → List Entry → List ℕ
@@ -20,7 +31,8 @@ micros_each tests entries = map (λ (t : PlanTest). micros_of t.number entries) 
 
 -- where these were the microseconds of each test after some entries, they are now those after one more entry
 abbrev pub NotesEntry : List PlanTest → Entry → List ℕ → List ℕ → Type 0
-NotesEntry tests entry before now = (front : List Entry) → before ≡ micros_each tests front → now ≡ micros_each tests (front ++ entry ∷ [])
+NotesEntry tests entry before now =
+    (front : List Entry) → before ≡ micros_each tests front → now ≡ micros_each tests (front ++ entry ∷ [])
 
 -- the lines have read a beginning of these entries: they tell how many tests are enabled, and the
 -- microseconds of each test after it

@@ -9,9 +9,16 @@ use Rattle.ct_report.specs.Labels.{count_at}
 use Rattle.ct_report.specs.Report.{has_label, is_good_in, is_unrun_in, listed_line}
 
 -- these are the totals of these tests of the plan
-pub record AreTotals (plan : PlanParts) (entries : List Entry) (tests : List PlanTest) (totals : Totals) : Type 0 where
+pub record AreTotals (plan : PlanParts) (entries : List Entry) (tests : List PlanTest) (totals : Totals)
+    : Type 0 where
   pub good : totals.good ≡ count_by (λ t. is_good_in (verdict_in plan.repeat t entries)) tests
-  pub unrun : totals.unrun ≡ map (listed_line plan entries) (filter (λ t. is_unrun_in (verdict_in plan.repeat t entries)) tests)
-  pub failed : totals.failed ≡ map (listed_line plan entries) (filter (λ t. is_failing_in (verdict_in plan.repeat t entries)) tests)
-  pub labelled : (label : List ℕ) → count_at totals.labelled label ≡ count_by (λ (t : PlanTest). not t.disabled && has_label label t) tests
-  pub labelled_good : (label : List ℕ) → count_at totals.labelled_good label ≡ count_by (λ t. is_good_in (verdict_in plan.repeat t entries) && has_label label t) tests
+  pub unrun : totals.unrun
+      ≡ map (listed_line plan entries) (filter (λ t. is_unrun_in (verdict_in plan.repeat t entries)) tests)
+  pub failed : totals.failed
+      ≡ map (listed_line plan entries) (filter (λ t. is_failing_in (verdict_in plan.repeat t entries)) tests)
+  pub labelled : (label : List ℕ)
+      → count_at totals.labelled label ≡ count_by (λ (t : PlanTest).
+      not t.disabled && has_label label t) tests
+  pub labelled_good : (label : List ℕ)
+      → count_at totals.labelled_good label ≡ count_by (λ t.
+      is_good_in (verdict_in plan.repeat t entries) && has_label label t) tests

@@ -2,7 +2,6 @@
 //!
 //! Hands up: `header`, `line`, `summary` and `no_tests`; `TestLines` for the lines of a whole run; the lists, `label_list`
 //! and `test_list`.
-//! Stands on: ct_base, ct_alloc, ct_verdict, ct_history.
 //! Read first: `specs/Report.antt`, then `report.rt`.
 #![tactic(auto)]
 

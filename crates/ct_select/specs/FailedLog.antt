@@ -1,4 +1,5 @@
--- The names in a log of failed tests. Source: CMake manual, ctest(1), --rerun-failed. The form of a line is ctest's.
+-- The names in a log of failed tests. Source: CMake manual, ctest(1), --rerun-failed. The form of a line is
+-- ctest's.
 -- That the number is not looked at, and that other lines are passed over, is this project's choice.
 use Rattle.std.specs.Prelude.{ℕ, ◌+◌, ◌&&◌, not, List, take, drop, length, filter_map, Option, Some, None, ◌==◌, if◌then◌else◌}
 use Rattle.std.specs.List.{position}
@@ -6,17 +7,20 @@ use Rattle.ct_base.specs.Seconds.{is_numeral}
 use Rattle.ct_cost.specs.Text.{lines_in}
 
 -- the byte `:`
-abbrev pub colon : ℕ
-colon = 58
+abbrev pub number_end : ℕ
+number_end = 58
 
 -- the text behind this place, where it is not empty and digits alone stand in front of the place
 abbrev pub name_behind : List ℕ → Option ℕ → Option (List ℕ)
 name_behind line None = None
-name_behind line (Some at) = if is_numeral (take at line) && not (length (drop (at + 1) line) == 0) then Some (drop (at + 1) line) else None
+name_behind line (Some at) =
+    if is_numeral (take at line) && not (length (drop (at + 1) line) == 0)
+    then Some (drop (at + 1) line)
+    else None
 
 -- the name in a line: one or more digits, a `:`, and the name, which is not empty
 abbrev pub name_in : List ℕ → Option (List ℕ)
-name_in line = name_behind line (position (λ byte. byte == colon) line)
+name_in line = name_behind line (position (λ byte. byte == number_end) line)
 
 -- the names in the lines of a log, in order
 abbrev pub failed_in : List ℕ → List (List ℕ)

@@ -2,7 +2,6 @@
 //!
 //! Hands up: `select` gives the numbers of the tests that names, labels and numbers admit, or that
 //! alone are asked for; `failed_names` reads the names in a log of failed tests.
-//! Stands on: ct_base, ct_regex, ct_props and ct_cost.
 //! Read first: `specs/Chosen.antt`, then `chosen.rt`.
 #![tactic(auto)]
 

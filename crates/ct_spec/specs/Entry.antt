@@ -61,7 +61,8 @@ resource_with kind place id (Some slots) = Ok (record { kind = kind; id = id; sl
 -- the resource of the entry at a place, behind entries with these ids; the id is checked before the slots
 abbrev pub resource_for : List ℕ → ℕ → List (List ℕ) → Option (List ℕ) → Option ℕ → Result Resource SpecFault
 resource_for kind place ids None slots = Err (BadId kind place)
-resource_for kind place ids (Some id) slots = if stood_before id ids then Err (TwiceId kind place) else resource_with kind place id slots
+resource_for kind place ids (Some id) slots =
+    if stood_before id ids then Err (TwiceId kind place) else resource_with kind place id slots
 
 -- the resource that an entry declares, or its fault
 abbrev pub resource_in : List ℕ → ℕ → List (List ℕ) → Data → Result Resource SpecFault

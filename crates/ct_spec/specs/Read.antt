@@ -9,6 +9,6 @@ IsFault says NoMemory = ⊤
 IsFault says why = says ≡ Err why
 
 -- the call returned what the definition says, or NoMemory
-abbrev pub IsAnswer : {X : Type 0} → Result X SpecFault → Result X SpecFault → Type 0
-IsAnswer (Ok x) says = says ≡ Ok x
-IsAnswer (Err why) says = IsFault says why
+abbrev pub ReadsResources : {X : Type 0} → Result X SpecFault → Result X SpecFault → Type 0
+ReadsResources (Ok x) says = says ≡ Ok x
+ReadsResources (Err why) says = IsFault says why

@@ -18,7 +18,8 @@ goes_on (Err why) next = Err why
 abbrev pub entries_from : List ℕ → ℕ → List (List ℕ) → Items → Result (List Resource) SpecFault
 entries_from kind place ids no_items = Ok []
 entries_from kind place ids (item entry entries) =
-    goes_on (resource_in kind place ids entry) (λ one. goes_on (entries_from kind (place + 1) (ids ++ one.id ∷ []) entries) (λ others. Ok (one ∷ others)))
+    goes_on (resource_in kind place ids entry) (λ one.
+    goes_on (entries_from kind (place + 1) (ids ++ one.id ∷ []) entries) (λ others. Ok (one ∷ others)))
 
 -- the resources of a kind, or BadKind where its value is no array
 abbrev pub resources_in_array : List ℕ → Option Items → Result (List Resource) SpecFault
@@ -27,12 +28,15 @@ resources_in_array kind (Some entries) = entries_from kind 0 [] entries
 
 -- the resources of a kind; its name is checked first
 abbrev pub resources_of_kind : List ℕ → Data → Result (List Resource) SpecFault
-resources_of_kind kind value = if is_type_name kind then resources_in_array kind (as_array value) else Err (BadKind kind)
+resources_of_kind kind value =
+    if is_type_name kind then resources_in_array kind (as_array value) else Err (BadKind kind)
 
 -- the resources of all kinds, in order of their names
 abbrev pub resources_of_kinds : Members → Result (List Resource) SpecFault
 resources_of_kinds no_members = Ok []
-resources_of_kinds (member kind value kinds) = goes_on (resources_of_kind kind value) (λ these. goes_on (resources_of_kinds kinds) (λ others. Ok (these ++ others)))
+resources_of_kinds (member kind value kinds) =
+    goes_on (resources_of_kind kind value)
+    (λ these. goes_on (resources_of_kinds kinds) (λ others. Ok (these ++ others)))
 
 -- the resources, or TooMany if there are more than 4,096
 abbrev pub limited : List Resource → Result (List Resource) SpecFault
@@ -45,7 +49,9 @@ resources_of_local (Some kinds) = goes_on (resources_of_kinds kinds) limited
 
 -- the object that is the only item of the member `local`
 abbrev pub local_kinds : Data → Option Members
-local_kinds value = option_and_then as_object (option_and_then only_item (option_and_then as_array (get (codes "local") value)))
+local_kinds value =
+    option_and_then as_object
+    (option_and_then only_item (option_and_then as_array (get (codes "local") value)))
 
 -- both numbers are present, and they are the version that is read: 1 and 0
 abbrev pub is_version : Option ℕ → Option ℕ → Bool
@@ -56,11 +62,15 @@ is_version (Some major) (Some minor) = major == 1 && minor == 0
 -- the member `version` is present and says 1 and 0
 abbrev pub is_known_version : Option Data → Bool
 is_known_version None = false
-is_known_version (Some version) = is_version (whole_at (codes "major") version) (whole_at (codes "minor") version)
+is_known_version (Some version) =
+    is_version (whole_at (codes "major") version) (whole_at (codes "minor") version)
 
 -- the resources that a JSON value declares, or its first fault
 abbrev pub resources_of : Data → Result (List Resource) SpecFault
-resources_of value = if is_known_version (get (codes "version") value) then resources_of_local (local_kinds value) else Err BadVersion
+resources_of value =
+    if is_known_version (get (codes "version") value)
+    then resources_of_local (local_kinds value)
+    else Err BadVersion
 
 -- the resources that a JSON value declares, or NotJson where there is no value
 abbrev pub resources_of_json : Option Data → Result (List Resource) SpecFault

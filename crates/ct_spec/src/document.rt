@@ -2,7 +2,7 @@ ghost use Rattle.std.specs.Prelude.{◌≡◌, IfOk, codes, option_map};
 ghost use Rattle.serde_json.specs.Find.{get};
 ghost use Rattle.serde_json.specs.View.{view, members_view};
 ghost use Rattle.ct_spec.specs.Specification.{AreApart, is_known_version, is_version as is_read, limited as limited_to, local_kinds as kinds_in, resources_of as resources_said, resources_of_local};
-ghost use Rattle.ct_spec.specs.Read.{IsAnswer};
+ghost use Rattle.ct_spec.specs.Read.{ReadsResources};
 
 use crate::SpecFault;
 use crate::json::{only_item, whole_at};
@@ -16,7 +16,7 @@ const MOST_RESOURCES: usize = 4_096;
 
 /// Reads the resources that a value declares.
 pub(crate) fn resources_of(alloc: Global, value: &Value) -> Result<List<Resource>, SpecFault>
-    ensures read { IsAnswer result (resources_said (view value.now)) }
+    ensures read { ReadsResources result (resources_said (view value.now)) }
     ensures distinct { IfOk result AreApart }
 {
     if !has_known_version(value) {
@@ -56,7 +56,7 @@ fn local_kinds(value: &Value) -> Option<&Map<String, Value>>
 
 fn limited(resources: List<Resource>) -> Result<List<Resource>, SpecFault>
     requires { AreApart resources }
-    ensures read { IsAnswer result (limited_to resources) }
+    ensures read { ReadsResources result (limited_to resources) }
     ensures distinct { IfOk result AreApart }
 {
     if resources.len() > MOST_RESOURCES {

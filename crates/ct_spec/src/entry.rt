@@ -3,7 +3,7 @@ ghost use Rattle.std.specs.List.{list_all};
 ghost use Rattle.serde_json.specs.View.{view};
 ghost use Rattle.ct_spec.specs.Entry.{begins_type as may_begin, checked_slots as slots_by, id_in as id_said, is_id as is_id_text, is_name_byte as may_go_on, is_type_name as is_name, resource_in as resource_said, slots_in as slots_of};
 ghost use Rattle.ct_spec.specs.Ids.{AreIds};
-ghost use Rattle.ct_spec.specs.Read.{IsAnswer};
+ghost use Rattle.ct_spec.specs.Read.{ReadsResources};
 
 use crate::SpecFault;
 use crate::ids::Ids;
@@ -23,7 +23,7 @@ pub(crate) fn resource_in(
     entry: &Value,
 ) -> Result<Resource, SpecFault>
     ensures { (taken : List (List ℕ)) → AreIds ids.now taken
-        → IsAnswer result (resource_said kind.now place taken (view entry.now)) }
+        → ReadsResources result (resource_said kind.now place taken (view entry.now)) }
 {
     // There is no memory for an array of so many entries.
     let Ok(number) = u32::try_from(place) else {

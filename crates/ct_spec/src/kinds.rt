@@ -1,7 +1,7 @@
 ghost use Rattle.std.specs.Prelude.{◌≡◌, ◌++◌, [], IfOk, OnOk, All};
 ghost use Rattle.serde_json.specs.View.{view, items_view, members_view};
 ghost use Rattle.ct_spec.specs.Specification.{AreApart, entries_from, resources_of_kind as kind_says, resources_of_kinds as kinds_say};
-ghost use Rattle.ct_spec.specs.Read.{IsAnswer};
+ghost use Rattle.ct_spec.specs.Read.{ReadsResources};
 
 use crate::SpecFault;
 use crate::entry::{is_type_name, resource_in};
@@ -15,7 +15,7 @@ pub(crate) fn resources_of_kinds(
     alloc: Global,
     kinds: &Map<String, Value>,
 ) -> Result<List<Resource>, SpecFault>
-    ensures read { IsAnswer result (kinds_say (members_view kinds.now.entries)) }
+    ensures read { ReadsResources result (kinds_say (members_view kinds.now.entries)) }
     ensures distinct { IfOk result AreApart }
 {
     let mut resources = List::new(alloc);
@@ -37,7 +37,7 @@ fn push_all(resources: &mut List<Resource>, more: List<Resource>) -> Result<(), 
 
 /// Reads the resources of a kind; its name is checked first.
 fn resources_of_kind(alloc: Global, kind: &[u8], value: &Value) -> Result<List<Resource>, SpecFault>
-    ensures { IsAnswer result (kind_says kind.now (view value.now)) }
+    ensures { ReadsResources result (kind_says kind.now (view value.now)) }
 {
     if !is_type_name(kind) {
         return Err(SpecFault::BadKind {
@@ -58,7 +58,7 @@ fn resources_of_entries(
     kind: &[u8],
     entries: &[Value],
 ) -> Result<List<Resource>, SpecFault>
-    ensures { IsAnswer result (entries_from kind.now 0 [] (items_view entries.now)) }
+    ensures { ReadsResources result (entries_from kind.now 0 [] (items_view entries.now)) }
 {
     let mut resources = List::new(alloc);
     let mut ids = Ids::new(alloc);

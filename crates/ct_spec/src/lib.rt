@@ -1,7 +1,6 @@
 //! Reads the resources that a machine declares for tests.
 //!
 //! Hands up: `Spec::parse`, with `resources` to read what it found.
-//! Stands on: ct_base and `serde_json`.
 //! Read first: `specs/Specification.antt`, then `spec.rt`.
 #![tactic(auto)]
 

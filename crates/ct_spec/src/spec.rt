@@ -1,6 +1,6 @@
 ghost use Rattle.std.specs.Prelude.{◌≡◌};
 ghost use Rattle.ct_spec.specs.Specification.{AreApart, resources_in};
-ghost use Rattle.ct_spec.specs.Read.{IsAnswer};
+ghost use Rattle.ct_spec.specs.Read.{ReadsResources};
 
 use crate::SpecFault;
 use crate::document::resources_of;
@@ -38,7 +38,7 @@ impl Spec {
     /// Source: CMake manual, ctest(1), Resource Specification File. The faults and the limits are
     /// this project's choice.
     pub fn parse(alloc: Global, text: &[u8]) -> Result<Spec, SpecFault>
-        ensures { IsAnswer result (resources_in text.now) }
+        ensures { ReadsResources result (resources_in text.now) }
     {
         let Some(value) = json_in(alloc, text)? else {
             return Err(SpecFault::NotJson);

@@ -12,7 +12,7 @@ use Rattle.indexmap.specs.IndexMap.{insert_entry}
 use Rattle.ct_base.specs.declared.defs.TestDef.{TestDef}
 use Rattle.ct_suite.specs.Tests.{each_where}
 use Rattle.ct_suite.specs.declared.places.KeyPlaces.{KeyPlaces}
-use Rattle.ct_suite.specs.Entries.{places_in, places_of, positions, AreIndexed, changed, changed_at}
+use Rattle.ct_suite.specs.Entries.{places_by_key, places_of, positions, AreIndexed, changed, changed_at}
 
 -- the places that are kept by a key; none where the key is absent
 abbrev pub items_or_none : Option KeyPlaces → List ℕ
@@ -41,61 +41,61 @@ module _ {Y : Type 0} where
   lookup_by entry more rest same true = refl
   lookup_by entry more rest same false = same
 
-  pub places_in-lookup : (key : List ℕ) (entries : List (Vec ℕ Y × KeyPlaces)) → items_or_none (lookup (λ (k : Vec ℕ Y). bytes_eq key k.items) entries) ≡ places_in entries key
+  pub places_in-lookup : (key : List ℕ) (entries : List (Vec ℕ Y × KeyPlaces)) → items_or_none (lookup (λ (k : Vec ℕ Y). bytes_eq key k.items) entries) ≡ places_by_key entries key
   places_in-lookup key [] = refl
   places_in-lookup key (entry ∷ entries) =
-      lookup_by entry (lookup (λ (k : Vec ℕ Y). bytes_eq key k.items) entries) (places_in entries key) (places_in-lookup key entries) (bytes_eq key entry.0.items)
+      lookup_by entry (lookup (λ (k : Vec ℕ Y). bytes_eq key k.items) entries) (places_by_key entries key) (places_in-lookup key entries) (bytes_eq key entry.0.items)
 
-  insert_by : (asked : List ℕ) (key : Vec ℕ Y) (value : KeyPlaces) (entry : Vec ℕ Y × KeyPlaces) (entries more : List (Vec ℕ Y × KeyPlaces)) → places_in more asked ≡ cond (bytes_eq asked key.items) (places_of value) (places_in entries asked) → (is : Bool) → bytes_eq key.items entry.0.items ≡ is
-      → places_in (cond is ((entry.0, value) ∷ entries) (entry ∷ more)) asked ≡ cond (bytes_eq asked key.items) (places_of value) (cond (bytes_eq asked entry.0.items) (places_of entry.1) (places_in entries asked))
+  insert_by : (asked : List ℕ) (key : Vec ℕ Y) (value : KeyPlaces) (entry : Vec ℕ Y × KeyPlaces) (entries more : List (Vec ℕ Y × KeyPlaces)) → places_by_key more asked ≡ cond (bytes_eq asked key.items) (places_of value) (places_by_key entries asked) → (is : Bool) → bytes_eq key.items entry.0.items ≡ is
+      → places_by_key (cond is ((entry.0, value) ∷ entries) (entry ∷ more)) asked ≡ cond (bytes_eq asked key.items) (places_of value) (cond (bytes_eq asked entry.0.items) (places_of entry.1) (places_by_key entries asked))
   insert_by asked key value entry entries more rest true is =
-      choose_twice (bytes_eq asked entry.0.items) (bytes_eq asked key.items) (places_of value) (places_of entry.1) (places_in entries asked) (ap (bytes_eq asked) (sym ((bytes_eq-Decides key.items entry.0.items).0 is)))
+      choose_twice (bytes_eq asked entry.0.items) (bytes_eq asked key.items) (places_of value) (places_of entry.1) (places_by_key entries asked) (ap (bytes_eq asked) (sym ((bytes_eq-Decides key.items entry.0.items).0 is)))
   insert_by asked key value entry entries more rest false is =
       ap (cond (bytes_eq asked entry.0.items) (places_of entry.1)) rest
-      ∙ choose_other (bytes_eq asked entry.0.items) (bytes_eq asked key.items) (places_of entry.1) (places_of value) (places_in entries asked) (not_both asked key.items entry.0.items is)
+      ∙ choose_other (bytes_eq asked entry.0.items) (bytes_eq asked key.items) (places_of entry.1) (places_of value) (places_by_key entries asked) (not_both asked key.items entry.0.items is)
 
   -- inserting an entry sets the places of its key
-  pub places_in-insert_entry : (asked : List ℕ) (entries : List (Vec ℕ Y × KeyPlaces)) (key : Vec ℕ Y) (value : KeyPlaces) → places_in (insert_entry (λ (one other : Vec ℕ Y). bytes_eq one.items other.items) entries key value) asked ≡ cond (bytes_eq asked key.items) (places_of value) (places_in entries asked)
+  pub places_in-insert_entry : (asked : List ℕ) (entries : List (Vec ℕ Y × KeyPlaces)) (key : Vec ℕ Y) (value : KeyPlaces) → places_by_key (insert_entry (λ (one other : Vec ℕ Y). bytes_eq one.items other.items) entries key value) asked ≡ cond (bytes_eq asked key.items) (places_of value) (places_by_key entries asked)
   places_in-insert_entry asked [] key value = refl
   places_in-insert_entry asked (entry ∷ entries) key value =
       insert_by asked key value entry entries (insert_entry (λ (one other : Vec ℕ Y). bytes_eq one.items other.items) entries key value) (places_in-insert_entry asked entries key value) (bytes_eq key.items entry.0.items) refl
 
-  noted_by : (old : List (Vec ℕ Y × KeyPlaces)) (asked key items : List ℕ) (place : ℕ) → items ≡ places_in old key ++ place ∷ [] → (is : Bool) → bytes_eq asked key ≡ is → cond is items (places_in old asked) ≡ cond is (places_in old asked ++ place ∷ []) (places_in old asked)
+  noted_by : (old : List (Vec ℕ Y × KeyPlaces)) (asked key items : List ℕ) (place : ℕ) → items ≡ places_by_key old key ++ place ∷ [] → (is : Bool) → bytes_eq asked key ≡ is → cond is items (places_by_key old asked) ≡ cond is (places_by_key old asked ++ place ∷ []) (places_by_key old asked)
   noted_by old asked key items place put true is =
-      put ∙ ap (λ k. places_in old k ++ place ∷ []) (sym ((bytes_eq-Decides asked key).0 is))
+      put ∙ ap (λ k. places_by_key old k ++ place ∷ []) (sym ((bytes_eq-Decides asked key).0 is))
   noted_by old asked key items place put false is = refl
 
-  set_by : (asked key : List ℕ) (value old : KeyPlaces) (entry : Vec ℕ Y × KeyPlaces) (entries more : List (Vec ℕ Y × KeyPlaces)) (found : Option (KeyPlaces)) → (found ≡ Some old → places_in more asked ≡ cond (bytes_eq asked key) (places_of value) (places_in entries asked)) → (is : Bool) → bytes_eq key entry.0.items ≡ is → cond is (Some entry.1) found ≡ Some old
-      → places_in (cond is ((entry.0, value) ∷ entries) (entry ∷ more)) asked ≡ cond (bytes_eq asked key) (places_of value) (cond (bytes_eq asked entry.0.items) (places_of entry.1) (places_in entries asked))
+  set_by : (asked key : List ℕ) (value old : KeyPlaces) (entry : Vec ℕ Y × KeyPlaces) (entries more : List (Vec ℕ Y × KeyPlaces)) (found : Option (KeyPlaces)) → (found ≡ Some old → places_by_key more asked ≡ cond (bytes_eq asked key) (places_of value) (places_by_key entries asked)) → (is : Bool) → bytes_eq key entry.0.items ≡ is → cond is (Some entry.1) found ≡ Some old
+      → places_by_key (cond is ((entry.0, value) ∷ entries) (entry ∷ more)) asked ≡ cond (bytes_eq asked key) (places_of value) (cond (bytes_eq asked entry.0.items) (places_of entry.1) (places_by_key entries asked))
   set_by asked key value old entry entries more found rest true is there =
-      choose_twice (bytes_eq asked entry.0.items) (bytes_eq asked key) (places_of value) (places_of entry.1) (places_in entries asked) (ap (bytes_eq asked) (sym ((bytes_eq-Decides key entry.0.items).0 is)))
+      choose_twice (bytes_eq asked entry.0.items) (bytes_eq asked key) (places_of value) (places_of entry.1) (places_by_key entries asked) (ap (bytes_eq asked) (sym ((bytes_eq-Decides key entry.0.items).0 is)))
   set_by asked key value old entry entries more found rest false is there =
       ap (cond (bytes_eq asked entry.0.items) (places_of entry.1)) (rest there)
-      ∙ choose_other (bytes_eq asked entry.0.items) (bytes_eq asked key) (places_of entry.1) (places_of value) (places_in entries asked) (not_both asked key entry.0.items is)
+      ∙ choose_other (bytes_eq asked entry.0.items) (bytes_eq asked key) (places_of entry.1) (places_of value) (places_by_key entries asked) (not_both asked key entry.0.items is)
 
   -- the places of a key that is present are replaced
-  places_in-set_value : (asked key : List ℕ) (entries : List (Vec ℕ Y × KeyPlaces)) (value old : KeyPlaces) → lookup (λ (k : Vec ℕ Y). bytes_eq key k.items) entries ≡ Some old → places_in (set_value (λ (k : Vec ℕ Y). bytes_eq key k.items) entries value) asked ≡ cond (bytes_eq asked key) (places_of value) (places_in entries asked)
+  places_in-set_value : (asked key : List ℕ) (entries : List (Vec ℕ Y × KeyPlaces)) (value old : KeyPlaces) → lookup (λ (k : Vec ℕ Y). bytes_eq key k.items) entries ≡ Some old → places_by_key (set_value (λ (k : Vec ℕ Y). bytes_eq key k.items) entries value) asked ≡ cond (bytes_eq asked key) (places_of value) (places_by_key entries asked)
   places_in-set_value asked key [] value old there = cc
   places_in-set_value asked key (entry ∷ entries) value old there =
       set_by asked key value old entry entries (set_value (λ (k : Vec ℕ Y). bytes_eq key k.items) entries value) (lookup (λ (k : Vec ℕ Y). bytes_eq key k.items) entries) (λ found. places_in-set_value asked key entries value old found) (bytes_eq key entry.0.items) refl there
 
   -- one more place is noted behind those of a key that is present
   pub places_in-more : (old now : List (Vec ℕ Y × KeyPlaces)) (asked key : List ℕ) (here pushed : KeyPlaces) (place : ℕ) → now ≡ set_value (λ (k : Vec ℕ Y). bytes_eq key k.items) old pushed → lookup (λ (k : Vec ℕ Y). bytes_eq key k.items) old ≡ Some here → (places_of pushed) ≡ places_of here ++ place ∷ []
-      → places_in now asked ≡ cond (bytes_eq asked key) (places_in old asked ++ place ∷ []) (places_in old asked)
+      → places_by_key now asked ≡ cond (bytes_eq asked key) (places_by_key old asked ++ place ∷ []) (places_by_key old asked)
   places_in-more old now asked key here pushed place is there put =
-      let kept : places_of here ≡ places_in old key = ap items_or_none (sym there) ∙ places_in-lookup key old in
-      ap (λ entries. places_in entries asked) is
+      let kept : places_of here ≡ places_by_key old key = ap items_or_none (sym there) ∙ places_in-lookup key old in
+      ap (λ entries. places_by_key entries asked) is
       ∙ places_in-set_value asked key old pushed here there
       ∙ noted_by old asked key (places_of pushed) place (put ∙ ap (λ places. places ++ place ∷ []) kept) (bytes_eq asked key) refl
 
   -- a place is noted for a key that was absent
   pub places_in-first : (old now : List (Vec ℕ Y × KeyPlaces)) (asked key : List ℕ) (own : Vec ℕ Y) (pushed : KeyPlaces) (place : ℕ) → own.items ≡ key → lookup (λ (k : Vec ℕ Y). bytes_eq key k.items) old ≡ None → now ≡ insert_entry (λ (k l : Vec ℕ Y). bytes_eq k.items l.items) old own pushed → (places_of pushed) ≡ place ∷ []
-      → places_in now asked ≡ cond (bytes_eq asked key) (places_in old asked ++ place ∷ []) (places_in old asked)
+      → places_by_key now asked ≡ cond (bytes_eq asked key) (places_by_key old asked ++ place ∷ []) (places_by_key old asked)
   places_in-first old now asked key own pushed place is_own none is put =
-      let nothing : [] ≡ places_in old key = ap items_or_none (sym none) ∙ places_in-lookup key old in
-      ap (λ entries. places_in entries asked) is
+      let nothing : [] ≡ places_by_key old key = ap items_or_none (sym none) ∙ places_in-lookup key old in
+      ap (λ entries. places_by_key entries asked) is
       ∙ places_in-insert_entry asked old own pushed
-      ∙ ap (λ k. cond (bytes_eq asked k) (places_of pushed) (places_in old asked)) is_own
+      ∙ ap (λ k. cond (bytes_eq asked k) (places_of pushed) (places_by_key old asked)) is_own
       ∙ noted_by old asked key (places_of pushed) place (put ∙ ap (λ places. places ++ place ∷ []) nothing) (bytes_eq asked key) refl
 
 positions-by : (first : ℕ) (key other : List ℕ) (keys : List (List ℕ)) (rest rest' : List ℕ) (is : Bool) (added : Bool) (last : ℕ) → rest' ≡ cond added (rest ++ last ∷ []) rest → cond is (first ∷ rest') rest' ≡ cond added (cond is (first ∷ rest) rest ++ last ∷ []) (cond is (first ∷ rest) rest)
@@ -112,7 +112,7 @@ positions-snoc first key (other ∷ keys) last place at =
     positions-by first key other keys (positions (first + 1) key keys) (positions (first + 1) key (keys ++ last ∷ [])) (bytes_eq key other) (bytes_eq key last) place (positions-snoc (first + 1) key keys last place (omega arith))
 
 -- a place that is noted goes behind the other places of its key
-pub AreIndexed-noted : {Y : Type 0} (old now : List (Vec ℕ Y × KeyPlaces)) (keys : List (List ℕ)) (last : List ℕ) (place : ℕ) → place ≡ length keys → ((asked : List ℕ) → places_in now asked ≡ cond (bytes_eq asked last) (places_in old asked ++ place ∷ []) (places_in old asked)) → AreIndexed old keys → AreIndexed now (keys ++ last ∷ [])
+pub AreIndexed-noted : {Y : Type 0} (old now : List (Vec ℕ Y × KeyPlaces)) (keys : List (List ℕ)) (last : List ℕ) (place : ℕ) → place ≡ length keys → ((asked : List ℕ) → places_by_key now asked ≡ cond (bytes_eq asked last) (places_by_key old asked ++ place ∷ []) (places_by_key old asked)) → AreIndexed old keys → AreIndexed now (keys ++ last ∷ [])
 AreIndexed-noted old now keys last place at noted indexed key =
     noted key
     ∙ ap (λ places. cond (bytes_eq key last) (places ++ place ∷ []) places) (indexed key)
@@ -206,19 +206,19 @@ changed_at-last change places front last xs whole =
     sym (changed_at-push change front last xs) ∙ ap (λ ps. changed_at change ps xs) (sym whole)
 
 -- a change at the places that are kept by a key changes each test with that key
-pub changed-all : {Y : Type 0} (change : TestDef → TestDef) (key_of : TestDef → List ℕ) (key asked : List ℕ) (entries : List (Vec ℕ Y × KeyPlaces)) (tests : List TestDef) (places : List ℕ) → asked ≡ key → places ≡ places_in entries asked → AreIndexed entries (map key_of tests) → changed_at change places tests ≡ each_where (λ test. bytes_eq key (key_of test)) change tests
+pub changed-all : {Y : Type 0} (change : TestDef → TestDef) (key_of : TestDef → List ℕ) (key asked : List ℕ) (entries : List (Vec ℕ Y × KeyPlaces)) (tests : List TestDef) (places : List ℕ) → asked ≡ key → places ≡ places_by_key entries asked → AreIndexed entries (map key_of tests) → changed_at change places tests ≡ each_where (λ test. bytes_eq key (key_of test)) change tests
 changed-all change key_of key asked entries tests places is found indexed =
     ap (λ ps. changed_at change ps tests) (found ∙ indexed asked ∙ ap (λ k. positions 0 k (map key_of tests)) is)
     ∙ changed_at-positions change key_of key tests
 
 -- each place that is kept by a key is a place of a test
-pub places-within : {Y : Type 0} (key_of : TestDef → List ℕ) (asked : List ℕ) (entries : List (Vec ℕ Y × KeyPlaces)) (tests : List TestDef) (places : List ℕ) (n : ℕ) → places ≡ places_in entries asked → AreIndexed entries (map key_of tests) → length tests ≡ n → All (λ place. place < n) places
+pub places-within : {Y : Type 0} (key_of : TestDef → List ℕ) (asked : List ℕ) (entries : List (Vec ℕ Y × KeyPlaces)) (tests : List TestDef) (places : List ℕ) (n : ℕ) → places ≡ places_by_key entries asked → AreIndexed entries (map key_of tests) → length tests ≡ n → All (λ place. place < n) places
 places-within key_of asked entries tests places n found indexed len =
     let P : List ℕ → Type 0 = λ ps. All (λ place. place < n) ps in
     subst P (sym (found ∙ indexed asked)) (positions-within 0 asked (map key_of tests) n (omega (arith, length-map tests key_of)))
 
 -- a key has as many places as there are tests with it
-pub length-places : {Y : Type 0} (key_of : TestDef → List ℕ) (key asked : List ℕ) (entries : List (Vec ℕ Y × KeyPlaces)) (tests : List TestDef) (places : List ℕ) → asked ≡ key → places ≡ places_in entries asked → AreIndexed entries (map key_of tests) → length places ≡ count_by (λ test. bytes_eq key (key_of test)) tests
+pub length-places : {Y : Type 0} (key_of : TestDef → List ℕ) (key asked : List ℕ) (entries : List (Vec ℕ Y × KeyPlaces)) (tests : List TestDef) (places : List ℕ) → asked ≡ key → places ≡ places_by_key entries asked → AreIndexed entries (map key_of tests) → length places ≡ count_by (λ test. bytes_eq key (key_of test)) tests
 length-places key_of key asked entries tests places is found indexed =
     ap length (found ∙ indexed asked ∙ ap (λ k. positions 0 k (map key_of tests)) is) ∙ length-positions 0 key key_of tests
 

@@ -9,17 +9,17 @@ use Rattle.std.proofs.lemmas.List.Sums.{fold_more}
 use Rattle.std.proofs.lemmas.Slice.Eq.{bytes_eq-Decides}
 use Rattle.indexmap.specs.IndexMap.{insert_entry}
 use Rattle.ct_base.specs.declared.defs.Pair.{Pair}
-use Rattle.ct_suite.specs.Values.{Variable, value_of, with_variable}
+use Rattle.ct_suite.specs.Values.{Variable, variable_value, with_variable}
 use Rattle.ct_suite.specs.Tests.{with_prop, with_props}
 use Rattle.ct_suite.specs.Props.{is_other, prop_of}
 use Rattle.ct_suite.specs.Entries.{variable_of}
 
-value_by : {Z : Type 0} (name : List ℕ) (entry : Vec ℕ Z × Option (List ℕ)) (entries : List (Vec ℕ Z × Option (List ℕ))) → option_flatten (lookup (λ (key : Vec ℕ Z). bytes_eq name key.items) entries) ≡ value_of (map variable_of entries) name → (is : Bool) → option_flatten (cond is (Some entry.1) (lookup (λ (key : Vec ℕ Z). bytes_eq name key.items) entries)) ≡ cond is entry.1 (value_of (map variable_of entries) name)
+value_by : {Z : Type 0} (name : List ℕ) (entry : Vec ℕ Z × Option (List ℕ)) (entries : List (Vec ℕ Z × Option (List ℕ))) → option_flatten (lookup (λ (key : Vec ℕ Z). bytes_eq name key.items) entries) ≡ variable_value (map variable_of entries) name → (is : Bool) → option_flatten (cond is (Some entry.1) (lookup (λ (key : Vec ℕ Z). bytes_eq name key.items) entries)) ≡ cond is entry.1 (variable_value (map variable_of entries) name)
 value_by name entry entries rest true = refl
 value_by name entry entries rest false = rest
 
 -- the value of a variable is the one that is kept by its name
-pub value_of-lookup : {Z : Type 0} (name : List ℕ) (entries : List (Vec ℕ Z × Option (List ℕ))) → option_flatten (lookup (λ (key : Vec ℕ Z). bytes_eq name key.items) entries) ≡ value_of (map variable_of entries) name
+pub value_of-lookup : {Z : Type 0} (name : List ℕ) (entries : List (Vec ℕ Z × Option (List ℕ))) → option_flatten (lookup (λ (key : Vec ℕ Z). bytes_eq name key.items) entries) ≡ variable_value (map variable_of entries) name
 value_of-lookup name [] = refl
 value_of-lookup name (entry ∷ entries) =
     value_by name entry entries (value_of-lookup name entries) (bytes_eq name entry.0.items)

@@ -11,7 +11,13 @@ use Rattle.ct_suite.specs.declared.places.KeyPlaces.TheVariants.{One, Many}
 
 -- the test that is defined, with the properties so far
 abbrev pub def_of : OpenTest → TestDef
-def_of test = record { name = test.name; command = test.command; dir = test.dir; props = test.props; dir_labels = test.dir_labels }
+def_of test = record {
+  name = test.name;
+  command = test.command;
+  dir = test.dir;
+  props = test.props;
+  dir_labels = test.dir_labels;
+}
 
 -- a variable that is kept by its name
 abbrev pub variable_of : {Z : Type 0} → Vec ℕ Z × Option (List ℕ) → Variable
@@ -23,14 +29,16 @@ places_of (One place) = place ∷ []
 places_of (Many places) = places.items
 
 -- the places that are kept by a key; none where the key is absent
-abbrev pub places_in : {Y : Type 0} → List (Vec ℕ Y × KeyPlaces) → List ℕ → List ℕ
-places_in [] key = []
-places_in (entry ∷ entries) key = if bytes_eq key entry.0.items then places_of entry.1 else places_in entries key
+abbrev pub places_by_key : {Y : Type 0} → List (Vec ℕ Y × KeyPlaces) → List ℕ → List ℕ
+places_by_key [] key = []
+places_by_key (entry ∷ entries) key =
+    if bytes_eq key entry.0.items then places_of entry.1 else places_by_key entries key
 
 -- the places, counted from `first`, at which the key stands among these keys
 abbrev pub positions : ℕ → List ℕ → List (List ℕ) → List ℕ
 positions first key [] = []
-positions first key (other ∷ keys) = if bytes_eq key other then first ∷ positions (first + 1) key keys else positions (first + 1) key keys
+positions first key (other ∷ keys) =
+    if bytes_eq key other then first ∷ positions (first + 1) key keys else positions (first + 1) key keys
 
 -- the names of the tests
 abbrev pub names_of : List TestDef → List (List ℕ)
@@ -42,7 +50,7 @@ dirs_of tests = map (λ (test : TestDef). test.dir) tests
 
 -- each key is kept with all the places at which it stands among these keys
 abbrev pub AreIndexed : {Y : Type 0} → List (Vec ℕ Y × KeyPlaces) → List (List ℕ) → Type 0
-AreIndexed entries keys = (key : List ℕ) → places_in entries key ≡ positions 0 key keys
+AreIndexed entries keys = (key : List ℕ) → places_by_key entries key ≡ positions 0 key keys
 
 -- a list with the item at a place changed
 abbrev pub changed : {A : Type 0} → (A → A) → ℕ → List A → List A
@@ -69,5 +77,5 @@ abbrev pub of_name : (TestDef → TestDef) → List TestDef → List ℕ → Lis
 of_name change tests name = each_where (λ (test : TestDef). bytes_eq name test.name) change tests
 
 -- how many tests have the name
-abbrev pub count_of : List TestDef → List ℕ → ℕ
-count_of tests name = count_by (λ (test : TestDef). bytes_eq name test.name) tests
+abbrev pub name_count : List TestDef → List ℕ → ℕ
+name_count tests name = count_by (λ (test : TestDef). bytes_eq name test.name) tests

@@ -11,7 +11,8 @@ use Rattle.ct_suite.specs.declared.value.Value.{Value}
 
 -- the values are longer than the limits allow: one of them, or all together
 abbrev pub are_too_long : ValueLimits → List Value → Bool
-are_too_long limits values = list_any (is_too_long limits.value_bytes) values || nat_lt limits.all_value_bytes (size values)
+are_too_long limits values =
+    list_any (is_too_long limits.value_bytes) values || nat_lt limits.all_value_bytes (size values)
 
 -- TooLong is returned only if `Long` holds; NoMemory is always allowed
 abbrev pub StopsIf : Type 0 → ValueFault → Type 0
@@ -38,11 +39,15 @@ held_bytes held = if held then backslash ∷ [] else []
 
 -- the values of the reader once these bytes of an unquoted argument are read too
 abbrev pub entries_with : Reader → List ℕ → List Value
-entries_with reader rest = reader.values ++ map bare (filter is_entry (with_front reader.text.items (parts_of (held_bytes reader.held ++ rest))))
+entries_with reader rest =
+    reader.values
+    ++ map bare (filter is_entry (with_front reader.text.items (parts_of (held_bytes reader.held ++ rest))))
 
 -- the reader has read these bytes of an unquoted argument;
 -- or it stopped, since the values with them are too long or memory was wanting
-pub record TakesEntries (limits : ValueLimits) (old new : Reader) (piece : List ℕ) (result : Result (Unit {0}) ValueFault) : Type 0 where
+pub record TakesEntries
+    (limits : ValueLimits) (old new : Reader) (piece : List ℕ) (result : Result (Unit {0}) ValueFault)
+    : Type 0 where
   pub counted : OnOk result (IsCounted new)
   pub taken : OnOk result ((rest : List ℕ) → entries_with new rest ≡ entries_with old (piece ++ rest))
   pub stopped : IfErr result (λ why. (rest : List ℕ) → StopsFor limits (entries_with old (piece ++ rest)) why)
@@ -58,8 +63,11 @@ is_ended (byte ∷ bytes) = byte == semicolon
 
 -- the reader holds back no backslash any more, which changes nothing if no semicolon comes next;
 -- or it stopped, since the values are too long or memory was wanting
-pub record Releases (limits : ValueLimits) (old new : Reader) (result : Result (Unit {0}) ValueFault) : Type 0 where
+pub record Releases (limits : ValueLimits) (old new : Reader) (result : Result (Unit {0}) ValueFault)
+    : Type 0 where
   pub counted : OnOk result (IsCounted new)
   pub held : OnOk result (new.held ≡ false)
-  pub taken : OnOk result ((rest : List ℕ) → is_ended rest ≡ false → entries_with new rest ≡ entries_with old rest)
-  pub stopped : IfErr result (λ why. (rest : List ℕ) → is_ended rest ≡ false → StopsFor limits (entries_with old rest) why)
+  pub taken :
+      OnOk result ((rest : List ℕ) → is_ended rest ≡ false → entries_with new rest ≡ entries_with old rest)
+  pub stopped : IfErr result
+      (λ why. (rest : List ℕ) → is_ended rest ≡ false → StopsFor limits (entries_with old rest) why)

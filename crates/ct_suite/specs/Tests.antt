@@ -38,15 +38,16 @@ new_test dir name command = record { name = name; command = command; dir = dir; 
 -- the properties after one was set: it takes the place of the one with its key, or goes to the end
 abbrev pub with_prop : List Pair → Pair → List Pair
 with_prop [] prop = prop ∷ []
-with_prop (first ∷ props) prop = if bytes_eq prop.name first.name then prop ∷ props else first ∷ with_prop props prop
+with_prop (first ∷ props) prop =
+    if bytes_eq prop.name first.name then prop ∷ props else first ∷ with_prop props prop
 
 -- the properties after each of these was set in turn
 abbrev pub with_props : List Pair → List Pair → List Pair
 with_props props more = fold with_prop props more
 
 -- the name is among these
-abbrev pub is_one_of : List (List ℕ) → List ℕ → Bool
-is_one_of names name = list_any (λ (other : List ℕ). bytes_eq other name) names
+abbrev pub is_one_of_names : List (List ℕ) → List ℕ → Bool
+is_one_of_names names name = list_any (λ (other : List ℕ). bytes_eq other name) names
 
 -- the tests, with each test that passes changed
 abbrev pub each_where : (TestDef → Bool) → (TestDef → TestDef) → List TestDef → List TestDef
@@ -54,11 +55,11 @@ each_where passes change tests = map (λ (test : TestDef). if passes test then c
 
 -- the test has one of these names
 abbrev pub has_name_of : List (List ℕ) → TestDef → Bool
-has_name_of names test = is_one_of names test.name
+has_name_of names test = is_one_of_names names test.name
 
 -- the test belongs to this folder
-abbrev pub is_in : List ℕ → TestDef → Bool
-is_in dir test = bytes_eq dir test.dir
+abbrev pub is_in_folder : List ℕ → TestDef → Bool
+is_in_folder dir test = bytes_eq dir test.dir
 
 -- the test with these properties set
 abbrev pub taking_props : List Pair → TestDef → TestDef

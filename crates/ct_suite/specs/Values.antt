@@ -16,20 +16,23 @@ pub record Variable : Type 0 where
   pub value : Option (List ℕ)
 
 -- the value of the variable of that name, if it is set
-abbrev pub value_of : List Variable → List ℕ → Option (List ℕ)
-value_of [] name = None
-value_of (first ∷ variables) name = if bytes_eq name first.name then first.value else value_of variables name
+abbrev pub variable_value : List Variable → List ℕ → Option (List ℕ)
+variable_value [] name = None
+variable_value (first ∷ variables) name =
+    if bytes_eq name first.name then first.value else variable_value variables name
 
 -- the variables after one was set: it takes the place of the one with its name, or goes to the end
 abbrev pub with_variable : List Variable → Variable → List Variable
 with_variable [] variable = variable ∷ []
 with_variable (first ∷ variables) variable =
-    if bytes_eq variable.name first.name then variable ∷ variables else first ∷ with_variable variables variable
+    if bytes_eq variable.name first.name
+    then variable ∷ variables
+    else first ∷ with_variable variables variable
 
 -- the text of a part: its bytes, or the value of its variable; a variable that is not set has no bytes
 abbrev pub part_text : List Variable → Part → List ℕ
 part_text variables (Bytes bytes) = bytes
-part_text variables (Ref name) = unwrap_or (value_of variables name) []
+part_text variables (Ref name) = unwrap_or (variable_value variables name) []
 
 -- the text of an argument: the texts of its parts, joined
 abbrev pub argument_text : List Variable → List Part → List ℕ
@@ -51,7 +54,8 @@ values_by Unquoted text = map bare (entries_of text)
 
 -- the values that a command gets from its arguments
 abbrev pub values_of : List Variable → List Arg → List Value
-values_of variables args = flat_map (λ (arg : Arg). values_by arg.kind (argument_text variables arg.parts)) args
+values_of variables args =
+    flat_map (λ (arg : Arg). values_by arg.kind (argument_text variables arg.parts)) args
 
 -- how many bytes the values have together
 abbrev pub size : List Value → ℕ

@@ -8,7 +8,8 @@ use Rattle.ct_base.specs.declared.defs.Pair.{Pair}
 abbrev pub pairs_of : List (List ℕ) → Option (List Pair)
 pairs_of [] = Some []
 pairs_of (key ∷ []) = None
-pairs_of (key ∷ value ∷ more) = option_map (λ pairs. record { name = key; value = value } ∷ pairs) (pairs_of more)
+pairs_of (key ∷ value ∷ more) =
+    option_map (λ pairs. record { name = key; value = value } ∷ pairs) (pairs_of more)
 
 -- the word PROPERTIES, behind which keys and values stand
 abbrev pub is_properties : List ℕ → Bool

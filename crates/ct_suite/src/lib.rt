@@ -3,7 +3,6 @@
 //! Hands up: `values_of` returns the values of the arguments of a command; `Table` keeps the
 //! variables so far, and `Suite` the tests so far with their properties and labels;
 //! `names_and_pairs`, `pairs_behind` and `list_value` read the values of a command as words.
-//! Stands on: ct_base, ct_lex and `indexmap`.
 //! Read first: `specs/Values.antt`, `specs/Words.antt` and `specs/Tests.antt`, then `suite.rt`.
 #![tactic(auto)]
 

@@ -1,6 +1,6 @@
 ghost use Rattle.std.specs.Prelude.{◌≡◌, ◌-◌, ◌^◌, min, fold, sum_by, IfOk};
 ghost use Rattle.ct_suite.specs.Tests.{HaveShort, most_bytes, taking_props};
-ghost use Rattle.ct_suite.specs.Entries.{count_of, of_name};
+ghost use Rattle.ct_suite.specs.Entries.{name_count, of_name};
 
 use crate::props::copied;
 use crate::suite::Suite;
@@ -9,7 +9,7 @@ use std::alloc::Global;
 
 /// Adds up how many tests have each of these names, at most 2^64 - 1.
 pub fn count_named(tests: &Suite, names: &[Name]) -> u64
-    ensures { result ≡ min (sum_by (count_of tests.now) names.now) (2 ^ 64 - 1) }
+    ensures { result ≡ min (sum_by (name_count tests.now) names.now) (2 ^ 64 - 1) }
 {
     let mut count: u64 = 0;
     for name in names {

@@ -1,5 +1,5 @@
 ghost use Rattle.std.specs.Prelude.{◌≡◌, ◌++◌, ◌∷◌, [], ℕ, List, OnOk, bytes_eq, if◌then◌else◌};
-ghost use Rattle.ct_suite.specs.Entries.{places_in, places_of};
+ghost use Rattle.ct_suite.specs.Entries.{places_by_key, places_of};
 
 use ct_base::NoMemory;
 use indexmap::IndexMap;
@@ -48,7 +48,7 @@ impl KeyPlaces {
 
 /// Lends the places of a key.
 pub(crate) fn places_at<'a>(places: &'a Places, key: &[u8]) -> &'a [usize]
-    ensures { result.now ≡ places_in places.entry.now.entries key.now }
+    ensures { result.now ≡ places_by_key places.entry.now.entries key.now }
 {
     match places.get(key) {
         Some(found) => found.as_slice(),
@@ -63,8 +63,8 @@ pub(crate) fn note_place(
     key: &[u8],
     place: usize,
 ) -> Result<(), NoMemory>
-    ensures { OnOk result ((asked : List ℕ) → places_in places.new.entries asked
-        ≡ (if bytes_eq asked key.now then places_in places.old.entries asked ++ place ∷ [] else places_in places.old.entries asked)) }
+    ensures { OnOk result ((asked : List ℕ) → places_by_key places.new.entries asked
+        ≡ (if bytes_eq asked key.now then places_by_key places.old.entries asked ++ place ∷ [] else places_by_key places.old.entries asked)) }
 {
     match places.get_mut(key) {
         Some(here) => {

@@ -1,6 +1,6 @@
 ghost use Rattle.std.specs.Prelude.{◌≡◌, ◌<◌, ◌≤◌, ◌++◌, ◌∷◌, [], length, bytes_eq, count_by, vec_len, All, IfOk, OnOk, map};
 ghost use Rattle.ct_base.specs.declared.defs.TestDef.{TestDef};
-ghost use Rattle.ct_suite.specs.Tests.{AreShort, HasShortValues, HaveShort, each_where, is_in, most_bytes, most_tests, new_test, taking_labels, taking_props};
+ghost use Rattle.ct_suite.specs.Tests.{AreShort, HasShortValues, HaveShort, each_where, is_in_folder, most_bytes, most_tests, new_test, taking_labels, taking_props};
 ghost use Rattle.ct_suite.specs.Entries.{changed, changed_at, def_of};
 
 use crate::open_test::OpenTest;
@@ -91,7 +91,7 @@ impl Suite {
 
     /// Counts the tests of a folder.
     pub fn placed(&self, dir: &Name) -> usize
-        ensures { result ≡ count_by (is_in dir.now) self.now }
+        ensures { result ≡ count_by (is_in_folder dir.now) self.now }
     {
         places_at(&self.kept.by_dir, dir.bytes()).len()
     }
@@ -116,7 +116,7 @@ impl Suite {
     /// Adds labels to each test of a folder.
     pub fn with_labels(self, alloc: Global, dir: &Name, labels: &[Name]) -> Result<Suite, NoMemory>
         requires { AreShort most_bytes labels.now }
-        ensures { IfOk result (λ suite. suite ≡ each_where (is_in dir.now) (taking_labels labels.now) self) }
+        ensures { IfOk result (λ suite. suite ≡ each_where (is_in_folder dir.now) (taking_labels labels.now) self) }
     {
         let Suite { mut kept } = self;
         let inside: &mut Kept = &mut kept;

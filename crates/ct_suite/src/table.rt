@@ -1,6 +1,6 @@
 ghost use Rattle.std.specs.Prelude.{◌≡◌, [], IfOk, option_map};
 ghost use Rattle.std.specs.Option.{option_copied};
-ghost use Rattle.ct_suite.specs.Values.{Variable, value_of, with_variable};
+ghost use Rattle.ct_suite.specs.Values.{Variable, variable_value, with_variable};
 
 use ct_base::{Name, NoMemory};
 use indexmap::IndexMap;
@@ -36,7 +36,7 @@ impl Table {
 
     /// Looks up the value of a variable that is set.
     pub fn value(&self, name: &[u8]) -> Option<&Name>
-        ensures { option_copied result ≡ value_of self.now name.now }
+        ensures { option_copied result ≡ variable_value self.now name.now }
     {
         let value = self.values.get(name)?;
         value.as_ref()

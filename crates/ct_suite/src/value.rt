@@ -1,5 +1,5 @@
 ghost use Rattle.std.specs.Prelude.{◌≡◌, ◌-◌, ◌^◌, [], min, unwrap_or, IfErr, IfOk};
-ghost use Rattle.ct_suite.specs.Values.{value_of, values_of, texts, size};
+ghost use Rattle.ct_suite.specs.Values.{variable_value, values_of, texts, size};
 ghost use Rattle.ct_suite.specs.Readers.{StopsFor};
 
 use crate::fault::ValueFault;
@@ -46,7 +46,7 @@ pub fn values_of(
 
 /// Lends the value of a variable; no bytes if the variable is not set.
 pub(crate) fn value_text<'a>(table: &'a Table, name: &Name) -> &'a [u8]
-    ensures { result.now ≡ unwrap_or (value_of table.entry.now name.now) [] }
+    ensures { result.now ≡ unwrap_or (variable_value table.entry.now name.now) [] }
 {
     match table.value(name.bytes()) {
         Some(value) => value.bytes(),

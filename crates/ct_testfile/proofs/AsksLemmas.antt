@@ -7,7 +7,7 @@ use Rattle.ct_base.specs.Path.{joined}
 use Rattle.ct_base.specs.declared.files.FilesFault.{FilesFault}
 use Rattle.ct_base.specs.declared.files.FilesFault.TheVariants as Files
 use Rattle.ct_lex.specs.Place.{Place, beginning}
-use Rattle.ct_lex.specs.Reads.{reading}
+use Rattle.ct_lex.specs.Reads.{commands_read}
 use Rattle.ct_lex.specs.declared.call.Call.{Call}
 use Rattle.ct_suite.specs.declared.value.Value.{Value}
 use Rattle.ct_testfile.specs.Asks.{AsksWithin, Blames, BlamesBy, CallAsks, CarriedAsk, ConditionAsks, IsEvaluated, NamesPath, NestedAsks, OpenedAsk, OpeningAsks}
@@ -76,7 +76,7 @@ names-second dir (word ∷ other ∷ next ∷ values) name path is at names = ab
 
 -- a text that is read, if one more file may be open
 module _ (limits : Limits) (held : Held) (file : TestFile) (state : State) (path : List ℕ) where
-  pub asks-inside : (left more : ℕ) (text : List ℕ) → left ≡ suc more → IsOkAnd (on_line file.path 0 (admitted limits text state)) (λ next. CarriedAsk (nested limits held more) (NestedAsks limits held more) limits held file [] next (reading (beginning text)).0 path) → NestedAsks limits held left file state text path
+  pub asks-inside : (left more : ℕ) (text : List ℕ) → left ≡ suc more → IsOkAnd (on_line file.path 0 (admitted limits text state)) (λ next. CarriedAsk (nested limits held more) (NestedAsks limits held more) limits held file [] next (commands_read (beginning text)).0 path) → NestedAsks limits held left file state text path
   unfolding NestedAsks
   asks-inside left more text some asks = subst (λ n. NestedAsks limits held n file state text path) (sym some) asks
 
@@ -85,7 +85,7 @@ module _ (limits : Limits) (held : Held) (file : TestFile) (state : State) (path
   unfolding NestedAsks
   long-asks zero text long asks = asks
   long-asks (suc more) text long asks =
-      subst (λ a. IsOkAnd (on_line file.path 0 a) (λ next. CarriedAsk (nested limits held more) (NestedAsks limits held more) limits held file [] next (reading (beginning text)).0 path)) (admitted-long limits text state long) asks
+      subst (λ a. IsOkAnd (on_line file.path 0 a) (λ next. CarriedAsk (nested limits held more) (NestedAsks limits held more) limits held file [] next (commands_read (beginning text)).0 path)) (admitted-long limits text state long) asks
 
   taken-by-cases : (left : ℕ) (text : List ℕ) → (limits.file_bytes < length text) ⊎ (length text ≤ limits.file_bytes) → NestedAsks limits held left file state (take (limits.file_bytes + 1) text) path → NestedAsks limits held left file state text path
   taken-by-cases left text (inl long) asks =
@@ -106,13 +106,13 @@ AskSoFar told start rest = (held : Held) → TellsHeld held told → (path : Lis
 -- the commands of a file from a place on
 module _ (limits : Limits) (more : ℕ) (file : TestFile) where
   abbrev pub asks_from : List OpenIf → State → Place → Held → List ℕ → Type 0
-  asks_from ifs state place held path = CarriedAsk (nested limits held more) (NestedAsks limits held more) limits held file ifs state (reading place).0 path
+  asks_from ifs state place held path = CarriedAsk (nested limits held more) (NestedAsks limits held more) limits held file ifs state (commands_read place).0 path
 
   abbrev pub opened_asks : Step → ℕ → Held → List ℕ → Type 0
   opened_asks step line held path = OpenedAsk (nested limits held more) (NestedAsks limits held more) held file.path line (openings file.dir step.opens) step.state path
 
   -- at the start no `if` is open, and the place is the beginning of the text
-  pub asks_from-start : (ifs : List OpenIf) (state : State) (place : Place) (text : List ℕ) → ifs ≡ [] → place ≡ beginning text → (held : Held) (path : List ℕ) → asks_from ifs state place held path → CarriedAsk (nested limits held more) (NestedAsks limits held more) limits held file [] state (reading (beginning text)).0 path
+  pub asks_from-start : (ifs : List OpenIf) (state : State) (place : Place) (text : List ℕ) → ifs ≡ [] → place ≡ beginning text → (held : Held) (path : List ℕ) → asks_from ifs state place held path → CarriedAsk (nested limits held more) (NestedAsks limits held more) limits held file [] state (commands_read (beginning text)).0 path
   asks_from-start ifs state place text none begun held path asks =
       subst (λ (p : Place). asks_from [] state p held path) begun (subst (λ (i : List OpenIf). asks_from i state place held path) none asks)
 
@@ -133,7 +133,7 @@ module _ (limits : Limits) (more : ℕ) (file : TestFile) where
         let goes : Result Step ReadFault → Result (List OpenIf × State) ReadFault = λ r. r >>= λ s. known_of limits more file s call.line held >>= λ next. Ok (s.ifs, next) in
         let behind : behind_call (nested limits held more) limits held file ifs state call ≡ Ok (step.ifs, known) =
         ap goes is ∙ ap (λ (r : Result State ReadFault). r >>= λ next. Ok (step.ifs, next)) opens in
-        subst (λ calls. CarriedAsk (nested limits held more) (NestedAsks limits held more) limits held file ifs state calls path) (sym next.0) (inr (inr (ok-and (behind_call (nested limits held more) limits held file ifs state call) (step.ifs, known) (λ next. CarriedAsk (nested limits held more) (NestedAsks limits held more) limits held file next.0 next.1 (reading new).0 path) behind asks)))
+        subst (λ calls. CarriedAsk (nested limits held more) (NestedAsks limits held more) limits held file ifs state calls path) (sym next.0) (inr (inr (ok-and (behind_call (nested limits held more) limits held file ifs state call) (step.ifs, known) (λ next. CarriedAsk (nested limits held more) (NestedAsks limits held more) limits held file next.0 next.1 (commands_read new).0 path) behind asks)))
 
 -- files that are opened one after the other, from the one at a place on
 module _ (limits : Limits) (left : ℕ) (file : TestFile) (line : ℕ) (opens : Opens) where

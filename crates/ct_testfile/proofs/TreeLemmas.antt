@@ -5,7 +5,7 @@ use Rattle.std.proofs.lemmas.Bool.{cases_lt, false_from_ne_true}
 use Rattle.std.proofs.lemmas.Bool.Decides.{Decides-ltb}
 use Rattle.ct_base.specs.Outside.{Becomes, FilesTell, Held, SameHeld}
 use Rattle.ct_lex.specs.Place.{Place, beginning}
-use Rattle.ct_lex.specs.Reads.{Ending, ReadsOn, reading}
+use Rattle.ct_lex.specs.Reads.{Ending, ReadsOn, commands_read}
 use Rattle.ct_lex.specs.declared.fault.LexFault.{LexFault}
 use Rattle.ct_lex.specs.declared.fault.LexFault.TheVariants as lex
 use Rattle.ct_lex.specs.declared.call.Call.{Call}
@@ -57,7 +57,7 @@ pub next-ok : (file : List ℕ) (old new : Place) (call : Option Call) → Reads
 next-ok file old new None read shrinks = read
 next-ok file old new (Some call) read shrinks = (read.0, read.1, shrinks refl)
 
-ends-at : (file : List ℕ) (place : Place) (lexed : LexFault) (f : List ℕ) (l : ℕ) (k : ReadKind) → ((reading place).0 ≡ []) × ((reading place).1 ≡ Some lexed) → At f l k ≡ fault_in file lexed → EndsWith file place (At f l k)
+ends-at : (file : List ℕ) (place : Place) (lexed : LexFault) (f : List ℕ) (l : ℕ) (k : ReadKind) → ((commands_read place).0 ≡ []) × ((commands_read place).1 ≡ Some lexed) → At f l k ≡ fault_in file lexed → EndsWith file place (At f l k)
 ends-at file place lexed f l k read is =
     let P : Ending → Type 0 = λ ending. IsSomeAnd ending (λ fault. At f l k ≡ fault_in file fault) in
     (read.0, subst P (sym read.1) is)
@@ -85,7 +85,7 @@ module _ (limits : Limits) (held : Held) (site : List ℕ) (line : ℕ) (file : 
   nested-none left text none = ap (λ n. nested limits held n site line file state text) none
 
   -- if one more file may be open, its text is read
-  pub nested-some : (left more : ℕ) (text : List ℕ) → left ≡ suc more → nested limits held left site line file state text ≡ (on_line file.path 0 (admitted limits text state) >>= λ next. carried (nested limits held more) limits held file [] next (reading (beginning text)).0 (reading (beginning text)).1)
+  pub nested-some : (left more : ℕ) (text : List ℕ) → left ≡ suc more → nested limits held left site line file state text ≡ (on_line file.path 0 (admitted limits text state) >>= λ next. carried (nested limits held more) limits held file [] next (commands_read (beginning text)).0 (commands_read (beginning text)).1)
   unfolding nested
   nested-some left more text some = ap (λ n. nested limits held n site line file state text) some
 
@@ -96,8 +96,8 @@ module _ (limits : Limits) (held : Held) (site : List ℕ) (line : ℕ) (file : 
       let front = take (limits.file_bytes + 1) text in
       let longer : limits.file_bytes < length front = omega (arith, length-take (limits.file_bytes + 1) text) in
       nested-some (suc more) more front refl
-      ∙ ap (λ a. on_line file.path 0 a >>= λ next. carried (nested limits held more) limits held file [] next (reading (beginning front)).0 (reading (beginning front)).1) (admitted-long limits front state longer)
-      ∙ ap (λ a. on_line file.path 0 a >>= λ next. carried (nested limits held more) limits held file [] next (reading (beginning text)).0 (reading (beginning text)).1) (sym (admitted-long limits text state long))
+      ∙ ap (λ a. on_line file.path 0 a >>= λ next. carried (nested limits held more) limits held file [] next (commands_read (beginning front)).0 (commands_read (beginning front)).1) (admitted-long limits front state longer)
+      ∙ ap (λ a. on_line file.path 0 a >>= λ next. carried (nested limits held more) limits held file [] next (commands_read (beginning text)).0 (commands_read (beginning text)).1) (sym (admitted-long limits text state long))
       ∙ sym (nested-some (suc more) more text refl)
 
   taken-cases : (left : ℕ) (text : List ℕ) → (limits.file_bytes < length text) ⊎ (length text ≤ limits.file_bytes) → nested limits held left site line file state (take (limits.file_bytes + 1) text) ≡ nested limits held left site line file state text
@@ -131,7 +131,7 @@ module _ (read : FileReading) (limits : Limits) (held : Held) (file : TestFile) 
 -- the commands of a file from a place on
 module _ (limits : Limits) (more : ℕ) (file : TestFile) where
   abbrev pub from : List OpenIf → State → Place → Held → Result State ReadFault
-  from ifs state place held = carried (nested limits held more) limits held file ifs state (reading place).0 (reading place).1
+  from ifs state place held = carried (nested limits held more) limits held file ifs state (commands_read place).0 (commands_read place).1
 
   abbrev pub step_of : List OpenIf → State → Call → Held → Result Step ReadFault
   step_of ifs state call held = on_line file.path call.line (stepped limits held file.dir ifs state call)
@@ -147,7 +147,7 @@ module _ (limits : Limits) (more : ℕ) (file : TestFile) where
 
   pub from-call : (ifs : List OpenIf) (state : State) (call : Call) (old new : Place) → IsNextOf file.path old new (Ok (Some call)) → (held : Held) → from ifs state old held ≡ (step_of ifs state call held >>= behind_of call.line new held)
   from-call ifs state call old new next held =
-      (λ i. carried (nested limits held more) limits held file ifs state (next.0 i) (next.1 i)) ∙ carried-call (nested limits held more) limits held file ifs state call (reading new).0 (reading new).1
+      (λ i. carried (nested limits held more) limits held file ifs state (next.0 i) (next.1 i)) ∙ carried-call (nested limits held more) limits held file ifs state call (commands_read new).0 (commands_read new).1
 
   pub from-end : (ifs : List OpenIf) (state : State) (old new : Place) → IsNextOf file.path old new (Ok None) → (held : Held) → from ifs state old held ≡ ended file.path ifs state None
   from-end ifs state old new next held i = carried (nested limits held more) limits held file ifs state (next.0 i) (next.1 i)
@@ -159,7 +159,7 @@ module _ (limits : Limits) (more : ℕ) (file : TestFile) where
 
   pub from-refused : (ifs : List OpenIf) (state : State) (old : Place) (fault : ReadFault) → EndsWith file.path old fault → (held : Held) → IsRefusalOf (from ifs state old held) fault
   from-refused ifs state old (At f l k) ends held =
-      ends-by held ifs state (reading old).0 (reading old).1 f l k ends.0 ends.1
+      ends-by held ifs state (commands_read old).0 (commands_read old).1 f l k ends.0 ends.1
   from-refused ifs state old (FilesFailed path) ends held = tt
   from-refused ifs state old NoMemory ends held = tt
 

@@ -9,7 +9,7 @@ use Rattle.ct_lex.specs.declared.call.Arg.{Arg}
 use Rattle.ct_suite.specs.Count.{raised}
 use Rattle.ct_suite.specs.Values.{values_of, texts, size, is_too_long, with_variable}
 use Rattle.ct_suite.specs.Words.{names_and_pairs, pairs_behind, list_value}
-use Rattle.ct_suite.specs.Tests.{new_test, each_where, has_name_of, is_in, taking_props, taking_labels, prop_bytes, label_bytes, labels_of}
+use Rattle.ct_suite.specs.Tests.{new_test, each_where, has_name_of, is_in_folder, taking_props, taking_labels, prop_bytes, label_bytes, labels_of}
 use Rattle.ct_suite.specs.declared.limits.ValueLimits.{ValueLimits}
 use Rattle.ct_suite.specs.declared.value.Value.{Value}
 use Rattle.ct_testfile.specs.Outcome.{◌>>=◌, or_refused}
@@ -40,11 +40,15 @@ value_limits limits = record { value_bytes = limits.value_bytes; all_value_bytes
 
 -- the state with one more command counted, or TooManyCommands
 abbrev pub with_command : Limits → State → Result State ReadKind
-with_command limits state = or_refused (raised limits.commands state.commands 1) TooManyCommands >>= λ n. Ok (record state { commands = n })
+with_command limits state =
+    or_refused
+    (raised limits.commands state.commands 1) TooManyCommands >>= λ n. Ok (record state { commands = n })
 
 -- the state with so many more bytes of values counted, or TooLong
 abbrev pub taken : Limits → ℕ → State → Result State ReadKind
-taken limits bytes state = or_refused (raised limits.all_value_bytes state.value_bytes bytes) TooLong >>= λ n. Ok (record state { value_bytes = n })
+taken limits bytes state =
+    or_refused
+    (raised limits.all_value_bytes state.value_bytes bytes) TooLong >>= λ n. Ok (record state { value_bytes = n })
 
 -- the values, and the state with their bytes counted; TooLong if one value, or all of the tree, are too long
 abbrev pub evaluated : Limits → List Value → State → Result (List Value × State) ReadKind
@@ -86,14 +90,15 @@ set_tests_properties limits values state =
 abbrev pub set_directory_properties : Limits → List ℕ → List (List ℕ) → State → Result State ReadKind
 set_directory_properties limits dir values state =
     or_refused (pairs_behind values) BadCall >>= λ pairs.
-    taken limits (count_by (is_in dir) state.tests * label_bytes pairs) state >>= λ next.
-    Ok (record next { tests = each_where (is_in dir) (taking_labels (labels_of pairs)) next.tests })
+    taken limits (count_by (is_in_folder dir) state.tests * label_bytes pairs) state >>= λ next.
+    Ok (record next { tests = each_where (is_in_folder dir) (taking_labels (labels_of pairs)) next.tests })
 
 -- set(name value ..): without a value the variable is no longer set
 abbrev pub set : List (List ℕ) → State → Result State ReadKind
 set [] state = Err BadCall
 set (name ∷ values) state =
-    Ok (record state { variables = with_variable state.variables (record { name = name; value = list_value values }) })
+    Ok
+    (record state { variables = with_variable state.variables (record { name = name; value = list_value values }) })
 
 -- a command that opens nothing
 abbrev pub no_files : Opens
@@ -119,8 +124,10 @@ opening_nothing done = done >>= λ state. Ok (state, no_files)
 -- what a command with these values does, in this folder
 abbrev pub performed : Limits → List ℕ → Command → List (List ℕ) → State → Result (State × Opens) ReadKind
 performed limits dir AddTest values state = opening_nothing (add_test limits dir values state)
-performed limits dir SetTestsProperties values state = opening_nothing (set_tests_properties limits values state)
-performed limits dir SetDirectoryProperties values state = opening_nothing (set_directory_properties limits dir values state)
+performed limits dir SetTestsProperties values state =
+    opening_nothing (set_tests_properties limits values state)
+performed limits dir SetDirectoryProperties values state =
+    opening_nothing (set_directory_properties limits dir values state)
 performed limits dir Subdirs values state = Ok (state, folders values)
 performed limits dir Include values state = included values state
 performed limits dir Set values state = opening_nothing (set values state)

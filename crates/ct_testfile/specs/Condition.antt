@@ -10,7 +10,7 @@ use Rattle.ct_regex.specs.declared.fault.RegexFault.{RegexFault}
 use Rattle.ct_regex.specs.declared.fault.RegexFault.TheVariants as regex
 use Rattle.ct_testfile.specs.declared.fault.Stop.{Stop}
 use Rattle.ct_testfile.specs.declared.fault.Stop.TheVariants as stop
-use Rattle.ct_suite.specs.Values.{Variable, value_of}
+use Rattle.ct_suite.specs.Values.{Variable, variable_value}
 use Rattle.ct_testfile.specs.declared.fault.ReadKind.{ReadKind}
 use Rattle.ct_testfile.specs.declared.fault.ReadKind.TheVariants.{BadCondition, BadPattern}
 use Rattle.ct_suite.specs.declared.value.Value.{Value}
@@ -22,7 +22,8 @@ is_bare_word word value = value.unquoted && bytes_eq value.text word
 -- the text in front of MATCHES: the value of the variable that it names,
 -- if it is unquoted and the variable is set; else the text itself
 abbrev pub subject : List Variable → Value → List ℕ
-subject variables value = if value.unquoted then unwrap_or (value_of variables value.text) value.text else value.text
+subject variables value =
+    if value.unquoted then unwrap_or (variable_value variables value.text) value.text else value.text
 
 -- whether the text has a match of the pattern; BadPattern if the pattern was refused
 abbrev pub matched : List ℕ → Result Tree RegexFault → Result Bool ReadKind
@@ -42,9 +43,13 @@ is_matches values = false
 -- whether the condition in these values holds, or its refusal
 abbrev pub holds : Held → List ℕ → List Variable → List Value → Result Bool ReadKind
 holds held dir variables (word ∷ path ∷ []) =
-    if is_bare_word (codes "EXISTS") word then Ok (is_some (held (joined dir path.text))) else Err BadCondition
+    if is_bare_word (codes "EXISTS") word
+    then Ok (is_some (held (joined dir path.text)))
+    else Err BadCondition
 holds held dir variables (left ∷ word ∷ right ∷ []) =
-    if is_bare_word (codes "MATCHES") word then matched (subject variables left) (pattern.reading right.text) else Err BadCondition
+    if is_bare_word (codes "MATCHES") word
+    then matched (subject variables left) (pattern.reading right.text)
+    else Err BadCondition
 holds held dir variables values = Err BadCondition
 
 -- why a pattern was not read: memory was wanting, or it is no regular expression

@@ -77,7 +77,11 @@ behind_else limits state Idle = Ok (Idle, state)
 
 -- the step behind a command of an `if`: the innermost open `if` now has this branch
 abbrev pub in_branch : ℕ → List OpenIf → Branch × State → Step
-in_branch line outer found = record { ifs = record { line = line; branch = found.0 } ∷ outer; state = found.1; opens = no_files }
+in_branch line outer found = record {
+  ifs = record { line = line; branch = found.0 } ∷ outer;
+  state = found.1;
+  opens = no_files;
+}
 
 -- the step behind `if`
 abbrev pub begun_if : Limits → Held → List ℕ → Call → List OpenIf → State → Result Step ReadKind
@@ -111,11 +115,13 @@ flowed limits held dir call ifs state EndIf = left ifs state
 -- the step behind another command, which is carried out or passed over
 abbrev pub done : Limits → List ℕ → Call → List OpenIf → State → Bool → Result Step ReadKind
 done limits dir call ifs state true =
-    carried_out limits dir (command_of call.name) call.args state >>= λ next. Ok (record { ifs = ifs; state = next.0; opens = next.1 })
+    carried_out limits dir
+    (command_of call.name) call.args state >>= λ next. Ok (record { ifs = ifs; state = next.0; opens = next.1 })
 done limits dir call ifs state false = Ok (record { ifs = ifs; state = state; opens = no_files })
 
 -- the step behind a command, given whether it is one of an `if`
-abbrev pub stepped_by : Limits → Held → List ℕ → Call → List OpenIf → State → Option Flow → Result Step ReadKind
+abbrev pub stepped_by : Limits
+    → Held → List ℕ → Call → List OpenIf → State → Option Flow → Result Step ReadKind
 stepped_by limits held dir call ifs state (Some flow) = flowed limits held dir call ifs state flow
 stepped_by limits held dir call ifs state None = done limits dir call ifs state (is_live ifs)
 

@@ -88,7 +88,8 @@ tested limits held dir call state =
     holds held dir read.1.variables read.0 >>= λ is. Ok (is, read.1)
 
 -- the commands behind `else`, and the state that counts it; without `else` no command
-abbrev pub chosen_else : Limits → TestFile → State → Option WrittenBranch → Result (List Call × State) ReadFault
+abbrev pub chosen_else : Limits
+    → TestFile → State → Option WrittenBranch → Result (List Call × State) ReadFault
 chosen_else limits file state None = Ok ([], state)
 chosen_else limits file state (Some branch) =
     on_line file.path branch.head.line (with_command limits state) >>= λ next. Ok (branch.body, next)
@@ -96,7 +97,8 @@ chosen_else limits file state (Some branch) =
 -- The commands of the first branch whose condition holds, or those of `else` if none holds;
 -- with them, the state behind the conditions that are evaluated, which are those up to that one.
 -- If one of these is refused, that is the outcome.
-abbrev pub chosen : Limits → Held → TestFile → Option WrittenBranch → State → List WrittenBranch → Result (List Call × State) ReadFault
+abbrev pub chosen : Limits → Held → TestFile → Option WrittenBranch → State → List WrittenBranch
+    → Result (List Call × State) ReadFault
 chosen limits held file last state [] = chosen_else limits file state last
 chosen limits held file last state (branch ∷ branches) =
     on_line file.path branch.head.line (tested limits held file.dir branch.head state) >>= λ found.
@@ -105,13 +107,15 @@ chosen limits held file last state (branch ∷ branches) =
 -- The state behind the rest of a file, from its next `if` on, as the manual says it:
 -- conditions are evaluated, and then only the chosen commands stand in the place of the `if`.
 -- No other `if` is open in front; behind the `if` come these commands and this ending.
-abbrev pub carried_chosen : FileReading → Limits → Held → TestFile → State → WrittenIf → List Call → Ending → Result State ReadFault
+abbrev pub carried_chosen : FileReading
+    → Limits → Held → TestFile → State → WrittenIf → List Call → Ending → Result State ReadFault
 carried_chosen read limits held file state whole rest ending =
     chosen limits held file whole.last state (whole.first ∷ whole.later) >>= λ found.
     carried read limits held file [] found.1 (found.0 ++ rest) ending
 
 -- the state behind the rest of a file, where the commands in front are carried out as if they were all,
 -- and then these commands and this ending come
-abbrev pub carried_behind : FileReading → Limits → Held → TestFile → State → List Call → List Call → Ending → Result State ReadFault
+abbrev pub carried_behind : FileReading
+    → Limits → Held → TestFile → State → List Call → List Call → Ending → Result State ReadFault
 carried_behind read limits held file state front rest ending =
     carried read limits held file [] state front None >>= λ next. carried read limits held file [] next rest ending

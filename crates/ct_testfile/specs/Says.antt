@@ -4,7 +4,7 @@ use Rattle.ct_base.specs.Outside.{Becomes, FilesTell, Held, SameHeld, Rose}
 use Rattle.ct_base.specs.declared.files.FilesFault.{FilesFault}
 use Rattle.ct_base.specs.declared.files.FilesFault.TheVariants as Files
 use Rattle.ct_lex.specs.Place.{Place}
-use Rattle.ct_lex.specs.Reads.{reading}
+use Rattle.ct_lex.specs.Reads.{commands_read}
 use Rattle.ct_lex.specs.declared.call.Call.{Call}
 use Rattle.ct_lex.specs.declared.fault.LexFault.{LexFault}
 use Rattle.ct_suite.specs.declared.fault.ValueFault.{ValueFault}
@@ -89,7 +89,9 @@ pub record HasFilesCause {A : Type 0} (before now : FilesTell) (result : Result 
 
 -- a call that looks at files: it returns what the definition says of what they hold;
 -- they still hold it; and a fault of the files has its cause
-pub record Over {A : Type 0} (before now : FilesTell) (says : Held → Result A ReadFault) (result : Result A ReadFault) : Type 0 where
+pub record Over
+    {A : Type 0} (before now : FilesTell) (says : Held → Result A ReadFault) (result : Result A ReadFault)
+    : Type 0 where
   pub answer : (held : Held) → TellsHeld held before.held → IsAnswerOf (says held) result
   pub kept : (held : Held) → TellsHeld held before.held → TellsHeld held now.held
   pub cause : HasFilesCause before now result
@@ -97,8 +99,12 @@ pub record Over {A : Type 0} (before now : FilesTell) (says : Held → Result A 
 -- a call for a command of an open file:
 -- it returns what `says` says, within the limits and in the folder of that file;
 -- a refusal is on the line of the command
-abbrev pub OverCall : {A : Type 0} → FilesTell → FilesTell → OpenFile → Call → (Limits → Held → List ℕ → Result A ReadKind) → Result A ReadFault → Type 0
-OverCall before now here call says result = Over before now (λ held. on_line here.file.now.path call.line (says here.limits.now held here.file.now.dir)) result
+abbrev pub OverCall : {A : Type 0}
+    → FilesTell → FilesTell → OpenFile → Call → (Limits → Held → List ℕ → Result A ReadKind)
+    → Result A ReadFault → Type 0
+OverCall before now here call says result =
+    Over before now
+    (λ held. on_line here.file.now.path call.line (says here.limits.now held here.file.now.dir)) result
 
 -- how files that the commands of an open file open are read
 abbrev pub inside : OpenFile → Held → FileReading
@@ -118,15 +124,20 @@ IsFaultIn file fault NoMemory = ⊤
 
 -- at this place the text has no more commands and ends with this fault, or memory was wanting
 abbrev pub EndsWith : List ℕ → Place → ReadFault → Type 0
-EndsWith file place (At f l k) = ((reading place).0 ≡ []) × IsSomeAnd (reading place).1 (λ fault. At f l k ≡ fault_in file fault)
+EndsWith file place (At f l k) =
+    ((commands_read place).0 ≡ [])
+    × IsSomeAnd (commands_read place).1 (λ fault. At f l k ≡ fault_in file fault)
 EndsWith file place (FilesFailed path) = ⊥
 EndsWith file place NoMemory = ⊤
 
 -- the lexer returned the next command of a file and stands behind it, or the text has no more commands,
 -- or it has no reading there
 abbrev pub IsNextOf : List ℕ → Place → Place → Result (Option Call) ReadFault → Type 0
-IsNextOf file old new (Ok (Some call)) = ((reading old).0 ≡ call ∷ (reading new).0) × ((reading old).1 ≡ (reading new).1) × (length new.rest < length old.rest)
-IsNextOf file old new (Ok None) = ((reading old).0 ≡ []) × ((reading old).1 ≡ None)
+IsNextOf file old new (Ok (Some call)) =
+    ((commands_read old).0 ≡ call ∷ (commands_read new).0)
+    × ((commands_read old).1 ≡ (commands_read new).1)
+    × (length new.rest < length old.rest)
+IsNextOf file old new (Ok None) = ((commands_read old).0 ≡ []) × ((commands_read old).1 ≡ None)
 IsNextOf file old new (Err fault) = EndsWith file old fault
 
 -- limits within which lines can be counted; a tree has at most `most_tests` tests,

@@ -5,7 +5,7 @@ use Rattle.std.specs.Prelude.{ℕ, zero, suc, false, nat_lt, codes, List, [], �
 use Rattle.ct_base.specs.Outside.{Held}
 use Rattle.ct_base.specs.declared.defs.TestDef.{TestDef}
 use Rattle.ct_lex.specs.Place.{beginning}
-use Rattle.ct_lex.specs.Reads.{Ending, reading}
+use Rattle.ct_lex.specs.Reads.{Ending, commands_read}
 use Rattle.ct_lex.specs.declared.call.Call.{Call}
 use Rattle.ct_lex.specs.declared.fault.LexFault.{LexFault}
 use Rattle.ct_lex.specs.declared.fault.LexFault.TheVariants as lex
@@ -60,14 +60,16 @@ all_opened read held file line (opening ∷ more) state =
     opened_by read file line opening state (held opening.file.path) >>= all_opened read held file line more
 
 -- the open ifs and the state behind one command of a file, with all the files that it opens
-abbrev pub behind_call : FileReading → Limits → Held → TestFile → List OpenIf → State → Call → Result (List OpenIf × State) ReadFault
+abbrev pub behind_call : FileReading → Limits → Held → TestFile → List OpenIf → State → Call
+    → Result (List OpenIf × State) ReadFault
 behind_call read limits held file ifs state call =
     on_line file.path call.line (stepped limits held file.dir ifs state call) >>= λ step.
     all_opened read held file.path call.line (openings file.dir step.opens) step.state >>= λ next.
     Ok (step.ifs, next)
 
 -- the state behind these commands of a file and the end of its text
-abbrev pub carried : FileReading → Limits → Held → TestFile → List OpenIf → State → List Call → Ending → Result State ReadFault
+abbrev pub carried : FileReading
+    → Limits → Held → TestFile → List OpenIf → State → List Call → Ending → Result State ReadFault
 carried read limits held file ifs state [] ending = ended file.path ifs state ending
 carried read limits held file ifs state (call ∷ calls) ending =
     behind_call read limits held file ifs state call >>= λ next. carried read limits held file next.0 next.1 calls ending
@@ -77,7 +79,8 @@ carried read limits held file ifs state (call ∷ calls) ending =
 abbrev pub admitted : Limits → List ℕ → State → Result State ReadKind
 admitted limits text state =
     if nat_lt limits.file_bytes (length text) then Err TooLong
-    else (or_refused (raised limits.all_file_bytes state.file_bytes (length text)) TooLong >>= λ n. Ok (record state { file_bytes = n }))
+    else (or_refused
+    (raised limits.all_file_bytes state.file_bytes (length text)) TooLong >>= λ n. Ok (record state { file_bytes = n }))
 
 -- The state behind a text that is read as a file.
 -- At most so many files may be open, this one and those inside it.
@@ -86,7 +89,8 @@ unfoldable pub nested : Limits → Held → ℕ → FileReading
 nested limits held zero site line file state text = Err (At site line TooDeep)
 nested limits held (suc more) site line file state text =
     on_line file.path 0 (admitted limits text state) >>= λ next.
-    carried (nested limits held more) limits held file [] next (reading (beginning text)).0 (reading (beginning text)).1
+    carried (nested limits held more) limits held file [] next (commands_read (beginning text)).0
+    (commands_read (beginning text)).1
 
 -- the state before the first command: only the variable CTEST_CONFIGURATION_TYPE is set, to the configuration
 abbrev pub beginning_with : List ℕ → State
@@ -105,7 +109,8 @@ top dir = record { file = test_file dir; required = false }
 -- the state behind all files of the tree
 abbrev pub read_through : Limits → Held → List ℕ → List ℕ → Result State ReadFault
 read_through limits held dir config =
-    opened_by (nested limits held limits.open_files) (test_file dir).path 0 (top dir) (beginning_with config) (held (test_file dir).path)
+    opened_by (nested limits held limits.open_files) (test_file dir).path 0 (top dir)
+    (beginning_with config) (held (test_file dir).path)
 
 -- what the tree of test files under a folder defines within limits, or the first refusal in reading order
 abbrev pub tree_within : Limits → Held → List ℕ → List ℕ → Result (List TestDef) ReadFault

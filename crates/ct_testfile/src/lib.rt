@@ -2,7 +2,6 @@
 //!
 //! Hands up: `read_tree` returns the tests that the test files of a folder and of the folders below
 //! it define, or the first refusal in reading order; `read_tree_within` does so within other limits.
-//! Stands on: ct_base, ct_lex, ct_regex and ct_suite.
 //! Read first: `specs/Commands.antt`, `specs/Ifs.antt` and `specs/Tree.antt`, then `tree.rt`.
 //! `laws.rt` says in the words of the manual what an `if` carries out.
 #![tactic(auto)]

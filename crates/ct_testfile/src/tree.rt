@@ -1,7 +1,7 @@
 ghost use Rattle.std.specs.Prelude.{◌≡◌, ◌+◌, ◌<◌, ◌≤◌, [], All, None, Ok, IfOk, IfErr, IfSome, IsSomeAnd, OnOk, length, option_map, take};
 ghost use Rattle.ct_base.specs.Outside.{Becomes, SameHeld};
 ghost use Rattle.ct_lex.specs.Place.{beginning};
-ghost use Rattle.ct_lex.specs.Reads.{reading};
+ghost use Rattle.ct_lex.specs.Reads.{commands_read};
 ghost use Rattle.ct_testfile.specs.Asks.{AsksWithin, Blames, BlamesBy, CarriedAsk, NestedAsks, OpenedAsk, OpeningAsks, TreeAsks};
 ghost use Rattle.ct_testfile.specs.Says.{AreBounded, Follows, HasFilesCause, IfFilesFailed, IsAnswerOf, IsAt, IsFaultIn, IsNextOf, IsRefusalOf, Over, Unfailed, inside};
 ghost use Rattle.ct_testfile.specs.Commands.{openings, test_file};
@@ -280,10 +280,10 @@ fn carry<F: Files>(
     requires lines { length text.now < 4294967295 }
     ensures says { Over (F.tells files.old) (F.tells files.new)
         (λ held. carried (inside here.now held) here.now.limits.now held here.now.file.now [] state
-        (reading (beginning text.now)).0 (reading (beginning text.now)).1) result }
+        (commands_read (beginning text.now)).0 (commands_read (beginning text.now)).1) result }
     ensures asks { BlamesBy (F.tells files.old).held
         (λ held. CarriedAsk (inside here.now held) (NestedAsks here.now.limits.now held here.now.more)
-        here.now.limits.now held here.now.file.now [] state (reading (beginning text.now)).0) result }
+        here.now.limits.now held here.now.file.now [] state (commands_read (beginning text.now)).0) result }
 {
     let alloc = here.alloc;
     let mut lexer = Lexer::new(text);

@@ -13,7 +13,7 @@ use Rattle.ct_history.specs.Legal.{is_legal}
 use Rattle.ct_history.proofs.ApartLemmas.{Differ, differ-head, differ-tail, starts_apart}
 use Rattle.ct_history.proofs.LegalLemmas.{legal_allowed}
 use Rattle.ct_history.proofs.OpenLemmas.{is_of, open_starts-snoc}
-use Rattle.ct_turn.specs.Seen.{AddsOwn, is_own, open_start}
+use Rattle.ct_turn.specs.Seen.{AddsOwn, is_own, open_start_of_worker}
 
 true_is_false : true ≡ false → ⊥
 true_is_false is = cc
@@ -26,7 +26,7 @@ finds_none p (r ∷ rs) none = elim (cases_Bool (p r)) [
 ]
 
 -- a worker that holds no start may ask for one
-pub not_busy : (w : ℕ) (es : List Entry) → open_start w es ≡ None → is_busy_in w es ≡ false
+pub not_busy : (w : ℕ) (es : List Entry) → open_start_of_worker w es ≡ None → is_busy_in w es ≡ false
 not_busy w es none = finds_none (λ (r : Running). r.worker == w) (open_starts es) none
 
 found_holds : (w : ℕ) (r : Running) (rs : List Running) → find (λ (q : Running). q.worker == w) rs ≡ Some r → (r.worker ≡ w) × (list_any (λ (q : Running). q.test == r.test && q.attempt == r.attempt && q.worker == r.worker) rs ≡ true)
@@ -50,7 +50,7 @@ found_holds w r (x ∷ xs) is = elim (cases_Bool (x.worker == w)) [
     or_true false b is_true = is_true
 
 -- a worker may end the start that it holds
-pub holds_own : (w : ℕ) (r : Running) (es : List Entry) → open_start w es ≡ Some r → (r.worker ≡ w) × (holds_start r.test r.attempt r.worker es ≡ true)
+pub holds_own : (w : ℕ) (r : Running) (es : List Entry) → open_start_of_worker w es ≡ Some r → (r.worker ≡ w) × (holds_start r.test r.attempt r.worker es ≡ true)
 holds_own w r es is = found_holds w r (open_starts es) is
 
 found_last : (p : Running → Bool) (r : Running) (rs : List Running) → find p rs ≡ None → p r ≡ true → find p (rs ++ r ∷ []) ≡ Some r
@@ -61,7 +61,7 @@ found_last p r (x ∷ xs) none is = elim (cases_Bool (p x)) [
 ]
 
 -- a worker holds the start that it has just added
-pub start_holds : (es : List Entry) (r : Running) → open_start r.worker es ≡ None → open_start r.worker (es ++ Start r.test r.attempt r.worker r.placement ∷ []) ≡ Some r
+pub start_holds : (es : List Entry) (r : Running) → open_start_of_worker r.worker es ≡ None → open_start_of_worker r.worker (es ++ Start r.test r.attempt r.worker r.placement ∷ []) ≡ Some r
 start_holds es r none =
     ap (λ (rs : List Running). find (λ (q : Running). q.worker == r.worker) rs) (open_starts-snoc es (Start r.test r.attempt r.worker r.placement) refl)
     ∙ found_last (λ (q : Running). q.worker == r.worker) r (open_starts es) none (grind (arith, nat_tests))
@@ -108,12 +108,12 @@ end_leaves w r (x ∷ xs) all is =
     ]
 
 -- a worker holds no start behind the End of the start that it held
-pub end_holds_none : (plan : PlanParts) (w : ℕ) (r : Running) (es : List Entry) → is_legal plan es ≡ true → open_start w es ≡ Some r → (e : Entry) → open_starts (es ++ e ∷ []) ≡ filter (λ q. not (is_of r.test r.attempt q)) (open_starts es) → open_start w (es ++ e ∷ []) ≡ None
+pub end_holds_none : (plan : PlanParts) (w : ℕ) (r : Running) (es : List Entry) → is_legal plan es ≡ true → open_start_of_worker w es ≡ Some r → (e : Entry) → open_starts (es ++ e ∷ []) ≡ filter (λ q. not (is_of r.test r.attempt q)) (open_starts es) → open_start_of_worker w (es ++ e ∷ []) ≡ None
 end_holds_none plan w r es legal is e closes =
     ap (λ (rs : List Running). find (λ (q : Running). q.worker == w) rs) closes ∙ end_leaves w r (open_starts es) (starts_apart plan es (legal_allowed plan es legal)).workers is
 
 -- a Settle or a Stop leaves the start that a worker holds
-pub settle_stays : (w : ℕ) (es : List Entry) (e : Entry) → open_starts (es ++ e ∷ []) ≡ open_starts es ++ [] → open_start w (es ++ e ∷ []) ≡ open_start w es
+pub settle_stays : (w : ℕ) (es : List Entry) (e : Entry) → open_starts (es ++ e ∷ []) ≡ open_starts es ++ [] → open_start_of_worker w (es ++ e ∷ []) ≡ open_start_of_worker w es
 settle_stays w es e is = ap (λ (rs : List Running). find (λ (q : Running). q.worker == w) rs) (is ∙ append-nil (open_starts es))
 
 -- a worker adds an entry of its own, or nothing

@@ -11,7 +11,7 @@ use Rattle.ct_history.specs.declared.history.Entry.{Entry}
 use Rattle.ct_history.specs.declared.history.Entry.TheVariants.{Start, End, Settle, Stop}
 use Rattle.ct_history.specs.History.{Running, is_end_of, open_starts, opened}
 use Rattle.ct_turn.specs.declared.view.Note.{Note}
-use Rattle.ct_turn.specs.Seen.{AddsOwn, GoesOn, is_by, is_noted, is_own, longer, open_start}
+use Rattle.ct_turn.specs.Seen.{AddsOwn, HistoryGoesOn, is_by, is_noted, is_own, longer, open_start_of_worker}
 use Rattle.ct_turn.proofs.StartLemmas.{or_from, or_parts}
 
 other_number : (v w u : ℕ) → v ≢ w → (u == v) ≡ true → (u == w) ≡ false
@@ -31,14 +31,14 @@ own_none v w (e ∷ es) ne own =
     or_from (is_by w e) (list_any (is_by w) es) (own_by v w e ne both.0) (own_none v w es ne both.1)
 
 -- a history that goes on from what a worker has seen still does so with another worker's entries added
-pub goes_further : (v w : ℕ) (seen now later : List Entry) → v ≢ w → GoesOn w seen now → AddsOwn v now later → GoesOn w seen later
+pub goes_further : (v w : ℕ) (seen now later : List Entry) → v ≢ w → HistoryGoesOn w seen now → AddsOwn v now later → HistoryGoesOn w seen later
 goes_further v w seen now later ne goes adds = record {
   more = goes.more ++ adds.more;
   is = adds.is ∙ ap (λ (es : List Entry). es ++ adds.more) goes.is ∙ append_assoc seen goes.more adds.more;
   others = list_any-append (is_by w) goes.more adds.more ∙ or_from _ _ goes.others (own_none v w adds.more ne adds.own);
 }
 
-pub goes_nowhere : (w : ℕ) (now : List Entry) → GoesOn w now now
+pub goes_nowhere : (w : ℕ) (now : List Entry) → HistoryGoesOn w now now
 goes_nowhere w now = record { more = []; is = sym (append-nil now); others = refl }
 
 -- of two beginnings of a list, the longer one begins with the shorter one
@@ -52,7 +52,7 @@ prefix_of (p ∷ ps) (q ∷ qs) x y e le =
     (t.0, (λ i. sym first i ∷ t.1 i), t.2)
 
 -- of two seen beginnings, the longer one goes on from the shorter one, and the history from the longer one
-pub goes_between : (w v : ℕ) (a b now : List Entry) → GoesOn w a now → GoesOn v b now → length a ≤ length b → GoesOn w a b × GoesOn w b now
+pub goes_between : (w v : ℕ) (a b now : List Entry) → HistoryGoesOn w a now → HistoryGoesOn v b now → length a ≤ length b → HistoryGoesOn w a b × HistoryGoesOn w b now
 goes_between w v a b now one other le =
     let t = prefix_of a b one.more other.more (sym one.is ∙ other.is) le in
     let none : (list_any (is_by w) t.0 || list_any (is_by w) other.more) ≡ false = sym (list_any-append (is_by w) t.0 other.more) ∙ sym (ap (λ (es : List Entry). list_any (is_by w) es) t.2) ∙ one.others in
@@ -62,16 +62,16 @@ goes_between w v a b now one other le =
     )
 
 -- the longer of what two have seen, as the first sees it
-pub goes_longer : (w v : ℕ) (a b now : List Entry) → GoesOn w a now → GoesOn v b now → GoesOn w a (longer a b) × GoesOn w (longer a b) now
+pub goes_longer : (w v : ℕ) (a b now : List Entry) → HistoryGoesOn w a now → HistoryGoesOn v b now → HistoryGoesOn w a (longer a b) × HistoryGoesOn w (longer a b) now
 goes_longer w v a b now one other = elim (cases_Bool (nat_lt (length a) (length b))) [
   | inl less ↦
       let lt : length a < length b = grind (arith, nat_tests, less) in
-      subst (λ (c : Bool). GoesOn w a (if c then b else a) × GoesOn w (if c then b else a) now) (sym less) (goes_between w v a b now one other (omega (arith, lt)))
-  | inr not_less ↦ subst (λ (c : Bool). GoesOn w a (if c then b else a) × GoesOn w (if c then b else a) now) (sym not_less) (goes_nowhere w a, one)
+      subst (λ (c : Bool). HistoryGoesOn w a (if c then b else a) × HistoryGoesOn w (if c then b else a) now) (sym less) (goes_between w v a b now one other (omega (arith, lt)))
+  | inr not_less ↦ subst (λ (c : Bool). HistoryGoesOn w a (if c then b else a) × HistoryGoesOn w (if c then b else a) now) (sym not_less) (goes_nowhere w a, one)
 ]
 
 -- a seen history that is as long as the whole one is the whole one
-pub goes_whole : (w : ℕ) (a now : List Entry) → GoesOn w a now → length now ≤ length a → a ≡ now
+pub goes_whole : (w : ℕ) (a now : List Entry) → HistoryGoesOn w a now → length now ≤ length a → a ≡ now
 goes_whole w a now goes le = by_more goes.more goes.is
   where
     by_more : (more : List Entry) → now ≡ a ++ more → a ≡ now
@@ -89,7 +89,7 @@ length-longer a b = elim (cases_Bool (nat_lt (length a) (length b))) [
 ]
 
 -- where one of two workers has seen all, the longer of their histories is the whole one
-pub longer_whole : (w v : ℕ) (a b now : List Entry) → GoesOn w a now → GoesOn v b now → (a ≡ now) ⊎ (b ≡ now) → longer a b ≡ now
+pub longer_whole : (w v : ℕ) (a b now : List Entry) → HistoryGoesOn w a now → HistoryGoesOn v b now → (a ≡ now) ⊎ (b ≡ now) → longer a b ≡ now
 longer_whole w v a b now one other all =
     let sizes = length-longer a b in
     goes_whole w (longer a b) now (goes_longer w v a b now one other).1
@@ -100,7 +100,7 @@ find_skips w None rs none other = none
 find_skips w (Some r) rs none other = ap (λ (b : Bool). cond b (Some r) (find (λ (q : Running). q.worker == w) rs)) (other r refl) ∙ none
 
 -- a worker without entries has no open start
-pub none_open : (w : ℕ) (es : List Entry) → list_any (is_by w) es ≡ false → open_start w es ≡ None
+pub none_open : (w : ℕ) (es : List Entry) → list_any (is_by w) es ≡ false → open_start_of_worker w es ≡ None
 none_open w [] none = refl
 none_open w (e ∷ es) none =
     let both = or_parts (is_by w e) (list_any (is_by w) es) none in

@@ -19,7 +19,7 @@ use Rattle.ct_history.proofs.LegalLemmas.{legal-nil}
 use Rattle.ct_turn.specs.declared.view.Moment.{Moment}
 use Rattle.ct_turn.specs.declared.view.Known.{Known}
 use Rattle.ct_turn.specs.declared.view.Note.{Note}
-use Rattle.ct_turn.specs.Seen.{AddsOwn, Continues, GoesOn, IsTrueNote, Sight, Suits, has_seen, held_start, is_by, is_noted, opener, open_start}
+use Rattle.ct_turn.specs.Seen.{AddsOwn, Continues, HistoryGoesOn, IsTrueNote, Sight, Suits, has_seen, held_start, is_by, is_noted, opener, open_start_of_worker}
 use Rattle.ct_turn.specs.Rule.{Assures, AllAgree, IsOwned, SomeOut, passes_at}
 use Rattle.ct_turn.proofs.GoesLemmas.{goes_further, goes_nowhere, noted_is, own_none}
 use Rattle.ct_turn.proofs.SeatLemmas.{only_one, set_there}
@@ -32,7 +32,7 @@ some_set P seats id k l here out same (j, u, at_j, out_u, holds) = dite (ℕ_dis
     (λ ne. (j, u, set_else seats id j l ne ∙ at_j, out_u, holds))
 
 -- each open start is held by the seat of its worker
-pub starts_held : (plan : PlanParts) (now : Moment) (seats : List Known) → is_legal plan now.entries ≡ true → ((j : ℕ) (k : Known) → get_elem? seats j ≡ some k → k.is_out ≡ true → GoesOn k.worker k.seen.entries now.entries)
+pub starts_held : (plan : PlanParts) (now : Moment) (seats : List Known) → is_legal plan now.entries ≡ true → ((j : ℕ) (k : Known) → get_elem? seats j ≡ some k → k.is_out ≡ true → HistoryGoesOn k.worker k.seen.entries now.entries)
     → ((j : ℕ) (k : Known) → get_elem? seats j ≡ some k → k.is_out ≡ true → All (IsTrueNote now.entries k.worker) k.notes) → ((w : ℕ) → IsOwned now.entries seats w)
     → (r : Running) → Contains (open_starts now.entries) r → SomeOut (λ k. (k.worker ≡ r.worker) × (held_start k ≡ Some r)) seats
 starts_held plan now seats legal seen noted owned r there =
@@ -41,11 +41,11 @@ starts_held plan now seats legal seen noted owned r there =
       | inl none ↦ absurd (opened_by plan now.entries r legal there none)
       | inr (inl (j, k, at_j, out, is)) ↦
           let stays = start_stays plan k.worker k.seen.entries now.entries legal (seen j k at_j out) in
-          (j, k, at_j, out, (is, sym stays ∙ ap (λ (w : ℕ). open_start w now.entries) is ∙ own))
+          (j, k, at_j, out, (is, sym stays ∙ ap (λ (w : ℕ). open_start_of_worker w now.entries) is ∙ own))
       | inr (inr (j, k, at_j, out, is)) ↦
           let t = noted_is (IsTrueNote now.entries k.worker) r.worker k.notes (noted j k at_j out) is in
           let stays = start_stays plan t.0.worker t.0.seen now.entries legal t.2.history in
-          let none : open_start r.worker now.entries ≡ None = ap (λ (w : ℕ). open_start w now.entries) (sym t.1) ∙ stays ∙ t.2.idle in
+          let none : open_start_of_worker r.worker now.entries ≡ None = ap (λ (w : ℕ). open_start_of_worker w now.entries) (sym t.1) ∙ stays ∙ t.2.idle in
           let never : None ≡ Some r = sym none ∙ own in
           absurd (cc)
     ]
@@ -75,9 +75,9 @@ module _ (plan : PlanParts) (base : Base) (now : Moment) (seats : List Known) (i
         plan = ap (λ (y : Sight). y.plan) is ∙ sym same.0;
         base = ap (λ (y : Sight). y.base) is ∙ sym same.1;
         legal = subst (λ (p : PlanParts). is_legal p state.now.entries ≡ true) (sym same.0) (subst (λ (m : Moment). is_legal plan m.entries ≡ true) (sym at_now) kept.legal);
-        history = subst (λ (m : Moment). GoesOn k.worker k.seen.entries m.entries) (sym at_now) goes;
+        history = subst (λ (m : Moment). HistoryGoesOn k.worker k.seen.entries m.entries) (sym at_now) goes;
         halted = λ was. ap (λ (m : Moment). m.halted) at_now ∙ kept.halted id k here out was;
-        start = ap (λ (m : Moment). open_start k.worker m.entries) at_now ∙ start_stays plan k.worker k.seen.entries now.entries kept.legal goes;
+        start = ap (λ (m : Moment). open_start_of_worker k.worker m.entries) at_now ∙ start_stays plan k.worker k.seen.entries now.entries kept.legal goes;
       }
 
   -- a worker whose pass was not made has no entry
@@ -107,7 +107,7 @@ module _ (plan : PlanParts) (base : Base) (now : Moment) (seats : List Known) (i
       let legal = subst (λ (p : PlanParts). is_legal p later.entries ≡ true) (kept.same id k here out).0 fits.legal in
       let back : (P : Known → Type 0) → P l → ((j : ℕ) (u : Known) → j ≢ id → get_elem? seats j ≡ some u → u.is_out ≡ true → P u) → (j : ℕ) (u : Known) → get_elem? (set seats id l) j ≡ some u → u.is_out ≡ true → P u =
       λ P own others j u at_j out_u. ⊎_elim (λ there. subst P there.1 own) (λ else. others j u else.0 else.1 out_u) (at_set seats id j l u at_j) in
-      let seen = back (λ u. GoesOn u.worker u.seen.entries later.entries) (goes_nowhere k.worker later.entries)
+      let seen = back (λ u. HistoryGoesOn u.worker u.seen.entries later.entries) (goes_nowhere k.worker later.entries)
       (λ j u ne at_j out_u. goes_further k.worker u.worker u.seen.entries now.entries later.entries (λ e. ne (sym (kept.apart id j k here out u at_j out_u e))) (kept.seen j u at_j out_u) adds) in
       let note_further : (j : ℕ) (u : Known) → get_elem? seats j ≡ some u → u.is_out ≡ true → All (IsTrueNote later.entries u.worker) u.notes = λ j u at_j out_u i d lt.
       let note : Note = slice_index_or u.notes i d in
@@ -157,7 +157,7 @@ kept-open plan base now none going =
     let first : Known = opener plan base in
     let back : (P : Known → Type 0) → P first → (j : ℕ) (u : Known) → get_elem? (first ∷ []) j ≡ some u → u.is_out ≡ true → P u = λ P own j u at_j out. subst P (only_one first u j at_j).1 own in
     let legal : is_legal plan now.entries ≡ true = subst (λ es. is_legal plan es ≡ true) (sym none) (legal-nil plan) in
-    let seen = back (λ u. GoesOn u.worker u.seen.entries now.entries) (subst (λ es. GoesOn 0 [] es) (sym none) (goes_nowhere 0 [])) in
+    let seen = back (λ u. HistoryGoesOn u.worker u.seen.entries now.entries) (subst (λ es. HistoryGoesOn 0 [] es) (sym none) (goes_nowhere 0 [])) in
     let noted = back (λ u. All (IsTrueNote now.entries u.worker) u.notes) (λ i d lt. absurd (omega (arith, lt))) in
     let owned : (w : ℕ) → IsOwned now.entries (first ∷ []) w = λ w. inl (ap (list_any (is_by w)) none) in
     record {

@@ -20,7 +20,7 @@ use Rattle.ct_history.specs.Legal.{is_legal}
 use Rattle.ct_turn.specs.declared.view.Moment.{Moment}
 use Rattle.ct_turn.specs.declared.view.Known.{Known}
 use Rattle.ct_turn.specs.declared.view.Note.{Note}
-use Rattle.ct_turn.specs.Seen.{Closes, GoesOn, IsKeptBy, IsTrueNote, Sight, held_start, is_by, is_noted, with_joined, nobody, note_of, one_more, open_start, split_off}
+use Rattle.ct_turn.specs.Seen.{Closes, HistoryGoesOn, IsKeptBy, IsTrueNote, Sight, held_start, is_by, is_noted, with_joined, nobody, note_of, one_more, open_start_of_worker, split_off}
 use Rattle.ct_turn.specs.Rule.{Assures, AllAgree, IsOwned, SomeOut, passes_at}
 use Rattle.ct_turn.proofs.GoesLemmas.{goes_longer, longer_whole, none_open}
 use Rattle.ct_turn.proofs.KeptLemmas.{passes-set, some_set, starts_held, unmade_none}
@@ -51,7 +51,7 @@ module _ (plan : PlanParts) (base : Base) (now : Moment) (seats : List Known) (i
       let size : length seats ≡ length front = sym (length-set seats id k') in
       let back : (P : Known → Type 0) → P k' → P l → ((j : ℕ) (u : Known) → j ≢ id → get_elem? seats j ≡ some u → u.is_out ≡ true → P u) → (j : ℕ) (u : Known) → get_elem? (front ++ l ∷ []) j ≡ some u → u.is_out ≡ true → P u =
       λ P own new others j u at_j out_u. ⊎_elim (λ inside. ⊎_elim (λ there. subst P there.1 own) (λ else. others j u else.0 else.1 out_u) (at_set seats id j k' u inside)) (λ last. subst P last.1 new) (at_behind front l u j at_j) in
-      let seen = back (λ u. GoesOn u.worker u.seen.entries now.entries) goes (record { more = goes.more; is = goes.is; others = unmade_more }) (λ j u ne at_j out_u. kept.seen j u at_j out_u) in
+      let seen = back (λ u. HistoryGoesOn u.worker u.seen.entries now.entries) goes (record { more = goes.more; is = goes.is; others = unmade_more }) (λ j u ne at_j out_u. kept.seen j u at_j out_u) in
       let noted = back (λ u. All (IsTrueNote now.entries u.worker) u.notes) (kept.noted id k here out) (λ i d lt. absurd (omega (arith, lt))) (λ j u ne at_j out_u. kept.noted j u at_j out_u) in
       let lift : (P : Known → Type 0) → (P k → P k') → SomeOut P seats → SomeOut P (front ++ l ∷ []) = λ P same found. some_behind P front l (some_set P seats id k k' here out same found) in
       let owned : (w : ℕ) → IsOwned now.entries (front ++ l ∷ []) w = λ w. elim (kept.owned w) [
@@ -155,10 +155,10 @@ module _ (plan : PlanParts) (base : Base) (now : Moment) (seats : List Known) (i
     unnoted_more : (w : ℕ) → is_noted w k.notes ≡ false → l.worker ≢ w → is_noted w k'.notes ≡ false
     unnoted_more w none other = noted_more w ∙ or_from (is_noted w k.notes) (l.worker == w || false) none (or_from (l.worker == w) false (other_worker l.worker w other) refl)
 
-    goes : GoesOn k.worker k.seen.entries k'.seen.entries × GoesOn k.worker k'.seen.entries now.entries
+    goes : HistoryGoesOn k.worker k.seen.entries k'.seen.entries × HistoryGoesOn k.worker k'.seen.entries now.entries
     goes = goes_longer k.worker l.worker k.seen.entries l.seen.entries now.entries (kept.seen id k here out) (kept.seen o l there out_l)
 
-    held_longer : open_start k.worker k'.seen.entries ≡ open_start k.worker k.seen.entries
+    held_longer : open_start_of_worker k.worker k'.seen.entries ≡ open_start_of_worker k.worker k.seen.entries
     held_longer =
         sym (start_stays plan k.worker k'.seen.entries now.entries kept.legal goes.1) ∙ start_stays plan k.worker k.seen.entries now.entries kept.legal (kept.seen id k here out)
 
@@ -191,7 +191,7 @@ module _ (plan : PlanParts) (base : Base) (now : Moment) (seats : List Known) (i
 
     pub kept-join : AllAgree plan base now (set (set seats id (with_joined k l)) o nobody)
     kept-join =
-        let seen = back (λ u. GoesOn u.worker u.seen.entries now.entries) goes.1 (λ j u ne_id ne_o at_j out_u. kept.seen j u at_j out_u) in
+        let seen = back (λ u. HistoryGoesOn u.worker u.seen.entries now.entries) goes.1 (λ j u ne_id ne_o at_j out_u. kept.seen j u at_j out_u) in
         let new_note : IsTrueNote now.entries k.worker (note_of k l) = record { history = kept.seen o l there out_l; idle = idle; kept = record { own = goes.0; held = held_longer } } in
         let noted = back (λ u. All (IsTrueNote now.entries u.worker) u.notes)
         (All-append (IsTrueNote now.entries k.worker) k.notes (note_of k l ∷ []) (kept.noted id k here out) (All-cons (IsTrueNote now.entries k.worker) (note_of k l) [] new_note (λ i d lt. absurd (omega (arith, lt)))))
@@ -283,7 +283,7 @@ module _ (plan : PlanParts) (base : Base) (now : Moment) (seats : List Known) (i
         legal = subst (λ (p : PlanParts). is_legal p state.now.entries ≡ true) (sym same.0) (subst (λ (m : Moment). is_legal plan m.entries ≡ true) (sym at_now) kept.legal);
         history = ap (λ (m : Moment). m.entries) at_now ∙ seen;
         halted = λ was. ap (λ (m : Moment). m.halted) at_now ∙ kept.halted id k here out was;
-        notes = λ i d lt. subst (λ (m : Moment). GoesOn (slice_index_or k.notes i d).worker (slice_index_or k.notes i d).seen m.entries) (sym at_now) (kept.noted id k here out i d lt).history;
+        notes = λ i d lt. subst (λ (m : Moment). HistoryGoesOn (slice_index_or k.notes i d).worker (slice_index_or k.notes i d).seen m.entries) (sym at_now) (kept.noted id k here out i d lt).history;
         owners = λ w other none. ap (λ (m : Moment). list_any (is_by w) m.entries) at_now ∙ by_owner w other none (kept.owned w);
         idle = ap (λ (m : Moment). open_starts m.entries) at_now ∙ none_contained (open_starts now.entries) (λ r inside. by_holder r (kept.started r inside));
       }

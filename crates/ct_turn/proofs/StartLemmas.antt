@@ -13,7 +13,7 @@ use Rattle.ct_history.specs.Legal.{are_allowed_behind, is_allowed, is_allowed_so
 use Rattle.ct_history.proofs.ApartLemmas.{Differ, differ-head, differ-tail, starts_apart}
 use Rattle.ct_history.proofs.LegalLemmas.{allowed-snoc, legal_allowed}
 use Rattle.ct_history.proofs.OpenLemmas.{is_of, open_starts-end, open_starts-snoc}
-use Rattle.ct_turn.specs.Seen.{GoesOn, is_by, open_start}
+use Rattle.ct_turn.specs.Seen.{HistoryGoesOn, is_by, open_start_of_worker}
 
 true_is_false : true ≡ false → ⊥
 true_is_false is = cc
@@ -85,23 +85,23 @@ no_other o p a unlike (x ∷ xs) is = elim (cases_Bool (p x)) [
 ]
 
 -- an allowed entry of another worker leaves a worker's open start as it is
-start-snoc : (plan : PlanParts) (es : List Entry) (e : Entry) (w : ℕ) → is_allowed_so_far plan es ≡ true → is_allowed plan es e ≡ true → is_by w e ≡ false → open_start w (es ++ e ∷ []) ≡ open_start w es
+start-snoc : (plan : PlanParts) (es : List Entry) (e : Entry) (w : ℕ) → is_allowed_so_far plan es ≡ true → is_allowed plan es e ≡ true → is_by w e ≡ false → open_start_of_worker w (es ++ e ∷ []) ≡ open_start_of_worker w es
 start-snoc plan es (Start n a v p) w so_far allowed other =
     let run : Running = record { test = n; attempt = a; worker = v; placement = p } in
     ap (λ (rs : List Running). find (λ (r : Running). r.worker == w) rs) (open_starts-snoc es (Start n a v p) refl)
-    ∙ no_other (open_start w es) (λ (r : Running). r.worker == w) run other (open_starts es) refl
+    ∙ no_other (open_start_of_worker w es) (λ (r : Running). r.worker == w) run other (open_starts es) refl
 start-snoc plan es (End t a v s) w so_far allowed other =
     ap (λ (rs : List Running). find (λ (r : Running). r.worker == w) rs) (open_starts-end es t a v s)
     ∙ find-end t a v w (open_starts es) (starts_apart plan es so_far).tests (and_parts (not (is_stop_due plan es)) (holds_start t a v es) allowed).1 other
 start-snoc plan es (Settle t c) w so_far allowed other = ap (λ (rs : List Running). find (λ (r : Running). r.worker == w) rs) (open_starts-snoc es (Settle t c) refl ∙ append-nil (open_starts es))
 start-snoc plan es Stop w so_far allowed other = ap (λ (rs : List Running). find (λ (r : Running). r.worker == w) rs) (open_starts-snoc es Stop refl ∙ append-nil (open_starts es))
 
-start_behind : (plan : PlanParts) (front more : List Entry) (w : ℕ) → is_allowed_so_far plan front ≡ true → are_allowed_behind plan front more ≡ true → list_any (is_by w) more ≡ false → open_start w (front ++ more) ≡ open_start w front
-start_behind plan front [] w so_far allowed none = ap (open_start w) (append-nil front)
+start_behind : (plan : PlanParts) (front more : List Entry) (w : ℕ) → is_allowed_so_far plan front ≡ true → are_allowed_behind plan front more ≡ true → list_any (is_by w) more ≡ false → open_start_of_worker w (front ++ more) ≡ open_start_of_worker w front
+start_behind plan front [] w so_far allowed none = ap (open_start_of_worker w) (append-nil front)
 start_behind plan front (e ∷ es) w so_far allowed none =
     let both = and_parts (is_allowed plan front e) (are_allowed_behind plan (front ++ e ∷ []) es) allowed in
     let other = or_parts (is_by w e) (list_any (is_by w) es) none in
-    ap (open_start w) (sym (append_assoc front (e ∷ []) es))
+    ap (open_start_of_worker w) (sym (append_assoc front (e ∷ []) es))
     ∙ start_behind plan (front ++ e ∷ []) es w (allowed-snoc plan front e so_far both.0) both.1 other.1
     ∙ start-snoc plan front e w so_far both.0 other.0
 
@@ -115,11 +115,11 @@ allowed_split plan front (x ∷ xs) ys allowed =
     )
 
 -- the start that a worker has open is the one that it had open in what it has seen
-pub start_stays : (plan : PlanParts) (w : ℕ) (seen now : List Entry) → is_legal plan now ≡ true → GoesOn w seen now → open_start w now ≡ open_start w seen
+pub start_stays : (plan : PlanParts) (w : ℕ) (seen now : List Entry) → is_legal plan now ≡ true → HistoryGoesOn w seen now → open_start_of_worker w now ≡ open_start_of_worker w seen
 start_stays plan w seen now legal goes =
     let allowed = subst (λ (es : List Entry). are_allowed_behind plan [] es ≡ true) goes.is (legal_allowed plan now legal) in
     let both = allowed_split plan [] seen goes.more allowed in
-    ap (open_start w) goes.is ∙ start_behind plan seen goes.more w both.0 both.1 goes.others
+    ap (open_start_of_worker w) goes.is ∙ start_behind plan seen goes.more w both.0 both.1 goes.others
 
 none_at : (p : Running → Bool) (rs : List Running) (r : Running) → list_any p rs ≡ false → Contains rs r → p r ≡ false
 none_at p [] r none (i, lt, e) = absurd (omega (arith, lt))
@@ -137,7 +137,7 @@ find_own (x ∷ xs) r all (suc i, lt, e) =
     ap (λ (b : Bool). if b then Some x else find (λ (q : Running). q.worker == r.worker) xs) unlike ∙ find_own xs r (differ-tail (λ q. q.worker) x xs all) there
 
 -- an open start is the one that its worker has open
-pub open_start-own : (plan : PlanParts) (es : List Entry) (r : Running) → is_legal plan es ≡ true → Contains (open_starts es) r → open_start r.worker es ≡ Some r
+pub open_start-own : (plan : PlanParts) (es : List Entry) (r : Running) → is_legal plan es ≡ true → Contains (open_starts es) r → open_start_of_worker r.worker es ≡ Some r
 open_start-own plan es r legal there = find_own (open_starts es) r (starts_apart plan es (legal_allowed plan es legal)).workers there
 
 -- a worker with an open start has an entry

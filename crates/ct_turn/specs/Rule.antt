@@ -14,7 +14,7 @@ use Rattle.ct_history.specs.Legal.{is_legal}
 use Rattle.ct_turn.specs.declared.view.Moment.{Moment}
 use Rattle.ct_turn.specs.declared.view.Known.{Known}
 use Rattle.ct_turn.specs.declared.view.View.{View}
-use Rattle.ct_turn.specs.Seen.{GoesOn, IsKeptBy, IsTrueNote, Sight, Suits, has_seen, held_start, is_by, is_noted, nobody, opener, split_off}
+use Rattle.ct_turn.specs.Seen.{HistoryGoesOn, IsKeptBy, IsTrueNote, Sight, Suits, has_seen, held_start, is_by, is_noted, nobody, opener, split_off}
 
 -- what the worker knows at a seat
 abbrev pub known_at : View → Known
@@ -38,7 +38,9 @@ SomeOut P seats = (j : ℕ) × (k : Known) × (get_elem? seats j ≡ some k) × 
 
 -- a worker has no entry, or its seat is out, or it was noted
 abbrev pub IsOwned : List Entry → List Known → ℕ → Type 0
-IsOwned now seats w = (list_any (is_by w) now ≡ false) ⊎ (SomeOut (λ k. k.worker ≡ w) seats ⊎ SomeOut (λ k. is_noted w k.notes ≡ true) seats)
+IsOwned now seats w =
+    (list_any (is_by w) now ≡ false)
+    ⊎ (SomeOut (λ k. k.worker ≡ w) seats ⊎ SomeOut (λ k. is_noted w k.notes ≡ true) seats)
 
 -- how many passes a seat stands for: where it is out, its own and those joined into it; else none
 abbrev pub passes_at : Known → ℕ
@@ -48,7 +50,7 @@ passes_at k = if k.is_out then 1 + length k.notes else 0
 pub record AllAgree (plan : PlanParts) (base : Base) (now : Moment) (seats : List Known) : Type 0 where
   pub same : EachOut (λ k. (k.plan ≡ plan) × (k.base ≡ base)) seats
   pub legal : is_legal plan now.entries ≡ true
-  pub seen : EachOut (λ k. GoesOn k.worker k.seen.entries now.entries) seats
+  pub seen : EachOut (λ k. HistoryGoesOn k.worker k.seen.entries now.entries) seats
   pub halted : EachOut (λ k. k.seen.halted ≡ true → now.halted ≡ true) seats
   pub exact : SomeOut (λ k. k.seen.entries ≡ now.entries) seats
   pub apart : (i j : ℕ) → EachOutAt seats i (λ k. EachOutAt seats j (λ l. k.worker ≡ l.worker → i ≡ j))

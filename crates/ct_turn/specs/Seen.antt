@@ -24,15 +24,35 @@ pub record Sight : Type 0 where
 
 -- the sight of a state, by its plan, its base, its history, and whether it is halted
 abbrev pub sight : {T : Type 0} → (T → PlanParts) → (T → Base) → (T → List Entry) → (T → Bool) → T → Sight
-sight plan base history halted x = record { plan = plan x; base = base x; now = moment (history x) (halted x) }
+sight plan base history halted x = record {
+  plan = plan x;
+  base = base x;
+  now = moment (history x) (halted x);
+}
 
 -- what worker 0 knows when it opens the turn: nothing has happened, and one pass was made
 abbrev pub opener : PlanParts → Base → Known
-opener plan base = record { plan = plan; base = base; worker = 0; seen = moment [] false; is_out = true; made = 1; notes = [] }
+opener plan base = record {
+  plan = plan;
+  base = base;
+  worker = 0;
+  seen = moment [] false;
+  is_out = true;
+  made = 1;
+  notes = [];
+}
 
 -- the plan without tests
 abbrev pub no_plan : PlanParts
-no_plan = record { dir = []; tests = []; queue = []; resources = None; level = 0; repeat = record { mode = Once; times = 1 }; stop_on_failure = false }
+no_plan = record {
+  dir = [];
+  tests = [];
+  queue = [];
+  resources = None;
+  level = 0;
+  repeat = record { mode = Once; times = 1 };
+  stop_on_failure = false;
+}
 
 -- what is known in a place from which the seat was taken away
 abbrev pub nobody : Known
@@ -57,7 +77,11 @@ longer one other = if nat_lt (length one) (length other) then other else one
 
 -- the note of another worker: its number, what it has seen, and what the keeper of the note had seen
 abbrev pub note_of : Known → Known → Note
-note_of keeper other = record { worker = other.worker; seen = other.seen.entries; before = keeper.seen.entries }
+note_of keeper other = record {
+  worker = other.worker;
+  seen = other.seen.entries;
+  before = keeper.seen.entries;
+}
 
 -- what the keeper knows once another pass was joined away: the longer history, a halt that
 -- either has seen, and one more note
@@ -84,7 +108,7 @@ is_own worker (Settle t cause) = true
 is_own worker Stop = true
 
 -- the history goes on from what was seen of it, and behind that no Start and no End of the worker stands
-pub record GoesOn (worker : ℕ) (seen now : List Entry) : Type 0 where
+pub record HistoryGoesOn (worker : ℕ) (seen now : List Entry) : Type 0 where
   pub more : List Entry
   pub is : now ≡ seen ++ more
   pub others : list_any (is_by worker) more ≡ false
@@ -96,12 +120,12 @@ pub record AddsOwn (worker : ℕ) (before now : List Entry) : Type 0 where
   pub own : list_all (is_own worker) more ≡ true
 
 -- the start of the worker that is open, if it has one
-abbrev pub open_start : ℕ → List Entry → Option Running
-open_start worker entries = find (λ (r : Running). r.worker == worker) (open_starts entries)
+abbrev pub open_start_of_worker : ℕ → List Entry → Option Running
+open_start_of_worker worker entries = find (λ (r : Running). r.worker == worker) (open_starts entries)
 
 -- the start that a worker holds: its own open start in what it has seen
 abbrev pub held_start : Known → Option Running
-held_start known = open_start known.worker known.seen.entries
+held_start known = open_start_of_worker known.worker known.seen.entries
 
 -- the state fits what the worker knows: it has the plan and the base, and its history is legal. The history
 -- goes on from what the worker has seen, with none of its own entries. The state is halted where the worker
@@ -110,9 +134,9 @@ pub record Suits (known : Known) (state : Sight) : Type 0 where
   pub plan : state.plan ≡ known.plan
   pub base : state.base ≡ known.base
   pub legal : is_legal known.plan state.now.entries ≡ true
-  pub history : GoesOn known.worker known.seen.entries state.now.entries
+  pub history : HistoryGoesOn known.worker known.seen.entries state.now.entries
   pub halted : known.seen.halted ≡ true → state.now.halted ≡ true
-  pub start : open_start known.worker state.now.entries ≡ held_start known
+  pub start : open_start_of_worker known.worker state.now.entries ≡ held_start known
 
 -- the state may come back: it has the plan and the base that the worker knows, and its history is
 -- legal. The history adds only entries of the worker, or of none, to what was taken. The state is
@@ -127,14 +151,15 @@ pub record Continues (known : Known) (taken : Moment) (state : Sight) : Type 0 w
 -- the longer history of a note goes on from what its keeper had seen, with none of the keeper's entries, and
 -- so the keeper holds the same start in both
 pub record IsKeptBy (keeper : ℕ) (note : Note) : Type 0 where
-  pub own : GoesOn keeper note.before (longer note.before note.seen)
-  pub held : open_start keeper (longer note.before note.seen) ≡ open_start keeper note.before
+  pub own : HistoryGoesOn keeper note.before (longer note.before note.seen)
+  pub held :
+      open_start_of_worker keeper (longer note.before note.seen) ≡ open_start_of_worker keeper note.before
 
 -- what is noted of a worker is true: the history goes on from what the worker had seen, with none of its
 -- entries. The worker held no start, and the note is kept by its keeper.
 pub record IsTrueNote (now : List Entry) (keeper : ℕ) (note : Note) : Type 0 where
-  pub history : GoesOn note.worker note.seen now
-  pub idle : open_start note.worker note.seen ≡ None
+  pub history : HistoryGoesOn note.worker note.seen now
+  pub idle : open_start_of_worker note.worker note.seen ≡ None
   pub kept : IsKeptBy keeper note
 
 -- the state at the end is what the one worker that is left has seen. It has the plan and the base, its
@@ -147,7 +172,7 @@ pub record Closes (known : Known) (state : Sight) : Type 0 where
   pub legal : is_legal known.plan state.now.entries ≡ true
   pub history : state.now.entries ≡ known.seen.entries
   pub halted : known.seen.halted ≡ true → state.now.halted ≡ true
-  pub notes : All (λ (n : Note). GoesOn n.worker n.seen state.now.entries) known.notes
+  pub notes : All (λ (n : Note). HistoryGoesOn n.worker n.seen state.now.entries) known.notes
   pub owners : (w : ℕ) → w ≢ known.worker → is_noted w known.notes ≡ false
       → list_any (is_by w) state.now.entries ≡ false
   pub idle : open_starts state.now.entries ≡ []

@@ -1,7 +1,6 @@
 //! The turn: one locked scheduler for workers that race.
 //!
 //! Hands up: `Turn`, which lends the state of a run to one worker at a time; `Pass`, a worker's seat.
-//! Stands on: ct_base, ct_verdict, ct_history, and the kit's `atomic_table`.
 //! Read first: `specs/Seen.antt`, `specs/Rule.antt`, then `turn.rt`.
 #![tactic(auto)]
 

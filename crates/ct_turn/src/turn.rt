@@ -58,7 +58,7 @@ impl<T: Board> Model for Turn<T> {
 }
 
 impl<T: Board> Turn<T> {
-    ghost use Rattle.ct_turn.specs.Seen.{Closes, Continues, GoesOn, Suits, has_seen, held_start, with_joined, moment, one_more, opener, sight, split_off};
+    ghost use Rattle.ct_turn.specs.Seen.{Closes, Continues, HistoryGoesOn, Suits, has_seen, held_start, with_joined, moment, one_more, opener, sight, split_off};
     ghost use Rattle.ct_turn.specs.Pass.{idle_pass};
     ghost use Rattle.ct_turn.specs.Rule.{Taken};
 
@@ -208,7 +208,7 @@ impl<T: Board> Turn<T> {
         requires idle { (pass.old.taken ≡ None) × (other.taken ≡ None) }
         requires done { held_start other.known ≡ None }
         ensures pass { pass.new ≡ record pass.old { known = with_joined pass.old.known other.known } }
-        ensures own { GoesOn pass.old.known.worker
+        ensures own { HistoryGoesOn pass.old.known.worker
             pass.old.known.seen.entries pass.new.known.seen.entries }
         ensures held { held_start pass.new.known ≡ held_start pass.old.known }
     {

@@ -27,15 +27,20 @@ is_skipped_exit rules seen code = has_skip_code rules.skip_code code || seen.ski
 -- an exit is good: no fail pattern hits;
 -- and a pass pattern hits or, where the test has none, the exit code is 0
 abbrev pub is_good_exit : Rules → Seen → ℤ → Bool
-is_good_exit rules seen code = not seen.fail_hit && (if rules.pass_wanted then seen.pass_hit else int_eq code (pos 0))
+is_good_exit rules seen code =
+    not seen.fail_hit && (if rules.pass_wanted then seen.pass_hit else int_eq code (pos 0))
 
 -- an exit passes: it is good or, for a test with WILL_FAIL, it is not
 abbrev pub is_passing_exit : Rules → Seen → ℤ → Bool
-is_passing_exit rules seen code = if rules.will_fail then not (is_good_exit rules seen code) else is_good_exit rules seen code
+is_passing_exit rules seen code =
+    if rules.will_fail then not (is_good_exit rules seen code) else is_good_exit rules seen code
 
 -- the verdict of an exit: skipped, passed or failed
 abbrev pub verdict_of_exit : Rules → Seen → ℤ → Verdict
-verdict_of_exit rules seen code = if is_skipped_exit rules seen code then Skipped else (if is_passing_exit rules seen code then Passed else Failed)
+verdict_of_exit rules seen code =
+    if is_skipped_exit rules seen code
+    then Skipped
+    else (if is_passing_exit rules seen code then Passed else Failed)
 
 -- the verdict of an attempt, by how it ended
 abbrev pub verdict_of_how : Rules → Seen → How → Verdict

@@ -1,7 +1,6 @@
 //! The verdict of an attempt of a test, and whether the test is tried again.
 //!
 //! Hands up: `one`, the verdict of one attempt, and `Repeat::again`.
-//! Stands on: ct_base.
 //! Read first: `specs/Verdict.antt`, then `rules.rt` and `repeat.rt`.
 #![tactic(auto)]
 

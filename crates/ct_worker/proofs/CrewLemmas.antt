@@ -9,7 +9,7 @@ use Rattle.ct_history.specs.declared.history.Entry.{Entry}
 use Rattle.ct_core.specs.Gate.{GateTell}
 use Rattle.ct_turn.specs.declared.view.Known.{Known}
 use Rattle.ct_turn.specs.Pass.{PassValue, idle_pass}
-use Rattle.ct_turn.specs.Seen.{GoesOn, is_by, one_more, split_off, with_joined}
+use Rattle.ct_turn.specs.Seen.{HistoryGoesOn, is_by, one_more, split_off, with_joined}
 use Rattle.ct_turn.specs.Turn.{TurnValue}
 use Rattle.ct_turn.proofs.StartLemmas.{or_from}
 use Rattle.ct_worker.specs.declared.jobs.Jobs.{Jobs}
@@ -70,7 +70,7 @@ pub joined_worker : (keeper : Known) (passes : List PassValue) → (all_joined k
 joined_worker keeper [] = refl
 joined_worker keeper (p ∷ ps) = joined_worker (with_joined keeper p.known) ps
 
-goes_twice : (w : ℕ) (a b c : List Entry) → GoesOn w a b → GoesOn w b c → GoesOn w a c
+goes_twice : (w : ℕ) (a b c : List Entry) → HistoryGoesOn w a b → HistoryGoesOn w b c → HistoryGoesOn w a c
 goes_twice w a b c one other = record {
   more = one.more ++ other.more;
   is = other.is ∙ ap (λ (es : List Entry). es ++ other.more) one.is ∙ append_assoc a one.more other.more;
@@ -84,10 +84,10 @@ module _ (first mid new pass : PassValue) (passes : List PassValue) (was : mid �
       is ∙ ap (λ (p : PassValue). record p { known = with_joined p.known pass.known }) was
       ∙ ap (λ (k : Known). record first { known = k }) (sym (joined-snoc first.known passes pass))
 
-  pub join_own : GoesOn first.known.worker first.known.seen.entries mid.known.seen.entries → GoesOn mid.known.worker mid.known.seen.entries new.known.seen.entries → GoesOn first.known.worker first.known.seen.entries new.known.seen.entries
+  pub join_own : HistoryGoesOn first.known.worker first.known.seen.entries mid.known.seen.entries → HistoryGoesOn mid.known.worker mid.known.seen.entries new.known.seen.entries → HistoryGoesOn first.known.worker first.known.seen.entries new.known.seen.entries
   join_own one other =
       goes_twice first.known.worker first.known.seen.entries mid.known.seen.entries new.known.seen.entries one
-      (subst (λ (w : ℕ). GoesOn w mid.known.seen.entries new.known.seen.entries) (ap (λ (p : PassValue). p.known.worker) was ∙ joined_worker first.known passes) other)
+      (subst (λ (w : ℕ). HistoryGoesOn w mid.known.seen.entries new.known.seen.entries) (ap (λ (p : PassValue). p.known.worker) was ∙ joined_worker first.known passes) other)
 
 one_later : (made n : ℕ) → made + n + 1 ≡ made + (n + 1)
 one_later made n = omega arith

@@ -29,7 +29,7 @@ use Rattle.ct_core.proofs.KeptLemmas.{end_allowed, final_step, settle_allowed, s
 use Rattle.ct_turn.specs.declared.view.Known.{Known}
 use Rattle.ct_turn.specs.declared.view.Moment.{Moment}
 use Rattle.ct_turn.specs.Pass.{PassValue, idle_pass}
-use Rattle.ct_turn.specs.Seen.{AddsOwn, Continues, GoesOn, Sight, Suits, has_seen, held_start, is_by, is_own, moment, open_start}
+use Rattle.ct_turn.specs.Seen.{AddsOwn, Continues, HistoryGoesOn, Sight, Suits, has_seen, held_start, is_by, is_own, moment, open_start_of_worker}
 use Rattle.ct_turn.proofs.CallerLemmas.{adds_none, adds_one, end_holds_none, holds_own, not_busy, settle_stays, start_holds}
 use Rattle.ct_turn.proofs.StartLemmas.{or_from, start_stays}
 use Rattle.ct_worker.specs.declared.state.Halt.{Halt}
@@ -78,17 +78,17 @@ adds_due w plan es e own = due_keeps plan (es ++ e ∷ []) (λ xs. AddsOwn w es 
 })
 
 -- entries that are not the worker's, behind a history, leave what the worker has seen of it
-goes_more : (w : ℕ) (seen now more : List Entry) → GoesOn w seen now → list_any (is_by w) more ≡ false → GoesOn w seen (now ++ more)
+goes_more : (w : ℕ) (seen now more : List Entry) → HistoryGoesOn w seen now → list_any (is_by w) more ≡ false → HistoryGoesOn w seen (now ++ more)
 goes_more w seen now more goes none = record {
   more = goes.more ++ more;
   is = ap (λ (es : List Entry). es ++ more) goes.is ∙ append_assoc seen goes.more more;
   others = list_any-append (is_by w) goes.more more ∙ or_from _ _ goes.others none;
 }
 
-goes_due : (w : ℕ) (plan : PlanParts) (seen es : List Entry) (e : Entry) → is_by w e ≡ false → GoesOn w seen es → GoesOn w seen (with_due_stop plan (es ++ e ∷ []))
+goes_due : (w : ℕ) (plan : PlanParts) (seen es : List Entry) (e : Entry) → is_by w e ≡ false → HistoryGoesOn w seen es → HistoryGoesOn w seen (with_due_stop plan (es ++ e ∷ []))
 goes_due w plan seen es e none goes =
     let one = goes_more w seen es (e ∷ []) goes (or_from (is_by w e) false none refl) in
-    due_keeps plan (es ++ e ∷ []) (λ xs. GoesOn w seen xs) one (goes_more w seen (es ++ e ∷ []) (Is.Stop ∷ []) one refl)
+    due_keeps plan (es ++ e ∷ []) (λ xs. HistoryGoesOn w seen xs) one (goes_more w seen (es ++ e ∷ []) (Is.Stop ∷ []) one refl)
 
 planned_at : (plan : PlanParts) (es : List Entry) (p : Option Placement) (o : Option PlanTest) → may_start_at plan es p o ≡ true → IsSome o
 planned_at plan es p None may = cc
@@ -108,14 +108,14 @@ module _ (w : ℕ) (known : Known) (old : StateValue) (is_worker : known.worker 
   legal : is_legal old.plan old.entries ≡ true
   legal = subst (λ (p : PlanParts). is_legal p old.entries ≡ true) (sym suits.plan) suits.legal
 
-  none_open : open_start w old.entries ≡ None
-  none_open = subst (λ (v : ℕ). open_start v old.entries ≡ None) is_worker (suits.start ∙ idle)
+  none_open : open_start_of_worker w old.entries ≡ None
+  none_open = subst (λ (v : ℕ). open_start_of_worker v old.entries ≡ None) is_worker (suits.start ∙ idle)
 
   pub free : is_busy_in w old.entries ≡ false
   free = not_busy w old.entries none_open
 
-  goes : GoesOn w known.seen.entries old.entries
-  goes = subst (λ (v : ℕ). GoesOn v known.seen.entries old.entries) is_worker suits.history
+  goes : HistoryGoesOn w known.seen.entries old.entries
+  goes = subst (λ (v : ℕ). HistoryGoesOn v known.seen.entries old.entries) is_worker suits.history
 
   module _ (sound : IsSound old.plan) where
     module _ (ticket : Ticket) (core : CoreValue) (step : StartsFirst (core_of old) w ticket core) where
@@ -131,10 +131,10 @@ module _ (w : ℕ) (known : Known) (old : StateValue) (is_worker : known.worker 
       start_own : AddsOwn w old.entries core.entries
       start_own = subst (λ (es : List Entry). AddsOwn w old.entries es) (sym started) (adds_one w old.entries (start_of ticket) (same_worker ticket.worker w step.by))
 
-      start_held : open_start w core.entries ≡ Some (run_of ticket)
+      start_held : open_start_of_worker w core.entries ≡ Some (run_of ticket)
       start_held =
-          subst (λ (v : ℕ). open_start v core.entries ≡ Some (run_of ticket)) step.by
-          (ap (λ (es : List Entry). open_start ticket.worker es) started ∙ start_holds old.entries (run_of ticket) (subst (λ (v : ℕ). open_start v old.entries ≡ None) (sym step.by) none_open))
+          subst (λ (v : ℕ). open_start_of_worker v core.entries ≡ Some (run_of ticket)) step.by
+          (ap (λ (es : List Entry). open_start_of_worker ticket.worker es) started ∙ start_holds old.entries (run_of ticket) (subst (λ (v : ℕ). open_start_of_worker v old.entries ≡ None) (sym step.by) none_open))
 
     module _ (test : ℕ) (core : CoreValue) (step : SettlesLeast (core_of old) test core) where
       settled : core.entries ≡ with_due_stop old.plan (old.entries ++ Is.Settle test step.cause ∷ [])
@@ -148,8 +148,8 @@ module _ (w : ℕ) (known : Known) (old : StateValue) (is_worker : known.worker 
       settle_own : AddsOwn w old.entries core.entries
       settle_own = subst (λ (es : List Entry). AddsOwn w old.entries es) (sym settled) (adds_due w old.plan old.entries (Is.Settle test step.cause) refl)
 
-      settle_goes : GoesOn w known.seen.entries core.entries
-      settle_goes = subst (λ (es : List Entry). GoesOn w known.seen.entries es) (sym settled) (goes_due w old.plan known.seen.entries old.entries (Is.Settle test step.cause) refl goes)
+      settle_goes : HistoryGoesOn w known.seen.entries core.entries
+      settle_goes = subst (λ (es : List Entry). HistoryGoesOn w known.seen.entries es) (sym settled) (goes_due w old.plan known.seen.entries old.entries (Is.Settle test step.cause) refl goes)
 
     -- the case that the state stays the same
     still : (new : StateValue) → new ≡ old → IsStep w old new
@@ -200,30 +200,30 @@ module _ (w : ℕ) (known : Known) (old : StateValue) (is_worker : known.worker 
           ∙ ap (λ (m : Moment). idle_pass pass.turn (has_seen pass.known m)) (sym (ap (λ (k : Known). k.seen) known_after))
           ∙ ap (λ (o : Option Moment). record { turn = pass.turn; known = has_seen pass.known after.known.seen; taken = o }) (sym idle_before)
 
-      stays : GoesOn w known.seen.entries new.entries → is_legal old.plan new.entries ≡ true → Stays pass after
+      stays : HistoryGoesOn w known.seen.entries new.entries → is_legal old.plan new.entries ≡ true → Stays pass after
       stays goes_on is_so = (
-        subst (λ (k : Known). GoesOn k.worker k.seen.entries after.known.seen.entries) (sym of_pass)
-            (subst (λ (es : List Entry). GoesOn known.worker known.seen.entries es) (sym seen_after) (subst (λ (v : ℕ). GoesOn v known.seen.entries new.entries) (sym is_worker) goes_on)),
-        ap held_start known_after ∙ ap (λ (v : ℕ). open_start v new.entries) is_worker ∙ start_stays old.plan w known.seen.entries new.entries is_so goes_on ∙ ap (λ (v : ℕ). open_start v known.seen.entries) (sym is_worker) ∙ idle,
+        subst (λ (k : Known). HistoryGoesOn k.worker k.seen.entries after.known.seen.entries) (sym of_pass)
+            (subst (λ (es : List Entry). HistoryGoesOn known.worker known.seen.entries es) (sym seen_after) (subst (λ (v : ℕ). HistoryGoesOn v known.seen.entries new.entries) (sym is_worker) goes_on)),
+        ap held_start known_after ∙ ap (λ (v : ℕ). open_start_of_worker v new.entries) is_worker ∙ start_stays old.plan w known.seen.entries new.entries is_so goes_on ∙ ap (λ (v : ℕ). open_start_of_worker v known.seen.entries) (sym is_worker) ∙ idle,
       )
 
       stays_same : new.entries ≡ old.entries → Stays pass after
-      stays_same same = stays (subst (λ (es : List Entry). GoesOn w known.seen.entries es) (sym same) goes) (ap (λ (es : List Entry). is_legal old.plan es) same ∙ legal)
+      stays_same same = stays (subst (λ (es : List Entry). HistoryGoesOn w known.seen.entries es) (sym same) goes) (ap (λ (es : List Entry). is_legal old.plan es) same ∙ legal)
 
       begins_with : (next : Next) → IsStateNext old w next new → SeesNext next pass after
       begins_with (Nexts.Start ticket) of =
           let entries : new.entries ≡ of.core.entries = ap (λ (s : StateValue). s.entries) of.follows in
           record {
             others = old.entries;
-            went_on = subst (λ (k : Known). GoesOn k.worker k.seen.entries old.entries) (sym of_pass) suits.history;
+            went_on = subst (λ (k : Known). HistoryGoesOn k.worker k.seen.entries old.entries) (sym of_pass) suits.history;
             started = seen_after ∙ entries ∙ started ticket of.core of.step;
             by = of.step.by ∙ sym is_worker ∙ ap (λ (k : Known). k.worker) (sym of_pass);
-            holds = ap held_start known_after ∙ ap (λ (v : ℕ). open_start v new.entries) is_worker ∙ ap (λ (es : List Entry). open_start w es) entries ∙ start_held ticket of.core of.step;
+            holds = ap held_start known_after ∙ ap (λ (v : ℕ). open_start_of_worker v new.entries) is_worker ∙ ap (λ (es : List Entry). open_start_of_worker w es) entries ∙ start_held ticket of.core of.step;
             planned = subst (λ (p : PlanParts). IsSome (test_at p.tests (test_of ticket))) (suits.plan ∙ ap (λ (k : Known). k.plan) (sym of_pass)) (planned_at old.plan old.entries ticket.placement (test_at old.plan.tests ticket.test) of.step.first.may);
           }
       begins_with (Nexts.Settled test) of =
           let entries : new.entries ≡ of.core.entries = ap (λ (s : StateValue). s.entries) of.follows.is in
-          stays (subst (λ (es : List Entry). GoesOn w known.seen.entries es) (sym entries) (settle_goes test of.core of.step)) (ap (λ (es : List Entry). is_legal old.plan es) entries ∙ settle_legal test of.core of.step)
+          stays (subst (λ (es : List Entry). HistoryGoesOn w known.seen.entries es) (sym entries) (settle_goes test of.core of.step)) (ap (λ (es : List Entry). is_legal old.plan es) entries ∙ settle_legal test of.core of.step)
       begins_with Nexts.Wait of = stays_same (ap (λ (s : StateValue). s.entries) of.follows)
       begins_with Nexts.Done of =
           let entries : new.entries ≡ old.entries = ap (λ (s : StateValue). s.entries) of.follows in (
@@ -261,7 +261,7 @@ module _ (known : Known) (old : StateValue) (sound : IsSound known.plan) (suits 
   end_legal : is_legal old.plan old.entries ≡ true
   end_legal = subst (λ (p : PlanParts). is_legal p old.entries ≡ true) (sym suits.plan) suits.legal
 
-  held : open_start known.worker old.entries ≡ Some (run_of ticket)
+  held : open_start_of_worker known.worker old.entries ≡ Some (run_of ticket)
   held = suits.start ∙ holds
 
   pub may_finish : holds_ticket ticket old.entries ≡ true
@@ -315,11 +315,11 @@ module _ (known : Known) (old : StateValue) (sound : IsSound known.plan) (suits 
       halted = done.halted;
     }
 
-    ends_open : open_start known.worker (with_due_stop old.plan (old.entries ++ end_of ticket seen ∷ [])) ≡ None
+    ends_open : open_start_of_worker known.worker (with_due_stop old.plan (old.entries ++ end_of ticket seen ∷ [])) ≡ None
     ends_open =
         let es = old.entries ++ end_of ticket seen ∷ [] in
         let none = end_holds_none old.plan known.worker (run_of ticket) old.entries end_legal held (end_of ticket seen) (open_starts-end old.entries ticket.test ticket.attempt ticket.worker seen) in
-        due_keeps old.plan es (λ xs. open_start known.worker xs ≡ None) none (settle_stays known.worker es Is.Stop (open_starts-snoc es Is.Stop refl) ∙ none)
+        due_keeps old.plan es (λ xs. open_start_of_worker known.worker xs ≡ None) none (settle_stays known.worker es Is.Stop (open_starts-snoc es Is.Stop refl) ∙ none)
 
     pub ends : (pass : PassValue) → pass.known ≡ known → pass.taken ≡ None → (after : PassValue) → after ≡ idle_pass pass.turn (has_seen known (moment new.entries (is_some new.halt))) → EndsOwn pass ticket seen after
     ends pass of_pass idle after gave =
@@ -330,9 +330,9 @@ module _ (known : Known) (old : StateValue) (sound : IsSound known.plan) (suits 
               ∙ ap (λ (m : Moment). idle_pass pass.turn (has_seen pass.known m)) (sym (ap (λ (k : Known). k.seen) known_now))
               ∙ ap (λ (o : Option Moment). record { turn = pass.turn; known = has_seen pass.known after.known.seen; taken = o }) (sym idle);
           others = old.entries;
-          went_on = subst (λ (k : Known). GoesOn k.worker k.seen.entries old.entries) (sym of_pass) suits.history;
+          went_on = subst (λ (k : Known). HistoryGoesOn k.worker k.seen.entries old.entries) (sym of_pass) suits.history;
           ended = ap (λ (k : Known). k.seen.entries) known_now ∙ done.entries ∙ ap (λ (p : PlanParts). with_due_stop p (old.entries ++ end_of ticket seen ∷ [])) (suits.plan ∙ ap (λ (k : Known). k.plan) (sym of_pass));
-          idle = ap held_start known_now ∙ ap (λ (es : List Entry). open_start known.worker es) done.entries ∙ ends_open;
+          idle = ap held_start known_now ∙ ap (λ (es : List Entry). open_start_of_worker known.worker es) done.entries ∙ ends_open;
         }
 
     -- the worker has seen its End, and the state fits what the worker then knows
@@ -350,4 +350,4 @@ module _ (known : Known) (old : StateValue) (sound : IsSound known.plan) (suits 
     }
 
     pub idle_after : held_start known_after_end ≡ None
-    idle_after = ap (λ (es : List Entry). open_start known.worker es) done.entries ∙ ends_open
+    idle_after = ap (λ (es : List Entry). open_start_of_worker known.worker es) done.entries ∙ ends_open

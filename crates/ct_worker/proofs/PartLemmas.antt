@@ -10,7 +10,7 @@ use Rattle.ct_history.specs.declared.history.Entry.{Entry}
 use Rattle.ct_core.specs.Gate.{GateTell}
 use Rattle.ct_turn.specs.declared.view.Known.{Known}
 use Rattle.ct_turn.specs.Pass.{PassValue, idle_pass}
-use Rattle.ct_turn.specs.Seen.{has_seen, moment, open_start, opener}
+use Rattle.ct_turn.specs.Seen.{has_seen, moment, open_start_of_worker, opener}
 use Rattle.ct_turn.specs.Turn.{TurnValue}
 use Rattle.ct_worker.specs.declared.jobs.Jobs.{Jobs}
 use Rattle.ct_worker.specs.Crew.{AllTookPart, AreReady, AreSplit, HasSplit, IsIdle, IsReady, TookPart, having_made}
@@ -21,7 +21,7 @@ use Rattle.ct_worker.specs.Work.{IsEnded, Reach, terms_in}
 ready_one : (jobs : Jobs) (turn : TurnValue) (w : ℕ) (pass : PassValue) → pass.turn ≡ turn.id → pass.taken ≡ None → pass.known.worker ≡ w → pass.known.seen ≡ moment [] false → Reach jobs pass.known.plan → IsReady jobs turn w pass
 ready_one jobs turn w pass belongs taken number seen reach = record {
   belongs = belongs;
-  idle = (taken, ap (λ m. open_start pass.known.worker m.entries) seen);
+  idle = (taken, ap (λ m. open_start_of_worker pass.known.worker m.entries) seen);
   number = number;
   reach = reach;
 }

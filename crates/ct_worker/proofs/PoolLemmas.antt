@@ -27,7 +27,7 @@ use Rattle.ct_core.specs.Gate.{GateTell}
 use Rattle.ct_turn.specs.declared.view.Known.{Known}
 use Rattle.ct_turn.specs.declared.view.Note.{Note}
 use Rattle.ct_turn.specs.Pass.{PassValue}
-use Rattle.ct_turn.specs.Seen.{Closes, GoesOn, Sight, is_by, is_noted, moment, note_of, with_joined}
+use Rattle.ct_turn.specs.Seen.{Closes, HistoryGoesOn, Sight, is_by, is_noted, moment, note_of, with_joined}
 use Rattle.ct_turn.specs.Turn.{TurnValue}
 use Rattle.ct_turn.proofs.StartLemmas.{or_from}
 use Rattle.ct_report.specs.PutLines.{PutsLines}
@@ -95,12 +95,12 @@ unnoted w from keeper (p ∷ ps) have behind none =
 
 -- the history goes on from what was noted
 abbrev Goes : List Entry → Note → Type 0
-Goes final note = GoesOn note.worker note.seen final
+Goes final note = HistoryGoesOn note.worker note.seen final
 
 -- the history goes on from what each of these passes has seen
 abbrev AllGo : List Entry → List PassValue → Type 0
 AllGo final [] = ⊤
-AllGo final (pass ∷ passes) = GoesOn pass.known.worker pass.known.seen.entries final × AllGo final passes
+AllGo final (pass ∷ passes) = HistoryGoesOn pass.known.worker pass.known.seen.entries final × AllGo final passes
 
 all_parts : (P : Note → Type 0) (xs ys : List Note) → All P (xs ++ ys) → All P xs × All P ys
 all_parts P [] ys all = (All-nil P, all)
@@ -123,7 +123,7 @@ asked_rest terms w (tell ∷ tells) final none = (
   asked_rest terms (w + 1) tells final (λ v behind. none v (omega (arith, behind))),
 )
 
-asked_one : (terms : Terms) (turn : TurnValue) (w : ℕ) (pass : PassValue) (before now : GateTell) (final : List Entry) → Worked terms turn w pass before now → GoesOn pass.known.worker pass.known.seen.entries final → IsAsked terms w before now final
+asked_one : (terms : Terms) (turn : TurnValue) (w : ℕ) (pass : PassValue) (before now : GateTell) (final : List Entry) → Worked terms turn w pass before now → HistoryGoesOn pass.known.worker pass.known.seen.entries final → IsAsked terms w before now final
 asked_one terms turn w pass before now final worked goes =
     subst (λ (es : List Entry). IsAsked terms w before now es) (sym goes.is)
     (asked_others terms w before now pass.known.seen.entries goes.more (subst (λ (v : ℕ). list_any (is_by v) goes.more ≡ false) worked.number goes.others) worked.asked)
@@ -192,7 +192,7 @@ finals_more plan front more allowed (t ∷ ts) at all =
     later u (i, less, is) = (suc i, omega (arith, less), is)
 
 -- if each test is final in what a worker has seen, each is final in a legal history that goes on from it
-all_final_more : (plan : PlanParts) (w : ℕ) (seen now : List Entry) → IsSound plan → is_legal plan now ≡ true → GoesOn w seen now → are_all_final plan seen ≡ true → are_all_final plan now ≡ true
+all_final_more : (plan : PlanParts) (w : ℕ) (seen now : List Entry) → IsSound plan → is_legal plan now ≡ true → HistoryGoesOn w seen now → are_all_final plan seen ≡ true → are_all_final plan now ≡ true
 all_final_more plan w seen now sound legal goes all =
     let allowed = subst (λ (es : List Entry). are_allowed_behind plan [] es ≡ true) goes.is (legal_allowed plan now legal) in
     subst (λ (es : List Entry). are_all_final plan es ≡ true) (sym goes.is)
@@ -234,7 +234,7 @@ module _ (jobs : Jobs) (turn : TurnValue) (plan : PlanParts) (base : Base) (coun
         omega (arith, noted, none, made, size)
 
     module _ (old new : StateValue) (workers : ℕ) (rest : List GateTell) (many : workers ≡ count + 1) (planned : old.plan ≡ plan) (based : base_of old ≡ base)
-        (sound : IsSound plan) (own : GoesOn first.known.worker first.known.seen.entries now.known.seen.entries) (closes : Closes now.known (shown new))
+        (sound : IsSound plan) (own : HistoryGoesOn first.known.worker first.known.seen.entries now.known.seen.entries) (closes : Closes now.known (shown new))
         (put : PutsLines (test_lines new.plan new.entries) new.opened new.sink (put_of new.halt)) (stops : IfErr (put_of new.halt) (λ fault. IsHalted fault new.plan new.entries new.opened new.sink)) where
       abbrev keeper : Known
       keeper = all_joined first.known others
@@ -248,8 +248,8 @@ module _ (jobs : Jobs) (turn : TurnValue) (plan : PlanParts) (base : Base) (coun
       legal : is_legal plan new.entries ≡ true
       legal = subst (λ (p : PlanParts). is_legal p new.entries ≡ true) (joined_plan first.known others ∙ ap (λ (k : Known). k.plan) parts.known) closed.legal
 
-      goes_first : GoesOn first.known.worker first.known.seen.entries new.entries
-      goes_first = subst (λ (es : List Entry). GoesOn first.known.worker first.known.seen.entries es) (sym closes.history) own
+      goes_first : HistoryGoesOn first.known.worker first.known.seen.entries new.entries
+      goes_first = subst (λ (es : List Entry). HistoryGoesOn first.known.worker first.known.seen.entries es) (sym closes.history) own
 
       goes : AllGo new.entries (first ∷ others)
       goes = (goes_first, (all_go new.entries first.known others closed.notes).1)

@@ -13,7 +13,7 @@ use Rattle.ct_core.specs.declared.ticket.Ticket.{Ticket}
 use Rattle.ct_core.specs.Gate.{GateTell}
 use Rattle.ct_core.specs.Ticket.{end_of, start_of}
 use Rattle.ct_turn.specs.Pass.{PassValue}
-use Rattle.ct_turn.specs.Seen.{GoesOn, has_seen, held_start, is_by}
+use Rattle.ct_turn.specs.Seen.{HistoryGoesOn, has_seen, held_start, is_by}
 use Rattle.ct_worker.specs.Attempt.{RunsAttempt, run_of}
 use Rattle.ct_worker.specs.Gates.{IsAsked, Terms}
 use Rattle.ct_worker.specs.Work.{AsksSince, EndsAndAsks, EndsOwn, GoesAlong, IsUnderWay, SeesNext, Starts, Stays}
@@ -21,7 +21,7 @@ use Rattle.ct_worker.proofs.GateLemmas.{asked_attempt, asked_none, asked_others,
 use Rattle.ct_worker.proofs.StopLemmas.{due_keeps}
 
 -- while only other workers went on, the gate was not asked
-asks_none : (terms : Terms) (w : ℕ) (tell : GateTell) (before now : List Entry) → GoesOn w before now → AsksSince terms w tell tell before now
+asks_none : (terms : Terms) (w : ℕ) (tell : GateTell) (before now : List Entry) → HistoryGoesOn w before now → AsksSince terms w tell tell before now
 asks_none terms w tell before now goes = record {
   more = goes.more;
   is = goes.is;
@@ -85,8 +85,8 @@ module _ (terms : Terms) (a b c : PassValue) (ticket : Ticket) (seen : Seen) (ol
   same_worker : b.known.worker ≡ w
   same_worker = ap (λ (p : PassValue). p.known.worker) pass
 
-  behind : GoesOn w b.known.seen.entries ends.others
-  behind = subst (λ (v : ℕ). GoesOn v b.known.seen.entries ends.others) same_worker ends.went_on
+  behind : HistoryGoesOn w b.known.seen.entries ends.others
+  behind = subst (λ (v : ℕ). HistoryGoesOn v b.known.seen.entries ends.others) same_worker ends.went_on
 
   attempt_asked : IsAsked terms w old new (starts.went_on.more ++ (start_of ticket ∷ (behind.more ++ end_of ticket seen ∷ [])))
   attempt_asked =

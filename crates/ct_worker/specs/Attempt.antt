@@ -11,7 +11,12 @@ use Rattle.ct_worker.specs.Gates.{IsRequestFor, SeesTold, Terms, asked_run}
 
 -- the attempt that a ticket stands for
 abbrev pub run_of : Ticket → Running
-run_of ticket = record { test = ticket.test; attempt = ticket.attempt; worker = ticket.worker; placement = ticket.placement }
+run_of ticket = record {
+  test = ticket.test;
+  attempt = ticket.attempt;
+  worker = ticket.worker;
+  placement = ticket.placement;
+}
 
 -- the gate was asked once, for this attempt, and memory was there for it
 pub record AsksOnce (terms : Terms) (run : Running) (how : How) (old new : GateTell) : Type 0 where
@@ -31,7 +36,8 @@ pub record AsksNone (how : How) (old new : GateTell) : Type 0 where
 -- wanting, that is what the world tells, and the gate was asked once. Once the gate
 -- has recorded the call, memory is not wanting.
 pub record RunsAttempt (terms : Terms) (run : Running) (seen : Seen) (old new : GateTell) : Type 0 where
-  pub told : is_no_memory seen.how ≡ false → IfSome old.world (λ world. SeesTold terms.props world run.test run.attempt seen)
+  pub told : is_no_memory seen.how ≡ false
+      → IfSome old.world (λ world. SeesTold terms.props world run.test run.attempt seen)
   pub calls : AsksOnce terms run seen.how old new ⊎ AsksNone seen.how old new
   pub world : new.world ≡ old.world
   pub cause : HasStartCause old.faults new.faults seen.how

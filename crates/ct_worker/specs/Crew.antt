@@ -20,13 +20,15 @@ split_pass turn known worker = idle_pass turn.id (record known { worker = worker
 -- these passes were split off, each for the worker of its place; the first is for this worker
 abbrev pub AreSplit : TurnValue → Known → ℕ → List PassValue → Type 0
 AreSplit turn known worker [] = ⊤
-AreSplit turn known worker (pass ∷ passes) = (pass ≡ split_pass turn known worker) × AreSplit turn known (worker + 1) passes
+AreSplit turn known worker (pass ∷ passes) =
+    (pass ≡ split_pass turn known worker) × AreSplit turn known (worker + 1) passes
 
 -- the first of these is the pass of worker 0, off which
 -- `count` passes were split, and the others are these passes
 abbrev pub HasSplit : TurnValue → PassValue → ℕ → List PassValue → Type 0
 HasSplit turn first count [] = ⊥
-HasSplit turn first count (pass ∷ passes) = (pass ≡ having_made first count) × AreSplit turn first.known first.known.made passes
+HasSplit turn first count (pass ∷ passes) =
+    (pass ≡ having_made first count) × AreSplit turn first.known first.known.made passes
 
 -- the worker may take part with this pass of the turn: it is idle,
 -- has the worker's number, and the jobs reach each test of the plan
@@ -39,7 +41,8 @@ pub record IsReady (jobs : Jobs) (turn : TurnValue) (worker : ℕ) (pass : PassV
 -- the workers from this one on may take part, each with its pass
 abbrev pub AreReady : Jobs → TurnValue → ℕ → List PassValue → Type 0
 AreReady jobs turn worker [] = ⊤
-AreReady jobs turn worker (pass ∷ passes) = IsReady jobs turn worker pass × AreReady jobs turn (worker + 1) passes
+AreReady jobs turn worker (pass ∷ passes) =
+    IsReady jobs turn worker pass × AreReady jobs turn (worker + 1) passes
 
 -- a worker took part until nothing was left to do: its gate was asked for
 -- what it started, and its pass has seen every test final or the run given up
@@ -56,7 +59,8 @@ AllTookPart jobs [] (new ∷ news) befores nows = ⊥
 AllTookPart jobs (old ∷ olds) [] befores nows = ⊥
 AllTookPart jobs (old ∷ olds) (new ∷ news) [] nows = ⊥
 AllTookPart jobs (old ∷ olds) (new ∷ news) (before ∷ befores) [] = ⊥
-AllTookPart jobs (old ∷ olds) (new ∷ news) (before ∷ befores) (now ∷ nows) = TookPart jobs old new before now × AllTookPart jobs olds news befores nows
+AllTookPart jobs (old ∷ olds) (new ∷ news) (before ∷ befores) (now ∷ nows) =
+    TookPart jobs old new before now × AllTookPart jobs olds news befores nows
 
 -- the pass of the turn may be joined into another: it is not taken, and holds no start
 pub record IsIdle (turn : TurnValue) (pass : PassValue) : Type 0 where

@@ -35,7 +35,13 @@ pub record Terms : Type 0 where
 
 -- the terms that the workers' jobs give, with whether resources are lent
 abbrev pub terms_of : Jobs → Bool → Terms
-terms_of jobs lends = record { own = jobs.own.now; defs = jobs.defs.now; props = jobs.props.now; limit = jobs.timeout; lends = lends }
+terms_of jobs lends = record {
+  own = jobs.own.now;
+  defs = jobs.defs.now;
+  props = jobs.props.now;
+  limit = jobs.timeout;
+  lends = lends;
+}
 
 -- the entry ends an attempt for want of memory, for which its gate may not have been asked
 abbrev pub lacks_memory : Entry → Bool
@@ -50,7 +56,8 @@ had_memory entries = list_all (λ entry. not (lacks_memory entry)) entries
 
 -- the attempt that an entry starts for a worker
 abbrev pub started_by : ℕ → Entry → Option Running
-started_by worker (Start t a w p) = if w == worker then Some (record { test = t; attempt = a; worker = w; placement = p }) else None
+started_by worker (Start t a w p) =
+    if w == worker then Some (record { test = t; attempt = a; worker = w; placement = p }) else None
 started_by worker (End t a w seen) = None
 started_by worker (Settle t cause) = None
 started_by worker Stop = None
@@ -71,7 +78,8 @@ ended_lacking entries run = list_any (lacks_for run) entries
 abbrev pub MayMiss : (Running → Bool) → List Running → List Running → Type 0
 MayMiss may [] kept = kept ≡ []
 MayMiss may (run ∷ runs) [] = (may run ≡ true) × MayMiss may runs []
-MayMiss may (run ∷ runs) (first ∷ kept) = ((first ≡ run) × MayMiss may runs kept) ⊎ ((may run ≡ true) × MayMiss may runs (first ∷ kept))
+MayMiss may (run ∷ runs) (first ∷ kept) =
+    ((first ≡ run) × MayMiss may runs kept) ⊎ ((may run ≡ true) × MayMiss may runs (first ∷ kept))
 
 -- the record that a gate was asked for an attempt
 abbrev pub asked_run : Running → Asked
@@ -111,21 +119,25 @@ request_in env limit def props run = record {
 
 -- the request is the right one for an attempt of this test, with the
 -- environment that its properties and its placement make of the run's own
-pub record IsRequestOf (terms : Terms) (def : TestDef) (props : Props) (run : Running) (request : Request) : Type 0 where
+pub record IsRequestOf (terms : Terms) (def : TestDef) (props : Props) (run : Running) (request : Request)
+    : Type 0 where
   pub env : IsEnvironment terms.own props (placement_told terms.lends props run.placement) request.env
   pub is : request ≡ request_in request.env terms.limit def props run
 
 -- the request is the right one for this attempt, by the
 -- test and the properties with the number of its test
 abbrev pub IsRequestFor : Terms → Running → Request → Type 0
-IsRequestFor terms run request = IsSomeAnd (at_number terms.defs run.test) (λ def. IsSomeAnd (at_number terms.props run.test) (λ props. IsRequestOf terms def props run request))
+IsRequestFor terms run request =
+    IsSomeAnd (at_number terms.defs run.test)
+    (λ def. IsSomeAnd (at_number terms.props run.test) (λ props. IsRequestOf terms def props run request))
 
 -- the requests are the right ones for these attempts, one for each, in order
 abbrev pub AreRequests : Terms → List Running → List Request → Type 0
 AreRequests terms [] [] = ⊤
 AreRequests terms [] (request ∷ requests) = ⊥
 AreRequests terms (run ∷ runs) [] = ⊥
-AreRequests terms (run ∷ runs) (request ∷ requests) = IsRequestFor terms run request × AreRequests terms runs requests
+AreRequests terms (run ∷ runs) (request ∷ requests) =
+    IsRequestFor terms run request × AreRequests terms runs requests
 
 -- the requests of these attempts were appended to the requests that were sent before
 pub record Sends (terms : Terms) (runs : List Running) (before now : List Request) : Type 0 where
@@ -149,19 +161,23 @@ seen_of props heard ended = record {
 
 -- what is seen of an attempt of a test is what the world tells of it
 abbrev pub SeesTold : List Props → List Told → ℕ → ℕ → Seen → Type 0
-SeesTold props world test attempt seen = IsSomeAnd (at_number props test) (λ own. seen ≡ seen_of own (told world test attempt).heard (told world test attempt).ended)
+SeesTold props world test attempt seen =
+    IsSomeAnd (at_number props test)
+    (λ own. seen ≡ seen_of own (told world test attempt).heard (told world test attempt).ended)
 
 -- an End of the worker saw what the world tells of its attempt, unless memory was wanting
 abbrev pub SawTold : List Props → List Told → ℕ → Entry → Type 0
 SawTold props world worker (Start t a w placement) = ⊤
-SawTold props world worker (End t a w seen) = w ≡ worker → is_no_memory seen.how ≡ false → SeesTold props world t a seen
+SawTold props world worker (End t a w seen) =
+    w ≡ worker → is_no_memory seen.how ≡ false → SeesTold props world t a seen
 SawTold props world worker (Settle t cause) = ⊤
 SawTold props world worker Stop = ⊤
 
 -- each End of the worker saw what the world tells of its attempt, unless memory was wanting
 abbrev pub SawAllTold : List Props → List Told → ℕ → List Entry → Type 0
 SawAllTold props world worker [] = ⊤
-SawAllTold props world worker (entry ∷ entries) = SawTold props world worker entry × SawAllTold props world worker entries
+SawAllTold props world worker (entry ∷ entries) =
+    SawTold props world worker entry × SawAllTold props world worker entries
 
 -- the entry ends an attempt of the worker that could not be started
 abbrev pub is_unstarted : ℕ → Entry → Bool
@@ -184,7 +200,8 @@ pub record CountsUnstarted (unstarted before now : ℕ) : Type 0 where
 -- the attempt that an entry ends for a worker, if memory was there for it
 abbrev pub ended_by : ℕ → Entry → Option Asked
 ended_by worker (Start t a w placement) = None
-ended_by worker (End t a w seen) = if w == worker && not (is_no_memory seen.how) then Some (asked_for t a) else None
+ended_by worker (End t a w seen) =
+    if w == worker && not (is_no_memory seen.how) then Some (asked_for t a) else None
 ended_by worker (Settle t cause) = None
 ended_by worker Stop = None
 
@@ -211,7 +228,8 @@ abbrev pub AreAsked : Terms → ℕ → List GateTell → List GateTell → List
 AreAsked terms worker [] [] entries = ⊤
 AreAsked terms worker [] (now ∷ nows) entries = ⊥
 AreAsked terms worker (before ∷ befores) [] entries = ⊥
-AreAsked terms worker (before ∷ befores) (now ∷ nows) entries = IsAsked terms worker before now entries × AreAsked terms (worker + 1) befores nows entries
+AreAsked terms worker (before ∷ befores) (now ∷ nows) entries =
+    IsAsked terms worker before now entries × AreAsked terms (worker + 1) befores nows entries
 
 -- a Start or an End is by one of the first `workers` workers; other entries pass
 abbrev pub is_below : ℕ → Entry → Bool

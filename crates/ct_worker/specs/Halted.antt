@@ -21,7 +21,8 @@ ends_attempt Stop = false
 -- these entries behind those of `front`, each with the Stop that it makes due
 abbrev pub added_behind : PlanParts → List Entry → List Entry → List Entry
 added_behind plan front [] = front
-added_behind plan front (entry ∷ entries) = added_behind plan (with_due_stop plan (front ++ entry ∷ [])) entries
+added_behind plan front (entry ∷ entries) =
+    added_behind plan (with_due_stop plan (front ++ entry ∷ [])) entries
 
 -- the entries of `front` and the last one, if there is one, with the Stop that it makes due
 abbrev pub with_last : PlanParts → List Entry → Option Entry → List Entry
@@ -31,12 +32,15 @@ with_last plan front (Some entry) = with_due_stop plan (front ++ entry ∷ [])
 -- the line that the last entry brings, if it makes a test final
 abbrev pub last_lines : PlanParts → List Entry → Option Entry → List (List ℕ)
 last_lines plan front None = []
-last_lines plan front (Some entry) = lines_of_test plan (with_last plan front (Some entry)) (length (test_lines plan front) + 1) (finished_by entry)
+last_lines plan front (Some entry) =
+    lines_of_test plan (with_last plan front (Some entry)) (length (test_lines plan front) + 1)
+    (finished_by entry)
 
 -- a run was given up. The lines of the entries of `front` were put. At the last entry
 -- behind them, or at a step that made none, the line could not be put or memory was
 -- wanting. Behind that attempts ended, but no test was started and none was settled.
-pub record IsHalted (fault : SinkFault) (plan : PlanParts) (entries : List Entry) (opened sink : SinkTell) : Type 0 where
+pub record IsHalted (fault : SinkFault) (plan : PlanParts) (entries : List Entry) (opened sink : SinkTell)
+    : Type 0 where
   pub front : List Entry
   pub last : Option Entry
   pub behind : List Entry

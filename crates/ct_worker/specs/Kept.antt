@@ -23,7 +23,9 @@ pub record IsGoing (core : CoreValue) (count : ℕ) : Type 0 where
 
 -- what holds of each state. The core is aborted exactly if the run was given up. The sink took
 -- the lines of the tests: all of them while the run goes on, else the lines in front of the halt.
-pub record IsKeptState (core : CoreValue) (halt : Option Halt) (lines : Option TestLines) (count : ℕ) (opened sink : SinkTell) : Type 0 where
+pub record IsKeptState
+    (core : CoreValue) (halt : Option Halt) (lines : Option TestLines) (count : ℕ) (opened sink : SinkTell)
+    : Type 0 where
   pub aborted : core.aborted ≡ is_some halt
   pub put : PutsLines (test_lines core.plan core.entries) opened sink (put_of halt)
   pub knows : KnowsSome core lines

@@ -15,7 +15,8 @@ AreEach belong (first ∷ firsts) (second ∷ seconds) = belong first second × 
 
 -- each scan stands for the text under the pattern of its place, and there is one scan for each pattern
 abbrev pub AllStandFor : List Regex → List ℕ → List Scan → Type 0
-AllStandFor patterns text scans = AreEach (λ pattern scan. StandsFor (regex_tree pattern) text scan) patterns scans
+AllStandFor patterns text scans =
+    AreEach (λ pattern scan. StandsFor (regex_tree pattern) text scan) patterns scans
 
 -- a listener may have heard the text: the scans of its test's three lists of patterns stand for it
 pub record ListensFor (listener : Listener) (text : List ℕ) : Type 0 where

@@ -14,7 +14,8 @@ use Rattle.ct_worker.specs.State.{StateValue, base_of, put_of}
 -- history is legal, leaves nothing open, and has Starts and Ends by these workers only. If the run
 -- was not given up, every test is final. Each gate was asked for the attempts of its worker. The
 -- sink took the lines of the tests, or, if the run was given up, the lines in front of the halt.
-pub record IsPooled (terms : Terms) (count : ℕ) (old new : StateValue) (gates_before gates_now : List GateTell) : Type 0 where
+pub record IsPooled
+    (terms : Terms) (count : ℕ) (old new : StateValue) (gates_before gates_now : List GateTell) : Type 0 where
   pub plan : new.plan ≡ old.plan
   pub base : base_of new ≡ base_of old
   pub legal : is_legal new.plan new.entries ≡ true

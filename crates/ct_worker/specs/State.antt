@@ -31,7 +31,13 @@ pub record StateValue : Type 0 where
 
 -- the state of a run that has done nothing yet, with this sink
 abbrev pub opened_with : CoreValue → SinkTell → StateValue
-opened_with core sink = record { plan = core.plan; entries = core.entries; halt = None; opened = sink; sink = sink }
+opened_with core sink = record {
+  plan = core.plan;
+  entries = core.entries;
+  halt = None;
+  opened = sink;
+  sink = sink;
+}
 
 -- the core of a state, which is aborted exactly if the run was given up
 abbrev pub core_of : StateValue → CoreValue
@@ -66,7 +72,8 @@ put_of (Some Memory) = Err Sinks.NoMemory
 -- was put behind the others, and if that failed the run was given up.
 pub record PutsLine (test : ℕ) (entries : List Entry) (old new : StateValue) : Type 0 where
   pub result : Result (Unit {0}) SinkFault
-  pub put : PutsLines (lines_of_test old.plan entries (length (test_lines old.plan old.entries) + 1) (Some test)) old.sink new.sink result
+  pub put : PutsLines
+      (lines_of_test old.plan entries (length (test_lines old.plan old.entries) + 1) (Some test)) old.sink new.sink result
   pub is : new ≡ record old { entries = entries; sink = new.sink; halt = halt_of result }
 
 -- how an answer of the core, which has these entries now, changes the state
@@ -94,4 +101,6 @@ EndsSo None false test entries old new = PutsLine test entries old new
 
 -- the attempt of a ticket ended, and this was seen of it
 abbrev pub IsFinished : StateValue → Ticket → Seen → StateValue → Type 0
-IsFinished old ticket seen new = EndsSo old.halt (is_no_memory seen.how) (test_of ticket) (with_due_stop old.plan (old.entries ++ end_of ticket seen ∷ [])) old new
+IsFinished old ticket seen new =
+    EndsSo old.halt (is_no_memory seen.how) (test_of ticket)
+    (with_due_stop old.plan (old.entries ++ end_of ticket seen ∷ [])) old new

@@ -4,7 +4,7 @@ ghost use denote.Param.Send.{IsSend};
 ghost use Rattle.ct_history.specs.Plan.{IsSound};
 ghost use Rattle.ct_report.specs.PutLines.{PutsLines};
 ghost use Rattle.ct_report.specs.Report.{test_lines};
-ghost use Rattle.ct_turn.specs.Seen.{GoesOn, held_start};
+ghost use Rattle.ct_turn.specs.Seen.{HistoryGoesOn, held_start};
 ghost use Rattle.ct_worker.specs.Crew.{AllTookPart, AreReady, HasSplit, IsIdle, all_joined};
 ghost use Rattle.ct_worker.specs.declared.state.Halt.TheVariants.{Memory};
 ghost use Rattle.ct_worker.specs.Halted.{IsHalted};
@@ -207,7 +207,7 @@ fn join_all<S: Sink>(turn: &Turn<State<S>>, first: &mut Pass, others: Vec<Pass>)
     requires first { IsIdle turn.now first.old }
     requires others { All (IsIdle turn.now) others.items }
     ensures known { first.new ≡ record first.old { known = all_joined first.old.known others.items } }
-    ensures own { GoesOn first.old.known.worker first.old.known.seen.entries first.new.known.seen.entries }
+    ensures own { HistoryGoesOn first.old.known.worker first.old.known.seen.entries first.new.known.seen.entries }
     ensures held { held_start first.new.known ≡ held_start first.old.known }
 {
     for pass in others {

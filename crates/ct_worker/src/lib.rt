@@ -3,8 +3,6 @@
 //!
 //! Hands up: `State`, the core of a run with the sink for its lines; `Jobs`, what workers
 //! have to know of the tests; `work` and `pool`, the work of one worker and of all.
-//! Stands on: ct_base, ct_regex, ct_groups, ct_props, ct_env,
-//! ct_alloc, ct_verdict, ct_history, ct_core, ct_turn and ct_report.
 //! Read first: `specs/Gates.antt`, `specs/State.antt`,
 //! `specs/Halted.antt`; then `state.rt`, `worker.rt`, `crew.rt`.
 #![tactic(auto)]

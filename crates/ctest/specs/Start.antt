@@ -31,7 +31,8 @@ unused_gates = replicate gate_count (gate_tell 0)
 
 -- what a run of these words and variables came to, on a machine that tells
 -- nothing, and of which no call had failed
-abbrev pub RunsOnMachine : {R G W : Type 0} → (G → GateTell) → List (List ℕ) → List Pair → Finished (RealFiles R) G (RealSink W) → Type 0
+abbrev pub RunsOnMachine : {R G W : Type 0}
+    → (G → GateTell) → List (List ℕ) → List Pair → Finished (RealFiles R) G (RealSink W) → Type 0
 RunsOnMachine gate_tells words env finished = Answers (sides words env
     (files_tell 0) (files_tell finished.files.faults)
     unused_gates (map gate_tells finished.gates.items)

@@ -1,7 +1,6 @@
 //! The program `ctest`: it runs the tests of the folder that it is started in.
 //!
 //! Hands up: nothing; it is the program.
-//! Stands on: ct_base, ct_core, ct_app, ct_edge.
 //! Read first: `start.rt`.
 #![tactic(auto)]
 

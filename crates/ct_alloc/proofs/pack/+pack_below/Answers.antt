@@ -1,7 +1,7 @@
 use Rattle.std.proofs.Common.{rules, ◌≡◌, ◌≢◌, ◌∙◌, ap, sym, subst, refl, ◌<◌, length, ℕ, ◌+◌, ◌≤◌, List, get_or, arith}
 use Rattle.std.specs.List.{insert, remove}
 use Rattle.std.proofs.Math.ListN.{set}
-use Rattle.ct_alloc.specs.Packing.{CannotPack, IsNext, IsPacking, LiesBelow}
+use Rattle.ct_alloc.specs.Packing.{CannotPack, IsNextCard, IsPacking, LiesBelow}
 use Rattle.ct_alloc.proofs.PackLemmas.{hopeless-all, left, left-back, packing-more, remove-length}
 use Rattle.ct_alloc.proofs.RoomLemmas.{IsTriedFrom, hopeless-filled, lies-all, lies-next, tried-lies, tried-none, tried-on}
 use Rattle.ct_alloc.proofs.pack.+pack_below.Goals as goal
@@ -23,7 +23,7 @@ pack_below-requires t c =
     let size : ℕ = get_or c.args.sizes.now c.in-Some.greatest 0 in
     let free : List ℕ = c.loop-card.free in
     let card : ℕ = c.in-Some-next_card.card in
-    let next : IsNext c.loop-card.free (get_or c.args.sizes.now c.in-Some.greatest 0) c.loop-card.below c.in-Some-next_card.card = search rules in
+    let next : IsNextCard c.loop-card.free (get_or c.args.sizes.now c.in-Some.greatest 0) c.loop-card.below c.in-Some-next_card.card = search rules in
     let lies : LiesBelow (left c.loop-card.free c.in-Some-next_card.card (get_or c.args.sizes.now c.in-Some.greatest 0)) (remove c.args.sizes.now c.in-Some.greatest) (get_or c.args.sizes.now c.in-Some.greatest 0) c.if-room-size.next_limit =
     elim c.if-room-size.branch [
       | then-room-size w ↦ (
@@ -48,7 +48,7 @@ returns-in-Some-found-clause-exact t c =
     let card : ℕ = c.in-Some-next_card.card in
     let before : c.loop-card.free ≡ free = c.loop-card.invariant.0 in
     let inside : k < length sizes = search rules in
-    let next : IsNext c.loop-card.free (get_or c.args.sizes.now c.in-Some.greatest 0) c.loop-card.below c.in-Some-next_card.card = search rules in
+    let next : IsNextCard c.loop-card.free (get_or c.args.sizes.now c.in-Some.greatest 0) c.loop-card.below c.in-Some-next_card.card = search rules in
     let there : card < length free = subst (λ (f : List ℕ). card < length f) before next.there in
     let fits : get_or sizes k 0 ≤ get_or free card 0 = subst (λ (f : List ℕ). get_or sizes k 0 ≤ get_or f card 0) before next.fits in
     let inner : IsPacking (left c.loop-card.free card (get_or sizes k 0)) (remove sizes k) c.in-Some-found.cards.items = search rules in
@@ -57,7 +57,7 @@ returns-in-Some-found-clause-exact t c =
 
 pub returns-in-Some-found-clause-kept : goal.returns-in-Some-found-clause-kept
 returns-in-Some-found-clause-kept t c =
-    let next : IsNext c.loop-card.free (get_or c.args.sizes.now c.in-Some.greatest 0) c.loop-card.below c.in-Some-next_card.card = search rules in
+    let next : IsNextCard c.loop-card.free (get_or c.args.sizes.now c.in-Some.greatest 0) c.loop-card.below c.in-Some-next_card.card = search rules in
     let kept : c.pack_below.new.free ≡ left c.loop-card.free c.in-Some-next_card.card (get_or c.args.sizes.now c.in-Some.greatest 0) = search rules in
     ap (λ f. set f c.in-Some-next_card.card (get_or f c.in-Some-next_card.card 0 + get_or c.args.sizes.now c.in-Some.greatest 0)) kept
     ∙ left-back c.loop-card.free c.in-Some-next_card.card (get_or c.args.sizes.now c.in-Some.greatest 0) next.there next.fits
@@ -69,7 +69,7 @@ returns-then-room-size-2-clause-exact t c =
     let k : ℕ = c.in-Some.greatest in
     let card : ℕ = c.in-Some-next_card.card in
     let inside : k < length sizes = search rules in
-    let next : IsNext c.loop-card.free (get_or c.args.sizes.now c.in-Some.greatest 0) c.loop-card.below c.in-Some-next_card.card = search rules in
+    let next : IsNextCard c.loop-card.free (get_or c.args.sizes.now c.in-Some.greatest 0) c.loop-card.below c.in-Some-next_card.card = search rules in
     let full : get_or c.loop-card.free card 0 ≡ get_or sizes k 0 = search rules in
     let none : CannotPack (left c.loop-card.free card (get_or sizes k 0)) (remove sizes k) = search rules in
     subst (λ (f : List ℕ). CannotPack f sizes) c.loop-card.invariant.0
@@ -77,7 +77,7 @@ returns-then-room-size-2-clause-exact t c =
 
 pub returns-then-room-size-2-clause-kept : goal.returns-then-room-size-2-clause-kept
 returns-then-room-size-2-clause-kept t c =
-    let next : IsNext c.loop-card.free (get_or c.args.sizes.now c.in-Some.greatest 0) c.loop-card.below c.in-Some-next_card.card = search rules in
+    let next : IsNextCard c.loop-card.free (get_or c.args.sizes.now c.in-Some.greatest 0) c.loop-card.below c.in-Some-next_card.card = search rules in
     let kept : c.pack_below.new.free ≡ left c.loop-card.free c.in-Some-next_card.card (get_or c.args.sizes.now c.in-Some.greatest 0) = search rules in
     ap (λ f. set f c.in-Some-next_card.card (get_or f c.in-Some-next_card.card 0 + get_or c.args.sizes.now c.in-Some.greatest 0)) kept
     ∙ left-back c.loop-card.free c.in-Some-next_card.card (get_or c.args.sizes.now c.in-Some.greatest 0) next.there next.fits
@@ -87,7 +87,7 @@ pub loop-card-preserved : goal.loop-card-preserved
 loop-card-preserved t c =
     let size : ℕ = get_or c.args.sizes.now c.in-Some.greatest 0 in
     let card : ℕ = c.in-Some-next_card.card in
-    let next : IsNext c.loop-card.free (get_or c.args.sizes.now c.in-Some.greatest 0) c.loop-card.below c.in-Some-next_card.card = search rules in
+    let next : IsNextCard c.loop-card.free (get_or c.args.sizes.now c.in-Some.greatest 0) c.loop-card.below c.in-Some-next_card.card = search rules in
     let kept : c.pack_below.new.free ≡ left c.loop-card.free c.in-Some-next_card.card (get_or c.args.sizes.now c.in-Some.greatest 0) = search rules in
     let none : CannotPack (left c.loop-card.free c.in-Some-next_card.card (get_or c.args.sizes.now c.in-Some.greatest 0)) (remove c.args.sizes.now c.in-Some.greatest) = search rules in
     let apart : get_or c.loop-card.free c.in-Some-next_card.card 0 ≢ get_or c.args.sizes.now c.in-Some.greatest 0 = search rules in

@@ -1,11 +1,11 @@
 use Rattle.std.proofs.Common.{◌∙◌, List, ap, refl}
 use Rattle.std.specs.List.{list_any}
 use Rattle.ct_history.specs.declared.plan.PlanTest.{PlanTest}
-use Rattle.ct_history.specs.Rules.{is_among}
 use Rattle.ct_core.proofs.LockLemmas.{named_pass}
 use Rattle.ct_core.specs.Locks.{knows}
 use Rattle.ct_core.specs.Sharers.{counts_sharers}
 use Rattle.ct_core.proofs.in_use.nothing.Goals as goal
+use Rattle.ct_base.specs.Names.{is_among}
 
 pub returns : goal.returns
 returns c = record {

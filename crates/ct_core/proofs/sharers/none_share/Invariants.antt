@@ -1,9 +1,9 @@
 use Rattle.std.proofs.Common.{◌≡◌, ℕ, List, take}
 use Rattle.std.specs.List.{list_any}
 use Rattle.ct_history.specs.declared.plan.PlanTest.{PlanTest}
-use Rattle.ct_history.specs.Rules.{is_among}
 use Rattle.ct_core.specs.Sharers.{sharers_of, counts_sharers}
 use Rattle.ct_core.proofs.sharers.none_share.Given as goal
+use Rattle.ct_base.specs.Names.{is_among}
 
 abbrev pub invariant-loop-test : goal.invariant-loop-test
 invariant-loop-test l = record {

@@ -1,5 +1,5 @@
 use Rattle.std.proofs.Common.{◌≡◌, ◌∙◌, bytes_eq, [], None, sym}
-use Rattle.ct_fixture.specs.Kept.{tests_of}
+use Rattle.ct_fixture.specs.Kept.{fixture_tests}
 use Rattle.ct_fixture.proofs.IndexLemmas.{cond_same, none_there, updated}
 use Rattle.ct_fixture.proofs.by_fixture.take.Goals as goal
 
@@ -9,8 +9,8 @@ returns-then-is_empty-clause-gives c =
 
 pub returns-then-is_empty-clause-leaves : goal.returns-then-is_empty-clause-leaves
 returns-then-is_empty-clause-leaves c = λ asked.
-    let none : tests_of c.args.tests.now asked ≡ [] = none_there c.args.tests.now (c.is_empty.ensures.0 c.if-is_empty.true) asked in
-    cond_same (bytes_eq asked c.args.fixture.now) (tests_of c.args.tests.now asked) none
+    let none : fixture_tests c.args.tests.now asked ≡ [] = none_there c.args.tests.now (c.is_empty.ensures.0 c.if-is_empty.true) asked in
+    cond_same (bytes_eq asked c.args.fixture.now) (fixture_tests c.args.tests.now asked) none
 
 pub returns-clause-leaves : goal.returns-clause-leaves
 returns-clause-leaves c = λ asked. updated c.args.tests.now c.swap_remove.new.self c.args.fixture.now None c.swap_remove.ensures.updates asked

@@ -2,7 +2,7 @@ use Rattle.std.proofs.Common.{ℕ, ◌<◌, vec_len, length, ◌∙◌, arith}
 use Rattle.std.proofs.lemmas.List.Elements.{All-same, All-weaker}
 use Rattle.ct_fixture.specs.declared.fixtures.Fixtures.{Fixtures}
 use Rattle.ct_fixture.specs.Drawing.{keeps_cleanups, keeps_setups}
-use Rattle.ct_fixture.specs.Kept.{given, tests_of}
+use Rattle.ct_fixture.specs.Kept.{given, fixture_tests}
 use Rattle.ct_fixture.proofs.KeptLemmas.{drawn_one, given_all}
 use Rattle.ct_fixture.proofs.drawing.draw.Goals as goal
 
@@ -10,7 +10,7 @@ pub add_all-requires : goal.add_all-requires
 add_all-requires c =
     let marks = c.args.members.now.marks in
     let fixture = c.args.fixture.now in
-    let tests = tests_of c.args.fixtures.now.setups fixture in
+    let tests = fixture_tests c.args.fixtures.now.setups fixture in
     let kept = keeps_setups c.args.choice.now fixture in
     let low = λ (number : ℕ). number < length marks.items in
     let there = λ (number : ℕ). number < vec_len marks in
@@ -20,7 +20,7 @@ pub add_all-requires-2 : goal.add_all-requires-2
 add_all-requires-2 c =
     let marks = c.add_all.new.self.marks in
     let fixture = c.args.fixture.now in
-    let tests = tests_of c.args.fixtures.now.cleanups fixture in
+    let tests = fixture_tests c.args.fixtures.now.cleanups fixture in
     let kept = keeps_cleanups c.args.choice.now fixture in
     let low = λ (number : ℕ). number < length c.args.members.now.marks.items in
     let there = λ (number : ℕ). number < vec_len marks in

@@ -3,7 +3,7 @@ use Rattle.std.specs.List.{range_with_len}
 use Rattle.std.proofs.lemmas.Result.{IfOk-weaker}
 use Rattle.ct_props.specs.declared.props.Props.{Props}
 use Rattle.ct_fixture.specs.Drawing.{members_of}
-use Rattle.ct_fixture.specs.Kept.{is_member}
+use Rattle.ct_fixture.specs.Kept.{is_drawn_in}
 use Rattle.ct_fixture.proofs.MemberLemmas.{adds_same}
 use Rattle.ct_fixture.proofs.PartwayLemmas.{AreNumbers, begun, ended, next_number, stepped}
 use Rattle.ct_fixture.proofs.drawing.draw_in.Goals as goal
@@ -41,7 +41,7 @@ returns c =
     let props = c.as_slice-props.result.now in
     let chosen = c.args.chosen.now in
     let taken = c.next.new.self in
-    let all : filter (is_member taken) (range_with_len 1 (length taken.marks.items - 1)) ≡ members_of choice c.args.props.now chosen =
+    let all : filter (is_drawn_in taken) (range_with_len 1 (length taken.marks.items - 1)) ≡ members_of choice c.args.props.now chosen =
     ended choice props chosen c.loop-number.fixtures c.loop-number.members taken (numbers_in c.args.props.now props chosen c.as_slice-props.ensures c.requires.within) c.in_default.ensures.marks c.in_default.ensures.waiting c.loop-number.invariant
     ∙ ap (λ ps. members_of choice ps chosen) c.as_slice-props.ensures in
-    IfOk-weaker c.into_list.result (λ members. members ≡ filter (is_member taken) (range_with_len 1 (length taken.marks.items - 1))) (λ members. members ≡ members_of choice c.args.props.now chosen) (λ members is. is ∙ all) c.into_list.ensures
+    IfOk-weaker c.into_list.result (λ members. members ≡ filter (is_drawn_in taken) (range_with_len 1 (length taken.marks.items - 1))) (λ members. members ≡ members_of choice c.args.props.now chosen) (λ members is. is ∙ all) c.into_list.ensures

@@ -1,5 +1,5 @@
 use Rattle.std.proofs.Common.{◌≡◌, ◌≤◌, take, length, sum_by}
-use Rattle.ct_graph.specs.Index.{IsReady}
+use Rattle.ct_graph.specs.Index.{IsReadySearch}
 use Rattle.ct_graph.specs.Rows.{AreRows, before_in, setups_in}
 use Rattle.ct_graph.proofs.rows.rows.Given as goal
 
@@ -7,6 +7,6 @@ abbrev pub invariant-loop-number : goal.invariant-loop-number
 invariant-loop-number l =
     AreRows (before_in l.index) (length l.index.props.now) (take l.number-index l.index.members.now) l.before.items
     × AreRows (setups_in l.index) (length l.index.props.now) (take l.number-index l.index.members.now) l.setups.items
-    × IsReady l.index l.search
+    × IsReadySearch l.index l.search
     × (l.edges ≡ sum_by (λ number. length (before_in l.index number)) (take l.number-index l.index.members.now))
     × (l.edges ≤ l.most)

@@ -1,5 +1,5 @@
 use Rattle.std.proofs.Common.{subst, sym}
-use Rattle.ct_journal.specs.Completed.{Completes}
+use Rattle.ct_journal.specs.Completed.{IsPlacementAt}
 use Rattle.ct_journal.proofs.PlacementLemmas.{completes}
 use Rattle.ct_journal.proofs.placements.placement_at.Goals as goal
 
@@ -8,4 +8,4 @@ returns c =
     let resources = c.args.resources.now in
     let needs = c.args.needs.now in
     let places = c.args.places.now in
-    subst (Completes resources needs places) (sym c.in_ok-placement_of.ensures) (completes resources needs places)
+    subst (IsPlacementAt resources needs places) (sym c.in_ok-placement_of.ensures) (completes resources needs places)

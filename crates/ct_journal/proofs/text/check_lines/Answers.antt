@@ -2,7 +2,7 @@ use Rattle.std.proofs.Common.{◌≡◌, ◌∙◌, ◌<◌, ◌^◌, ◌+◌, �
 use Rattle.ct_audit.specs.declared.audit.Audit.{Audit}
 use Rattle.ct_journal.specs.declared.check.Step.{Step}
 use Rattle.ct_journal.specs.declared.check.Step.TheVariants.{GoesOn, Ends, IsBad}
-use Rattle.ct_journal.specs.Checked.{Takes}
+use Rattle.ct_journal.specs.Checked.{TakesLine}
 use Rattle.ct_journal.specs.Found.{FindsBehind, IsReading}
 use Rattle.ct_journal.proofs.TextLemmas.{finds_bad, finds_last, reads_byte, reads_entry}
 use Rattle.ct_journal.proofs.text.check_lines.Goals as goal
@@ -16,8 +16,8 @@ returns-in-IsBad c =
     let text = c.args.text.now in
     let lt : c.loop-at.at < length text = search rules in
     let feed : get_or text c.loop-at.at 0 ≡ 10 = search rules in
-    let said = subst (λ (s : Step). Takes plan entries c.deref.result.now s c.take_line.new.audit) c.in-IsBad.is (c.in_ok-take_line.ensures entries reading.told reading.count_is) in
-    let takes = subst (λ (l : List ℕ). Takes plan entries l IsBad c.take_line.new.audit) c.deref.ensures.value said in
+    let said = subst (λ (s : Step). TakesLine plan entries c.deref.result.now s c.take_line.new.audit) c.in-IsBad.is (c.in_ok-take_line.ensures entries reading.told reading.count_is) in
+    let takes = subst (λ (l : List ℕ). TakesLine plan entries l IsBad c.take_line.new.audit) c.deref.ensures.value said in
     finds_bad plan text c.loop-at.at c.loop-at.count _ c.loop-at.audit c.take_line.new.audit c.loop-at.line.items entries lt refl feed reading takes
 
 pub returns-in-Ends : goal.returns-in-Ends
@@ -29,8 +29,8 @@ returns-in-Ends c =
     let lt : c.loop-at.at < length text = search rules in
     let feed : get_or text c.loop-at.at 0 ≡ 10 = search rules in
     let small : length text < 2 ^ 64 = search rules in
-    let said = subst (λ (s : Step). Takes plan entries c.deref.result.now s c.take_line.new.audit) c.in-Ends.is (c.in_ok-take_line.ensures entries reading.told reading.count_is) in
-    let takes = subst (λ (l : List ℕ). Takes plan entries l Ends c.take_line.new.audit) c.deref.ensures.value said in
+    let said = subst (λ (s : Step). TakesLine plan entries c.deref.result.now s c.take_line.new.audit) c.in-Ends.is (c.in_ok-take_line.ensures entries reading.told reading.count_is) in
+    let takes = subst (λ (l : List ℕ). TakesLine plan entries l Ends c.take_line.new.audit) c.deref.ensures.value said in
     subst (λ o. FindsBehind plan text o) (sym c.behind_last.ensures)
     (finds_last plan text c.loop-at.at c.loop-at.count _ c.loop-at.audit c.take_line.new.audit c.loop-at.line.items entries _ small lt refl feed refl reading takes)
 
@@ -47,8 +47,8 @@ loop-at-preserved c =
     elim c.if-text-at-eq10.branch [
       | then-text-at-eq10+in_ok-take_line+in-GoesOn w ↦
           let feed : get_or text at 0 ≡ 10 = w.if-text-at-eq10.true in
-          let said = subst (λ (s : Step). Takes plan entries w.deref.result.now s w.take_line.new.audit) w.in-GoesOn.is (w.in_ok-take_line.ensures entries reading.told reading.count_is) in
-          let takes = subst (λ (l : List ℕ). Takes plan entries l GoesOn w.take_line.new.audit) w.deref.ensures.value said in
+          let said = subst (λ (s : Step). TakesLine plan entries w.deref.result.now s w.take_line.new.audit) w.in-GoesOn.is (w.in_ok-take_line.ensures entries reading.told reading.count_is) in
+          let takes = subst (λ (l : List ℕ). TakesLine plan entries l GoesOn w.take_line.new.audit) w.deref.ensures.value said in
           let more = entries ++ takes.entry ∷ [] in
           let next = reads_entry plan text at old.count _ old.audit w.take_line.new.audit old.line.items w.clear.new.self.items entries lt refl feed w.clear.ensures.items reading takes in
           let line : now.line.items ≡ w.clear.new.self.items = ap (λ v. v.items) w.line-is in (

@@ -1,8 +1,8 @@
 use Rattle.std.proofs.Common.{◌∙◌, sym, ap, ◌||◌, bytes_eq, take}
 use Rattle.std.proofs.lemmas.List.Folds.{list_any_more}
-use Rattle.ct_props.specs.Numbered.{is_among}
 use Rattle.ct_select.proofs.NameLemmas.{key, names_more}
 use Rattle.ct_select.proofs.names.set_of.Goals as goal
+use Rattle.ct_base.specs.Names.{is_among}
 
 pub loop-name-preserved : goal.loop-name-preserved
 loop-name-preserved c = λ asked.

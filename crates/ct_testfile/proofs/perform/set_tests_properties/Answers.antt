@@ -3,7 +3,7 @@ use Rattle.std.proofs.lemmas.Result.{err_from_is_err_and}
 use Rattle.ct_suite.specs.Tests.{HaveShort, each_where, has_name_of, most_bytes, taking_props, prop_bytes}
 use Rattle.ct_suite.specs.Values.{texts}
 use Rattle.ct_suite.specs.Words.{names_and_pairs}
-use Rattle.ct_suite.specs.Entries.{of_name, count_of}
+use Rattle.ct_suite.specs.Entries.{of_name, name_count}
 use Rattle.ct_testfile.specs.declared.state.State.{State}
 use Rattle.ct_testfile.specs.declared.fault.ReadKind.TheVariants.{BadCall}
 use Rattle.ct_suite.proofs.NameLemmas.{each-distinct, count-distinct}
@@ -25,7 +25,7 @@ returns-in_err-state c =
     let bytes : Read → ℕ = λ r. count_by (has_name_of r.0) state.tests * prop_bytes r.1 in
     let done : Read → State → State = λ r next. record next { tests = each_where (has_name_of r.0) (taking_props r.1) next.tests } in
     let count : c.count_named-tests.result ≡ min (count_by (has_name_of names) state.tests) (2 ^ 64 - 1) =
-    c.count_named-tests.ensures ∙ ap (λ ns. min (sum_by (count_of state.tests) ns) (2 ^ 64 - 1)) (c.as_slice.ensures ∙ c.in_ok-different.ensures) ∙ ap (λ n. min n (2 ^ 64 - 1)) (count-distinct names state.tests) in
+    c.count_named-tests.ensures ∙ ap (λ ns. min (sum_by (name_count state.tests) ns) (2 ^ 64 - 1)) (c.as_slice.ensures ∙ c.in_ok-different.ensures) ∙ ap (λ n. min n (2 ^ 64 - 1)) (count-distinct names state.tests) in
     let counted = product-both c.saturating_mul-bytes.result c.count_named-tests.result (count_by (has_name_of names) state.tests) c.prop_bytes.result (prop_bytes props) (2 ^ 64 - 1) count (c.prop_bytes.ensures ∙ ap (λ ps. min (prop_bytes ps) (2 ^ 64 - 1)) c.as_slice-2.ensures) c.saturating_mul-bytes.ensures in
     let p = err_from_is_err_and c.from_residual-in_err-state.result c.from_residual-in_err-state.ensures.1 in
     rw (p.1, p.2) (goes-stopped (names_and_pairs (texts c.args.values)) read (sym c.in_ok-names.ensures ∙ c.in-Some.is) c.args.limits.now state bytes done c.in_err-state.field-0.0 (c.in_err-state.ensures (bytes read) counted))
@@ -40,7 +40,7 @@ returns c =
     let bytes : Read → ℕ = λ r. count_by (has_name_of r.0) state.tests * prop_bytes r.1 in
     let done : Read → State → State = λ r n. record n { tests = each_where (has_name_of r.0) (taking_props r.1) n.tests } in
     let count : c.count_named-tests.result ≡ min (count_by (has_name_of names) state.tests) (2 ^ 64 - 1) =
-    c.count_named-tests.ensures ∙ ap (λ ns. min (sum_by (count_of state.tests) ns) (2 ^ 64 - 1)) (c.as_slice.ensures ∙ c.in_ok-different.ensures) ∙ ap (λ n. min n (2 ^ 64 - 1)) (count-distinct names state.tests) in
+    c.count_named-tests.ensures ∙ ap (λ ns. min (sum_by (name_count state.tests) ns) (2 ^ 64 - 1)) (c.as_slice.ensures ∙ c.in_ok-different.ensures) ∙ ap (λ n. min n (2 ^ 64 - 1)) (count-distinct names state.tests) in
     let counted = product-both c.saturating_mul-bytes.result c.count_named-tests.result (count_by (has_name_of names) state.tests) c.prop_bytes.result (prop_bytes props) (2 ^ 64 - 1) count (c.prop_bytes.ensures ∙ ap (λ ps. min (prop_bytes ps) (2 ^ 64 - 1)) c.as_slice-2.ensures) c.saturating_mul-bytes.ensures in
     let made : c.in_ok-set_named.field-0 ≡ each_where (has_name_of names) (taking_props props) next.tests =
     c.in_ok-set_named.ensures

@@ -1,5 +1,5 @@
 use Rattle.std.proofs.Common.{◌+◌, ◌*◌, length, drop, map}
-use Rattle.ct_lex.specs.Reads.{reading}
+use Rattle.ct_lex.specs.Reads.{commands_read}
 use Rattle.ct_testfile.specs.Commands.{openings, opening_of}
 use Rattle.ct_testfile.specs.Says.{inside}
 use Rattle.ct_testfile.specs.Tree.{carried, all_opened}
@@ -21,7 +21,7 @@ decreases-open_each g l = 4 * l.here.now.more + 2
 
 abbrev pub invariant-carry-calls : goal.invariant-carry-calls
 invariant-carry-calls g l =
-    SoFar (g.F.Files.tells l.initial.files) (g.F.Files.tells l.files) (λ held. carried (inside l.here held) l.here.limits.now held l.here.file.now l.initial.ifs l.initial.known (reading l.initial.lexer).0 (reading l.initial.lexer).1) (λ held. carried (inside l.here held) l.here.limits.now held l.here.file.now l.ifs l.known (reading l.lexer).0 (reading l.lexer).1)
+    SoFar (g.F.Files.tells l.initial.files) (g.F.Files.tells l.files) (λ held. carried (inside l.here held) l.here.limits.now held l.here.file.now l.initial.ifs l.initial.known (commands_read l.initial.lexer).0 (commands_read l.initial.lexer).1) (λ held. carried (inside l.here held) l.here.limits.now held l.here.file.now l.ifs l.known (commands_read l.lexer).0 (commands_read l.lexer).1)
     × AskSoFar (g.F.Files.tells l.initial.files).held (asks_from l.here.limits.now l.here.more l.here.file.now l.initial.ifs l.initial.known l.initial.lexer) (asks_from l.here.limits.now l.here.more l.here.file.now l.ifs l.known l.lexer)
 
 abbrev pub decreases-carry-calls : goal.decreases-carry-calls

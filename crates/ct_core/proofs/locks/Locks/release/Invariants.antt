@@ -1,7 +1,7 @@
 use Rattle.std.proofs.Common.{◌≡◌, ◌&&◌, not, ℕ, List, take}
-use Rattle.ct_history.specs.Rules.{is_among}
 use Rattle.ct_core.specs.Locks.{is_held, knows}
 use Rattle.ct_core.proofs.locks.Locks.release.Given as goal
+use Rattle.ct_base.specs.Names.{is_among}
 
 abbrev pub invariant-loop-name : goal.invariant-loop-name
 invariant-loop-name l = record {

@@ -8,7 +8,7 @@ use Rattle.ct_core.specs.Standing.{IsPlaceOf}
 use Rattle.ct_history.specs.declared.history.Entry.{Entry}
 use Rattle.ct_history.specs.History.{has_stop}
 use Rattle.ct_core.specs.Parts.{IsKept}
-use Rattle.ct_core.specs.Run.{entries_of}
+use Rattle.ct_core.specs.Run.{history_of_run}
 use Rattle.ct_core.proofs.ConcludeLemmas.{due_here, followers_here, is_planned, kept_halted}
 use Rattle.ct_core.proofs.NoteLemmas.{followers_are}
 use Rattle.ct_core.proofs.run.Run.conclude.Goals as goal
@@ -18,12 +18,12 @@ expect_place-place-requires-clause-there c =
     let run = c.args.self.now in
     let tests : c.as_slice.result.now ≡ run.plan.tests = c.as_slice.ensures ∙ ap (λ (p : PlanParts). p.tests) c.parts-else-stops_at.ensures.is in
     ap (λ (ts : List PlanTest). is_some (test_at ts c.args.number)) tests
-    ∙ is_planned run.plan (entries_of run) (test_at run.plan.tests c.args.number) c.args.verdict c.requires.concluding.final
+    ∙ is_planned run.plan (history_of_run run) (test_at run.plan.tests c.args.number) c.args.verdict c.requires.concluding.final
 
 pub lower_followers-requires-clause-queued : goal.lower_followers-requires-clause-queued
 lower_followers-requires-clause-queued c =
     let run = c.args.self.now in
-    let es = entries_of run in
+    let es = history_of_run run in
     let told = c.requires.concluding.told in
     let going : has_stop es ≡ false = sym told.stopped ∙ c.if-self.false in
     let tests : c.as_slice.result.now ≡ run.plan.tests = c.as_slice.ensures ∙ ap (λ (p : PlanParts). p.tests) c.parts-else-stops_at.ensures.is in
@@ -34,7 +34,7 @@ lower_followers-requires-clause-queued c =
 pub returns-then-stops_at-clause-kept : goal.returns-then-stops_at-clause-kept
 returns-then-stops_at-clause-kept c =
     let run = c.args.self.now in
-    let es = entries_of run in
+    let es = history_of_run run in
     let told = c.requires.concluding.told in
     let room = vec_capacity run.history.entries in
     let going : has_stop es ≡ false = sym told.stopped ∙ c.if-self.false in

@@ -15,11 +15,11 @@ use Rattle.ct_history.proofs.LegalLemmas.{legal_allowed}
 use Rattle.ct_core.specs.declared.in_use.InUse.{InUse}
 use Rattle.ct_core.specs.declared.parts.Parts.{Parts}
 use Rattle.ct_core.specs.declared.state.State.TheVariants.{Final, Pending}
-use Rattle.ct_core.specs.InUse.{CanGive, Gives}
+use Rattle.ct_core.specs.InUse.{CanGive, GivesBack}
 use Rattle.ct_core.specs.Parts.{IsConcluding, IsKept}
 use Rattle.ct_core.proofs.OpenStartLemmas.{held_open}
 use Rattle.ct_core.specs.Standing.{IsPlaceOf}
-use Rattle.ct_core.specs.Run.{entries_of}
+use Rattle.ct_core.specs.Run.{history_of_run}
 use Rattle.ct_core.proofs.DueLemmas.{verdict_with_stop}
 use Rattle.ct_core.proofs.EndLemmas.{IsClosed, can_give, concluding-ended, ended, final, is_gone, kept-again, next, no_verdict, none_added, open_here, open_is, open_read, placement, stands_queued, within_states}
 use Rattle.ct_core.proofs.NoteLemmas.{found_here}
@@ -31,7 +31,7 @@ true_is_false is = cc
 pub expect_place-place-requires-clause-there : goal.expect_place-place-requires-clause-there
 expect_place-place-requires-clause-there c =
     let run = c.args.self.now in
-    let es = entries_of run in
+    let es = history_of_run run in
     let tests : c.as_slice.result.now ≡ run.plan.tests = c.as_slice.ensures ∙ ap (λ (p : PlanParts). p.tests) c.parts-plan.ensures.is in
     let held = held_open run.plan es c.args.number c.args.attempt c.args.worker (legal_allowed run.plan es c.requires.kept.legal) c.requires.holds in
     ap (λ (ts : List PlanTest). is_some (test_at ts c.args.number)) tests ∙ ap (λ (o : Option PlanTest). is_some o) held.found
@@ -39,7 +39,7 @@ expect_place-place-requires-clause-there c =
 pub unreachable-requires : goal.unreachable-requires
 unreachable-requires c =
     let run = c.args.self.now in
-    let es = entries_of run in
+    let es = history_of_run run in
     let room = vec_capacity run.history.entries in
     let place = c.expect_place-place.result in
     let tests : c.as_slice.result.now ≡ run.plan.tests = c.as_slice.ensures ∙ ap (λ (p : PlanParts). p.tests) c.parts-plan.ensures.is in
@@ -54,7 +54,7 @@ unreachable-requires c =
 pub again-requires : goal.again-requires
 again-requires c =
     let run = c.args.self.now in
-    let es = entries_of run in
+    let es = history_of_run run in
     let room = vec_capacity run.history.entries in
     let place = c.expect_place-place.result in
     let tests : c.as_slice.result.now ≡ run.plan.tests = c.as_slice.ensures ∙ ap (λ (p : PlanParts). p.tests) c.parts-plan.ensures.is in
@@ -68,7 +68,7 @@ again-requires c =
 pub give-requires : goal.give-requires
 give-requires c =
     let run = c.args.self.now in
-    let es = entries_of run in
+    let es = history_of_run run in
     let room = vec_capacity run.history.entries in
     let place = c.expect_place-place.result in
     let tests : c.as_slice.result.now ≡ run.plan.tests = c.as_slice.ensures ∙ ap (λ (p : PlanParts). p.tests) c.parts-plan.ensures.is in
@@ -84,7 +84,7 @@ give-requires c =
 pub go_on-requires-clause-stands : goal.go_on-requires-clause-stands
 go_on-requires-clause-stands c =
     let run = c.args.self.now in
-    let es = entries_of run in
+    let es = history_of_run run in
     let room = vec_capacity run.history.entries in
     let place = c.expect_place-place.result in
     let tests : c.as_slice.result.now ≡ run.plan.tests = c.as_slice.ensures ∙ ap (λ (p : PlanParts). p.tests) c.parts-plan.ensures.is in
@@ -97,7 +97,7 @@ go_on-requires-clause-stands c =
 pub go_on-requires-clause-gone : goal.go_on-requires-clause-gone
 go_on-requires-clause-gone c =
     let run = c.args.self.now in
-    let es = entries_of run in
+    let es = history_of_run run in
     let room = vec_capacity run.history.entries in
     let place = c.expect_place-place.result in
     let tests : c.as_slice.result.now ≡ run.plan.tests = c.as_slice.ensures ∙ ap (λ (p : PlanParts). p.tests) c.parts-plan.ensures.is in
@@ -110,7 +110,7 @@ go_on-requires-clause-gone c =
 pub returns-then-again-clause-kept : goal.returns-then-again-clause-kept
 returns-then-again-clause-kept c =
     let run = c.args.self.now in
-    let es = entries_of run in
+    let es = history_of_run run in
     let room = vec_capacity run.history.entries in
     let place = c.expect_place-place.result in
     let tests : c.as_slice.result.now ≡ run.plan.tests = c.as_slice.ensures ∙ ap (λ (p : PlanParts). p.tests) c.parts-plan.ensures.is in
@@ -127,14 +127,14 @@ returns-then-again-clause-kept c =
     let within = within_states run.plan es room run.parts c.requires.kept c.args.number c.args.attempt c.args.worker c.args.seen c.requires.holds place at t found in
     let here = open_here run.plan es room run.parts c.requires.kept c.args.number c.args.attempt c.args.worker c.args.seen c.requires.holds place at t found in
     let opens = open_read run.parts.states.items place _ _ _ _ c.index_mut.result.now within here c.index_mut.ensures.value (sym c.replace.ensures.value ∙ c.in-Open.is) in
-    let gives = subst (λ (p : Option Placement). Gives t p run.parts.in_use c.give.new.self) (c.as_ref.ensures.value ∙ opens.1) c.give.ensures in
+    let gives = subst (λ (p : Option Placement). GivesBack t p run.parts.in_use c.give.new.self) (c.as_ref.ensures.value ∙ opens.1) c.give.ensures in
     let room' = vec_capacity c.append_reserved.new.entries in
     let closed : IsClosed place t (placement run.plan es room run.parts c.requires.kept c.args.number c.args.attempt c.args.worker c.args.seen c.requires.holds place at t found) (Pending (ended run.plan es room run.parts c.requires.kept c.args.number c.args.attempt c.args.worker c.args.seen c.requires.holds place at t found + 1)) run.parts c.go_on.new.self = record {
       states =
           c.go_on.ensures.states
           ∙ set-set run.parts.states.items place c.replace.new.dest (Pending c.args.attempt)
           ∙ ap (λ (k : ℕ). slice_set run.parts.states.items place (Pending k)) (next run.plan es room run.parts c.requires.kept c.args.number c.args.attempt c.args.worker c.args.seen c.requires.holds place at t found);
-      in_use = subst (λ (u : InUse). Gives t (placement run.plan es room run.parts c.requires.kept c.args.number c.args.attempt c.args.worker c.args.seen c.requires.holds place at t found) run.parts.in_use u) (sym c.go_on.ensures.in_use) gives;
+      in_use = subst (λ (u : InUse). GivesBack t (placement run.plan es room run.parts c.requires.kept c.args.number c.args.attempt c.args.worker c.args.seen c.requires.holds place at t found) run.parts.in_use u) (sym c.go_on.ensures.in_use) gives;
       followers = c.go_on.ensures.followers;
       keys = c.go_on.ensures.keys;
       stopped = c.go_on.ensures.stopped;
@@ -146,7 +146,7 @@ returns-then-again-clause-kept c =
 pub returns-then-again-clause-ended : goal.returns-then-again-clause-ended
 returns-then-again-clause-ended c =
     let run = c.args.self.now in
-    let es = entries_of run in
+    let es = history_of_run run in
     let room = vec_capacity run.history.entries in
     let place = c.expect_place-place.result in
     let tests : c.as_slice.result.now ≡ run.plan.tests = c.as_slice.ensures ∙ ap (λ (p : PlanParts). p.tests) c.parts-plan.ensures.is in
@@ -165,7 +165,7 @@ returns-then-again-clause-ended c =
 pub returns-then-again-clause-verdict : goal.returns-then-again-clause-verdict
 returns-then-again-clause-verdict c =
     let run = c.args.self.now in
-    let es = entries_of run in
+    let es = history_of_run run in
     let room = vec_capacity run.history.entries in
     let place = c.expect_place-place.result in
     let tests : c.as_slice.result.now ≡ run.plan.tests = c.as_slice.ensures ∙ ap (λ (p : PlanParts). p.tests) c.parts-plan.ensures.is in
@@ -184,7 +184,7 @@ returns-then-again-clause-verdict c =
 pub conclude-requires : goal.conclude-requires
 conclude-requires c =
     let run = c.args.self.now in
-    let es = entries_of run in
+    let es = history_of_run run in
     let room = vec_capacity run.history.entries in
     let place = c.expect_place-place.result in
     let tests : c.as_slice.result.now ≡ run.plan.tests = c.as_slice.ensures ∙ ap (λ (p : PlanParts). p.tests) c.parts-plan.ensures.is in
@@ -201,7 +201,7 @@ conclude-requires c =
     let within = within_states run.plan es room run.parts c.requires.kept c.args.number c.args.attempt c.args.worker c.args.seen c.requires.holds place at t found in
     let here = open_here run.plan es room run.parts c.requires.kept c.args.number c.args.attempt c.args.worker c.args.seen c.requires.holds place at t found in
     let opens = open_read run.parts.states.items place _ _ _ _ c.index_mut.result.now within here c.index_mut.ensures.value (sym c.replace.ensures.value ∙ c.in-Open.is) in
-    let gives = subst (λ (p : Option Placement). Gives t p run.parts.in_use c.give.new.self) (c.as_ref.ensures.value ∙ opens.1) c.give.ensures in
+    let gives = subst (λ (p : Option Placement). GivesBack t p run.parts.in_use c.give.new.self) (c.as_ref.ensures.value ∙ opens.1) c.give.ensures in
     let room' = vec_capacity c.append_reserved.new.entries in
     let parts : Parts = record run.parts {
       states = with_item (with_item run.parts.states place c.replace.new.dest) place (Final c.one-verdict.result);
@@ -227,7 +227,7 @@ conclude-requires c =
 pub returns-clause-verdict : goal.returns-clause-verdict
 returns-clause-verdict c =
     let run = c.args.self.now in
-    let es = entries_of run in
+    let es = history_of_run run in
     let room = vec_capacity run.history.entries in
     let place = c.expect_place-place.result in
     let tests : c.as_slice.result.now ≡ run.plan.tests = c.as_slice.ensures ∙ ap (λ (p : PlanParts). p.tests) c.parts-plan.ensures.is in

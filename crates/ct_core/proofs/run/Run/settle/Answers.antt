@@ -7,7 +7,7 @@ use Rattle.ct_history.specs.declared.history.Entry.{Entry}
 use Rattle.ct_history.specs.declared.history.Entry.TheVariants.{Settle}
 use Rattle.ct_core.specs.Standing.{IsPlaceOf}
 use Rattle.ct_core.specs.Parts.{IsConcluding}
-use Rattle.ct_core.specs.Run.{entries_of}
+use Rattle.ct_core.specs.Run.{history_of_run}
 use Rattle.ct_core.proofs.SettleLemmas.{concluding-settled, is_member, stands_queued}
 use Rattle.ct_core.proofs.run.Run.settle.Goals as goal
 
@@ -16,19 +16,19 @@ settle-requires-clause-stands c =
     let run = c.args.self.now in
     let tests : c.as_slice.result.now ≡ run.plan.tests = c.as_slice.ensures ∙ ap (λ (p : PlanParts). p.tests) c.parts.ensures.is in
     let at = subst (λ (ts : List PlanTest). IsPlaceOf ts c.args.number c.expect_place-place.result) tests c.expect_place-place.ensures in
-    stands_queued run.plan (entries_of run) (vec_capacity run.history.entries) run.parts c.requires.kept c.args.number c.args.cause c.requires.may c.expect_place-place.result at
+    stands_queued run.plan (history_of_run run) (vec_capacity run.history.entries) run.parts c.requires.kept c.args.number c.args.cause c.requires.may c.expect_place-place.result at
 
 pub settle-requires-clause-member : goal.settle-requires-clause-member
 settle-requires-clause-member c =
     let run = c.args.self.now in
     let tests : c.as_slice.result.now ≡ run.plan.tests = c.as_slice.ensures ∙ ap (λ (p : PlanParts). p.tests) c.parts.ensures.is in
     let at = subst (λ (ts : List PlanTest). IsPlaceOf ts c.args.number c.expect_place-place.result) tests c.expect_place-place.ensures in
-    is_member run.plan (entries_of run) (vec_capacity run.history.entries) run.parts c.requires.kept c.args.number c.args.cause c.requires.may c.expect_place-place.result at
+    is_member run.plan (history_of_run run) (vec_capacity run.history.entries) run.parts c.requires.kept c.args.number c.args.cause c.requires.may c.expect_place-place.result at
 
 pub conclude-requires : goal.conclude-requires
 conclude-requires c =
     let run = c.args.self.now in
-    let es = entries_of run in
+    let es = history_of_run run in
     let tests : c.as_slice.result.now ≡ run.plan.tests = c.as_slice.ensures ∙ ap (λ (p : PlanParts). p.tests) c.parts.ensures.is in
     let at = subst (λ (ts : List PlanTest). IsPlaceOf ts c.args.number c.expect_place-place.result) tests c.expect_place-place.ensures in
     let room = vec_capacity c.append_reserved.new.entries in

@@ -11,7 +11,7 @@ use Rattle.ct_core.specs.declared.state.State.TheVariants.{Open}
 use Rattle.ct_core.specs.InUse.{CanTake, Takes}
 use Rattle.ct_core.specs.Standing.{IsPlaceOf}
 use Rattle.ct_core.specs.Parts.{IsKept}
-use Rattle.ct_core.specs.Run.{entries_of}
+use Rattle.ct_core.specs.Run.{history_of_run}
 use Rattle.ct_core.proofs.NoteLemmas.{found_here}
 use Rattle.ct_core.proofs.StartLemmas.{IsBegun, can_take, ended, is_member, kept-started, next, stands_queued}
 use Rattle.ct_core.proofs.run.Run.start.Goals as goal
@@ -19,7 +19,7 @@ use Rattle.ct_core.proofs.run.Run.start.Goals as goal
 pub take-requires : goal.take-requires
 take-requires c =
     let run = c.args.self.now in
-    let es = entries_of run in
+    let es = history_of_run run in
     let room = vec_capacity run.history.entries in
     let place = c.expect_place-place.result in
     let start = c.args.start.now in
@@ -37,7 +37,7 @@ take-requires c =
 pub out-requires-clause-stands : goal.out-requires-clause-stands
 out-requires-clause-stands c =
     let run = c.args.self.now in
-    let es = entries_of run in
+    let es = history_of_run run in
     let room = vec_capacity run.history.entries in
     let place = c.expect_place-place.result in
     let start = c.args.start.now in
@@ -52,7 +52,7 @@ out-requires-clause-stands c =
 pub out-requires-clause-member : goal.out-requires-clause-member
 out-requires-clause-member c =
     let run = c.args.self.now in
-    let es = entries_of run in
+    let es = history_of_run run in
     let room = vec_capacity run.history.entries in
     let place = c.expect_place-place.result in
     let start = c.args.start.now in
@@ -67,7 +67,7 @@ out-requires-clause-member c =
 pub returns-clause-kept : goal.returns-clause-kept
 returns-clause-kept c =
     let run = c.args.self.now in
-    let es = entries_of run in
+    let es = history_of_run run in
     let room = vec_capacity run.history.entries in
     let place = c.expect_place-place.result in
     let start = c.args.start.now in

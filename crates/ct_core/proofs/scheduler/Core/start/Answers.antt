@@ -4,7 +4,7 @@ use Rattle.ct_history.specs.declared.history.Entry.{Entry}
 use Rattle.ct_history.specs.declared.history.Entry.TheVariants.{Start}
 use Rattle.ct_core.specs.Choice.{IsStartable, NoneSettles}
 use Rattle.ct_core.specs.CoreValue.{CoreValue}
-use Rattle.ct_core.specs.Run.{entries_of}
+use Rattle.ct_core.specs.Run.{history_of_run}
 use Rattle.ct_core.proofs.ChoiceLemmas.{start_takes}
 use Rattle.ct_core.proofs.OrderLemmas.{orderly_with}
 use Rattle.ct_core.proofs.scheduler.Core.start.Goals as goal
@@ -27,7 +27,7 @@ returns-in-Err c =
       goes_on = c.requires.goes_on;
       takes = start_takes old.plan old.entries c.args.start c.requires.unsettled c.requires.startable;
       kept =
-          ap (λ (p : PlanParts). let v : CoreValue = record { plan = p; entries = entries_of c.start.new.self; aborted = aborted } in v) c.start.ensures.plan
+          ap (λ (p : PlanParts). let v : CoreValue = record { plan = p; entries = history_of_run c.start.new.self; aborted = aborted } in v) c.start.ensures.plan
           ∙ ap (λ (es : List Entry). let v : CoreValue = record { plan = c.self.inside.run.plan; entries = es; aborted = aborted } in v) c.in-Err.ensures.unstarted
           ∙ c.self.view_is;
     }

@@ -1,10 +1,10 @@
 use Rattle.std.proofs.Common.{◌≡◌, ◌∙◌, ap, arith, sym, take, ℕ, List, ◌-◌}
-use Rattle.ct_history.specs.Rules.{is_among}
 use Rattle.ct_core.specs.declared.sharers.Sharers.{Sharers}
 use Rattle.ct_core.specs.Sharers.{counts_sharers, one_if, sharers_of}
 use Rattle.ct_core.proofs.SharerLemmas.{among_at, count_less, seen_again, seen_more}
 use Rattle.ct_core.proofs.sharers.Sharers.leave.Goals.{else-not-is_among, then-not-is_among}
 use Rattle.ct_core.proofs.sharers.Sharers.leave.Goals as goal
+use Rattle.ct_base.specs.Names.{is_among}
 
 pub overflow_sub-count : goal.overflow_sub-count
 overflow_sub-count c =

@@ -1,10 +1,10 @@
 use Rattle.std.proofs.Common.{◌∙◌, ap, sym, take, ℕ, List, ◌+◌}
-use Rattle.ct_history.specs.Rules.{is_among}
 use Rattle.ct_core.specs.declared.sharers.Sharers.{Sharers}
 use Rattle.ct_core.specs.Sharers.{counts_sharers, one_if, sharers_of}
 use Rattle.ct_core.proofs.SharerLemmas.{count_more, seen_again, seen_more}
 use Rattle.ct_core.proofs.sharers.Sharers.share.Goals.{else-not-is_among, then-not-is_among}
 use Rattle.ct_core.proofs.sharers.Sharers.share.Goals as goal
+use Rattle.ct_base.specs.Names.{is_among}
 
 pub loop-at-preserved : goal.loop-at-preserved
 loop-at-preserved c =

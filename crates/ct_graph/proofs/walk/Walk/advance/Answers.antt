@@ -1,7 +1,7 @@
 use Rattle.std.proofs.Common.{◌≡◌, ◌<◌, ◌∙◌, ◌∷◌, [], true, false, get_or, set, take, length, subst, ap, sym}
 use Rattle.std.proofs.lemmas.List.{get_or_read}
 use Rattle.ct_graph.specs.Cycle.{is_cycle}
-use Rattle.ct_graph.specs.Walk.{row_of, mark_of, is_taken, are_taken, back_to, trail_of, GoesOn}
+use Rattle.ct_graph.specs.Walk.{row_of, mark_of, is_ranked, are_taken, back_to, trail_of, WalksOn}
 use Rattle.ct_graph.specs.declared.walk.Mark.TheVariants.{Unseen, Open}
 use Rattle.ct_graph.proofs.WalkLemmas.{takes, same_walk, trail_push, next_inside, finds_cycle, opens_next, goes_next, fewer_next}
 use Rattle.ct_graph.proofs.walk.Walk.advance.Goals as goal
@@ -42,7 +42,7 @@ returns c =
     let mark : c.index.result.now ≡ mark_of old.marks.items (get_or (row_of rows test) at 0) = get_or_read old.marks.items (get_or (row_of rows test) at 0) c.index.result.now inside read Unseen in
     let closed = λ (is : mark_of old.marks.items (get_or (row_of rows test) at 0) ≡ Open). c.in_default-index.not-Open (mark ∙ is) in
     let looked = subst (λ r. are_taken old.marks.items (take at r) ≡ true) row c.in-Some.ensures.front in
-    let untaken = subst (λ n. is_taken (mark_of old.marks.items n) ≡ false) same c.in-Some.ensures.untaken in
+    let untaken = subst (λ n. is_ranked (mark_of old.marks.items n) ≡ false) same c.in-Some.ensures.untaken in
     let now : c.open.new.self.marks.items ≡ set old.marks.items (get_or (row_of rows test) at 0) Open = c.in_ok-open.ensures.marks ∙ ap (λ ms. set ms.items (get_or c.as_slice-row.result.now at 0) Open) c.in_ok-put.ensures.marks ∙ ap (λ n. set old.marks.items n Open) same in
     let trail : trail_of c.open.new.self ≡ record { test = get_or (row_of rows test) at 0; looked = 0 } ∷ record { test = test; looked = at } ∷ trail_of old =
     trail_push c.put.new.self.path.items c.open.new.self.path.items (record { test = get_or c.as_slice-row.result.now at 0; looked = 0 }) c.in_ok-open.ensures.path
@@ -50,7 +50,7 @@ returns c =
     ∙ ap (λ n. record { test = n; looked = 0 } ∷ record { test = test; looked = at } ∷ trail_of old) same in
     record {
       kept = same_walk rows _ _ _ _ _ _ now trail (c.in_ok-open.ensures.taken ∙ c.in_ok-put.ensures.taken) (opens_next rows old.marks.items c.args.step (trail_of old) old.taken at c.requires.within c.requires.kept few looked untaken closed);
-      goes = subst (GoesOn old.marks.items) (sym now) (goes_next rows old.marks.items c.args.step (trail_of old) old.taken at c.requires.within c.requires.kept few looked untaken closed);
+      goes = subst (WalksOn old.marks.items) (sym now) (goes_next rows old.marks.items c.args.step (trail_of old) old.taken at c.requires.within c.requires.kept few looked untaken closed);
       fewer = fewer_next rows old.marks.items c.args.step (trail_of old) old.taken at c.requires.within c.requires.kept few looked untaken closed (trail_of c.open.new.self) trail c.open.new.self.marks.items now;
       err = tt;
     }

@@ -1,5 +1,5 @@
 use Rattle.std.proofs.Common.{◌≡◌, ◌∙◌, ℕ, List, map, length, sym, ap, subst}
-use Rattle.ct_queue.specs.Kept.{AreFound, AreMarkedAtZero, IsReadySet, waiting, ready_of}
+use Rattle.ct_queue.specs.Kept.{AreFoundByNumber, AreMarkedAtZero, IsReadySet, waiting, ready_of}
 use Rattle.ct_queue.specs.declared.ready.Standing.{Standing}
 use Rattle.ct_queue.proofs.ReadyLemmas.{kept_new, ready_new}
 use Rattle.ct_queue.proofs.ready.Ready.in_lines.Goals as goal
@@ -8,7 +8,7 @@ pub invariant_of-result : goal.invariant_of-result
 invariant_of-result c =
     let lines = c.in_ok-lines_at_zero.field-0 in
     let standings : c.in_ok-standings.field-0.items ≡ map waiting c.args.counts.now = c.in_ok-standings.ensures ∙ ap (λ (l : List ℕ). map waiting l) c.as_slice-2.ensures in
-    let found = subst (λ (o : List ℕ). AreFound c.in_ok-places.field-0 o) c.as_slice.ensures c.in_ok-places.ensures in
+    let found = subst (λ (o : List ℕ). AreFoundByNumber c.in_ok-places.field-0 o) c.as_slice.ensures c.in_ok-places.ensures in
     let lined : length lines.lines ≡ length c.args.order.now = ap length (c.in_ok-lines_at_zero.ensures.lines ∙ c.as_slice-3.ensures) ∙ c.requires.lined in
     let bunched : length lines.bunches ≡ length c.args.order.now = ap length (c.in_ok-lines_at_zero.ensures.bunches ∙ c.as_slice-4.ensures) ∙ c.requires.bunched in
     let seated : length lines.members ≡ length c.args.order.now = c.in_ok-lines_at_zero.ensures.room ∙ ap length c.as_slice-3.ensures ∙ c.requires.lined in

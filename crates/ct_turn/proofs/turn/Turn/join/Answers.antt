@@ -4,7 +4,7 @@ use Rattle.atomic_table.specs.Table.{Allows, Me}
 use Rattle.ct_turn.specs.declared.view.Known.{Known}
 use Rattle.ct_turn.specs.declared.view.View.{View}
 use Rattle.ct_turn.specs.Pass.{PassValue, known_in, taken_in}
-use Rattle.ct_turn.specs.Seen.{GoesOn, held_start, with_joined, sight}
+use Rattle.ct_turn.specs.Seen.{HistoryGoesOn, held_start, with_joined, sight}
 use Rattle.ct_turn.specs.Rule.{Assures, IsOrderly, Looked}
 use Rattle.ct_turn.proofs.PassLemmas.{as_noted}
 use Rattle.ct_turn.proofs.StepLemmas.{looks, joins-seats}
@@ -46,7 +46,7 @@ returns-clause-own g c =
     let is : known_in c.into_badge.result.views ≡ with_joined c.args.pass.now.known c.args.other.known =
     ap known_in c.into_badge.ensures.2 ∙ ap (λ (m : Me (Option g.row.T.Denot) View). m.0.known) c.load.ensures.2.0 ∙ after in
     let noted = as_noted c.args.pass.now.known c.args.other.known (subst (λ (k : Known). Assures k) after c.load.ensures.2.1) in
-    subst (λ (k : Known). GoesOn c.args.pass.now.known.worker c.args.pass.now.known.seen.entries k.seen.entries) (sym is) noted.own
+    subst (λ (k : Known). HistoryGoesOn c.args.pass.now.known.worker c.args.pass.now.known.seen.entries k.seen.entries) (sym is) noted.own
 
 pub returns-clause-held : goal.returns-clause-held
 returns-clause-held g c =

@@ -1,0 +1,11 @@
+-- Names among names. This project's own.
+use Rattle.std.specs.Prelude.{ℕ, Bool, List, bytes_eq}
+use Rattle.std.specs.List.{list_any}
+
+-- the name is one of these names
+abbrev pub is_among : List ℕ → List (List ℕ) → Bool
+is_among name others = list_any (λ other. bytes_eq name other) others
+
+-- some name stands in both lists
+abbrev pub shares_name : List (List ℕ) → List (List ℕ) → Bool
+shares_name names others = list_any (λ name. is_among name others) names

@@ -1,6 +1,0 @@
-use Rattle.std.proofs.Common.{take}
-use Rattle.ct_alloc.specs.Placement.{AreDistinct}
-use Rattle.ct_samples.proofs.plans.are_apart.Given as goal
-
-abbrev pub invariant-loop-at : goal.invariant-loop-at
-invariant-loop-at l = AreDistinct (take l.at l.resources)

@@ -1,7 +1,0 @@
-use Rattle.std.proofs.Common.{◌≡◌, None}
-use Rattle.ct_turn.specs.Pass.{idle_pass}
-use Rattle.ct_turn.specs.Seen.{has_seen, held_start}
-use Rattle.ct_turn_tests.proofs.turn.work.Given as goal
-
-abbrev pub invariant-loop : goal.invariant-loop
-invariant-loop g l = (l.pass ≡ idle_pass l.fn.pass.turn (has_seen l.fn.pass.known l.pass.known.seen)) × (held_start l.pass.known ≡ None)
