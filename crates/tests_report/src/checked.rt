@@ -2,7 +2,7 @@
 
 use ct_base::{Blob, List, NoMemory};
 use ct_history::{Plan, PlanTest};
-use ct_journal::check_text;
+use ct_journal_text::check_text;
 use std::alloc::Global;
 use std::process::Abort;
 use std::test::Fail;

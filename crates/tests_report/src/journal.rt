@@ -3,7 +3,7 @@
 use ct_alloc::{Pick, Placement};
 use ct_base::{Blob, List, Name, NoMemory, Resource};
 use ct_history::Entry;
-use ct_journal::{journal_text, line_text, placement_at, read_line};
+use ct_journal_text::{journal_text, line_text, placement_at, read_line};
 use ct_verdict::{Cause, How, Seen};
 use std::alloc::Global;
 use std::process::Abort;

@@ -1,6 +1,0 @@
-use Rattle.std.proofs.Common.{◌≡◌, take, map}
-use Rattle.ct_journal.specs.Guess.{short_in}
-use Rattle.ct_journal.proofs.guess.shorts_in.Given as goal
-
-abbrev pub invariant-loop-piece : goal.invariant-loop-piece
-invariant-loop-piece l = l.numbers ≡ map short_in (take l.piece-index l.pieces)
