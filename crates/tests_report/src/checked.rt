@@ -8,26 +8,61 @@ use std::process::Abort;
 use std::test::Fail;
 use tests_samples::{Manner, cards, free, needs, parts_of, plan_of};
 
-/// Checks what a text is found to be, in which `|` stands for a line feed: the number of its first line that is not
-/// good, or `None`.
-fn finds(
-    rt: &impl Abort,
-    alloc: Global,
-    plan: &Plan,
-    rows: &[(&str, Option<u64>)],
-) -> Result<(), NoMemory> {
-    for (text, want) in rows {
-        let text = *text;
-        let want = *want;
-        let mut bytes = Blob::new(alloc);
-        for part in text.as_bytes() {
-            let byte = if *part == b'|' { b'\n' } else { *part };
-            bytes.append(&[byte])?;
-        }
-        let found = check_text(alloc, plan, bytes.bytes())?;
-        assert!(rt; found == want, "{text}");
+/// The journals of one test: the number of the first line that is not good, or `good`, and behind a blank the text, in
+/// which `|` stands for a line feed.
+const OF_ONE_TEST: &str = "\
+good ct-journal 1|start 1 1 0|end 1 1 0 exit:0 000 10000|done 2|
+3 ct-journal 1|start 1 1 0|end 1 1 0 exit:00 000 10000|done 2|
+2 ct-journal 1|end 1 1 0 exit:0 000 10000|start 1 1 0|done 2|
+4 ct-journal 1|start 1 1 0|end 1 1 0 exit:0 000 10000|
+4 ct-journal 1|start 1 1 0|end 1 1 0 exit:0 000 10000|done 2
+4 ct-journal 1|start 1 1 0|end 1 1 0 exit:0 000 10000|done 3|
+4 ct-journal 1|start 1 1 0|end 1 1 0 exit:0 000 10000|done 2||
+4 ct-journal 1|start 1 1 0|end 1 1 0 exit:0 000 10000|stop|
+3 ct-journal 1|start 1 1 0|end 1 1 1 exit:0 000 10000|
+2 ct-journal 1|start 1 2 0|
+2 ct-journal 1|start 2 1 0|
+3 ct-journal 1|start 1 1 0|done 1|
+2 ct-journal 1|done 0|
+1 ct-journal 1
+1 ";
+
+/// The same of no test.
+const OF_NO_TEST: &str = "\
+good ct-journal 1|done 0|
+2 ct-journal 1|";
+
+/// The same of three tests that take two slots each, with cards of three slots and of two.
+const OF_CARDS: &str = "\
+good ct-journal 1|start 1 1 0 at 0|start 2 1 1 at 1|end 1 1 0 exit:0 000 1|start 3 1 0 at 0|end 2 1 1 exit:0 000 1|end 3 1 0 exit:0 000 1|done 6|
+3 ct-journal 1|start 1 1 0 at 0|start 2 1 1 at 0|
+3 ct-journal 1|start 1 1 0 at 0|start 2 1 1|
+2 ct-journal 1|start 1 1 0 at 2|
+2 ct-journal 1|start 1 1 0 at 0,1|";
+
+/// Checks what the text of each row is found to be.
+fn finds(rt: &impl Abort, alloc: Global, plan: &Plan, rows: &str) -> Result<(), NoMemory> {
+    for row in rows.lines() {
+        let (want, text) = row.split_once(' ').unwrap_or((row, ""));
+        let text = with_feeds(alloc, text.as_bytes())?;
+        let found = check_text(alloc, plan, text.bytes())?;
+        let is_wanted = match found {
+            None => want == "good",
+            Some(_) => want.parse::<u64>().ok() == found,
+        };
+        assert!(rt; is_wanted, "{row}");
     }
     Ok(())
+}
+
+/// Puts a line feed in place of each `|` of a text.
+fn with_feeds(alloc: Global, text: &[u8]) -> Result<Blob, NoMemory> {
+    let mut fed = Blob::new(alloc);
+    for byte in text {
+        let byte = if *byte == b'|' { b'\n' } else { *byte };
+        fed.append(&[byte])?;
+    }
+    Ok(fed)
 }
 
 /// Makes the plan of tests that take one processor each, or ends the test.
@@ -54,51 +89,7 @@ fn finds_the_first_line_that_is_not_good(rt: HostRuntime) -> Result<(), Fail> {
     let mut tests = List::new(alloc);
     tests.push(free(alloc, 1)?)?;
     let plan = plan_or_abort(&rt, alloc, Manner::once(1), tests, None)?;
-    let rows = [
-        (
-            "ct-journal 1|start 1 1 0|end 1 1 0 exit:0 000 10000|done 2|",
-            None,
-        ),
-        (
-            "ct-journal 1|start 1 1 0|end 1 1 0 exit:00 000 10000|done 2|",
-            Some(3),
-        ),
-        (
-            "ct-journal 1|end 1 1 0 exit:0 000 10000|start 1 1 0|done 2|",
-            Some(2),
-        ),
-        (
-            "ct-journal 1|start 1 1 0|end 1 1 0 exit:0 000 10000|",
-            Some(4),
-        ),
-        (
-            "ct-journal 1|start 1 1 0|end 1 1 0 exit:0 000 10000|done 2",
-            Some(4),
-        ),
-        (
-            "ct-journal 1|start 1 1 0|end 1 1 0 exit:0 000 10000|done 3|",
-            Some(4),
-        ),
-        (
-            "ct-journal 1|start 1 1 0|end 1 1 0 exit:0 000 10000|done 2||",
-            Some(4),
-        ),
-        (
-            "ct-journal 1|start 1 1 0|end 1 1 0 exit:0 000 10000|stop|",
-            Some(4),
-        ),
-        (
-            "ct-journal 1|start 1 1 0|end 1 1 1 exit:0 000 10000|",
-            Some(3),
-        ),
-        ("ct-journal 1|start 1 2 0|", Some(2)),
-        ("ct-journal 1|start 2 1 0|", Some(2)),
-        ("ct-journal 1|start 1 1 0|done 1|", Some(3)),
-        ("ct-journal 1|done 0|", Some(2)),
-        ("ct-journal 1", Some(1)),
-        ("", Some(1)),
-    ];
-    finds(&rt, alloc, &plan, &rows)?;
+    finds(&rt, alloc, &plan, OF_ONE_TEST)?;
     Ok(())
 }
 
@@ -106,8 +97,7 @@ fn finds_the_first_line_that_is_not_good(rt: HostRuntime) -> Result<(), Fail> {
 fn accepts_the_journal_of_no_test(rt: HostRuntime) -> Result<(), Fail> {
     let alloc = rt.alloc();
     let plan = plan_or_abort(&rt, alloc, Manner::once(1), List::new(alloc), None)?;
-    let rows = [("ct-journal 1|done 0|", None), ("ct-journal 1|", Some(2))];
-    finds(&rt, alloc, &plan, &rows)?;
+    finds(&rt, alloc, &plan, OF_NO_TEST)?;
     Ok(())
 }
 
@@ -121,17 +111,6 @@ fn refuses_more_slots_than_a_card_has(rt: HostRuntime) -> Result<(), Fail> {
         tests.push(test)?;
     }
     let plan = plan_or_abort(&rt, alloc, Manner::once(3), tests, Some(&[3, 2]))?;
-    let ends =
-        "end 1 1 0 exit:0 000 1|start 3 1 0 at 0|end 2 1 1 exit:0 000 1|end 3 1 0 exit:0 000 1|done 6|";
-    let mut whole = Blob::of(alloc, b"ct-journal 1|start 1 1 0 at 0|start 2 1 1 at 1|")?;
-    whole.append(ends.as_bytes())?;
-    let rows = [
-        (std::str::from_utf8(whole.bytes()).unwrap_or("?"), None),
-        ("ct-journal 1|start 1 1 0 at 0|start 2 1 1 at 0|", Some(3)),
-        ("ct-journal 1|start 1 1 0 at 0|start 2 1 1|", Some(3)),
-        ("ct-journal 1|start 1 1 0 at 2|", Some(2)),
-        ("ct-journal 1|start 1 1 0 at 0,1|", Some(2)),
-    ];
-    finds(&rt, alloc, &plan, &rows)?;
+    finds(&rt, alloc, &plan, OF_CARDS)?;
     Ok(())
 }
