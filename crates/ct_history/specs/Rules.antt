@@ -85,19 +85,15 @@ has_processors plan t entries = nat_le (t.processors + used_processors plan.test
 abbrev pub has_room : PlanParts → PlanTest → List Entry → Bool
 has_room plan t entries = has_processors plan t entries && not (is_excluded plan.tests t entries)
 
--- the test may start with this placement
-abbrev pub may_start : PlanParts → PlanTest → Option Placement → List Entry → Bool
-may_start plan t placement entries =
-    not (has_stop entries)
-    && is_pending plan t entries
-    && is_ready plan t entries
-    && has_room plan t entries
-    && is_placed plan.resources t.needs (used_slots entries) placement
-
--- the test may start as soon as its needs are met: all of `may_start` but the placement
+-- the test may start as soon as its needs are met: no Stop stands, it is pending and ready, and there is room
 abbrev pub may_start_if_placed : PlanParts → PlanTest → List Entry → Bool
 may_start_if_placed plan t entries =
     not (has_stop entries) && is_pending plan t entries && is_ready plan t entries && has_room plan t entries
+
+-- the test may start with this placement: it may start as soon as its needs are met, and this meets them
+abbrev pub may_start : PlanParts → PlanTest → Option Placement → List Entry → Bool
+may_start plan t placement entries =
+    may_start_if_placed plan t entries && is_placed plan.resources t.needs (used_slots entries) placement
 
 -- the test that was looked up is there, and may start with this placement
 abbrev pub may_start_at : PlanParts → List Entry → Option Placement → Option PlanTest → Bool
