@@ -1,6 +1,6 @@
 -- The parts beside the history decide the choice: which test is settled, and which starts.
 use Rattle.std.proofs.Common.{◌≡◌, ◌≢◌, ◌∙◌, sym, ap, subst, Bool, true, false, ℕ, ◌-◌, ◌<◌, ◌≤◌, ◌^◌, List, [], ◌∷◌, ◌++◌, length, refl, arith, inl, inr, get_or, suc, take, drop}
-use Rattle.std.specs.Prelude.{Result, Ok, Err, IfErr, Option, Some, None, ◌==◌, ◌&&◌, ◌||◌, not, is_some, nat_le, option_and_then, slice_get, if◌then◌else◌, MatchOption}
+use Rattle.std.specs.Prelude.{◌⊎◌, Result, Ok, Err, IfErr, Option, Some, None, ◌==◌, ◌&&◌, ◌||◌, not, is_some, nat_le, option_and_then, slice_get, if◌then◌else◌, MatchOption}
 use Rattle.std.proofs.Math.Path.{fun_ext}
 use Rattle.std.proofs.lemmas.Bool.{and_from, and_parts, cases_Bool, false_from_ne_true, leb-true, ne_eqb}
 use Rattle.std.proofs.Math.Seq.{split_at}
@@ -30,7 +30,7 @@ use Rattle.ct_core.specs.declared.in_use.InUse.{InUse}
 use Rattle.ct_core.specs.declared.parts.Parts.{Parts}
 use Rattle.ct_core.specs.declared.state.State.{State}
 use Rattle.ct_core.specs.declared.state.State.TheVariants.{Pending}
-use Rattle.ct_core.specs.Choice.{IsLeastToSettle, IsStartOf, IsStartable, IsStuck, NoneSettles, NoneStarts, SomeIsToPlace, TakesMemory, attempt_after, may_start_if_placed_at}
+use Rattle.ct_core.specs.Choice.{HasProgress, IsLeastToSettle, IsStartOf, IsStartable, IsStuck, NoneSettles, NoneStarts, SomeIsToPlace, SomeSettles, SomeStarts, TakesMemory, attempt_after, may_start_if_placed_at}
 use Rattle.ct_core.specs.InUse.{IsInUse, has_room_beside}
 use Rattle.ct_core.specs.Parts.{AreTold, IsKept}
 use Rattle.ct_core.specs.Slots.{IsFreeBeside, given_resources, used_of}
@@ -118,6 +118,14 @@ stuck_busy plan es sound stuck = false_from_ne_true (is_idle es) (λ idle. by_go
     by_going : GoesOn plan es → ⊥
     by_going (settles_on number cause may) = let never = sym (stuck.unsettled number) ∙ may in (cc)
     by_going (starts_on number queued can) = All-contains (λ n. CanStart plan es n → ⊥) plan.queue number stuck.unstarted queued can
+
+-- while nothing is open and some test is not final, some test may be settled or may start
+pub has_progress : (plan : PlanParts) (es : List Entry) → IsSound plan → HasProgress plan es
+has_progress plan es sound = λ idle unfinished. by_going (goes_on plan sound es (idle_empty es idle) unfinished)
+  where
+    by_going : GoesOn plan es → SomeSettles plan es ⊎ SomeStarts plan es
+    by_going (settles_on number cause may) = inl (record { number = number; cause = cause; may = may })
+    by_going (starts_on number queued can) = inr (record { number = number; can = can })
 
 -- the attempts of a test that may start are few enough that one more can be counted
 pub attempt_fits : (plan : PlanParts) (t : PlanTest) (es : List Entry) → may_start_if_placed plan t es ≡ true → plan.repeat.times < 2 ^ 32 → length (attempts_of t.number t.rules es) < 2 ^ 32 - 1

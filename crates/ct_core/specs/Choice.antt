@@ -66,6 +66,17 @@ pub record SomeSettles (plan : PlanParts) (entries : List Entry) : Type 0 where
   pub cause : Cause
   pub may : settle_cause_of_test plan entries number ≡ Some cause
 
+-- some test may start, with some placement
+pub record SomeStarts (plan : PlanParts) (entries : List Entry) : Type 0 where
+  pub number : ℕ
+  pub can : CanStart plan entries number
+
+-- progress: while nothing is open and some test is not final, some test may be settled or may start
+abbrev pub HasProgress : PlanParts → List Entry → Type 0
+HasProgress plan entries =
+    is_idle entries ≡ true → are_all_final plan entries ≡ false
+    → SomeSettles plan entries ⊎ SomeStarts plan entries
+
 -- the test that was looked up is there, and may start as soon as its needs are met
 abbrev pub may_start_if_placed_at : PlanParts → List Entry → Option PlanTest → Bool
 may_start_if_placed_at plan entries None = false

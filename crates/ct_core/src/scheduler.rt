@@ -50,7 +50,7 @@ impl Model for Core {
 }
 
 impl Core {
-    ghost use Rattle.ct_core.specs.Choice.{IsChoice, IsLeastToSettle, IsStartable, NoneSettles};
+    ghost use Rattle.ct_core.specs.Choice.{HasProgress, IsChoice, IsLeastToSettle, IsStartable, NoneSettles};
     ghost use Rattle.ct_core.specs.Core.{IsNext, with_final};
     ghost use Rattle.ct_core.specs.CoreValue.{CoreValue};
     ghost use Rattle.ct_core.specs.Order.{FollowsQueue};
@@ -121,6 +121,64 @@ impl Core {
     /// never is in a run that was given up, or whose tests are all final.
     pub fn next(&mut self, worker: u32) -> Next
         requires { is_busy_in worker self.old.entries ≡ false }
+        ensures step { IsNext self.old worker result self.new }
+        ensures progress { HasProgress self.old.plan self.old.entries }
+        ensures legal { is_legal self.new.plan self.new.entries ≡ true }
+        ensures within { StaysWithin self.new.plan self.new.entries }
+    {
+        self.hand_out_progress();
+        let next = self.step(worker);
+        let _ = self.history();
+        next
+    }
+
+    /// Ends the attempt of a ticket, and returns the test's verdict if the test is now final.
+    ///
+    /// If that is the first verdict that makes the run fail, and the plan stops at one,
+    /// a Stop follows directly behind the end. It takes no memory: `next` made the room.
+    pub fn finish(&mut self, ticket: Ticket, seen: Seen) -> Option<Verdict>
+        requires { holds_ticket ticket self.old.entries ≡ true }
+        ensures appended { self.new ≡ with_final self.old (end_of ticket seen) }
+        ensures verdict { result ≡ verdict_of_test self.old.plan self.new.entries (test_of ticket) }
+        ensures legal { is_legal self.new.plan self.new.entries ≡ true }
+        ensures within { StaysWithin self.new.plan self.new.entries }
+    {
+        let verdict = self.end(ticket, seen);
+        let _ = self.history();
+        verdict
+    }
+
+    /// Gives the run up: from now on nothing starts, and open attempts may end.
+    pub fn abort(&mut self)
+        ensures is { self.new ≡ record self.old { aborted = true } }
+        ensures legal { is_legal self.new.plan self.new.entries ≡ true }
+        ensures within { StaysWithin self.new.plan self.new.entries }
+    {
+        self.aborted = true;
+        let _ = self.history();
+    }
+
+    /// Returns the plan and the history of the run.
+    pub fn into_parts(self) -> (Plan, History)
+        ensures plan { result.0 ≡ self.plan }
+        ensures history { result.1.entries.items ≡ self.entries }
+        ensures legal { is_legal self.plan self.entries ≡ true }
+        ensures within { StaysWithin self.plan self.entries }
+        ensures order { FollowsQueue self.plan self.entries }
+    {
+        let Run { plan, history, .. } = self.run;
+        (plan, history)
+    }
+
+    /// Does nothing when it runs; its clause says that the run never gets stuck.
+    fn hand_out_progress(&self)
+        ensures { HasProgress self.now.plan self.now.entries }
+    {
+        let _ = self.run.plan.parts();
+    }
+
+    fn step(&mut self, worker: u32) -> Next
+        requires { is_busy_in worker self.old.entries ≡ false }
         ensures { IsNext self.old worker result self.new }
     {
         if self.aborted {
@@ -142,11 +200,7 @@ impl Core {
         }
     }
 
-    /// Ends the attempt of a ticket, and returns the test's verdict if the test is now final.
-    ///
-    /// If that is the first verdict that makes the run fail, and the plan stops at one,
-    /// a Stop follows directly behind the end. It takes no memory: `next` made the room.
-    pub fn finish(&mut self, ticket: Ticket, seen: Seen) -> Option<Verdict>
+    fn end(&mut self, ticket: Ticket, seen: Seen) -> Option<Verdict>
         requires { holds_ticket ticket self.old.entries ≡ true }
         ensures appended { self.new ≡ with_final self.old (end_of ticket seen) }
         ensures verdict { result ≡ verdict_of_test self.old.plan self.new.entries (test_of ticket) }
@@ -159,25 +213,6 @@ impl Core {
         } = ticket;
         self.waits = false;
         self.run.end(test, attempt, worker, seen)
-    }
-
-    /// Gives the run up: from now on nothing starts, and open attempts may end.
-    pub fn abort(&mut self)
-        ensures { self.new ≡ record self.old { aborted = true } }
-    {
-        self.aborted = true;
-    }
-
-    /// Returns the plan and the history of the run.
-    pub fn into_parts(self) -> (Plan, History)
-        ensures plan { result.0 ≡ self.plan }
-        ensures history { result.1.entries.items ≡ self.entries }
-        ensures legal { is_legal self.plan self.entries ≡ true }
-        ensures within { StaysWithin self.plan self.entries }
-        ensures order { FollowsQueue self.plan self.entries }
-    {
-        let Run { plan, history, .. } = self.run;
-        (plan, history)
     }
 
     fn start(&mut self, start: Startable, worker: u32) -> Next

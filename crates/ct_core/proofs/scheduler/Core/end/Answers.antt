@@ -1,6 +1,6 @@
 use Rattle.ct_history.specs.declared.history.Entry.TheVariants.{End}
 use Rattle.ct_core.proofs.OrderLemmas.{orderly_due}
-use Rattle.ct_core.proofs.scheduler.Core.finish.Goals as goal
+use Rattle.ct_core.proofs.scheduler.Core.end.Goals as goal
 
 pub invariant_of-self : goal.invariant_of-self
 invariant_of-self c =
