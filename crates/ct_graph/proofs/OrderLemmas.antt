@@ -8,7 +8,7 @@ use Rattle.ct_base.specs.declared.defs.TestDef.{TestDef}
 use Rattle.ct_props.specs.declared.props.Props.{Props}
 use Rattle.ct_graph.specs.Before.{before_of, setups_of}
 use Rattle.ct_props.specs.Numbered.{is_in}
-use Rattle.ct_graph.specs.Cycle.{leads_to, is_cycle, HasCycle}
+use Rattle.ct_graph.specs.Cycle.{leads_to, leads_round, are_distinct, is_cycle, HasCycle}
 use Rattle.ct_graph.specs.Order.{IsOrder, IsAnswer, edges_of, links_at, ranks_below, ranks_above_all}
 use Rattle.ct_graph.specs.Walk.{row_of, mark_of, rank_of, is_ranked, is_taken_below, are_taken, are_taken_below, AreRanked, EndsWalk}
 use Rattle.ct_graph.specs.Rows.{AreRows, EndsRows, links_of}
@@ -165,15 +165,15 @@ module _ (defs : List TestDef) (props : List Props) (members : List ℕ) (links 
   led_to first test (next ∷ rest) leads =
       led_to first next rest (and_parts (is_in (before_of defs props members test) next) (leads_to (before_of defs props members) first (next ∷ rest)) leads).1
 
-  -- an order leaves no cycle
-  closed : (tests : List ℕ) → is_cycle (before_of defs props members) tests ≡ true → ⊥
+  -- an order leaves no tests that lead round
+  closed : (tests : List ℕ) → leads_round (before_of defs props members) tests ≡ true → ⊥
   closed [] is = false≢true is
   closed (first ∷ rest) is =
       let round : rank_or_zero (links_at links first) < rank_or_zero (links_at links first) = climbs first first rest (led_to first first rest is) is in
       omega arith
 
   pub no_cycle : HasCycle (before_of defs props members) → ⊥
-  no_cycle cycle = closed cycle.tests cycle.is
+  no_cycle cycle = closed cycle.tests cycle.round
 
 -- a cycle stays one where more comes before each test
 leads_more : (before more : ℕ → List ℕ) → ((i j : ℕ) → is_in (before i) j ≡ true → is_in (more i) j ≡ true) → (first test : ℕ) (rest : List ℕ) → leads_to before first (test ∷ rest) ≡ true → leads_to more first (test ∷ rest) ≡ true
@@ -182,9 +182,14 @@ leads_more before more wider first test (next ∷ rest) leads =
     let both = and_parts (is_in (before test) next) (leads_to before first (next ∷ rest)) leads in
     and_from (is_in (more test) next) (leads_to more first (next ∷ rest)) (wider test next both.0) (leads_more before more wider first next rest both.1)
 
+round_more : (before more : ℕ → List ℕ) → ((i j : ℕ) → is_in (before i) j ≡ true → is_in (more i) j ≡ true) → (tests : List ℕ) → leads_round before tests ≡ true → leads_round more tests ≡ true
+round_more before more wider [] is = absurd (false≢true is)
+round_more before more wider (first ∷ rest) is = leads_more before more wider first first rest is
+
 pub cycle_more : (before more : ℕ → List ℕ) → ((i j : ℕ) → is_in (before i) j ≡ true → is_in (more i) j ≡ true) → (tests : List ℕ) → is_cycle before tests ≡ true → is_cycle more tests ≡ true
-cycle_more before more wider [] is = absurd (false≢true is)
-cycle_more before more wider (first ∷ rest) is = leads_more before more wider first first rest is
+cycle_more before more wider tests is =
+    let both = and_parts (leads_round before tests) (are_distinct tests) is in
+    and_from (leads_round more tests) (are_distinct tests) (round_more before more wider tests both.0) both.1
 
 -- a walk that ends early tells why there is no order
 pub ends_order : (most : ℕ) (defs : List TestDef) (props : List Props) (tests : ℕ) (members : List ℕ) (rows : List (List ℕ)) (fault : GraphFault) → edges_of defs props members ≤ most → AreRows (before_of defs props members) tests members rows → EndsWalk rows fault → IsAnswer most defs props members (Err fault)

@@ -1,12 +1,12 @@
 -- The steps of a walk keep what holds of it, and a test that is met twice closes a cycle.
-use Rattle.std.proofs.Common.{ℕ, ◌≡◌, ◌+◌, ◌*◌, ◌<◌, ◌≤◌, Bool, true, false, cond, List, [], ◌∷◌, ◌++◌, length, take, reverse, get_or, set, replicate, count_by, All, refl, sym, ap, ◌∙◌, subst, ⊎_elim, arith, add-zero, eqb}
+use Rattle.std.proofs.Common.{ℕ, ◌≡◌, ◌+◌, ◌*◌, ◌<◌, ◌≤◌, Bool, true, false, cond, List, [], ◌∷◌, ◌++◌, length, take, reverse, get_or, set, replicate, count_by, All, refl, sym, ap, ◌∙◌, subst, ⊎_elim, arith, add-zero, eqb, not}
 use Rattle.std.proofs.lemmas.Bool.{true≢false, false≢true, both_ways, eqb-true, eqb-false, or_parts, or_from, or_left, or_right, or_cases, and_from, cases_eq, cases_lt, lt-ltb, ne_eqb, eq-eqb}
 use Rattle.std.proofs.lemmas.List.{reverse-append, get_or-set_same, get_or-set_other, length-set, length-replicate, get_or-replicate, get_or_past}
 use Rattle.std.proofs.lemmas.List.Folds.{sum_by-replicate, list_all_more}
 use Rattle.std.proofs.lemmas.List.Sums.{sum_by-set}
 use Rattle.std.proofs.lemmas.List.Elements.{All-get_or}
 use Rattle.ct_props.specs.Numbered.{is_in}
-use Rattle.ct_graph.specs.Cycle.{is_cycle, leads_to}
+use Rattle.ct_graph.specs.Cycle.{are_distinct, is_cycle, leads_round, leads_to}
 use Rattle.ct_graph.specs.Walk.{row_of, AreWithin, mark_of, is_unseen, is_ranked, is_taken_below, are_taken, are_taken_below, is_on, is_before_last, IsStep, IsTrail, IsWalk, WalksOn, steps_left, back_to}
 use Rattle.ct_graph.specs.declared.walk.Mark.{Mark}
 use Rattle.ct_graph.specs.declared.walk.Mark.TheVariants.{Unseen, Open, Taken}
@@ -206,21 +206,45 @@ looks rows marks s trail taken at walk few looked_at = record {
   count = walk.count;
 }
 
--- a cycle is closed at the newest test of the trail, or behind it
-closes_by : (rows : List (List ℕ)) (first : ℕ) (s : Step) (trail : List Step) (tests : List ℕ) → is_on (s ∷ trail) first ≡ true → leads_to (row_of rows) first (s.test ∷ tests) ≡ true → (is_on trail first ≡ true → is_cycle (row_of rows) (back_to first trail (s.test ∷ tests)) ≡ true) → (b : Bool) → eqb s.test first ≡ b → is_cycle (row_of rows) (cond b (s.test ∷ tests) (back_to first trail (s.test ∷ tests))) ≡ true
+-- the tests lead round from the newest test of the trail on, or from one behind it
+closes_by : (rows : List (List ℕ)) (first : ℕ) (s : Step) (trail : List Step) (tests : List ℕ) → is_on (s ∷ trail) first ≡ true → leads_to (row_of rows) first (s.test ∷ tests) ≡ true → (is_on trail first ≡ true → leads_round (row_of rows) (back_to first trail (s.test ∷ tests)) ≡ true) → (b : Bool) → eqb s.test first ≡ b → leads_round (row_of rows) (cond b (s.test ∷ tests) (back_to first trail (s.test ∷ tests))) ≡ true
 closes_by rows first s trail tests on leads behind true same =
     subst (λ f. leads_to (row_of rows) f (s.test ∷ tests) ≡ true) (sym (eqb-true s.test first same)) leads
 closes_by rows first s trail tests on leads behind false other =
     behind (⊎_elim (λ same. absurd (both_ways (eqb s.test first) other same)) (λ on. on) (or_cases (eqb s.test first) (is_on trail first) on))
 
 -- from the newest test of the trail back to one on it, each has the next one before it
-pub closes : (rows : List (List ℕ)) (marks : List Mark) (first : ℕ) (s : Step) (trail : List Step) (tests : List ℕ) → IsTrail rows marks (s ∷ trail) → is_on (s ∷ trail) first ≡ true → leads_to (row_of rows) first (s.test ∷ tests) ≡ true → is_cycle (row_of rows) (back_to first (s ∷ trail) tests) ≡ true
+pub closes : (rows : List (List ℕ)) (marks : List Mark) (first : ℕ) (s : Step) (trail : List Step) (tests : List ℕ) → IsTrail rows marks (s ∷ trail) → is_on (s ∷ trail) first ≡ true → leads_to (row_of rows) first (s.test ∷ tests) ≡ true → leads_round (row_of rows) (back_to first (s ∷ trail) tests) ≡ true
 closes rows marks first s [] tests is on leads =
     closes_by rows first s [] tests on leads (λ on. absurd (false≢true on)) (eqb s.test first) refl
 closes rows marks first s (next ∷ rest) tests is on leads =
     closes_by rows first s (next ∷ rest) tests on leads
     (λ on. closes rows marks first next rest (s.test ∷ tests) is.3 on (and_from (is_in (row_of rows next.test) s.test) (leads_to (row_of rows) first (s.test ∷ tests)) is.1 leads))
     (eqb s.test first) refl
+
+-- the tests of a trail, back to one of them, are distinct
+apart : (rows : List (List ℕ)) (marks : List Mark) (first : ℕ) (trail : List Step) (tests : List ℕ) → IsTrail rows marks trail → are_distinct tests ≡ true → ((j : ℕ) → is_in tests j ≡ true → is_on trail j ≡ false) → are_distinct (back_to first trail tests) ≡ true
+apart rows marks first [] tests is distinct off = distinct
+apart rows marks first (s ∷ trail) tests is distinct off =
+    by (apart rows marks first trail (s.test ∷ tests) is.3 more behind) (eqb s.test first)
+  where
+    new : (b : Bool) → is_in tests s.test ≡ b → not b ≡ true
+    new false is = refl
+    new true is =
+        absurd (both_ways (is_on (s ∷ trail) s.test) (off s.test is) (or_left (eqb s.test s.test) (is_on trail s.test) (eq-eqb s.test s.test refl)))
+
+    more : are_distinct (s.test ∷ tests) ≡ true
+    more = and_from (not (is_in tests s.test)) (are_distinct tests) (new (is_in tests s.test) refl) distinct
+
+    behind : (j : ℕ) → is_in (s.test ∷ tests) j ≡ true → is_on trail j ≡ false
+    behind j here =
+        ⊎_elim (λ same. subst (λ k. is_on trail k ≡ false) (eqb-true s.test j same) is.2)
+        (λ there. (or_parts (eqb s.test j) (is_on trail j) (off j there)).1)
+        (or_cases (eqb s.test j) (is_in tests j) here)
+
+    by : are_distinct (back_to first trail (s.test ∷ tests)) ≡ true → (b : Bool) → are_distinct (cond b (s.test ∷ tests) (back_to first trail (s.test ∷ tests))) ≡ true
+    by rest true = more
+    by rest false = rest
 
 -- a mark that is not unseen is given to a test that was not taken
 pub goes-set : (rows : List (List ℕ)) (marks : List Mark) (test : ℕ) (mark : Mark) → test < length marks → is_ranked (mark_of marks test) ≡ false → is_unseen mark ≡ false → WalksOn marks (set marks test mark)
@@ -290,7 +314,11 @@ module _ (rows : List (List ℕ)) (marks : List Mark) (s : Step) (trail : List S
   -- where that test is open, it closes a cycle
   pub finds_cycle : mark_of marks (get_or (row_of rows s.test) at 0) ≡ Open → is_cycle (row_of rows) (back_to (get_or (row_of rows s.test) at 0) (s ∷ trail) []) ≡ true
   finds_cycle is =
-      closes rows marks (get_or (row_of rows s.test) at 0) s trail [] walk.is_trail (walk.on_trail (get_or (row_of rows s.test) at 0) is) (is_in-get_or (row_of rows s.test) at 0 few)
+      let first = get_or (row_of rows s.test) at 0 in
+      let tests = back_to first (s ∷ trail) [] in
+      and_from (leads_round (row_of rows) tests) (are_distinct tests)
+      (closes rows marks first s trail [] walk.is_trail (walk.on_trail first is) (is_in-get_or (row_of rows s.test) at 0 few))
+      (apart rows marks first (s ∷ trail) [] walk.is_trail refl (λ j none. absurd (false≢true none)))
 
   -- where that test is unseen, it is opened
   module _ (looked : are_taken marks (take at (row_of rows s.test)) ≡ true) (untaken : is_ranked (mark_of marks (get_or (row_of rows s.test) at 0)) ≡ false) (closed : mark_of marks (get_or (row_of rows s.test) at 0) ≡ Open → ⊥) where
