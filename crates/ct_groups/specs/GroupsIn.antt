@@ -10,6 +10,14 @@ use Rattle.ct_groups.specs.declared.description.Description.{Description}
 use Rattle.ct_groups.specs.declared.groups.Groups.{Groups}
 use Rattle.ct_groups.specs.Description.{reads_on, description_of}
 
+-- the needs of all groups, in order
+abbrev pub needs_of_groups : Groups → List Need
+needs_of_groups groups = groups.needs
+
+-- how many groups there are
+abbrev pub count_groups : Groups → ℕ
+count_groups groups = groups.count
+
 -- the need of a group for one requirement
 abbrev pub need_for : ℕ → Requirement → Need
 need_for group requirement = record { group = group; kind = requirement.kind; slots = requirement.slots }

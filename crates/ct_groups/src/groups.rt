@@ -1,6 +1,6 @@
 ghost use Rattle.std.specs.Prelude.{◌≡◌, ◌++◌, OnOk, length};
 ghost use Rattle.ct_groups.specs.Description.{description_of};
-ghost use Rattle.ct_groups.specs.GroupsIn.{groups_in, no_groups, with_description as groups_with, needs_from, group_needs, passes_limits as passes};
+ghost use Rattle.ct_groups.specs.GroupsIn.{count_groups, groups_in, needs_of_groups, no_groups, with_description as groups_with, needs_from, group_needs, passes_limits as passes};
 ghost use Rattle.ct_groups.specs.Read.{ReadsGroups};
 
 use crate::GroupsFault;
@@ -46,14 +46,14 @@ impl Groups {
 
     /// Lends the needs of all groups in order. Groups are numbered from 0.
     pub fn needs(&self) -> &List<Need>
-        ensures { result.now ≡ self.now.needs }
+        ensures { result.now ≡ needs_of_groups self.now }
     {
         &self.needs
     }
 
     /// Tells how many groups there are.
     pub fn count(&self) -> u32
-        ensures { result ≡ self.now.count }
+        ensures { result ≡ count_groups self.now }
     {
         self.count
     }
