@@ -1,6 +1,6 @@
 -- Cost data: read from a text, after a run, and as a text. Source: CMake manual, cmake-properties(7), COST.
 -- The file is this project's choice, after the one that ctest writes.
-use Rattle.std.specs.Prelude.{List, [], ◌∷◌, ℕ, ◌++◌, map, filter, filter_map, flat_map, fold, codes, if◌then◌else◌}
+use Rattle.std.specs.Prelude.{Bool, Option, List, [], ◌∷◌, ℕ, ◌++◌, map, filter, filter_map, flat_map, fold, codes, if◌then◌else◌}
 use Rattle.std.specs.List.{before_first, after_first}
 use Rattle.ct_history.specs.declared.plan.PlanTest.{PlanTest}
 use Rattle.ct_history.specs.declared.plan.PlanParts.{PlanParts}
@@ -8,9 +8,18 @@ use Rattle.ct_history.specs.declared.history.Entry.{Entry}
 use Rattle.ct_cost.specs.declared.cost_data.CostData.{CostData}
 use Rattle.ct_cost.specs.declared.line.Version.{Version}
 use Rattle.ct_cost.specs.declared.line.Version.TheVariants.{One, Two}
-use Rattle.ct_cost.specs.CostLine.{with_new_line, each_once}
+use Rattle.ct_base.specs.Names.{is_among}
+use Rattle.ct_cost.specs.CostLine.{cost_of, with_new_line, each_once}
 use Rattle.ct_cost.specs.Text.{is_divider, is_mark, lines_in, line_in, is_named, cost_line_text, failed_text}
 use Rattle.ct_cost.specs.After.{after_test, passed_tests, failed_tests}
+
+-- what a test of this name costs, if that is known: the greatest duration of the name
+abbrev pub cost_of_name : CostData → List ℕ → Option ℕ
+cost_of_name costs name = cost_of costs.lines name
+
+-- a test of this name failed last time
+abbrev pub failed_last : CostData → List ℕ → Bool
+failed_last costs name = is_among name costs.failed
 
 -- the cost data in these lines: the costs up to the first line that is `---`, and behind it the failed tests
 abbrev pub costs_from : Version → List (List ℕ) → CostData

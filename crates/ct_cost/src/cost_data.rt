@@ -1,8 +1,6 @@
 ghost use Rattle.std.specs.Prelude.{◌≡◌, IfOk, true};
 ghost use Rattle.ct_history.specs.Verdicts.{are_all_final};
-ghost use Rattle.ct_cost.specs.CostLine.{cost_of};
-ghost use Rattle.ct_cost.specs.Costs.{costs_after, costs_in, costs_text};
-ghost use Rattle.ct_base.specs.Names.{is_among};
+ghost use Rattle.ct_cost.specs.Costs.{cost_of_name, costs_after, costs_in, costs_text, failed_last};
 
 use crate::lines::Lines;
 use crate::log::failed_names;
@@ -43,14 +41,14 @@ impl CostData {
 
     /// Looks up what a test of this name costs: its greatest duration, in microseconds.
     pub fn cost(&self, name: &Name) -> Option<u64>
-        ensures { result ≡ cost_of self.now.lines name.now }
+        ensures { result ≡ cost_of_name self.now name.now }
     {
         self.lines.cost(name.bytes())
     }
 
     /// Tells whether a test of this name failed last time.
     pub fn failed(&self, name: &Name) -> bool
-        ensures { result ≡ is_among name.now self.now.failed }
+        ensures { result ≡ failed_last self.now name.now }
     {
         self.failed.has(name.bytes())
     }
