@@ -1,12 +1,13 @@
 ghost use Rattle.std.specs.Prelude.{◌≡◌, None};
 ghost use Rattle.ct_core.specs.Gate.{is_no_memory};
+ghost use Rattle.ct_history.specs.Verdicts.{verdict_of_test};
 ghost use Rattle.ct_worker.specs.Kept.{KnowsSome};
 ghost use Rattle.ct_worker.specs.Lines.{PutsEnd, PutsFor, PutsNext};
 
 use ct_base::{NoMemory, Sink, SinkFault};
 use ct_core::{Core, Next, lacks_memory};
 use ct_report::TestLines;
-use ct_verdict::How;
+use ct_verdict::{How, Verdict};
 
 /// The sink of a run, and how far its lines have come.
 #[derive(Drop)]
@@ -38,7 +39,7 @@ impl<S: Sink> Lines<S> {
         ensures { PutsFor S.tells next.now core.now self.old self.new result }
     {
         match next {
-            Next::Settled(test) => self.put(core, *test),
+            Next::Settled(test) => self.put(core, *test, core.verdict(*test)),
             Next::NoMemory => Err(SinkFault::NoMemory),
             Next::Start(_) | Next::Wait | Next::Done | Next::Aborted => Ok(()),
         }
@@ -47,25 +48,33 @@ impl<S: Sink> Lines<S> {
     /// Puts the line that the end of an attempt brings: the line of its test, if the test is final.
     ///
     /// It returns `NoMemory` also if memory was wanting for the attempt.
-    pub(crate) fn put_end(&mut self, core: &Core, test: u32, how: How) -> Result<(), SinkFault>
-        requires { KnowsSome core.now self.old.known }
+    pub(crate) fn put_end(
+        &mut self,
+        core: &Core,
+        test: u32,
+        verdict: Option<Verdict>,
+        how: How,
+    ) -> Result<(), SinkFault>
+        requires known { KnowsSome core.now self.old.known }
+        requires verdict { verdict ≡ verdict_of_test core.now.plan core.now.entries test }
         ensures { PutsEnd S.tells (is_no_memory how) test core.now self.old self.new result }
     {
         if lacks_memory(how) {
             Err(SinkFault::NoMemory)
         } else {
-            self.put(core, test)
+            self.put(core, test, verdict)
         }
     }
 
     /// Puts the line of a test, if the test is final, behind the lines of the others, and counts it.
     ///
     /// It returns `NoMemory` also if the count of lines is at its last value.
-    fn put(&mut self, core: &Core, test: u32) -> Result<(), SinkFault>
-        requires { KnowsSome core.now self.old.known }
+    fn put(&mut self, core: &Core, test: u32, verdict: Option<Verdict>) -> Result<(), SinkFault>
+        requires known { KnowsSome core.now self.old.known }
+        requires verdict { verdict ≡ verdict_of_test core.now.plan core.now.entries test }
         ensures { PutsNext S.tells test core.now self.old self.new result }
     {
-        let Some(verdict) = core.verdict(test) else {
+        let Some(verdict) = verdict else {
             return Ok(());
         };
         let place = self.count.checked_add(1).ok_or(NoMemory)?;

@@ -97,9 +97,9 @@ impl<S: Sink> State<S> {
         ensures { IsFinished self.old ticket seen self.new }
     {
         let test = ticket.test();
-        let _ = self.core.finish(ticket, seen);
+        let verdict = self.core.finish(ticket, seen);
         if self.halt.is_none() {
-            let put = self.lines.put_end(&self.core, test, seen.how);
+            let put = self.lines.put_end(&self.core, test, verdict, seen.how);
             heed(put, &mut self.core, &mut self.halt);
         }
     }

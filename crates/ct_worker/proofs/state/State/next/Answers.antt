@@ -7,10 +7,10 @@ use Rattle.ct_worker.proofs.state.State.next.Goals as goal
 pub invariant_of-self : goal.invariant_of-self
 invariant_of-self g c =
     next_kept g.S.Sink.tells c.self.inside.core c.next-next.new.self c.self.inside.halt c.self.inside.lines (g.S.Sink.tells c.self.inside.opened.value) c.self.invariant c.args.worker
-    c.put_for-put.new.self c.put_for-put.result c.heed.new.core c.heed.new.halt c.heed.ensures.core c.heed.ensures.halt c.next-next.result c.next-next.ensures c.put_for-put.ensures
+    c.put_for-put.new.self c.put_for-put.result c.heed.new.core c.heed.new.halt c.heed.ensures.core c.heed.ensures.halt c.next-next.result c.next-next.ensures.step c.put_for-put.ensures
 
 pub returns : goal.returns
 returns g c =
     subst (λ (s : StateValue). IsStateNext s c.args.worker c.next-next.result (seen_as c.heed.new.core c.heed.new.halt (g.S.Sink.tells c.self.inside.opened.value) (g.S.Sink.tells c.put_for-put.new.self.sink))) c.self.view_is
     (next_of g.S.Sink.tells c.self.inside.core c.next-next.new.self c.self.inside.halt c.self.inside.lines (g.S.Sink.tells c.self.inside.opened.value) c.self.invariant c.args.worker
-    c.put_for-put.new.self c.put_for-put.result c.heed.new.core c.heed.new.halt c.heed.ensures.core c.heed.ensures.halt c.next-next.result c.next-next.ensures c.put_for-put.ensures)
+    c.put_for-put.new.self c.put_for-put.result c.heed.new.core c.heed.new.halt c.heed.ensures.core c.heed.ensures.halt c.next-next.result c.next-next.ensures.step c.put_for-put.ensures)
