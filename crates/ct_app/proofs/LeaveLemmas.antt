@@ -10,6 +10,7 @@ use Rattle.ct_history.specs.Verdicts.{are_all_final}
 use Rattle.ct_core.specs.Gate.{GateTell}
 use Rattle.ct_core.specs.Order.{FollowsQueue}
 use Rattle.ct_cost.specs.declared.cost_data.CostData.{CostData}
+use Rattle.ct_graph.specs.Order.{most_edges}
 use Rattle.ct_args.specs.declared.invocation.Invocation.{Invocation}
 use Rattle.ct_plan.specs.declared.fault.PlanFault.{PlanFault}
 use Rattle.ct_plan.specs.declared.fault.PlanFault.TheVariants as Plans
@@ -27,7 +28,7 @@ use Rattle.ct_app.specs.Runs.{IsRunOf}
 use Rattle.ct_app.specs.Ends.{EndsUnrun, Ends, EndsWithFiles, IsReadFolder, IsUnplanned, IsUnreadFolder, PlanEnds, RunLeaves, with_status}
 use Rattle.ct_app.specs.Outcome.{outcome_of_file}
 use Rattle.ct_app.specs.Rerun.{wanted_of}
-use Rattle.ct_app.specs.Reading.{AskFor, IsSource, most_edges}
+use Rattle.ct_app.specs.Reading.{AskFor, IsSource}
 use Rattle.ct_app.specs.Run.{HasRun}
 use Rattle.ct_app.specs.RunFiles.{FilesStay, Leaves, LeavesPart, LeavesTorn, WritesFiles, done_of, last_costs}
 use Rattle.ct_app.specs.Tests.{terms_from}

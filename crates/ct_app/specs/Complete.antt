@@ -5,12 +5,13 @@ use Rattle.ct_base.specs.declared.defs.TestDef.{TestDef}
 use Rattle.ct_base.specs.Outside.{Held, Rose}
 use Rattle.ct_props.specs.declared.props.Props.{Props}
 use Rattle.ct_graph.specs.Cycle.{is_cycle}
+use Rattle.ct_graph.specs.Order.{most_edges}
 use Rattle.ct_args.specs.declared.invocation.Invocation.{Invocation}
 use Rattle.ct_plan.specs.Source.{Source, edge_count, members_before}
 use Rattle.ct_app.specs.declared.outcome.Outcome.{Outcome}
 use Rattle.ct_app.specs.declared.outcome.Outcome.TheVariants.{Completed, Listed, Memory}
 use Rattle.ct_app.specs.Calls.{Sides}
-use Rattle.ct_app.specs.Reading.{AreRead, AskFor, IsSource, ask_for_list, most_edges}
+use Rattle.ct_app.specs.Reading.{AreRead, AskFor, IsSource, ask_for_list}
 
 -- a list can be made: the words are accepted, the files tell what they hold, and the tests and their
 -- properties are read without refusal

@@ -7,6 +7,7 @@ use Rattle.ct_core.specs.Gate.{GateTell}
 use Rattle.ct_cost.specs.declared.cost_data.CostData.{CostData}
 use Rattle.ct_history.specs.declared.plan.PlanParts.{PlanParts}
 use Rattle.ct_history.specs.Plan.{IsSound}
+use Rattle.ct_graph.specs.Order.{most_edges}
 use Rattle.ct_args.specs.declared.invocation.Invocation.{Invocation}
 use Rattle.ct_plan.specs.PlanOf.{IsPlanAnswer, IsPlanOf}
 use Rattle.ct_plan.specs.Source.{Source, edge_count, source}
@@ -14,7 +15,7 @@ use Rattle.ct_app.specs.declared.outcome.Outcome.{Outcome}
 use Rattle.ct_app.specs.declared.props.Tests.{Tests}
 use Rattle.ct_app.specs.Calls.{list_sides, sides}
 use Rattle.ct_app.specs.Ends.{EndsUnrun, IsReadFolder}
-use Rattle.ct_app.specs.Reading.{AskFor, IsSource, most_edges}
+use Rattle.ct_app.specs.Reading.{AskFor, IsSource}
 use Rattle.ct_app.specs.Rerun.{wanted_of}
 use Rattle.ct_app.specs.RunFiles.{FilesStay}
 

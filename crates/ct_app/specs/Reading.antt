@@ -8,6 +8,7 @@ use Rattle.ct_testfile.specs.Asks.{TreeAsks}
 use Rattle.ct_testfile.specs.Tree.{tree_of}
 use Rattle.ct_props.specs.declared.props.Props.{Props}
 use Rattle.ct_graph.specs.Cycle.{is_cycle}
+use Rattle.ct_graph.specs.Order.{most_edges}
 use Rattle.ct_args.specs.declared.usage.UsageFault.{UsageFault}
 use Rattle.ct_args.specs.declared.invocation.Invocation.{Invocation}
 use Rattle.ct_args.specs.declared.invocation.Task.{Task}
@@ -89,10 +90,6 @@ RefusesSpec told invocation (Prop test key kind) = ⊥
 RefusesSpec told invocation (Spec why) = RefusesFile told invocation.spec_file why
 RefusesSpec told invocation (Cycle tests) = ⊥
 RefusesSpec told invocation TooManyEdges = ⊥
-
--- the greatest edge count: how many tests may come before the tests of a run, summed over those tests
-abbrev pub most_edges : ℕ
-most_edges = 4000000
 
 -- the tests have no plan: some of them make a cycle and have these names, or the edge count is too great
 abbrev pub RefusesPlan : Source → Refusal → List (List ℕ) → Type 0

@@ -9,6 +9,7 @@ use Rattle.ct_history.specs.History.{open_starts}
 use Rattle.ct_history.specs.Legal.{IsComplete, StaysWithin, is_legal}
 use Rattle.ct_core.specs.Gate.{GateTell}
 use Rattle.ct_core.specs.Order.{FollowsQueue}
+use Rattle.ct_graph.specs.Order.{most_edges}
 use Rattle.ct_args.specs.declared.invocation.Invocation.{Invocation}
 use Rattle.ct_plan.specs.PlanOf.{IsPlanOf}
 use Rattle.ct_plan.specs.Source.{Source, edge_count}
@@ -21,7 +22,7 @@ use Rattle.ct_worker.specs.Gates.{AreAsked, are_below, had_memory}
 use Rattle.ct_app.specs.Stops.{StopsSo}
 use Rattle.ct_app.specs.Tests.{terms_from}
 use Rattle.ct_app.specs.Outcome.{fault_line, status_of}
-use Rattle.ct_app.specs.Reading.{AskFor, IsSource, RefusesPlan, RunAsks, most_edges}
+use Rattle.ct_app.specs.Reading.{AskFor, IsSource, RefusesPlan, RunAsks}
 use Rattle.ct_app.specs.RunFiles.{FilesFail, FilesServe, FilesStay, IsWritten, Leaves, LeavesPart, LeavesTorn, WithLast}
 use Rattle.ct_app.specs.Calls.{IsReadFault, IsUndeclared, IsUnreadable, IsUnrun, IsUsage, PutsOrFails, Sides, ThenLine, Tries}
 

@@ -11,6 +11,10 @@ use Rattle.ct_graph.specs.declared.ordering.Ordered.{Ordered}
 use Rattle.ct_graph.specs.declared.fault.GraphFault.{GraphFault}
 use Rattle.ct_graph.specs.declared.fault.GraphFault.TheVariants.{Cycle, TooManyEdges, NoMemory}
 
+-- the greatest edge count: how many tests may come before the tests of a run, summed over those tests
+abbrev pub most_edges : ℕ
+most_edges = 4000000
+
 -- how many tests come before the members, counted for each member
 abbrev pub edges_of : List TestDef → List Props → List ℕ → ℕ
 edges_of defs props members = sum_by (λ number. length (before_of defs props members number)) members

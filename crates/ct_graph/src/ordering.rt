@@ -2,7 +2,7 @@ ghost use Rattle.std.specs.Prelude.{◌≡◌, ◌<◌, ◌≤◌, ◌-◌, ◌^
 ghost use Rattle.std.specs.List.Sorted.{IsStrictlyIncreasing};
 ghost use Rattle.ct_graph.specs.Before.{before_of};
 ghost use Rattle.ct_graph.specs.Cycle.{HasCycle};
-ghost use Rattle.ct_graph.specs.Order.{IsAnswer};
+ghost use Rattle.ct_graph.specs.Order.{IsAnswer, most_edges};
 ghost use Rattle.ct_graph.specs.Index.{Indexed};
 ghost use Rattle.ct_graph.specs.Walk.{are_taken, row_of};
 ghost use Rattle.ct_graph.specs.Rows.{links_of};
@@ -61,7 +61,7 @@ pub fn order(
     requires few { length defs.now < 2 ^ 32 - 1 }
     requires ascending { IsStrictlyIncreasing members.now }
     requires within { All (λ number. (0 < number) × (number ≤ length defs.now)) members.now }
-    ensures answer { IsAnswer MOST_EDGES defs.now props.now members.now result }
+    ensures answer { IsAnswer most_edges defs.now props.now members.now result }
     ensures none { OnOk result (HasCycle (before_of defs.now props.now members.now) → ⊥) }
 {
     let index = Index::of(alloc, defs.as_slice(), props.as_slice(), members.as_slice())?;

@@ -2,7 +2,7 @@ ghost use Rattle.std.specs.Prelude.{◌≡◌, ◌<◌, ◌≤◌, ◌-◌, ◌^
 ghost use Rattle.std.specs.Option.{option_copied};
 ghost use Rattle.ct_alloc.specs.Placement.{AreDistinct};
 ghost use Rattle.ct_graph.specs.Cycle.{HasCycle};
-ghost use Rattle.ct_graph.specs.Order.{IsOrder};
+ghost use Rattle.ct_graph.specs.Order.{IsOrder, most_edges};
 ghost use Rattle.ct_plan.specs.Linked.{IsUnused, lent};
 ghost use Rattle.ct_plan.specs.PlanOf.{IsPlanAnswer, IsPlanOf};
 ghost use Rattle.ct_plan.specs.Source.{HaveProps, members_before, members_in, run_members, source};
@@ -14,7 +14,7 @@ use ct_alloc::Free;
 use ct_base::{List, NoMemory, Resource, TestDef};
 use ct_cost::CostData;
 use ct_fixture::draw_in;
-use ct_graph::{Links, MOST_EDGES, order};
+use ct_graph::{Links, order};
 use ct_history::{Plan, PlanParts};
 use ct_props::{Choice, Props, Wanted};
 use ct_select::select;
@@ -42,7 +42,7 @@ pub fn plan(
     requires together { HaveProps defs.now props.now }
     requires level { 1 ≤ wanted.now.level }
     requires times { 1 ≤ wanted.now.repeat.times }
-    ensures answer { IsPlanAnswer MOST_EDGES (source defs.now props.now wanted.now (option_copied spec.entry) costs.now) result }
+    ensures answer { IsPlanAnswer most_edges (source defs.now props.now wanted.now (option_copied spec.entry) costs.now) result }
     ensures none { OnOk result (HasCycle (members_before (source defs.now props.now wanted.now (option_copied spec.entry) costs.now)) → ⊥) }
 {
     let members = members(alloc, defs, props, &wanted.choice)?;

@@ -7,6 +7,7 @@ use Rattle.ct_lex.specs.Place.{beginning}
 use Rattle.ct_lex.specs.Reads.{commands_read}
 use Rattle.ct_lex.specs.declared.call.Call.{Call}
 use Rattle.ct_suite.specs.declared.value.Value.{Value}
+use Rattle.ct_testfile.specs.Limits.{tree_limits}
 use Rattle.ct_testfile.specs.Outcome.{on_line}
 use Rattle.ct_testfile.specs.Condition.{is_exists}
 use Rattle.ct_testfile.specs.Commands.{begun, openings}
@@ -19,7 +20,6 @@ use Rattle.ct_testfile.specs.declared.command.Flow.{Flow}
 use Rattle.ct_testfile.specs.declared.command.Flow.TheVariants.{If, ElseIf, Else, EndIf}
 use Rattle.ct_testfile.specs.declared.fault.ReadFault.{ReadFault}
 use Rattle.ct_testfile.specs.declared.limits.Limits.{Limits}
-use Rattle.ct_testfile.specs.declared.limits.TheConstants.{LIMITS}
 use Rattle.ct_testfile.specs.declared.opening.Opening.{Opening}
 use Rattle.ct_testfile.specs.declared.opening.TestFile.{TestFile}
 use Rattle.ct_testfile.specs.declared.state.State.{State}
@@ -90,9 +90,9 @@ abbrev pub AsksWithin : Limits → Held → List ℕ → List ℕ → List ℕ �
 AsksWithin limits held dir config path =
     OpeningAsks (NestedAsks limits held limits.open_files) held (top dir) (beginning_with config) path
 
--- the reading of a tree within `LIMITS` asks for this path
+-- the reading of a tree within `tree_limits` asks for this path
 abbrev pub TreeAsks : Held → List ℕ → List ℕ → List ℕ → Type 0
-TreeAsks held dir config path = AsksWithin LIMITS held dir config path
+TreeAsks held dir config path = AsksWithin tree_limits held dir config path
 
 -- a fault of the files is about a path that is asked for
 abbrev pub Blames : {A : Type 0} → (List ℕ → Type 0) → Result A ReadFault → Type 0

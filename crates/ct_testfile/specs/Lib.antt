@@ -1,4 +1,5 @@
 -- The definitions that contracts cite, in reading order.
+pub mod Limits
 pub mod Outcome
 pub mod Condition
 pub mod Commands

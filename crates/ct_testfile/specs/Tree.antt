@@ -10,6 +10,7 @@ use Rattle.ct_lex.specs.declared.call.Call.{Call}
 use Rattle.ct_lex.specs.declared.fault.LexFault.{LexFault}
 use Rattle.ct_lex.specs.declared.fault.LexFault.TheVariants as lex
 use Rattle.ct_suite.specs.Count.{raised}
+use Rattle.ct_testfile.specs.Limits.{tree_limits}
 use Rattle.ct_testfile.specs.Outcome.{◌>>=◌, or_refused, on_line}
 use Rattle.ct_testfile.specs.Commands.{test_file, openings}
 use Rattle.ct_testfile.specs.Ifs.{stepped}
@@ -19,7 +20,6 @@ use Rattle.ct_testfile.specs.declared.fault.ReadKind.TheVariants.{OpenString, Op
 use Rattle.ct_testfile.specs.declared.fault.ReadFault.{ReadFault}
 use Rattle.ct_testfile.specs.declared.fault.ReadFault.TheVariants.{At, NoMemory}
 use Rattle.ct_testfile.specs.declared.limits.Limits.{Limits}
-use Rattle.ct_testfile.specs.declared.limits.TheConstants.{LIMITS}
 use Rattle.ct_testfile.specs.declared.opening.Opening.{Opening}
 use Rattle.ct_testfile.specs.declared.opening.TestFile.{TestFile}
 use Rattle.ct_testfile.specs.declared.state.State.{State}
@@ -116,6 +116,6 @@ read_through limits held dir config =
 abbrev pub tree_within : Limits → Held → List ℕ → List ℕ → Result (List TestDef) ReadFault
 tree_within limits held dir config = read_through limits held dir config >>= λ state. Ok state.tests
 
--- what the tree defines for a configuration within `LIMITS`, or the first refusal in reading order
+-- what the tree defines for a configuration within `tree_limits`, or the first refusal in reading order
 abbrev pub tree_of : Held → List ℕ → List ℕ → Result (List TestDef) ReadFault
-tree_of held dir config = tree_within LIMITS held dir config
+tree_of held dir config = tree_within tree_limits held dir config

@@ -1,11 +1,11 @@
 use Rattle.std.proofs.Common.{sym, subst, ℕ, refl, inr, map}
 use Rattle.std.specs.Prelude.{Some, Result, Ok}
 use Rattle.ct_history.specs.declared.plan.PlanParts.{PlanParts}
+use Rattle.ct_graph.specs.Order.{most_edges}
 use Rattle.ct_plan.specs.PlanOf.{IsPlanAnswer}
 use Rattle.ct_plan.specs.Source.{source}
 use Rattle.ct_app.specs.Calls.{sides}
 use Rattle.ct_app.specs.Ends.{Ends, history_entries}
-use Rattle.ct_app.specs.Reading.{most_edges}
 use Rattle.ct_app.specs.Rerun.{wanted_of}
 use Rattle.ct_app.specs.RunFiles.{done_of}
 use Rattle.ct_app.specs.declared.outcome.Outcome.{Outcome}

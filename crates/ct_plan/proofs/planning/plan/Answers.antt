@@ -2,7 +2,7 @@ use Rattle.std.proofs.Common.{◌∙◌, length, Err, sym, ap, subst}
 use Rattle.std.specs.List.Sorted.{IsStrictlyIncreasing}
 use Rattle.std.specs.Option.{option_copied}
 use Rattle.std.proofs.lemmas.Result.{err_from_is_err_and}
-use Rattle.ct_graph.specs.Order.{IsAnswer}
+use Rattle.ct_graph.specs.Order.{IsAnswer, most_edges}
 use Rattle.ct_graph.specs.Cycle.{HasCycle}
 use Rattle.ct_graph.specs.Before.{before_of}
 use Rattle.ct_plan.specs.Source.{run_members, source}
@@ -43,8 +43,8 @@ returns-in_err-ordered-clause-answer c =
     let costs = c.args.costs.now in
     let fault = c.in_err-ordered.field-0.0 in
     let told = err_from_is_err_and c.from_residual-in_err-ordered.result c.from_residual-in_err-ordered.ensures.1 in
-    subst (IsPlanAnswer 4000000 (source defs props wanted resources costs)) (sym (told.1 ∙ ap Err told.2))
-    (no_plan 4000000 defs props wanted resources costs fault (subst (λ members. IsAnswer 4000000 defs props members (Err fault)) c.in_ok-members.ensures c.in_err-ordered.ensures.answer))
+    subst (IsPlanAnswer most_edges (source defs props wanted resources costs)) (sym (told.1 ∙ ap Err told.2))
+    (no_plan most_edges defs props wanted resources costs fault (subst (λ members. IsAnswer most_edges defs props members (Err fault)) c.in_ok-members.ensures c.in_err-ordered.ensures.answer))
 
 pub returns-clause-none : goal.returns-clause-none
 returns-clause-none c =
