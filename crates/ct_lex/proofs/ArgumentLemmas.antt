@@ -28,11 +28,12 @@ pub record ArgumentFront (text : List ℕ) (arg : Arg) (n : ℕ) : Type 0 where
   pub split : text ≡ front ++ back
   pub size : length front ≡ n
   pub written : IsArgument front arg
+  pub ends : (byte : ℕ) (left : List ℕ) → back ≡ byte ∷ left → arg.kind ≡ Unquoted → ends_text Unquoted byte ≡ true
 
 front_as : {text : List ℕ} {arg other : Arg} {n : ℕ} → other ≡ arg → ArgumentFront text other n → ArgumentFront text arg n
 front_as {text} {arg} {other} {n} e read = subst (λ (a : Arg). ArgumentFront text a n) e read
 
-bracket-behind : (n : ℕ) (more : List ℕ) → drop (n + 2) (opens_with n ++ more) ≡ more
+pub bracket-behind : (n : ℕ) (more : List ℕ) → drop (n + 2) (opens_with n ++ more) ≡ more
 bracket-behind n more = ap (λ k. drop k (opens_with n ++ more)) (sym (mark-length 91 n)) ∙ drop-front (opens_with n) more
 
 bracket-is : (text : List ℕ) (n : ℕ) (arg : Arg) (size : ℕ) → opening text ≡ Some n → (found : Option ℕ) → closing n (drop (n + 2) text) ≡ found → bracket_by text n found ≡ Ok (arg, size) → ArgumentFront text arg size
@@ -52,6 +53,7 @@ bracket-is text n arg size o (Some inside) f e =
       split = whole;
       size = bracket-length n closed.inside ∙ ap (λ k. bracket_len n k) closed.size ∙ same.1;
       written = grammar.bracketed (grammar.bracket n closed.only);
+      ends = λ byte left b (k : Bracket ≡ Unquoted). cc;
     })
 
 quoted-is : (rest : List ℕ) (arg : Arg) (n : ℕ) → (read : Result (List Part × ℕ) Stop) → text_from Quoted 0 rest ≡ read → quoted_by (34 ∷ rest) read ≡ Ok (arg, n) → ArgumentFront (34 ∷ rest) arg n
@@ -68,6 +70,7 @@ quoted-is rest arg n (Ok x) r e =
       split = ap (λ t. 34 ∷ t) (text.split ∙ ap (λ b. text.front ++ b ∷ text.back) quote ∙ sym (append_assoc text.front (34 ∷ []) text.back));
       size = omega (arith, length-append text.front (34 ∷ []), text.size, same.1);
       written = grammar.quoted text.written;
+      ends = λ byte left b (k : Quoted ≡ Unquoted). cc;
     })
 
 not_ending : (gap left close hash quote : Bool) → (gap || close || hash) ≡ false → left ≡ false → quote ≡ false → (gap || left || close || hash || quote) ≡ false
@@ -94,6 +97,7 @@ unquoted-is byte rest arg n goes paren quote o (Ok x) r e =
       split = text.split;
       size = text.size ∙ same.1;
       written = grammar.unquoted text.written some unopened;
+      ends = λ other left b k. ap (λ t. ends_text Unquoted (get_or t 0 0)) (sym b) ∙ text.ends;
     })
 
 plain-is : (byte : ℕ) (rest : List ℕ) (arg : Arg) (n : ℕ) → may_follow (byte ∷ rest) ≡ false → opening (byte ∷ rest) ≡ None → plain_argument (byte ∷ rest) ≡ Ok (arg, n) → ArgumentFront (byte ∷ rest) arg n
@@ -121,7 +125,7 @@ pub record ArgumentRead (text : List ℕ) (arg : Arg) (n : ℕ) : Type 0 where
   pub written : IsArgument front arg
   pub follows : may_follow back ≡ true
 
-argument_by-is : (byte : ℕ) (rest : List ℕ) (arg : Arg) (n : ℕ) → may_follow (byte ∷ rest) ≡ false → (found : Option ℕ) → opening (byte ∷ rest) ≡ found → argument_by (byte ∷ rest) found ≡ Ok (arg, n) → ArgumentFront (byte ∷ rest) arg n
+pub argument_by-is : (byte : ℕ) (rest : List ℕ) (arg : Arg) (n : ℕ) → may_follow (byte ∷ rest) ≡ false → (found : Option ℕ) → opening (byte ∷ rest) ≡ found → argument_by (byte ∷ rest) found ≡ Ok (arg, n) → ArgumentFront (byte ∷ rest) arg n
 argument_by-is byte rest arg n goes None o e = plain-is byte rest arg n goes o e
 argument_by-is byte rest arg n goes (Some k) o e = bracket-is (byte ∷ rest) k arg n o (closing k (drop (k + 2) (byte ∷ rest))) refl e
 

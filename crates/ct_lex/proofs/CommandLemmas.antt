@@ -71,7 +71,7 @@ paren-of word spaces back count blank =
     let text : List ℕ = word ++ (spaces ++ back) in
     ap (λ k. k + prefix_len is_space (drop k text)) count ∙ ap (λ t. length word + prefix_len is_space t) (drop-front word (spaces ++ back)) ∙ ap (λ k. length word + k) blank
 
-command-as : (word spaces back : List ℕ) → word_len (word ++ (spaces ++ back)) ≡ length word → prefix_len is_space (spaces ++ back) ≡ length spaces → command (word ++ (spaces ++ back)) ≡ command_by (word ++ (spaces ++ back)) (lower word) (length word + length spaces)
+pub command-as : (word spaces back : List ℕ) → word_len (word ++ (spaces ++ back)) ≡ length word → prefix_len is_space (spaces ++ back) ≡ length spaces → command (word ++ (spaces ++ back)) ≡ command_by (word ++ (spaces ++ back)) (lower word) (length word + length spaces)
 command-as word spaces back count blank =
     let text : List ℕ = word ++ (spaces ++ back) in
     ap (λ k. command_by text (lower (take (word_len text) text)) k) (paren-of word spaces back count blank)
@@ -79,7 +79,7 @@ command-as word spaces back count blank =
     ∙ ap (λ t. command_by text (lower t) (length word + length spaces)) (take_at word (spaces ++ back) (length word) refl)
 
 -- what is left behind the word and its spaces
-behind-both : (word spaces back : List ℕ) (n : ℕ) → n ≡ length word + length spaces → drop n (word ++ (spaces ++ back)) ≡ back
+pub behind-both : (word spaces back : List ℕ) (n : ℕ) → n ≡ length word + length spaces → drop n (word ++ (spaces ++ back)) ≡ back
 behind-both word spaces back n e =
     let text : List ℕ = word ++ (spaces ++ back) in
     ap (λ k. drop k text) (e ∙ sym (length-append word spaces)) ∙ ap (λ t. drop (length (word ++ spaces)) t) (sym (append_assoc word spaces back)) ∙ drop-front (word ++ spaces) back

@@ -9,6 +9,9 @@ pub mod ArgumentLemmas
 pub mod ArgumentsLemmas
 pub mod ArgsLemmas
 pub mod CommandLemmas
+pub mod BrokenText
+pub mod BrokenArguments
 pub mod RestLemmas
+pub mod BrokenFiles
 pub mod RoundTrip
 pub mod CallerLemmas

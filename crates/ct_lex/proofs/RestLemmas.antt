@@ -7,12 +7,14 @@ use Rattle.std.proofs.Math.Seq.{drop-append-add, take-append-add}
 use Rattle.ct_lex.specs.Bytes.{is_blank, begins_word, feeds}
 use Rattle.ct_lex.specs.Stop.{refused}
 use Rattle.ct_lex.specs.Bracket.{gap_at}
+use Rattle.ct_lex.specs.Broken as broken
+use Rattle.ct_lex.specs.Broken.{IsBroken}
 use Rattle.ct_lex.specs.Command.{CommandRead, command, shifted, start_from}
 use Rattle.ct_lex.specs.Place.{Place, beginning, line_behind, behind_command, call_at, next_by, next_of}
 use Rattle.ct_lex.specs.Reads.{ReadsFrom, AnswersNext}
 use Rattle.ct_lex.specs.Grammar as grammar
 use Rattle.ct_lex.specs.Grammar.{IsSpace, IsLineComment, IsLineEnd, IsIdentifier, IsArguments, IsCommand, IsRest}
-use Rattle.ct_lex.specs.Files.{IsRestFrom, IsFile, ReadsFiles, WritesOn}
+use Rattle.ct_lex.specs.Files.{IsRestFrom, IsFile, IsBrokenFrom, ReadsFiles, WritesOn}
 use Rattle.ct_lex.specs.declared.call.Arg.{Arg}
 use Rattle.ct_lex.specs.declared.call.Call.{Call}
 use Rattle.ct_lex.specs.declared.fault.LexFault.{LexFault}
@@ -36,6 +38,7 @@ pub record StartRead (behind : Bool) (line : ℕ) (text : List ℕ) (n : ℕ) : 
   pub size : length front ≡ n
   pub begins : begins_word byte ≡ true
   pub goes : (calls : List Call) → IsRest false (line + feeds front) (byte ∷ back) calls → IsRest behind line text calls
+  pub breaks : (calls : List Call) (fault : LexFault) → IsBroken false (line + feeds front) (byte ∷ back) calls fault → IsBroken behind line text calls fault
 
 abbrev pub StartSays : Bool → ℕ → List ℕ → Option ℕ → Type 0
 StartSays behind line text None = IsRest behind line text []
@@ -44,11 +47,15 @@ StartSays behind line text (Some n) = StartRead behind line text n
 rest_at : {behind : Bool} {text : List ℕ} {calls : List Call} (m n : ℕ) → m ≡ n → IsRest behind m text calls → IsRest behind n text calls
 rest_at {behind} {text} {calls} m n e r = subst (λ (k : ℕ). IsRest behind k text calls) e r
 
+pub broken_at : {behind : Bool} {text : List ℕ} {calls : List Call} {fault : LexFault} (m n : ℕ) → m ≡ n → IsBroken behind m text calls fault → IsBroken behind n text calls fault
+broken_at {behind} {text} {calls} {fault} m n e b = subst (λ (k : ℕ). IsBroken behind k text calls fault) e b
+
 -- more text in front of what was read
-before : (behind after : Bool) (line : ℕ) (front back : List ℕ) (found : Option ℕ) → ((calls : List Call) → IsRest after (line + feeds front) back calls → IsRest behind line (front ++ back) calls) → StartSays after (line + feeds front) back found →
+before : (behind after : Bool) (line : ℕ) (front back : List ℕ) (found : Option ℕ) → ((calls : List Call) → IsRest after (line + feeds front) back calls → IsRest behind line (front ++ back) calls) →
+    ((calls : List Call) (fault : LexFault) → IsBroken after (line + feeds front) back calls fault → IsBroken behind line (front ++ back) calls fault) → StartSays after (line + feeds front) back found →
     StartSays behind line (front ++ back) (option_map (λ k. k + length front) found)
-before behind after line front back None goes read = goes [] read
-before behind after line front back (Some k) goes read =
+before behind after line front back None goes breaks read = goes [] read
+before behind after line front back (Some k) goes breaks read =
     let sums : length (front ++ read.front) ≡ length front + length read.front = length-append front read.front in
     let lines : line + feeds (front ++ read.front) ≡ (line + feeds front) + feeds read.front = omega (arith, feeds-append front read.front) in
     record {
@@ -59,13 +66,14 @@ before behind after line front back (Some k) goes read =
       size = omega (arith, read.size, sums);
       begins = read.begins;
       goes = λ calls r. goes calls (read.goes calls (rest_at (line + feeds (front ++ read.front)) ((line + feeds front) + feeds read.front) lines r));
+      breaks = λ calls fault b. breaks calls fault (read.breaks calls fault (broken_at (line + feeds (front ++ read.front)) ((line + feeds front) + feeds read.front) lines b));
     }
 
 shifted-ok : (n : ℕ) (read : Result (Option ℕ) Stop) (found : Option ℕ) → shifted n read ≡ Ok found → (inner : Option ℕ) × (read ≡ Ok inner) × (option_map (λ k. k + n) inner ≡ found)
 shifted-ok n (Err stop) found e = cc
 shifted-ok n (Ok inner) found e = (inner, refl, cc)
 
-space-first : {front : List ℕ} → IsSpace front → (back : List ℕ) → (get_or (front ++ back) 0 0 == 10) ≡ false
+pub space-first : {front : List ℕ} → IsSpace front → (back : List ℕ) → (get_or (front ++ back) 0 0 == 10) ≡ false
 space-first (grammar.blank byte b) back = by_test (byte == 10) refl
   where
     by_test : (test : Bool) → (byte == 10) ≡ test → (byte == 10) ≡ false
@@ -73,11 +81,11 @@ space-first (grammar.blank byte b) back = by_test (byte == 10) refl
     by_test true e = let same : byte ≡ 10 = grind (arith, nat_tests) in let never : is_blank byte ≡ false = ap (λ b. is_blank b) same in absurd (true≢false (sym b ∙ never))
 space-first (grammar.bracket_comment b) back = refl
 
-stays : (behind first : Bool) → first ≡ false → (behind && not first) ≡ behind
+pub stays : (behind first : Bool) → first ≡ false → (behind && not first) ≡ behind
 stays true first e = ap not e
 stays false first e = refl
 
-leaves : (behind first : Bool) → first ≡ true → (behind && not first) ≡ false
+pub leaves : (behind first : Bool) → first ≡ true → (behind && not first) ≡ false
 leaves true first e = ap not e
 leaves false first e = refl
 
@@ -97,11 +105,11 @@ start-gap (space {front = front} back s) behind line found some gap e again =
     let passed = start-passed behind behind (front ++ back) (length front) found some (omega arith) gap (stays behind (get_or (front ++ back) 0 0 == 10) (space-first s back)) e in
     let left : start_from behind 0 back ≡ Ok passed.0 = ap (λ t. start_from behind 0 t) (sym (drop-front front back)) ∙ passed.1 in
     let read = again behind (line + feeds front) back passed.0 (omega arith) left in
-    subst (λ (f : Option ℕ). StartSays behind line (front ++ back) f) passed.2 (before behind behind line front back passed.0 (λ calls r. grammar.space s r) read)
+    subst (λ (f : Option ℕ). StartSays behind line (front ++ back) f) passed.2 (before behind behind line front back passed.0 (λ calls r. grammar.space s r) (λ calls fault b. broken.space s b) read)
 start-gap (feed back) behind line found some gap e again =
     let passed = start-passed behind false (10 ∷ back) 1 found some (omega arith) gap (leaves behind (10 == 10) refl) e in
     let read = again false (line + feeds (10 ∷ [])) back passed.0 (omega arith) passed.1 in
-    subst (λ (f : Option ℕ). StartSays behind line (10 ∷ back) f) passed.2 (before behind false line (10 ∷ []) back passed.0 (λ calls r. grammar.line_end grammar.feed r) read)
+    subst (λ (f : Option ℕ). StartSays behind line (10 ∷ back) f) passed.2 (before behind false line (10 ∷ []) back passed.0 (λ calls r. grammar.line_end grammar.feed r) (λ calls fault b. broken.line_end grammar.feed b) read)
 start-gap (line_comment back (grammar.line_comment text within unopened)) behind line found some gap e again =
     let front : List ℕ = 35 ∷ text in
     let size : length (front ++ 10 ∷ back) ≡ length front + length (10 ∷ back) = length-append front (10 ∷ back) in
@@ -110,7 +118,7 @@ start-gap (line_comment back (grammar.line_comment text within unopened)) behind
     let later = start-passed behind false (10 ∷ back) 1 passed.0 (omega arith) (omega arith) refl (leaves behind (10 == 10) refl) left in
     let whole : List ℕ = front ++ 10 ∷ [] in
     let read = again false (line + feeds whole) back later.0 (omega arith) later.1 in
-    let both = before behind false line whole back later.0 (λ calls r. grammar.line_end (grammar.commented (grammar.line_comment text within unopened)) r) read in
+    let both = before behind false line whole back later.0 (λ calls r. grammar.line_end (grammar.commented (grammar.line_comment text within unopened)) r) (λ calls fault b. broken.line_end (grammar.commented (grammar.line_comment text within unopened)) b) read in
     let sums : length whole ≡ length front + 1 = length-append front (10 ∷ []) in
     let found_so : option_map (λ k. k + length whole) later.0 ≡ found = ap (λ n. option_map (λ k. k + n) later.0) sums ∙ twice later.0 (length front) ∙ ap (λ f. option_map (λ k. k + length front) f) later.2 ∙ passed.2 in
     subst (λ (t : List ℕ). StartSays behind line t found) (append_assoc front (10 ∷ []) back) (subst (λ (f : Option ℕ). StartSays behind line (whole ++ back) f) found_so both)
@@ -137,7 +145,7 @@ start-is (suc fuel) behind line (byte ∷ rest) found fits e = by_gap (gap_at (b
     by_word g true true b t f = absurd (true≢false (sym t))
     by_word g false true b t f =
         let zero_so : Some 0 ≡ found = cc in
-        let read : StartRead false line (byte ∷ rest) 0 = record { front = []; byte = byte; back = rest; split = refl; size = refl; begins = t; goes = λ calls r. rest_at (line + feeds []) line (add-zero line) r } in
+        let read : StartRead false line (byte ∷ rest) 0 = record { front = []; byte = byte; back = rest; split = refl; size = refl; begins = t; goes = λ calls r. rest_at (line + feeds []) line (add-zero line) r; breaks = λ calls fault b. broken_at (line + feeds []) line (add-zero line) b } in
         subst (λ (f : Option ℕ). StartSays false line (byte ∷ rest) f) zero_so read
 
     by_gap : (gap : Result ℕ Stop) → gap_at (byte ∷ rest) ≡ gap → StartsShorter (byte ∷ rest) → StartSays behind line (byte ∷ rest) found
@@ -170,7 +178,7 @@ pub record NextRead (place : Place) (call : Call) (after : Place) : Type 0 where
   pub call_is : record { name = name; args = args; line = line_behind place front } ≡ call
   pub after_is : behind_command place (front + size) ≡ after
 
-next-some : (place : Place) (call : Call) (after : Place) → next_of place ≡ Ok (Some (call, after)) → NextRead place call after
+pub next-some : (place : Place) (call : Call) (after : Place) → next_of place ≡ Ok (Some (call, after)) → NextRead place call after
 next-some place call after e = by_start (start_from place.behind 0 place.rest) refl e
   where
     by_command : (n : ℕ) → start_from place.behind 0 place.rest ≡ Ok (Some n) → (read : Result CommandRead Stop) → command (drop n place.rest) ≡ read → call_at place n read ≡ Ok (Some (call, after)) → NextRead place call after
@@ -186,9 +194,13 @@ next-some place call after e = by_start (start_from place.behind 0 place.rest) r
     by_start (Ok None) s f = cc
     by_start (Ok (Some n)) s f = by_command n s (command (drop n place.rest)) refl f
 
--- a command that is read stands, by the grammar, in front of the commands behind it
-call-is : (place : Place) (call : Call) (after : Place) (calls : List Call) → NextRead place call after → IsRestFrom after calls → IsRestFrom place (call ∷ calls)
-call-is place call after calls next later =
+-- a command that is read, by the grammar, and what stands in front of it and behind it
+pub record CallRead (place : Place) (call : Call) (after : Place) : Type 0 where
+  pub goes : (calls : List Call) → IsRestFrom after calls → IsRestFrom place (call ∷ calls)
+  pub breaks : (calls : List Call) (fault : LexFault) → IsBrokenFrom after calls fault → IsBrokenFrom place (call ∷ calls) fault
+
+pub call-read : (place : Place) (call : Call) (after : Place) → NextRead place call after → CallRead place call after
+call-read place call after next =
     let start = start-is (suc (length place.rest)) place.behind place.line place.rest (Some next.front) (omega arith) next.start in
     let rest : List ℕ = start.byte ∷ start.back in
     let n : ℕ = next.front in
@@ -203,13 +215,26 @@ call-is place call after calls next later =
     let line : ℕ = place.line + feeds start.front in
     let lines : place.line + feeds (take (n + m) place.rest) ≡ line + feeds cmd.front = omega (arith, ap (λ t. feeds t) taken, feeds-append start.front cmd.front) in
     let here : place.line + feeds (take n place.rest) ≡ line = ap (λ t. place.line + feeds t) first in
-    let at_end : IsRestFrom (behind_command place (n + m)) calls = subst (λ (p : Place). IsRestFrom p calls) (sym next.after_is) later in
-    let rest_of : IsRest true (line + feeds cmd.front) cmd.back calls =
-    subst (λ (t : List ℕ). IsRest true (line + feeds cmd.front) t calls) behind_it (rest_at (place.line + feeds (take (n + m) place.rest)) (line + feeds cmd.front) lines at_end) in
     let C : ℕ → Call = λ k. record { name = next.name; args = next.args; line = k } in
     let is_call : C line ≡ call = ap C (sym here) ∙ next.call_is in
-    let written : IsRest false line (cmd.front ++ cmd.back) (C line ∷ calls) = grammar.command cmd.written rest_of in
-    start.goes (call ∷ calls) (subst (λ (t : List ℕ). IsRest false line t (call ∷ calls)) (sym cmd.split) (subst (λ (k : Call). IsRest false line (cmd.front ++ cmd.back) (k ∷ calls)) is_call written))
+    record {
+      goes = λ calls later.
+          let at_end : IsRestFrom (behind_command place (n + m)) calls = subst (λ (p : Place). IsRestFrom p calls) (sym next.after_is) later in
+          let rest_of : IsRest true (line + feeds cmd.front) cmd.back calls =
+          subst (λ (t : List ℕ). IsRest true (line + feeds cmd.front) t calls) behind_it (rest_at (place.line + feeds (take (n + m) place.rest)) (line + feeds cmd.front) lines at_end) in
+          let written : IsRest false line (cmd.front ++ cmd.back) (C line ∷ calls) = grammar.command cmd.written rest_of in
+          start.goes (call ∷ calls) (subst (λ (t : List ℕ). IsRest false line t (call ∷ calls)) (sym cmd.split) (subst (λ (k : Call). IsRest false line (cmd.front ++ cmd.back) (k ∷ calls)) is_call written));
+      breaks = λ calls fault later.
+          let at_end : IsBrokenFrom (behind_command place (n + m)) calls fault = subst (λ (p : Place). IsBrokenFrom p calls fault) (sym next.after_is) later in
+          let rest_of : IsBroken true (line + feeds cmd.front) cmd.back calls fault =
+          subst (λ (t : List ℕ). IsBroken true (line + feeds cmd.front) t calls fault) behind_it (broken_at (place.line + feeds (take (n + m) place.rest)) (line + feeds cmd.front) lines at_end) in
+          let written : IsBroken false line (cmd.front ++ cmd.back) (C line ∷ calls) fault = broken.command cmd.written rest_of in
+          start.breaks (call ∷ calls) fault (subst (λ (t : List ℕ). IsBroken false line t (call ∷ calls) fault) (sym cmd.split) (subst (λ (k : Call). IsBroken false line (cmd.front ++ cmd.back) (k ∷ calls) fault) is_call written));
+    }
+
+-- a command that is read stands, by the grammar, in front of the commands behind it
+pub call-is : (place : Place) (call : Call) (after : Place) (calls : List Call) → NextRead place call after → IsRestFrom after calls → IsRestFrom place (call ∷ calls)
+call-is place call after calls next later = (call-read place call after next).goes calls later
 
 pub rest-is : (calls : List Call) (place : Place) → ReadsFrom place calls None → IsRestFrom place calls
 rest-is [] place e = start-is (suc (length place.rest)) place.behind place.line place.rest None (omega arith) (next-none place e)

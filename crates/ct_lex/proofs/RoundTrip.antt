@@ -9,7 +9,7 @@ use Rattle.ct_lex.specs.Place.{unmarked}
 use Rattle.ct_lex.specs.Reads.{Reads}
 use Rattle.ct_lex.specs.Grammar as grammar
 use Rattle.ct_lex.specs.Grammar.{BeginsBracket, IsText, IsArgument, IsArguments, IsCommand, IsRest}
-use Rattle.ct_lex.specs.Written.{written_byte, written_bytes, written_parts, plain_bytes, written_arg, written_args, written_call, written, AreParts, IsPlainWord, IsArg, AreArgs, IsCommandName, CanBeWritten, ReadsWritten}
+use Rattle.ct_lex.specs.Written.{written_byte, written_bytes, written_parts, plain_bytes, written_arg, written_behind, written_args, written_call, written, AreParts, IsPlainWord, IsArg, AreArgs, IsCommandName, CanBeWritten, ReadsWritten}
 use Rattle.ct_lex.specs.declared.call.Arg.{Arg}
 use Rattle.ct_lex.specs.declared.call.ArgKind.{ArgKind}
 use Rattle.ct_lex.specs.declared.call.ArgKind.TheVariants.{Bracket, Quoted, Unquoted}
@@ -71,10 +71,14 @@ argument-written Bracket parts fit =
 argument-written Quoted parts fit = grammar.quoted (parts-written parts fit)
 argument-written Unquoted parts fit = word-written (plain_bytes parts) parts fit.0 fit.1
 
+behind-written : (args : List Arg) → AreArgs args → IsArguments true (written_behind args) args
+behind-written [] fit = grammar.none
+behind-written (arg ∷ args) fit =
+    grammar.space (grammar.blank 32 refl) (grammar.argument (argument-written arg.kind arg.parts fit.0) (behind-written args fit.1))
+
 arguments-written : (args : List Arg) → AreArgs args → IsArguments false (written_args args) args
 arguments-written [] fit = grammar.none
-arguments-written (arg ∷ args) fit =
-    grammar.argument (argument-written arg.kind arg.parts fit.0) (grammar.space (grammar.blank 32 refl) (arguments-written args fit.1))
+arguments-written (arg ∷ args) fit = grammar.argument (argument-written arg.kind arg.parts fit.0) (behind-written args fit.1)
 
 -- a command as it is written, without its line feed
 abbrev command_text : Call → List ℕ

@@ -232,7 +232,7 @@ reference-read kind name more some all =
     let taken : take (length name) (name ++ 125 ∷ more) ≡ name = take_at name (125 ∷ more) (length name) refl in
     rw (run, long, named, closed, taken) refl
 
-behind-reference : (name rest : List ℕ) → drop (length name + 3) (36 ∷ 123 ∷ (name ++ 125 ∷ rest)) ≡ rest
+pub behind-reference : (name rest : List ℕ) → drop (length name + 3) (36 ∷ 123 ∷ (name ++ 125 ∷ rest)) ≡ rest
 behind-reference name rest =
     let shift : length name + 3 ≡ suc (suc (length name + 1)) = omega arith in
     let seam : length name + 1 ≡ length (name ++ 125 ∷ []) = omega (arith, length-append name (125 ∷ [])) in
@@ -259,7 +259,7 @@ text-step (reference name rest v) ends more k read =
       written = grammar.reference name v read.written;
     }
 
-unit-some : {kind : ArgKind} {text : List ℕ} {piece : Part} {n : ℕ} → IsUnitAt kind text piece n → 0 < n
+pub unit-some : {kind : ArgKind} {text : List ℕ} {piece : Part} {n : ℕ} → IsUnitAt kind text piece n → 0 < n
 unit-some (plain byte rest a b) = omega arith
 unit-some (escape byte rest piece e) = omega arith
 unit-some (dollar rest e) = omega arith

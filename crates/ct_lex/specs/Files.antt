@@ -1,8 +1,9 @@
 -- The reading of a file, in terms of the grammar.
 use Rattle.std.specs.Prelude.{ℕ, ◌↔◌, ⊤, List, [], ◌∷◌, Option, Some, None, Result, Ok, Err}
+use Rattle.ct_lex.specs.Broken.{IsBroken}
 use Rattle.ct_lex.specs.Grammar.{IsRest}
 use Rattle.ct_lex.specs.Place.{Place, beginning}
-use Rattle.ct_lex.specs.Reads.{Reads}
+use Rattle.ct_lex.specs.Reads.{Reads, Refuses}
 use Rattle.ct_lex.specs.declared.call.Call.{Call}
 use Rattle.ct_lex.specs.declared.fault.LexFault.{LexFault}
 use Rattle.ct_lex.specs.declared.fault.LexFault.TheVariants.{NoMemory}
@@ -14,6 +15,14 @@ IsRestFrom place calls = IsRest place.behind place.line place.rest calls
 -- the grammar writes a file as these commands, behind the byte order mark that it may begin with
 abbrev pub IsFile : List ℕ → List Call → Type 0
 IsFile text calls = IsRestFrom (beginning text) calls
+
+-- the text from a place on has these commands by the grammar, and then this fault
+abbrev pub IsBrokenFrom : Place → List Call → LexFault → Type 0
+IsBrokenFrom place calls fault = IsBroken place.behind place.line place.rest calls fault
+
+-- a file has these commands by the grammar, and then this fault
+abbrev pub IsBrokenFile : List ℕ → List Call → LexFault → Type 0
+IsBrokenFile text calls fault = IsBrokenFrom (beginning text) calls fault
 
 -- a text is read as a list of commands exactly if the grammar writes it as that list;
 -- so the grammar writes a text as at most one list of commands
@@ -28,3 +37,13 @@ WritesOn old (Ok (Some call)) new = (calls : List Call) → IsRestFrom old (call
 WritesOn old (Ok None) new = IsRestFrom old []
 WritesOn old (Err NoMemory) new = ⊤
 WritesOn old (Err fault) new = (calls : List Call) → IsRestFrom old calls → ⊥
+
+-- a text that is read as some commands and then refused with a fault is broken there by the grammar, with that fault
+abbrev pub RefusesFiles : List ℕ → Type 0
+RefusesFiles text = (calls : List Call) (fault : LexFault) → Refuses text calls fault → IsBrokenFile text calls fault
+
+-- a refusal of `next` is the fault that the text has by the grammar, with no command in front of it
+abbrev pub BreaksOn : Place → Result (Option Call) LexFault → Type 0
+BreaksOn old (Ok found) = ⊤
+BreaksOn old (Err NoMemory) = ⊤
+BreaksOn old (Err fault) = IsBrokenFrom old [] fault

@@ -2,6 +2,7 @@
 pub mod Bytes
 pub mod Argument
 pub mod Grammar
+pub mod Broken
 pub mod Written
 pub mod Place
 pub mod Reads

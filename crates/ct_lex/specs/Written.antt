@@ -40,10 +40,15 @@ written_arg Bracket parts = opens_with 1 ++ (plain_bytes parts ++ closes_with 1)
 written_arg Quoted parts = codes "\"" ++ (written_parts parts ++ codes "\"")
 written_arg Unquoted parts = plain_bytes parts
 
--- arguments as they are written, each with a space behind it
+-- the arguments behind the first one, each with a space in front of it
+abbrev pub written_behind : List Arg → List ℕ
+written_behind [] = []
+written_behind (arg ∷ args) = codes " " ++ (written_arg arg.kind arg.parts ++ written_behind args)
+
+-- arguments as they are written, with one space between each two
 abbrev pub written_args : List Arg → List ℕ
 written_args [] = []
-written_args (arg ∷ args) = written_arg arg.kind arg.parts ++ (codes " " ++ written_args args)
+written_args (arg ∷ args) = written_arg arg.kind arg.parts ++ written_behind args
 
 -- a command on a line of its own
 abbrev pub written_call : Call → List ℕ

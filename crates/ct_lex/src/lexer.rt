@@ -33,7 +33,7 @@ impl<'a> Lexer<'a> {
     ghost use Rattle.ct_lex.specs.Place.{beginning, line_behind, fault_at};
     ghost use Rattle.ct_lex.specs.Reads.{AnswersNext, HasOneReading, ReadsOn};
     ghost use Rattle.ct_lex.specs.Written.{ReadsWritten};
-    ghost use Rattle.ct_lex.specs.Files.{ReadsFiles, WritesOn};
+    ghost use Rattle.ct_lex.specs.Files.{BreaksOn, ReadsFiles, RefusesFiles, WritesOn};
 
     /// Begins at the front of a text, which it borrows.
     pub fn new(text: &'a [u8]) -> Lexer<'a>
@@ -43,6 +43,8 @@ impl<'a> Lexer<'a> {
         ensures one { HasOneReading (beginning text.now) }
         // The reading is what the grammar writes. The grammar does not depend on how a text is read.
         ensures grammar { ReadsFiles text.now }
+        // Each fault is the one that the text has by the grammar of what is broken.
+        ensures refusals { RefusesFiles text.now }
         // Commands that are written as CMake writes them are read back.
         ensures again { ReadsWritten text.now }
     {
@@ -65,6 +67,8 @@ impl<'a> Lexer<'a> {
         ensures reading { ReadsOn self.old result self.new }
         // The answer in terms of the grammar: a text that is refused is no list of commands.
         ensures grammar { WritesOn self.old result self.new }
+        // A refusal has the kind and the line that the grammar of what is broken gives.
+        ensures refusal { BreaksOn self.old result }
         // Behind a command, less of the text is left.
         ensures shrinks { IfOk result (λ found. IsSome found → length self.new.rest < length self.old.rest) }
     {
