@@ -11,3 +11,6 @@ pub mod ApartLemmas
 pub mod ProgressLemmas
 pub mod SlotLemmas
 pub mod EndingLemmas
+pub mod PartListLemmas
+pub mod PartLemmas
+pub mod PartLegalLemmas

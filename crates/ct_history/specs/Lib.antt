@@ -5,3 +5,4 @@ pub mod Verdicts
 pub mod Endings
 pub mod Rules
 pub mod Legal
+pub mod Parts
