@@ -5,11 +5,13 @@ pub mod SignsLemmas
 pub mod HitLemmas
 pub mod LawLemmas
 pub mod GrammarLemmas
+pub mod EmptyLemmas
+pub mod SoundLemmas
 pub mod WrittenLemmas
+pub mod FaultLemmas
 pub mod ReadBackLemmas
 pub mod Live
 pub mod LiveLemmas
 pub mod MemoryLemmas
 pub mod WalkLemmas
 pub mod ScanLemmas
-pub mod SoundLemmas

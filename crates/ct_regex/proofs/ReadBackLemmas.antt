@@ -11,6 +11,8 @@ use Rattle.ct_regex.specs.Signs.{atom, often, signs, set_signs, begins_negated, 
 use Rattle.ct_regex.specs.Reading.{quantified, Group, opened_at, all_parts, with_atom, with_branch, closed, read, reading}
 use Rattle.ct_regex.specs.Grammar as grammar
 use Rattle.ct_regex.specs.Grammar.{IsItems, IsOne, IsPattern, IsBranches, IsBranch, IsPart, IsAtom, byte_of}
+use Rattle.ct_regex.proofs.EmptyLemmas.{may_as}
+use Rattle.ct_regex.proofs.SoundLemmas.{atom_sound}
 use Rattle.ct_regex.proofs.SignsLemmas.{set_item}
 use Rattle.ct_regex.specs.Laws.{HitsAlike}
 use Rattle.ct_regex.specs.Gives.{Gives, IsReadAs}
@@ -213,7 +215,7 @@ mutual
         record { place = inner.place; branches = inner.branches; parts = all_parts inner; last = quantified (repeat quantifier tree) },
         ap (λ (n : Group). read (record { inner = n; outer = outer }) (signs behind (byte_of quantifier ∷ back))) m
             ∙ ap (read (record { inner = with_atom tree inner; outer = outer })) (often_sign quantifier behind back)
-            ∙ rw may refl,
+            ∙ rw (sym (may_as quantifier tree (atom_sound a)) ∙ may) refl,
         (refl, refl),
       ))
 

@@ -1,5 +1,5 @@
 -- What is written by the grammar repeats only what cannot be empty.
-use Rattle.std.proofs.Common.{◌≡◌, ◌&&◌, Bool, true, false, ℕ, List, [], ◌∷◌, ◌++◌, refl}
+use Rattle.std.proofs.Common.{◌≡◌, ◌&&◌, Bool, true, false, ℕ, List, [], ◌∷◌, ◌++◌, refl, sym, ◌∙◌}
 use Rattle.ct_regex.specs.declared.tree.Quantifier.{Quantifier}
 use Rattle.ct_regex.specs.declared.tree.Quantifier.TheVariants.{ZeroOrOne, ZeroOrMore, OneOrMore}
 use Rattle.ct_regex.specs.Tree.{Tree, repeat, sequence_of, branch_of}
@@ -7,6 +7,7 @@ use Rattle.ct_regex.specs.Reading.{may_repeat}
 use Rattle.ct_regex.specs.Sound.{is_sound}
 use Rattle.ct_regex.specs.Grammar as grammar
 use Rattle.ct_regex.specs.Grammar.{IsOne, IsPattern, IsBranches, IsBranch, IsPart, IsAtom}
+use Rattle.ct_regex.proofs.EmptyLemmas.{may_as}
 
 and_both : (a b : Bool) → (a && b) ≡ true → (a ≡ true) × (b ≡ true)
 and_both true b h = (refl, h)
@@ -56,8 +57,10 @@ mutual
 
   part_sound : {text : List ℕ} {tree : Tree} → IsPart text tree → is_sound tree ≡ true
   part_sound (grammar.bare a) = atom_sound a
-  part_sound (grammar.often {tree = tree} quantifier a may) = repeat_sound quantifier tree may (atom_sound a)
+  part_sound (grammar.often {tree = tree} quantifier a may) =
+      let sound : is_sound tree ≡ true = atom_sound a in
+      repeat_sound quantifier tree (sym (may_as quantifier tree sound) ∙ may) sound
 
-  atom_sound : {text : List ℕ} {tree : Tree} → IsAtom text tree → is_sound tree ≡ true
+  pub atom_sound : {text : List ℕ} {tree : Tree} → IsAtom text tree → is_sound tree ≡ true
   atom_sound (grammar.alone o) = one_sound o
   atom_sound (grammar.group p) = pattern_sound p

@@ -8,6 +8,8 @@ use Rattle.ct_regex.specs.Signs.{Sign, signs}
 use Rattle.ct_regex.specs.Reading.{Last, no_part, bare, quantified, Group, Groups, opened_at, last_parts, all_parts, with_atom, with_branch, closed, may_repeat, with_quantifier, with_group, with_close, with_sign, at_end, and_then, map_ok, read, reading}
 use Rattle.ct_regex.specs.Grammar as grammar
 use Rattle.ct_regex.specs.Grammar.{IsPattern, IsBranches, IsBranch, IsPart, IsAtom, byte_of}
+use Rattle.ct_regex.proofs.EmptyLemmas.{may_as}
+use Rattle.ct_regex.proofs.SoundLemmas.{atom_sound}
 use Rattle.ct_regex.proofs.GrammarLemmas.{IsSign, of_one, of_open, of_close, of_bar, of_often, SignRead, SignFault, sign_view, sign_len}
 
 -- the text is written as the last part of a branch
@@ -36,10 +38,10 @@ parts_written (quantified tree) mid tail parts p l = grammar.and_part p l
 all_written : {text : List ℕ} {group : Group} (r : HasRead text group) → IsBranch (r.mid ++ r.tail) (all_parts group)
 all_written {text} {group} r = parts_written group.last r.mid r.tail group.parts r.parts r.last
 
-opened_read : (place : ℕ) → HasRead [] (opened_at place)
+pub opened_read : (place : ℕ) → HasRead [] (opened_at place)
 opened_read place = record { front = []; mid = []; tail = []; branches = grammar.no_branch; parts = grammar.no_part; last = refl; split = refl }
 
-atom_read : (text more : List ℕ) (group : Group) (tree : Tree) → IsAtom more tree → HasRead text group → HasRead (text ++ more) (with_atom tree group)
+pub atom_read : (text more : List ℕ) (group : Group) (tree : Tree) → IsAtom more tree → HasRead text group → HasRead (text ++ more) (with_atom tree group)
 atom_read text more group tree a r = record {
   front = r.front;
   mid = r.mid ++ r.tail;
@@ -50,7 +52,7 @@ atom_read text more group tree a r = record {
   split = ap (λ xs. xs ++ more) r.split ∙ append_assoc r.front (r.mid ++ r.tail) more;
 }
 
-bar_read : (text : List ℕ) (group : Group) → HasRead text group → HasRead (text ++ 124 ∷ []) (with_branch group)
+pub bar_read : (text : List ℕ) (group : Group) → HasRead text group → HasRead (text ++ 124 ∷ []) (with_branch group)
 bar_read text group r = record {
   front = r.front ++ ((r.mid ++ r.tail) ++ 124 ∷ []);
   mid = [];
@@ -61,20 +63,20 @@ bar_read text group r = record {
   split = ap (λ xs. xs ++ 124 ∷ []) r.split ∙ append_assoc r.front (r.mid ++ r.tail) (124 ∷ []) ∙ sym (append-nil (r.front ++ ((r.mid ++ r.tail) ++ 124 ∷ [])));
 }
 
-often_read : (text : List ℕ) (group : Group) (quantifier : Quantifier) (tree : Tree) → group.last ≡ bare tree → may_repeat quantifier tree ≡ true → HasRead text group →
+pub often_read : (text : List ℕ) (group : Group) (quantifier : Quantifier) (tree : Tree) → group.last ≡ bare tree → may_repeat quantifier tree ≡ true → HasRead text group →
     HasRead (text ++ byte_of quantifier ∷ []) (record { place = group.place; branches = group.branches; parts = group.parts; last = quantified (repeat quantifier tree) })
-often_read text group quantifier tree e may r = record {
+often_read text group quantifier tree e may r = let a : IsAtom r.tail tree = subst (λ (l : Last). IsLast r.tail l) e r.last in record {
   front = r.front;
   mid = r.mid;
   tail = r.tail ++ byte_of quantifier ∷ [];
   branches = r.branches;
   parts = r.parts;
-  last = grammar.often quantifier (subst (λ (l : Last). IsLast r.tail l) e r.last) may;
+  last = grammar.often quantifier a (may_as quantifier tree (atom_sound a) ∙ may);
   split = ap (λ xs. xs ++ byte_of quantifier ∷ []) r.split ∙ append_assoc r.front (r.mid ++ r.tail) (byte_of quantifier ∷ [])
       ∙ ap (λ xs. r.front ++ xs) (append_assoc r.mid r.tail (byte_of quantifier ∷ []));
 }
 
-closed_read : (text : List ℕ) (group : Group) → HasRead text group → IsPattern text (closed group)
+pub closed_read : (text : List ℕ) (group : Group) → HasRead text group → IsPattern text (closed group)
 closed_read text group r = subst (λ (xs : List ℕ). IsPattern xs (closed group)) (sym r.split) (grammar.pattern r.branches (all_written r))
 
 -- the text is written as the parts of all open groups that are read so far

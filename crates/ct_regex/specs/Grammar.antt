@@ -1,10 +1,10 @@
 -- How a pattern is written, apart from how it is read.
 -- Source: CMake manual, string(REGEX), Regex Specification.
-use Rattle.std.specs.Prelude.{◌≡◌, ◌⊎◌, ◌≤◌, ℕ, ◌==◌, Bool, true, false, List, [], ◌∷◌, ◌++◌}
+use Rattle.std.specs.Prelude.{◌≡◌, ◌⊎◌, ◌≤◌, ℕ, ◌==◌, Bool, true, false, not, List, [], ◌∷◌, ◌++◌}
 use Rattle.ct_regex.specs.Bytes.{caret, dollar, dot, open_group, close_group, upright, star, plus, question, escaping_byte, open_set, close_set, dash}
 use Rattle.ct_regex.specs.Tree.{any, same, inside, outside, Tree, start, end, one, repeat, sequence_of, branch_of}
 use Rattle.ct_regex.specs.Signs.{begins_negated, is_range}
-use Rattle.ct_regex.specs.Reading.{may_repeat}
+use Rattle.ct_regex.specs.Ends.{hits}
 use Rattle.ct_regex.specs.Laws.{stands_for_itself}
 use Rattle.ct_regex.specs.declared.tree.Span.{Span}
 use Rattle.ct_regex.specs.declared.tree.Quantifier.{Quantifier}
@@ -33,6 +33,12 @@ pub data IsOne : List ℕ → Tree → Type 0 where
   of_set : {text : List ℕ} {items : List Span} → begins_negated text ≡ false → IsItems true text items → IsOne (open_set ∷ text) (one (inside items))
   of_negated : {text : List ℕ} {items : List Span} → IsItems true text items → IsOne (open_set ∷ caret ∷ text) (one (outside items))
 
+-- `?` may stand behind each atom, `*` and `+` behind each atom that does not match the empty text
+abbrev pub may_stand_behind : Quantifier → Tree → Bool
+may_stand_behind ZeroOrOne tree = true
+may_stand_behind ZeroOrMore tree = not (hits tree [])
+may_stand_behind OneOrMore tree = not (hits tree [])
+
 -- the byte that writes a quantifier
 abbrev pub byte_of : Quantifier → ℕ
 byte_of ZeroOrOne = question
@@ -57,10 +63,10 @@ mutual
     and_part : {front text : List ℕ} {trees : List Tree} {tree : Tree} → IsBranch front trees → IsPart text tree →
         IsBranch (front ++ text) (trees ++ tree ∷ [])
 
-  -- an atom, or an atom with a quantifier that may repeat it
+  -- an atom, or an atom with a quantifier that may stand behind it
   pub data IsPart : List ℕ → Tree → Type 0 where
     bare : {text : List ℕ} {tree : Tree} → IsAtom text tree → IsPart text tree
-    often : {text : List ℕ} {tree : Tree} (quantifier : Quantifier) → IsAtom text tree → may_repeat quantifier tree ≡ true →
+    often : {text : List ℕ} {tree : Tree} (quantifier : Quantifier) → IsAtom text tree → may_stand_behind quantifier tree ≡ true →
         IsPart (text ++ byte_of quantifier ∷ []) (repeat quantifier tree)
 
   -- one atom: an atom that is no group, or a pattern between `(` and `)`

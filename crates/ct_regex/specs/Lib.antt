@@ -5,6 +5,7 @@ pub mod Ends
 pub mod Signs
 pub mod Reading
 pub mod Grammar
+pub mod Faulty
 pub mod Laws
 pub mod Meaning
 pub mod TreeOf

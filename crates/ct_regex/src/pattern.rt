@@ -33,6 +33,7 @@ impl Regex {
     ghost use Rattle.ct_regex.specs.Reading.{reading};
     ghost use Rattle.ct_regex.specs.Gives.{Gives, IsReadAs};
     ghost use Rattle.ct_regex.specs.Grammar.{IsPattern};
+    ghost use Rattle.ct_regex.specs.Faulty.{RefusesFault};
 
     /// Reads a pattern, or finds its first fault from the left.
     ///
@@ -43,6 +44,8 @@ impl Regex {
         // The tree is what the grammar writes. The grammar does not depend on how a text is read.
         ensures written { IfOk result (λ regex. IsPattern text.now (regex_tree regex)) }
         ensures read { (tree : Tree) → IsPattern text.now tree → IsReadAs regex_tree tree result }
+        // A refusal has the kind and the place that the grammar gives.
+        ensures refused { RefusesFault text.now result }
     {
         if text.len() > MOST_BYTES {
             return Err(RegexFault::TooLarge(65_536));
