@@ -9,14 +9,12 @@ use Rattle.std.proofs.lemmas.List.Elements.{All-nil, All-cons, All-head, All-tai
 use Rattle.std.proofs.lemmas.List.Kept.{AllPairs-cons}
 use Rattle.ct_base.specs.declared.defs.TestDef.{TestDef}
 use Rattle.ct_props.specs.declared.props.Props.{Props}
-use Rattle.ct_props.specs.PropsOf.{HasProps}
 use Rattle.ct_props.specs.declared.wanted.Choice.{Choice}
 use Rattle.ct_props.specs.Numbered.{at_number}
 use Rattle.ct_select.specs.Chosen.{chosen_tests}
 use Rattle.ct_fixture.specs.Drawing.{after_rounds, members_of}
 use Rattle.ct_history.specs.Plan.{IsAscendingFrom, enabled}
 use Rattle.ct_history.specs.declared.plan.PlanTest.{PlanTest}
-use Rattle.ct_plan.specs.Source.{HaveProps}
 
 -- each number is that of one of `count` tests
 abbrev pub AreOfTests : ℕ → List ℕ → Type 0
@@ -118,18 +116,14 @@ enabled_of_tests count (t ∷ ts) of_tests =
 pub some-enabled : (count : ℕ) (tests : List PlanTest) → AreSome count (map (λ (t : PlanTest). t.number) tests) → AreSome count (map (λ (t : PlanTest). t.number) (enabled tests))
 some-enabled count tests some = record { ascend = enabled_ascend 1 tests some.ascend; of_tests = enabled_of_tests count tests some.of_tests }
 
--- the test at a place, to which these properties belong
-abbrev HasBoth : List TestDef → ℕ → Props → Type 0
-HasBoth defs place own = (def : TestDef) × (slice_get defs place ≡ Some def) × HasProps def own
+both_there : (defs : List TestDef) (props : List Props) (place : ℕ) (own : Props) → length props ≡ length defs → slice_get props place ≡ Some own → (def : TestDef) × (slice_get defs place ≡ Some def)
+both_there [] [] place own same is = let no : None ≡ Some own = is in absurd (cc)
+both_there [] (p ∷ ps) place own same is = absurd (omega (arith, same))
+both_there (d ∷ ds) [] place own same is = let no : None ≡ Some own = is in absurd (cc)
+both_there (d ∷ ds) (p ∷ ps) zero own same is = (d, refl)
+both_there (d ∷ ds) (p ∷ ps) (suc place) own same is = both_there ds ps place own (omega (arith, same)) is
 
-both_there : (defs : List TestDef) (props : List Props) (place : ℕ) (own : Props) → HaveProps defs props → slice_get props place ≡ Some own → HasBoth defs place own
-both_there [] [] place own have is = let no : None ≡ Some own = is in absurd (cc)
-both_there [] (p ∷ ps) place own have is = absurd have
-both_there (d ∷ ds) [] place own have is = absurd have
-both_there (d ∷ ds) (p ∷ ps) zero own have is = let same : Some p ≡ Some own = is in (d, refl, subst (HasProps d) (cc) have.0)
-both_there (d ∷ ds) (p ∷ ps) (suc place) own have is = both_there ds ps place own have.1 is
-
--- where a test has properties it is there, and they are its own
-pub def_of_own : (defs : List TestDef) (props : List Props) → HaveProps defs props → (number : ℕ) (own : Props) → at_number props number ≡ Some own → (def : TestDef) × (at_number defs number ≡ Some def) × HasProps def own
-def_of_own defs props have zero own is = let no : None ≡ Some own = is in absurd (cc)
-def_of_own defs props have (suc place) own is = both_there defs props place own have is
+-- where a test has properties, it is there
+pub def_of_own : (defs : List TestDef) (props : List Props) → length props ≡ length defs → (number : ℕ) (own : Props) → at_number props number ≡ Some own → (def : TestDef) × (at_number defs number ≡ Some def)
+def_of_own defs props same zero own is = let no : None ≡ Some own = is in absurd (cc)
+def_of_own defs props same (suc place) own is = both_there defs props place own same is

@@ -1,6 +1,6 @@
 -- The links of the tests of a plan are sound: each predecessor is enabled and has a lesser rank, and the
 -- setups are among the predecessors.
-use Rattle.std.proofs.Common.{ℕ, ◌≡◌, ◌∙◌, Bool, true, false, cond, not, ◌&&◌, ◌||◌, nat_lt, List, [], ◌∷◌, Option, Some, None, refl, sym, ap, eqb}
+use Rattle.std.proofs.Common.{ℕ, ◌≡◌, ◌∙◌, Bool, true, false, cond, not, ◌&&◌, ◌||◌, nat_lt, List, [], ◌∷◌, length, Option, Some, None, refl, sym, ap, eqb}
 use Rattle.std.specs.List.{list_all}
 use Rattle.std.proofs.lemmas.Bool.{false≢true, and_parts, and_from, eqb-true}
 use Rattle.ct_base.specs.declared.defs.Resource.{Resource}
@@ -15,7 +15,7 @@ use Rattle.ct_graph.proofs.TestLemmas.{is_in-filter, list_all-from, list_all-at}
 use Rattle.ct_history.specs.declared.plan.PlanTest.{PlanTest}
 use Rattle.ct_history.specs.Plan.{has_sound_links, is_before_rank, test_at}
 use Rattle.ct_cost.specs.declared.cost_data.CostData.{CostData}
-use Rattle.ct_plan.specs.Source.{HaveProps, members_before, setup_members, run_members, source}
+use Rattle.ct_plan.specs.Source.{members_before, setup_members, run_members, source}
 use Rattle.ct_plan.proofs.NumberLemmas.{def_of_own}
 use Rattle.ct_plan.specs.Linked.{AreLinked, IsLinked}
 use Rattle.ct_plan.proofs.LinkLemmas.{AreOrdered, IsOrdered}
@@ -71,8 +71,8 @@ module _ (defs : List TestDef) (props : List Props) (wanted : Wanted) (resources
       ∙ below_by l t ls ts rank j linked.0 enabled (eqb l.number j) refl lower (below rank j ls ts linked.1 enabled)
 
   -- the links of one test are sound
-  test_sound : HaveProps defs props → (links : List Links) (tests : List PlanTest) → AreLinked resources wanted.level defs props links tests → (m : ℕ) (l : Links) (t : PlanTest) → IsOrdered (source defs props wanted resources costs) m l → IsLinked resources wanted.level defs props l t → ranks_above_all links l ≡ true → has_sound_links tests t ≡ true
-  test_sound have links tests linked m l t ordered one above =
+  test_sound : length props ≡ length defs → (links : List Links) (tests : List PlanTest) → AreLinked resources wanted.level defs props links tests → (m : ℕ) (l : Links) (t : PlanTest) → IsOrdered (source defs props wanted resources costs) m l → IsLinked resources wanted.level defs props l t → ranks_above_all links l ≡ true → has_sound_links tests t ≡ true
+  test_sound same links tests linked m l t ordered one above =
       ap (λ (u : PlanTest). has_sound_links tests u) one.is
       ∙ ap (λ before. list_all (λ j. is_before_rank l.rank (test_at tests j)) before && list_all (λ s. is_in before s) l.setups) ordered.before
       ∙ ap (λ setups. list_all (λ j. is_before_rank l.rank (test_at tests j)) (members_before (source defs props wanted resources costs) m) && list_all (λ s. is_in (members_before (source defs props wanted resources costs) m) s) setups) ordered.setups
@@ -88,20 +88,20 @@ module _ (defs : List TestDef) (props : List Props) (wanted : Wanted) (resources
       among = list_all-from (λ s. is_in (members_before (source defs props wanted resources costs) m) s) (setup_members (source defs props wanted resources costs) m) (λ s is.
           let both = and_parts _ _ (sym (is_in-filter (λ k. sets_up (at_number props k) (at_number props m)) (run_members (source defs props wanted resources costs)) s) ∙ is) in
           let own = setup_own (at_number props s) (at_number props m) both.0 in
-          let def = def_of_own defs props have s own.0 own.1 in
+          let def = def_of_own defs props same s own.0 own.1 in
           let earlier : comes_before (at_number defs s) (at_number props s) (at_number props m) ≡ true =
           ap (λ d. comes_before d (at_number props s) (at_number props m)) def.1 ∙ setup_before def.0 (at_number props s) (at_number props m) both.0 in
           is_in-filter (λ k. comes_before (at_number defs k) (at_number props k) (at_number props m)) (run_members (source defs props wanted resources costs)) s ∙ and_from _ _ earlier both.1)
 
   -- the links of all tests are sound
-  pub links_sound : HaveProps defs props → (links : List Links) (tests : List PlanTest) → AreLinked resources wanted.level defs props links tests → (ms : List ℕ) (ls : List Links) (ts : List PlanTest) → AreOrdered (source defs props wanted resources costs) ms ls → AreLinked resources wanted.level defs props ls ts → list_all (ranks_above_all links) ls ≡ true → list_all (has_sound_links tests) ts ≡ true
-  links_sound have links tests linked [] [] [] ordered some above = refl
-  links_sound have links tests linked [] [] (t ∷ ts) ordered some above = absurd some
-  links_sound have links tests linked [] (l ∷ ls) ts ordered some above = absurd ordered
-  links_sound have links tests linked (m ∷ ms) [] ts ordered some above = absurd ordered
-  links_sound have links tests linked (m ∷ ms) (l ∷ ls) [] ordered some above = absurd some
-  links_sound have links tests linked (m ∷ ms) (l ∷ ls) (t ∷ ts) ordered some above =
+  pub links_sound : length props ≡ length defs → (links : List Links) (tests : List PlanTest) → AreLinked resources wanted.level defs props links tests → (ms : List ℕ) (ls : List Links) (ts : List PlanTest) → AreOrdered (source defs props wanted resources costs) ms ls → AreLinked resources wanted.level defs props ls ts → list_all (ranks_above_all links) ls ≡ true → list_all (has_sound_links tests) ts ≡ true
+  links_sound same links tests linked [] [] [] ordered some above = refl
+  links_sound same links tests linked [] [] (t ∷ ts) ordered some above = absurd some
+  links_sound same links tests linked [] (l ∷ ls) ts ordered some above = absurd ordered
+  links_sound same links tests linked (m ∷ ms) [] ts ordered some above = absurd ordered
+  links_sound same links tests linked (m ∷ ms) (l ∷ ls) [] ordered some above = absurd some
+  links_sound same links tests linked (m ∷ ms) (l ∷ ls) (t ∷ ts) ordered some above =
       let both = and_parts (ranks_above_all links l) (list_all (ranks_above_all links) ls) above in
       and_from (has_sound_links tests t) (list_all (has_sound_links tests) ts)
-      (test_sound have links tests linked m l t ordered.0 some.0 both.0)
-      (links_sound have links tests linked ms ls ts ordered.1 some.1 both.1)
+      (test_sound same links tests linked m l t ordered.0 some.0 both.0)
+      (links_sound same links tests linked ms ls ts ordered.1 some.1 both.1)

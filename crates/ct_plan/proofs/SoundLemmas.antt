@@ -1,18 +1,17 @@
 -- The parts of a plan are sound, and the plan is that of the run.
-use Rattle.std.proofs.Common.{ℕ, ◌≡◌, ◌≤◌, ◌∙◌, Bool, true, false, cond, ◌&&◌, nat_le, min, max, List, [], ◌∷◌, length, map, Option, Some, None, Ok, refl, sym, ap, subst, arith}
-use Rattle.std.specs.Prelude.{All, IfSome, codes, option_map, nat_le}
+use Rattle.std.proofs.Common.{ℕ, ◌≡◌, ◌≤◌, ◌∙◌, Bool, true, false, cond, ◌&&◌, nat_le, min, List, [], ◌∷◌, length, map, Option, Some, None, zero, suc, refl, sym, ap, subst, arith}
+use Rattle.std.specs.Prelude.{All, IfSome, nat_le, option_map}
 use Rattle.std.specs.List.{list_all}
 use Rattle.std.proofs.lemmas.Bool.{and_from}
 use Rattle.std.proofs.lemmas.Bool.Decides.{nat_tests}
-use Rattle.std.proofs.lemmas.List.Elements.{All-cons, All-nil}
+use Rattle.std.proofs.lemmas.List.Elements.{All-cons, All-get_or, All-nil}
+use Rattle.std.proofs.lemmas.Option.{get_or_from_slice_get, slice_get_within}
 use Rattle.ct_alloc.specs.Placement.{AreDistinct, SomeFits}
 use Rattle.ct_base.specs.declared.defs.Need.{Need}
 use Rattle.ct_base.specs.declared.defs.Resource.{Resource}
 use Rattle.ct_base.specs.declared.defs.TestDef.{TestDef}
-use Rattle.ct_base.specs.Seconds.{number_in}
 use Rattle.ct_props.specs.declared.props.Props.{Props}
 use Rattle.ct_props.specs.declared.wanted.Wanted.{Wanted}
-use Rattle.ct_props.specs.Values.{bounded_processors, or_bad_number, processors_in, value_of_key}
 use Rattle.ct_props.specs.Numbered.{at_number}
 use Rattle.ct_env.specs.Modification.{first_bad}
 use Rattle.ct_graph.specs.Before.{comes_before, sets_up}
@@ -24,28 +23,20 @@ use Rattle.ct_history.specs.declared.plan.PlanTest.{PlanTest}
 use Rattle.ct_history.specs.declared.plan.PlanParts.{PlanParts}
 use Rattle.ct_history.specs.Plan.{IsPlaceable, IsSound, IsAscendingFrom, AllAscend, has_sound_processors, is_fixed_cause}
 use Rattle.ct_cost.specs.declared.cost_data.CostData.{CostData}
-use Rattle.ct_plan.specs.Source.{HaveProps, members_before, setup_members, run_members, source}
+use Rattle.ct_plan.specs.Source.{members_before, setup_members, run_members, source}
 use Rattle.ct_plan.specs.Planned.{ArePlaceable, IsFixedBy, is_not_available, own_cause}
 use Rattle.ct_plan.specs.Queue.{IsQueue}
 use Rattle.ct_plan.specs.PlanOf.{IsPlanOf}
 use Rattle.ct_plan.specs.Linked.{AreLinked}
-use Rattle.ct_plan.proofs.CallerLemmas.{length-have_props}
-use Rattle.ct_plan.proofs.NumberLemmas.{AreOfTests, AreSome, ascends-filter, def_of_own, some-members}
+use Rattle.ct_plan.proofs.NumberLemmas.{AreOfTests, AreSome, ascends-filter, some-members}
 use Rattle.ct_plan.proofs.LinkLemmas.{AreOrdered, are_ordered, are_planned, numbers_are}
 use Rattle.ct_plan.proofs.RankLemmas.{links_sound}
 
--- PROCESSORS is at least 1
-of_number : (number : Option ℕ) (processors : ℕ) → or_bad_number (option_map bounded_processors number) ≡ Ok processors → 1 ≤ processors
-of_number None processors is = cc
-of_number (Some n) processors is =
-    let same : min (max n 1) 65535 ≡ processors = cc in
-    omega (arith, same)
-
-at_least_one : (value : Option (List ℕ)) (processors : ℕ) → processors_in value ≡ Ok processors → 1 ≤ processors
-at_least_one None processors is =
-    let same : 1 ≡ processors = cc in
-    omega (arith, same)
-at_least_one (Some text) processors is = of_number (number_in text) processors is
+-- where each of some properties has at least one processor, so has the one of a number
+some_processors : (props : List Props) (number : ℕ) (own : Props) → All (λ (p : Props). 1 ≤ p.processors) props → at_number props number ≡ Some own → 1 ≤ own.processors
+some_processors props zero own all is = let no : None ≡ Some own = is in absurd (cc)
+some_processors props (suc place) own all is =
+    subst (λ (p : Props). 1 ≤ p.processors) (get_or_from_slice_get props place own own is) (All-get_or (λ (p : Props). 1 ≤ p.processors) props place own (slice_get_within props place own is) all)
 
 processors_within : (processors level : ℕ) → 1 ≤ processors → 1 ≤ level → (nat_le 1 (min processors level) && nat_le (min processors level) level) ≡ true
 processors_within processors level some one =
@@ -94,16 +85,15 @@ placeable_sound None defs props level ls ts linked = tt
 placeable_sound (Some rs) defs props level ls ts linked = placeable_on rs defs props level ls ts linked
 
 module _ (defs : List TestDef) (props : List Props) (wanted : Wanted) (resources : Option (List Resource)) (costs : CostData) where
-  processors_sound : HaveProps defs props → 1 ≤ wanted.level → (ls : List Links) (ts : List PlanTest) → AreLinked resources wanted.level defs props ls ts → list_all (has_sound_processors wanted.level) ts ≡ true
-  processors_sound have one [] [] linked = refl
-  processors_sound have one [] (t ∷ ts) linked = absurd linked
-  processors_sound have one (l ∷ ls) [] linked = absurd linked
-  processors_sound have one (l ∷ ls) (t ∷ ts) linked =
-      let has = def_of_own defs props have l.number linked.0.own linked.0.own_is in
-      let some : 1 ≤ linked.0.own.processors = at_least_one (value_of_key has.0.props (codes "PROCESSORS")) linked.0.own.processors has.2.processors in
+  processors_sound : All (λ (p : Props). 1 ≤ p.processors) props → 1 ≤ wanted.level → (ls : List Links) (ts : List PlanTest) → AreLinked resources wanted.level defs props ls ts → list_all (has_sound_processors wanted.level) ts ≡ true
+  processors_sound all one [] [] linked = refl
+  processors_sound all one [] (t ∷ ts) linked = absurd linked
+  processors_sound all one (l ∷ ls) [] linked = absurd linked
+  processors_sound all one (l ∷ ls) (t ∷ ts) linked =
+      let some : 1 ≤ linked.0.own.processors = some_processors props l.number linked.0.own all linked.0.own_is in
       and_from (has_sound_processors wanted.level t) (list_all (has_sound_processors wanted.level) ts)
       (ap (λ (u : PlanTest). has_sound_processors wanted.level u) linked.0.is ∙ processors_within linked.0.own.processors wanted.level some one)
-      (processors_sound have one ls ts linked.1)
+      (processors_sound all one ls ts linked.1)
 
   fixed_sound : (ls : List Links) (ts : List PlanTest) → AreLinked resources wanted.level defs props ls ts → list_all (λ (t : PlanTest). is_fixed_cause resources t.fixed) ts ≡ true
   fixed_sound [] [] linked = refl
@@ -151,8 +141,8 @@ module _ (defs : List TestDef) (props : List Props) (wanted : Wanted) (resources
   }
 
   -- the links are of tests
-  pub links_of_tests : HaveProps defs props → (links : List Links) → IsOrder defs props (run_members (source defs props wanted resources costs)) links → AreOfTests (length defs) (map (λ (l : Links). l.number) links)
-  links_of_tests have links order = subst (AreOfTests (length defs)) (sym order.numbers) (some-members wanted.choice defs props (length-have_props defs props have)).of_tests
+  pub links_of_tests : length props ≡ length defs → (links : List Links) → IsOrder defs props (run_members (source defs props wanted resources costs)) links → AreOfTests (length defs) (map (λ (l : Links). l.number) links)
+  links_of_tests same links order = subst (AreOfTests (length defs)) (sym order.numbers) (some-members wanted.choice defs props same).of_tests
 
   -- tests made of equal definitions, properties and resources are made of these
   pub made_of : (ds : List TestDef) (ps : List Props) (rs : Option (List Resource)) (links : List Links) (tests : List PlanTest) → ds ≡ defs → ps ≡ props → rs ≡ resources → AreLinked rs wanted.level ds ps links tests → AreLinked resources wanted.level defs props links tests
@@ -167,9 +157,9 @@ module _ (defs : List TestDef) (props : List Props) (wanted : Wanted) (resources
       (subst (λ qs. IsQueue (source defs qs wanted resources costs) ts queue) props_are
       (subst (λ es. IsQueue (source es ps wanted resources costs) ts queue) defs_are queued))
 
-  module _ (have : HaveProps defs props) (links : List Links) (order : IsOrder defs props (run_members (source defs props wanted resources costs)) links) (tests : List PlanTest) (linked : AreLinked resources wanted.level defs props links tests) where
+  module _ (same : length props ≡ length defs) (links : List Links) (order : IsOrder defs props (run_members (source defs props wanted resources costs)) links) (tests : List PlanTest) (linked : AreLinked resources wanted.level defs props links tests) where
     some : AreSome (length defs) (run_members (source defs props wanted resources costs))
-    some = some-members wanted.choice defs props (length-have_props defs props have)
+    some = some-members wanted.choice defs props same
 
     ordered : AreOrdered (source defs props wanted resources costs) (run_members (source defs props wanted resources costs)) links
     ordered = are_ordered (source defs props wanted resources costs) (run_members (source defs props wanted resources costs)) links order.numbers order.before order.setups
@@ -181,13 +171,13 @@ module _ (defs : List TestDef) (props : List Props) (wanted : Wanted) (resources
     pub made_some : AreSome (length defs) (map (λ (t : PlanTest). t.number) tests)
     made_some = subst (AreSome (length defs)) (sym made_numbers) some
 
-    pub plan_sound : 1 ≤ wanted.level → 1 ≤ wanted.repeat.times → (dir queue : List ℕ) → IsQueue (source defs props wanted resources costs) tests queue → IfSome resources AreDistinct → IsSound (parts_with dir tests queue)
-    plan_sound level times dir queue queued distinct = record {
+    pub plan_sound : All (λ (p : Props). 1 ≤ p.processors) props → 1 ≤ wanted.level → 1 ≤ wanted.repeat.times → (dir queue : List ℕ) → IsQueue (source defs props wanted resources costs) tests queue → IfSome resources AreDistinct → IsSound (parts_with dir tests queue)
+    plan_sound all level times dir queue queued distinct = record {
       numbers = subst (IsAscendingFrom 1) (sym made_numbers) some.ascend;
       before = before_ascend some.ascend (run_members (source defs props wanted resources costs)) links tests ordered linked;
       setups = setups_ascend some.ascend (run_members (source defs props wanted resources costs)) links tests ordered linked;
-      links = links_sound defs props wanted resources costs have links tests linked (run_members (source defs props wanted resources costs)) links tests ordered linked order.ranks;
-      processors = processors_sound have level links tests linked;
+      links = links_sound defs props wanted resources costs same links tests linked (run_members (source defs props wanted resources costs)) links tests ordered linked order.ranks;
+      processors = processors_sound all level links tests linked;
       fixed = fixed_sound links tests linked;
       queue = queued.all;
       times = times;
@@ -199,7 +189,7 @@ module _ (defs : List TestDef) (props : List Props) (wanted : Wanted) (resources
     plan_is dir queue dir_is queued = record {
       dir = dir_is;
       tests = are_planned defs props wanted resources costs (run_members (source defs props wanted resources costs)) links tests ordered linked;
-      ranks = links_sound defs props wanted resources costs have links tests linked (run_members (source defs props wanted resources costs)) links tests ordered linked order.ranks;
+      ranks = links_sound defs props wanted resources costs same links tests linked (run_members (source defs props wanted resources costs)) links tests ordered linked order.ranks;
       queue = queued;
       resources = refl;
       level = refl;

@@ -1,11 +1,11 @@
-ghost use Rattle.std.specs.Prelude.{◌≡◌, ◌<◌, ◌≤◌, ◌-◌, ◌^◌, IfOk, IfSome, OnOk, length};
+ghost use Rattle.std.specs.Prelude.{◌≡◌, ◌<◌, ◌≤◌, ◌-◌, ◌^◌, All, IfOk, IfSome, OnOk, length};
 ghost use Rattle.std.specs.Option.{option_copied};
 ghost use Rattle.ct_alloc.specs.Placement.{AreDistinct};
 ghost use Rattle.ct_graph.specs.Cycle.{HasCycle};
 ghost use Rattle.ct_graph.specs.Order.{IsOrder, most_edges};
 ghost use Rattle.ct_plan.specs.Linked.{IsUnused, lent};
 ghost use Rattle.ct_plan.specs.PlanOf.{IsPlanAnswer, IsPlanOf};
-ghost use Rattle.ct_plan.specs.Source.{HaveProps, members_before, members_in, run_members, source};
+ghost use Rattle.ct_plan.specs.Source.{members_before, members_in, run_members, source};
 
 use crate::PlanFault;
 use crate::planned::plan_tests;
@@ -24,9 +24,10 @@ use std::alloc::Global;
 /// Plans a run: the chosen tests and those that fixtures draw in, in the order that DEPENDS and
 /// fixtures ask for, each with what its properties say.
 ///
-/// The properties at a place are those of the test at that place. Where a specification is given,
-/// its resources are lent, and a test whose needs fit nowhere on them is not run. A cycle is
-/// refused with its tests. More than `ct_graph::MOST_EDGES` edges are refused too.
+/// The properties at a place are those of the test at that place; each has at least one processor.
+/// Where a specification is given, its resources are lent, and a test whose needs fit nowhere on
+/// them is not run. A cycle is refused with its tests. More than `ct_graph::MOST_EDGES` edges are
+/// refused too.
 ///
 /// Source: CMake manual, ctest(1), Run Tests and Resource Allocation; cmake-properties(7), Properties
 /// on Tests.
@@ -39,7 +40,8 @@ pub fn plan(
     costs: &CostData,
 ) -> Result<Plan, PlanFault>
     requires few { length defs.now < 2 ^ 32 - 1 }
-    requires together { HaveProps defs.now props.now }
+    requires paired { length props.now ≡ length defs.now }
+    requires processors { All (λ own. 1 ≤ own.processors) props.now }
     requires level { 1 ≤ wanted.now.level }
     requires times { 1 ≤ wanted.now.repeat.times }
     ensures answer { IsPlanAnswer most_edges (source defs.now props.now wanted.now (option_copied spec.entry) costs.now) result }
@@ -79,7 +81,8 @@ fn plan_in_order(
     costs: &CostData,
     links: List<Links>,
 ) -> Result<Plan, NoMemory>
-    requires together { HaveProps defs.now props.now }
+    requires paired { length props.now ≡ length defs.now }
+    requires processors { All (λ own. 1 ≤ own.processors) props.now }
     requires level { 1 ≤ wanted.now.level }
     requires times { 1 ≤ wanted.now.repeat.times }
     requires order { IsOrder defs.now props.now (run_members (source defs.now props.now wanted.now (option_copied spec) costs.now)) links }

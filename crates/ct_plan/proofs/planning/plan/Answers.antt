@@ -7,23 +7,16 @@ use Rattle.ct_graph.specs.Cycle.{HasCycle}
 use Rattle.ct_graph.specs.Before.{before_of}
 use Rattle.ct_plan.specs.Source.{run_members, source}
 use Rattle.ct_plan.specs.PlanOf.{IsPlanAnswer}
-use Rattle.ct_plan.proofs.CallerLemmas.{length-have_props}
 use Rattle.ct_plan.proofs.NumberLemmas.{AreOfTests, AreSome, increase, some-members}
 use Rattle.ct_plan.proofs.PlanLemmas.{no_plan}
 use Rattle.ct_plan.proofs.planning.plan.Goals as goal
-
-pub members-requires-clause-paired : goal.members-requires-clause-paired
-members-requires-clause-paired c = length-have_props c.args.defs.now c.args.props.now c.requires.together
-
-pub order-requires-clause-paired : goal.order-requires-clause-paired
-order-requires-clause-paired c = length-have_props c.args.defs.now c.args.props.now c.requires.together
 
 pub order-requires-clause-ascending : goal.order-requires-clause-ascending
 order-requires-clause-ascending c =
     let defs = c.args.defs.now in
     let props = c.args.props.now in
     let members = run_members (source defs props c.args.wanted.now (option_copied c.args.spec) c.args.costs.now) in
-    let some : AreSome (length defs) members = some-members c.args.wanted.now.choice defs props (length-have_props defs props c.requires.together) in
+    let some : AreSome (length defs) members = some-members c.args.wanted.now.choice defs props c.requires.paired in
     subst IsStrictlyIncreasing (sym c.in_ok-members.ensures) (increase members some.ascend)
 
 pub order-requires-clause-within : goal.order-requires-clause-within
@@ -31,7 +24,7 @@ order-requires-clause-within c =
     let defs = c.args.defs.now in
     let props = c.args.props.now in
     let members = run_members (source defs props c.args.wanted.now (option_copied c.args.spec) c.args.costs.now) in
-    let some : AreSome (length defs) members = some-members c.args.wanted.now.choice defs props (length-have_props defs props c.requires.together) in
+    let some : AreSome (length defs) members = some-members c.args.wanted.now.choice defs props c.requires.paired in
     subst (AreOfTests (length defs)) (sym c.in_ok-members.ensures) some.of_tests
 
 pub returns-in_err-ordered-clause-answer : goal.returns-in_err-ordered-clause-answer
