@@ -3,11 +3,20 @@ use Rattle.std.specs.Prelude.{Option, None, Err}
 use Rattle.std.specs.Option.{option_copied}
 use Rattle.ct_base.specs.declared.defs.Resource.{Resource}
 use Rattle.ct_base.specs.declared.defs.TestDef.{TestDef}
+use Rattle.ct_plan.proofs.CallerLemmas.{have_processors, length-have_props}
 use Rattle.ct_app.specs.declared.planning.Unplanned.{Unplanned}
 use Rattle.ct_app.specs.Calls.{sides}
 use Rattle.ct_app.specs.Ends.{EndsUnrun, IsReadFolder, IsUnplanned}
 use Rattle.ct_app.proofs.LeaveLemmas.{unplanned_unrun, unread_unrun}
 use Rattle.ct_app.proofs.planning.plan_folder.Goals as goal
+
+pub plan-requires-clause-paired : goal.plan-requires-clause-paired
+plan-requires-clause-paired g c =
+    length-have_props c.in-Ok.folder.tests.defs c.in-Ok.folder.tests.props c.in-Ok.ensures.ok.read.read.have
+
+pub plan-requires-clause-processors : goal.plan-requires-clause-processors
+plan-requires-clause-processors g c =
+    have_processors c.in-Ok.folder.tests.defs c.in-Ok.folder.tests.props c.in-Ok.ensures.ok.read.read.have
 
 pub returns-in-Ok-plan-clause-ok : goal.returns-in-Ok-plan-clause-ok
 returns-in-Ok-plan-clause-ok g c =
