@@ -3,7 +3,7 @@ ghost use Rattle.std.specs.Option.{option_copied};
 ghost use Rattle.ct_props.specs.Values.{value_of_key};
 ghost use Rattle.ct_env.specs.Modification.{first_bad, is_bad_entry as is_bad};
 ghost use Rattle.ct_env.specs.Environment.{IsEnvironment, base_value};
-ghost use Rattle.ct_env.specs.Variables.{AreBase};
+ghost use Rattle.ct_env.specs.Variables.{AreBase, ChangesAll};
 
 use crate::assignment::assignments_in;
 use crate::modification::Modification;
@@ -46,8 +46,7 @@ pub fn environment(
 {
     let base = base_variables(alloc, own, props.environment.as_slice())?;
     let told = given_variables(alloc, props.groups.count(), given)?;
-    let modification = props.modification.as_slice();
-    let changed = base.copy()?.changed_by(alloc, &base, modification)?;
+    let changed = modified(alloc, base, props.modification.as_slice())?;
     changed.with_all(alloc, told.as_slice())?.into_list(alloc)
 }
 
@@ -60,6 +59,16 @@ fn base_variables(alloc: Global, own: &[Pair], entries: &[Name]) -> Result<Varia
     let kept = own.without(b"CTEST_RESOURCE_GROUP_COUNT");
     let variables = kept.with_all(alloc, assigned.as_slice())?;
     Ok(variables)
+}
+
+/// Changes variables by the entries of a modification. Most tests have none.
+fn modified(alloc: Global, base: Variables, entries: &[Name]) -> Result<Variables, NoMemory>
+    ensures { IfOk result (ChangesAll base entries.now base) }
+{
+    match entries {
+        [] => Ok(base),
+        [_, ..] => base.copy()?.changed_by(alloc, &base, entries),
+    }
 }
 
 fn first_bad_place(entries: &[Name]) -> Option<usize>

@@ -143,7 +143,7 @@ impl Variables {
         ensures same { IfOk result (λ pairs. pairs ≡ self) }
         ensures ordered { IfOk result (λ pairs. IsAscending pairs) }
     {
-        let mut pairs = List::new(alloc);
+        let mut pairs = List::from_vec(Vec::with_capacity(alloc, self.values.len())?);
         for (name, value) in self.values {
             pairs.push(Pair {
                 name: Name::from_vec(name),
