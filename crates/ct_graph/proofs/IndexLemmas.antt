@@ -1,9 +1,11 @@
 -- An index finds the tests that come before a test, and those that set up its fixtures.
-use Rattle.std.proofs.Common.{ℕ, ◌≡◌, ◌+◌, ◌<◌, ◌≤◌, Bool, true, false, not, ◌&&◌, ◌||◌, bytes_eq, List, [], ◌∷◌, length, take, get_or, Option, Some, refl, sym, ap, ◌∙◌, subst, arith, eqb}
+use Rattle.std.proofs.Common.{ℕ, zero, suc, ◌≡◌, ◌+◌, ◌<◌, ◌≤◌, Bool, true, false, not, ◌&&◌, ◌||◌, bytes_eq, List, [], ◌∷◌, length, take, get_or, Option, Some, refl, sym, ap, ◌∙◌, subst, arith, eqb}
+use Rattle.std.specs.Prelude.{◌==◌}
 use Rattle.std.specs.List.{list_any}
 use Rattle.std.specs.List.Sorted.{IsStrictlyIncreasing}
-use Rattle.std.proofs.lemmas.Bool.{eqb-true}
+use Rattle.std.proofs.lemmas.Bool.{eqb-true, ne_eqb}
 use Rattle.std.proofs.lemmas.List.Folds.{list_any_more}
+use Rattle.std.proofs.lemmas.Map.Keys.{any_passes_from_place}
 use Rattle.std.proofs.lemmas.List.Kept.{IsStrictlyIncreasing-filter}
 use Rattle.ct_props.proofs.NumberedLemmas.{at_number_within}
 use Rattle.ct_base.specs.declared.defs.TestDef.{TestDef}
@@ -12,7 +14,7 @@ use Rattle.ct_props.specs.Numbered.{at_number, is_in}
 use Rattle.ct_graph.specs.Before.{comes_before, sets_up, before_of, setups_of}
 use Rattle.ct_graph.specs.ByName.{tests_of, is_found_in}
 use Rattle.ct_graph.specs.Found.{AreFound}
-use Rattle.ct_graph.specs.Index.{has_own_name, has_setup, has_required, IsIndex, IsIndexAt, Indexed, AddsTest, AreMembers, FindsBefore}
+use Rattle.ct_graph.specs.Index.{has_own_name, has_setup, has_required, cleans_some, has_cleanup, IsIndex, IsIndexAt, Indexed, AddsTest, AreMembers, FindsBefore}
 use Rattle.ct_graph.specs.declared.index.Index.{Index}
 use Rattle.ct_graph.proofs.TestLemmas.{is_in-filter, same_increasing, all_in}
 use Rattle.ct_graph.proofs.NameLemmas.{bytes_eq_comm}
@@ -50,12 +52,12 @@ one_more members at d within has before now old new n =
 pub indexes_more : (defs : List TestDef) (props : List Props) (members : List ℕ) (at d : ℕ) → at < length members → (names setups users names' setups' users' : List ℕ → List ℕ) → IsIndex defs props (take at members) names setups users
     → ((name : List ℕ) (n : ℕ) → is_in (names' name) n ≡ (is_in (names name) n || (has_own_name name (at_number defs (get_or members at d)) (at_number props (get_or members at d)) && eqb (get_or members at d) n)))
     → ((fixture : List ℕ) (n : ℕ) → is_in (setups' fixture) n ≡ (is_in (setups fixture) n || (has_setup fixture (at_number props (get_or members at d)) && eqb (get_or members at d) n)))
-    → ((fixture : List ℕ) (n : ℕ) → is_in (users' fixture) n ≡ (is_in (users fixture) n || (has_required fixture (at_number props (get_or members at d)) && eqb (get_or members at d) n)))
+    → (has_cleanup props ≡ true → (fixture : List ℕ) (n : ℕ) → is_in (users' fixture) n ≡ (is_in (users fixture) n || (has_required fixture (at_number props (get_or members at d)) && eqb (get_or members at d) n)))
     → IsIndex defs props (take (at + 1) members) names' setups' users'
 indexes_more defs props members at d within names setups users names' setups' users' index by_name by_setup by_user = record {
   by_name = λ name. one_more members at d within (λ n. has_own_name name (at_number defs n) (at_number props n)) (λ n. is_in (names name) n) (λ n. is_in (names' name) n) (index.by_name name) (by_name name);
   by_setup = λ fixture. one_more members at d within (λ n. has_setup fixture (at_number props n)) (λ n. is_in (setups fixture) n) (λ n. is_in (setups' fixture) n) (index.by_setup fixture) (by_setup fixture);
-  by_user = λ fixture. one_more members at d within (λ n. has_required fixture (at_number props n)) (λ n. is_in (users fixture) n) (λ n. is_in (users' fixture) n) (index.by_user fixture) (by_user fixture);
+  by_user = λ cleans fixture. one_more members at d within (λ n. has_required fixture (at_number props n)) (λ n. is_in (users fixture) n) (λ n. is_in (users' fixture) n) (index.by_user cleans fixture) (by_user cleans fixture);
 }
 
 -- the common part of two conjunctions comes out in front
@@ -74,6 +76,10 @@ in_front m each has same (name ∷ names) =
     ∙ ap (λ b. (m && has name) || b) (in_front m each has same names)
     ∙ both_or m (has name) (list_any has names)
 
+-- a list with a first item is not empty
+some_length : (n : ℕ) → not (suc n == 0) ≡ true
+some_length n = ap not (ne_eqb (suc n) 0 (λ (same : suc n ≡ 0). omega (arith, same)))
+
 module _ (defs : List TestDef) (props : List Props) (members : List ℕ) (names setups users : List ℕ → List ℕ) (index : IsIndex defs props members names setups users) (n : ℕ) where
   found_named : (depends : List (List ℕ)) → is_found_in names depends n ≡ (is_in members n && list_any (λ name. has_own_name name (at_number defs n) (at_number props n)) depends)
   found_named depends = in_front (is_in members n) (λ name. is_in (names name) n) (λ name. has_own_name name (at_number defs n) (at_number props n)) (λ name. index.by_name name n) depends
@@ -81,8 +87,14 @@ module _ (defs : List TestDef) (props : List Props) (members : List ℕ) (names 
   found_setups : (fixtures : List (List ℕ)) → is_found_in setups fixtures n ≡ (is_in members n && list_any (λ fixture. has_setup fixture (at_number props n)) fixtures)
   found_setups fixtures = in_front (is_in members n) (λ fixture. is_in (setups fixture) n) (λ fixture. has_setup fixture (at_number props n)) (λ fixture. index.by_setup fixture n) fixtures
 
-  found_users : (fixtures : List (List ℕ)) → is_found_in users fixtures n ≡ (is_in members n && list_any (λ fixture. has_required fixture (at_number props n)) fixtures)
-  found_users fixtures = in_front (is_in members n) (λ fixture. is_in (users fixture) n) (λ fixture. has_required fixture (at_number props n)) (λ fixture. index.by_user fixture n) fixtures
+  found_users : (fixtures : List (List ℕ)) → (not (length fixtures == 0) ≡ true → has_cleanup props ≡ true) → is_found_in users fixtures n ≡ (is_in members n && list_any (λ fixture. has_required fixture (at_number props n)) fixtures)
+  found_users [] cleans = and_false (is_in members n)
+  found_users (first ∷ fixtures) cleans = in_front (is_in members n) (λ fixture. is_in (users fixture) n) (λ fixture. has_required fixture (at_number props n)) (λ fixture. index.by_user (cleans (some_length (length fixtures))) fixture n) (first ∷ fixtures)
+
+-- a test that cleans a fixture is one of the tests
+some_cleans : (props : List Props) (number : ℕ) (later : Props) → at_number props number ≡ Some later → cleans_some later ≡ true → has_cleanup props ≡ true
+some_cleans props zero later is cleans = absurd (cc)
+some_cleans props (suc place) later is cleans = any_passes_from_place cleans_some props place later is cleans
 
 -- whether a test has one of these names, by its own name
 named : (depends : List (List ℕ)) (def : TestDef) (earlier : Props) → list_any (λ name. has_own_name name (Some def) (Some earlier)) depends ≡ (not earlier.disabled && is_among def.name depends)
@@ -174,7 +186,7 @@ module _ (defs : List TestDef) (props : List Props) (members : List ℕ) (names 
       finds n
       ∙ ap (λ a. ((a || is_found_in setups later.required n) || is_found_in users later.cleanup n) || is_found_in setups later.cleanup n) (found_named defs props members names setups users index n later.depends)
       ∙ ap (λ b. (((is_in members n && list_any (λ name. has_own_name name (at_number defs n) (at_number props n)) later.depends) || b) || is_found_in users later.cleanup n) || is_found_in setups later.cleanup n) (found_setups defs props members names setups users index n later.required)
-      ∙ ap (λ c. (((is_in members n && list_any (λ name. has_own_name name (at_number defs n) (at_number props n)) later.depends) || (is_in members n && list_any (λ fixture. has_setup fixture (at_number props n)) later.required)) || c) || is_found_in setups later.cleanup n) (found_users defs props members names setups users index n later.cleanup)
+      ∙ ap (λ c. (((is_in members n && list_any (λ name. has_own_name name (at_number defs n) (at_number props n)) later.depends) || (is_in members n && list_any (λ fixture. has_setup fixture (at_number props n)) later.required)) || c) || is_found_in setups later.cleanup n) (found_users defs props members names setups users index n later.cleanup (some_cleans props number later is_later))
       ∙ ap (λ d. (((is_in members n && list_any (λ name. has_own_name name (at_number defs n) (at_number props n)) later.depends) || (is_in members n && list_any (λ fixture. has_setup fixture (at_number props n)) later.required)) || (is_in members n && list_any (λ fixture. has_required fixture (at_number props n)) later.cleanup)) || d) (found_setups defs props members names setups users index n later.cleanup)
       ∙ found_by n enabled
 
@@ -271,11 +283,12 @@ adds_more defs props members at old new within was adds = record {
   defs_are = ap (λ d. d.now) adds.same_defs ∙ was.defs_are;
   props_are = ap (λ p. p.now) adds.same_props ∙ was.props_are;
   members_are = ap (λ m. m.now) adds.same_members ∙ was.members_are;
+  cleans_is = adds.same_cleans ∙ was.cleans_is;
   indexed =
       indexes_more defs props members at 0 within (tests_of old.names) (tests_of old.setups) (tests_of old.users) (tests_of new.names) (tests_of new.setups) (tests_of new.users) was.indexed
       (λ name n. adds.by_name name n ∙ ap (λ ds. is_in (tests_of old.names name) n || (has_own_name name (at_number ds (get_or members at 0)) (at_number old.props.now (get_or members at 0)) && eqb (get_or members at 0) n)) was.defs_are ∙ ap (λ ps. is_in (tests_of old.names name) n || (has_own_name name (at_number defs (get_or members at 0)) (at_number ps (get_or members at 0)) && eqb (get_or members at 0) n)) was.props_are)
       (λ fixture n. adds.by_setup fixture n ∙ ap (λ ps. is_in (tests_of old.setups fixture) n || (has_setup fixture (at_number ps (get_or members at 0)) && eqb (get_or members at 0) n)) was.props_are)
-      (λ fixture n. adds.by_user fixture n ∙ ap (λ ps. is_in (tests_of old.users fixture) n || (has_required fixture (at_number ps (get_or members at 0)) && eqb (get_or members at 0) n)) was.props_are);
+      (λ cleans fixture n. adds.by_user (was.cleans_is ∙ cleans) fixture n ∙ ap (λ ps. is_in (tests_of old.users fixture) n || (has_required fixture (at_number ps (get_or members at 0)) && eqb (get_or members at 0) n)) was.props_are);
 }
 
 -- an index over members that ascend and are within the tests

@@ -1,5 +1,6 @@
 -- The members that are not disabled, by the names through which others wait for them. This project's own.
-use Rattle.std.specs.Prelude.{◌≡◌, ℕ, ◌≤◌, ◌<◌, bytes_eq, Bool, false, not, ◌&&◌, ◌||◌, List, All, length, Option, Some, None, ◌==◌}
+use Rattle.std.specs.Prelude.{◌≡◌, ℕ, ◌≤◌, ◌<◌, bytes_eq, Bool, true, false, not, ◌&&◌, ◌||◌, List, All, length, Option, Some, None, ◌==◌}
+use Rattle.std.specs.List.{list_any}
 use Rattle.std.specs.List.Sorted.{IsStrictlyIncreasing}
 use Rattle.ct_base.specs.declared.defs.TestDef.{TestDef}
 use Rattle.ct_props.specs.declared.props.Props.{Props}
@@ -25,7 +26,16 @@ abbrev pub has_required : List ℕ → Option Props → Bool
 has_required fixture None = false
 has_required fixture (Some props) = not props.disabled && is_among fixture props.required
 
--- the members are found by their names, by the fixtures that they set up, and by those that they require
+-- the test cleans some fixture
+abbrev pub cleans_some : Props → Bool
+cleans_some props = not (length props.cleanup == 0)
+
+-- some test cleans some fixture
+abbrev pub has_cleanup : List Props → Bool
+has_cleanup props = list_any cleans_some props
+
+-- the members are found by their names, by the fixtures that they set up, and, if some test cleans a fixture,
+-- by those that they require
 pub record IsIndex
     (defs : List TestDef) (props : List Props) (members : List ℕ) (names setups users : List ℕ → List ℕ)
     : Type 0 where
@@ -33,7 +43,7 @@ pub record IsIndex
       → is_in (names name) n ≡ (is_in members n && has_own_name name (at_number defs n) (at_number props n))
   pub by_setup : (fixture : List ℕ) (n : ℕ)
       → is_in (setups fixture) n ≡ (is_in members n && has_setup fixture (at_number props n))
-  pub by_user : (fixture : List ℕ) (n : ℕ)
+  pub by_user : has_cleanup props ≡ true → (fixture : List ℕ) (n : ℕ)
       → is_in (users fixture) n ≡ (is_in members n && has_required fixture (at_number props n))
 
 -- each member is the number of one of `most` tests
@@ -55,6 +65,7 @@ pub record IsIndexAt (defs : List TestDef) (props : List Props) (members some : 
   pub defs_are : index.defs.now ≡ defs
   pub props_are : index.props.now ≡ props
   pub members_are : index.members.now ≡ members
+  pub cleans_is : index.cleans ≡ has_cleanup props
   pub indexed : IsIndex defs props some (tests_of index.names) (tests_of index.setups) (tests_of index.users)
 
 -- the index has one more test, unless that test is disabled
@@ -62,6 +73,7 @@ pub record AddsTest (number : ℕ) (old new : Index) : Type 0 where
   pub same_defs : new.defs ≡ old.defs
   pub same_props : new.props ≡ old.props
   pub same_members : new.members ≡ old.members
+  pub same_cleans : new.cleans ≡ old.cleans
   pub by_name : (name : List ℕ) (n : ℕ)
       → is_in (tests_of new.names name) n
       ≡ (is_in (tests_of old.names name) n
@@ -71,7 +83,7 @@ pub record AddsTest (number : ℕ) (old new : Index) : Type 0 where
       → is_in (tests_of new.setups fixture) n
       ≡ (is_in (tests_of old.setups fixture) n
       || (has_setup fixture (at_number old.props.now number) && number == n))
-  pub by_user : (fixture : List ℕ) (n : ℕ)
+  pub by_user : old.cleans ≡ true → (fixture : List ℕ) (n : ℕ)
       → is_in (tests_of new.users fixture) n
       ≡ (is_in (tests_of old.users fixture) n
       || (has_required fixture (at_number old.props.now number) && number == n))

@@ -3,7 +3,7 @@ ghost use Rattle.std.specs.List.Sorted.{IsStrictlyIncreasing};
 ghost use Rattle.ct_graph.specs.Before.{before_of, setups_of};
 ghost use Rattle.ct_graph.specs.ByName.{tests_of};
 ghost use Rattle.ct_graph.specs.Found.{AreFound, IsEmpty, Knows};
-ghost use Rattle.ct_graph.specs.Index.{Indexed, IsIndexAt, IsReadySearch, AddsTest, FindsBefore, AreMembers};
+ghost use Rattle.ct_graph.specs.Index.{Indexed, IsIndexAt, IsReadySearch, AddsTest, FindsBefore, AreMembers, has_cleanup};
 
 use crate::by_name::ByName;
 use crate::found::Found;
@@ -22,7 +22,9 @@ pub(crate) struct Index<'a> {
     names: ByName<'a>,
     /// The members, by the fixtures that they set up.
     setups: ByName<'a>,
-    /// The members, by the fixtures that they require.
+    /// Whether some test cleans a fixture.
+    cleans: bool,
+    /// The members, by the fixtures that they require, if some test cleans a fixture.
     users: ByName<'a>,
 }
 
@@ -43,6 +45,7 @@ impl<'a> Index<'a> {
             members,
             names: ByName::new(alloc),
             setups: ByName::new(alloc),
+            cleans: has_cleanup(props),
             users: ByName::new(alloc),
         };
         for number in members {
@@ -66,8 +69,10 @@ impl<'a> Index<'a> {
         let name = self.defs[place].name.bytes();
         self.names.add(alloc, name, number)?;
         self.setups.add_all(alloc, props.setup.as_slice(), number)?;
-        self.users
-            .add_all(alloc, props.required.as_slice(), number)?;
+        if self.cleans {
+            self.users
+                .add_all(alloc, props.required.as_slice(), number)?;
+        }
         Ok(())
     }
 
@@ -131,6 +136,13 @@ impl<'a> Index<'a> {
         search.found.add_all(cleaned.as_slice())?;
         Ok(search.found.take(alloc)?)
     }
+}
+
+/// Tells whether some test cleans a fixture.
+fn has_cleanup(props: &[Props]) -> bool
+    ensures { result ≡ has_cleanup props.now }
+{
+    props.iter().any(|own| !own.cleanup.is_empty())
 }
 
 /// What a test waits for.
