@@ -6,10 +6,11 @@
 
 mod start;
 
+use ct_start::gates_of;
 use std::process::ExitCode;
 
 fn main(rt: HostRuntime) -> ExitCode {
-    start::exit_code(match start::gates_of(rt.alloc(), rt) {
+    start::exit_code(match gates_of(rt.alloc(), rt) {
         Ok(gates) => start::begin(&rt, rt, gates),
         Err(fault) => Err(fault.into()),
     })

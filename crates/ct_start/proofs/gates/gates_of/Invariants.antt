@@ -1,6 +1,6 @@
 use Rattle.std.proofs.Common.{◌≡◌, vec_len, replicate}
 use Rattle.ct_edge.specs.Machine.{gate_tell, gates_tell}
-use Rattle.ctest.proofs.start.gates_of.Given as goal
+use Rattle.ct_start.proofs.gates.gates_of.Given as goal
 
 abbrev pub invariant-loop : goal.invariant-loop
 invariant-loop l = record {

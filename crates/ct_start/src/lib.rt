@@ -1,0 +1,14 @@
+//! What programs over the machine share: their words, their environment, their gates, and the exit code of
+//! one that could not begin.
+//!
+//! Hands up: `BeginFault`, `words_of`, `pairs_of`, `gates_of`.
+//! Read first: `specs/Start.antt`.
+#![tactic(auto)]
+
+mod fault;
+mod gates;
+mod words;
+
+pub use fault::BeginFault;
+pub use gates::gates_of;
+pub use words::{pairs_of, words_of};
