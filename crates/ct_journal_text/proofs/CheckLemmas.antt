@@ -23,7 +23,7 @@ use Rattle.ct_journal_text.specs.declared.check.Step.{Step}
 use Rattle.ct_journal_text.specs.declared.check.Step.TheVariants.{GoesOn, Ends, IsBad}
 use Rattle.ct_journal_text.specs.declared.lines.EntryLine.{EntryLine}
 use Rattle.ct_journal_text.specs.declared.lines.JournalLine.TheVariants as Line
-use Rattle.ct_journal_text.specs.Journal.{Says, journal_line_text, noted}
+use Rattle.ct_journal_text.specs.Journal.{EntryFits, Says, journal_line_text, noted}
 use Rattle.ct_journal_text.specs.Checked.{FindsEntry, HasPlacement, IsPlacementFor, IsDoneLine, NotesLine, TakesLine, TakesEntryOr}
 
 placed_for : (resources : Option (List Resource)) (t : PlanTest) (used : ℕ → ℕ) (p : Placement) → is_placed resources t.needs used (Some p) ≡ true → IsPlacementFor resources (Some t) p
@@ -35,7 +35,7 @@ placed_for (Some rs) t used p placed = by_needs t.needs placed
     by_needs (need ∷ needs) is = (and_parts (is_placement rs (need ∷ needs) p.picks) (fits_beside rs used p.picks) is).0
 
 -- the placement of an allowed entry is one for the needs of its test
-allowed_placed : (plan : PlanParts) (front : List Entry) (e : Entry) → is_allowed plan front e ≡ true → HasPlacement plan e
+pub allowed_placed : (plan : PlanParts) (front : List Entry) (e : Entry) → is_allowed plan front e ≡ true → HasPlacement plan e
 allowed_placed plan front (Happened.Start t a w None) allowed = tt
 allowed_placed plan front (Happened.Start t a w (Some p)) allowed =
     let most = and_parts (not (is_stop_due plan front) && starts plan front a (Some p) (test_at plan.tests t)) (not (is_busy_in w front)) allowed in
@@ -64,6 +64,7 @@ pub takes_entry : (plan : PlanParts) (front : List Entry) (text : List ℕ) (lin
 takes_entry plan front text line GoesOn audit small says (e, is, allowed, told) = record {
   entry = e;
   is = ((says (Line.Entry line)).0 refl).1 ∙ ap (λ l. journal_line_text (Line.Entry l)) is;
+  fits = subst EntryFits is ((says (Line.Entry line)).0 refl).0;
   allowed = allowed;
   told = told;
 }

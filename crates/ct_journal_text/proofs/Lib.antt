@@ -4,4 +4,6 @@ pub mod WordLemmas
 pub mod LineLemmas
 pub mod PlacementLemmas
 pub mod CheckLemmas
+pub mod RangeLemmas
 pub mod TextLemmas
+pub mod ExactLemmas

@@ -47,7 +47,7 @@ start_again test attempt worker (Some places) t a w fit =
     ∙ ap (λ last. codes "start " ++ (decimal test ++ (32 ∷ (decimal attempt ++ (32 ∷ (decimal worker ++ (codes " at " ++ last))))))) (sym (append-nil (listed places))) in
     let cut : pieces 32 (entry_text (Start test attempt worker (Some places))) ≡ codes "start" ∷ words =
     ap (pieces 32) spelt
-    ∙ cut_again 32 (codes "start") words refl (three_free (decimal test) (decimal attempt) (decimal worker) (codes "at" ∷ listed places ∷ []) (short_free test t) (short_free attempt a) (short_free worker w) (both (is_free 32 (listed places)) true (listed_free places fit) refl)) in
+    ∙ cut_again 32 (codes "start") words refl (three_free (decimal test) (decimal attempt) (decimal worker) (codes "at" ∷ listed places ∷ []) (short_free test t) (short_free attempt a) (short_free worker w) (both (is_free 32 (listed places)) true (listed_free 32 (omega arith) places fit) refl)) in
     ap guess_by cut ∙ (λ i. Line.Entry (Start (short_again test t i) (short_again attempt a i) (short_again worker w i) (Some (places_again places fit i))))
 
 end_again : (test attempt worker : ℕ) (seen : Seen) → IsOf32Bits test → IsOf32Bits attempt → IsOf32Bits worker → HowFits seen.how → seen.micros < 2 ^ 64 → guess_in (entry_text (End test attempt worker seen)) ≡ Line.Entry (End test attempt worker seen)
@@ -61,7 +61,7 @@ end_again test attempt worker seen t a w how micros =
     ∙ ap (λ text. codes "end " ++ (decimal test ++ (32 ∷ (decimal attempt ++ (32 ∷ (decimal worker ++ text)))))) said in
     let cut : pieces 32 (entry_text (End test attempt worker seen)) ≡ codes "end" ∷ words =
     ap (pieces 32) spelt
-    ∙ cut_again 32 (codes "end") words refl (three_free (decimal test) (decimal attempt) (decimal worker) behind (short_free test t) (short_free attempt a) (short_free worker w) (three_free (how_text seen.how) (hits_text seen) (decimal seen.micros) [] (how_free seen.how how) (hits_free seen.fail_hit seen.pass_hit seen.skip_hit) (decimal_free 32 seen.micros (omega arith) micros) refl)) in
+    ∙ cut_again 32 (codes "end") words refl (three_free (decimal test) (decimal attempt) (decimal worker) behind (short_free test t) (short_free attempt a) (short_free worker w) (three_free (how_text seen.how) (hits_text seen) (decimal seen.micros) [] (how_free 32 (omega arith) seen.how how) (hits_free 32 (omega arith) seen.fail_hit seen.pass_hit seen.skip_hit) (decimal_free 32 seen.micros (omega arith) micros) refl)) in
     ap guess_by cut
     ∙ (λ i. Line.Entry (End (short_again test t i) (short_again attempt a i) (short_again worker w i) (record { how = how_again seen.how how i; fail_hit = hit_again seen.fail_hit i; pass_hit = hit_again seen.pass_hit i; skip_hit = hit_again seen.skip_hit i; micros = number_again seen.micros micros i })))
 
@@ -72,7 +72,7 @@ settle_again test cause t fit =
     ap (λ text. codes "settle " ++ text) (append_assoc (decimal test) (codes " ") (not_run_word cause))
     ∙ ap (λ last. codes "settle " ++ (decimal test ++ (32 ∷ last))) (sym (append-nil (not_run_word cause))) in
     let cut : pieces 32 (entry_text (Settle test cause)) ≡ codes "settle" ∷ words =
-    ap (pieces 32) spelt ∙ cut_again 32 (codes "settle") words refl (both (is_free 32 (decimal test)) (is_free 32 (not_run_word cause) && true) (short_free test t) (both (is_free 32 (not_run_word cause)) true (cause_free cause fit) refl)) in
+    ap (pieces 32) spelt ∙ cut_again 32 (codes "settle") words refl (both (is_free 32 (decimal test)) (is_free 32 (not_run_word cause) && true) (short_free test t) (both (is_free 32 (not_run_word cause)) true (cause_free 32 (omega arith) cause fit) refl)) in
     ap guess_by cut ∙ (λ i. Line.Entry (Settle (short_again test t i) (cause_again cause fit i)))
 
 done_again : (count : ℕ) → count < 2 ^ 64 → guess_in (journal_line_text (Line.Done count)) ≡ Line.Done count

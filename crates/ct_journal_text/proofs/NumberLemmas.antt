@@ -4,7 +4,8 @@ use Rattle.std.specs.List.{list_all}
 use Rattle.std.specs.Fmt.{signed_decimal}
 use Rattle.std.specs.Char.{digit_value}
 use Rattle.std.specs.Str.Parse.{AllDigits, IsNumeral, digits_value, digits_value_after}
-use Rattle.std.proofs.lemmas.Bool.{ne_eqb}
+use Rattle.std.proofs.Math.Dec.{ltb}
+use Rattle.std.proofs.lemmas.Bool.{and_parts, lt-ltb, ltb-true, ne_eqb}
 use Rattle.std.proofs.lemmas.Fmt.{decimal_is_IsNumeral}
 use Rattle.std.proofs.lemmas.Str.{digit_value_digit}
 use Rattle.std.proofs.lemmas.Str.Parse.{digit_from_value}
@@ -66,10 +67,32 @@ digits_free separator (d ∷ ds) less digits =
 pub decimal_free : (separator n : ℕ) → separator < 48 → n < 2 ^ 64 → is_free separator (decimal n) ≡ true
 decimal_free separator n less small = digits_free separator (decimal n) less (decimal_is_IsNumeral n small).0.1
 
--- no space stands in an exit code
-pub code_free : (code : ℤ) → IsCode code → is_free 32 (signed_decimal code) ≡ true
-code_free (pos n) small = decimal_free 32 n (omega arith) (omega (arith, small))
-code_free (negsuc n) small = decimal_free 32 (suc n) (omega arith) (omega (arith, small))
+-- each byte of a text is above the space
+abbrev pub is_spaceless : List ℕ → Bool
+is_spaceless text = list_all (λ byte. ltb 32 byte) text
+
+digits_spaceless : (ds : List ℕ) → AllDigits 10 ds → is_spaceless ds ≡ true
+digits_spaceless [] digits = refl
+digits_spaceless (d ∷ ds) digits =
+    let digit = digit_from_value d digits.0 in
+    ap (λ b. b && is_spaceless ds) (lt-ltb 32 d (omega (arith, digit.0))) ∙ digits_spaceless ds digits.1
+
+-- no byte up to the space stands in a number
+pub decimal_spaceless : (n : ℕ) → n < 2 ^ 64 → is_spaceless (decimal n) ≡ true
+decimal_spaceless n small = digits_spaceless (decimal n) (decimal_is_IsNumeral n small).0.1
+
+-- no byte up to the space stands in an exit code
+pub code_spaceless : (code : ℤ) → IsCode code → is_spaceless (signed_decimal code) ≡ true
+code_spaceless (pos n) small = decimal_spaceless n (omega (arith, small))
+code_spaceless (negsuc n) small = decimal_spaceless (suc n) (omega (arith, small))
+
+-- a text whose bytes are above the space is free of each byte up to it
+pub spaceless_free : (separator : ℕ) (text : List ℕ) → separator ≤ 32 → is_spaceless text ≡ true → is_free separator text ≡ true
+spaceless_free separator [] least above = refl
+spaceless_free separator (byte ∷ text) least above =
+    let parts = and_parts (ltb 32 byte) (is_spaceless text) above in
+    let more : 32 < byte = ltb-true 32 byte parts.0 in
+    ap (λ b. not b && is_free separator text) (ne_eqb byte separator (λ e. omega (arith, more, least, e))) ∙ spaceless_free separator text least parts.1
 
 kept_small : (n : ℕ) (text : List ℕ) → n < 2 ^ 64 → fold with_digit n text < 2 ^ 64
 kept_small n [] small = small

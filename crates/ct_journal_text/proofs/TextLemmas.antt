@@ -19,7 +19,7 @@ use Rattle.ct_audit.specs.Tells.{TellsHistory, is_at_end}
 use Rattle.ct_journal_text.specs.declared.check.Step.TheVariants.{GoesOn, Ends, IsBad}
 use Rattle.ct_journal_text.specs.declared.lines.JournalLine.TheVariants as Line
 use Rattle.ct_journal_text.specs.Guess.{guess_in}
-use Rattle.ct_journal_text.specs.Journal.{entry_lines, full_line, journal_line_text, noted}
+use Rattle.ct_journal_text.specs.Journal.{EntriesFit, EntryFits, entry_lines, full_line, journal_line_text, noted}
 use Rattle.ct_journal_text.specs.Checked.{IsNoEntry, TakesLine}
 use Rattle.ct_journal_text.specs.Found.{Finds, FindsBehind, IsReading, StandsAt}
 use Rattle.ct_journal_text.proofs.LineLemmas.{line_again}
@@ -28,12 +28,16 @@ idle_closed : (rs : List Running) → not (list_any (λ (r : Running). true) rs)
 idle_closed [] idle = refl
 idle_closed (r ∷ rs) idle = cc
 
+fit_snoc : (entries : List Entry) (e : Entry) → EntriesFit entries → EntryFits (noted e) → EntriesFit (entries ++ e ∷ [])
+fit_snoc [] e fit one = (one, tt)
+fit_snoc (first ∷ rest) e fit one = (fit.0, fit_snoc rest e fit.1 one)
+
 module _ (plan : PlanParts) (text : List ℕ) where
   -- nothing was read yet
   pub reads_none : (audit : Audit) (line : List ℕ) → TellsHistory plan [] audit → line ≡ [] → IsReading plan text 0 audit line 0 []
   reads_none audit line told none = record {
     told = told;
-    stands = record { allowed = refl; text_is = ap (λ (l : List ℕ). l ++ text) (sym none); one = ap (list_any (λ (byte : ℕ). byte == 10)) none };
+    stands = record { fit = tt; allowed = refl; text_is = ap (λ (l : List ℕ). l ++ text) (sym none); one = ap (list_any (λ (byte : ℕ). byte == 10)) none };
     count_is = refl;
     few = omega arith;
   }
@@ -46,6 +50,7 @@ module _ (plan : PlanParts) (text : List ℕ) where
       record {
         told = reading.told;
         stands = record {
+          fit = reading.stands.fit;
           allowed = reading.stands.allowed;
           text_is = reading.stands.text_is ∙ ap (λ (r : List ℕ). entry_lines entries ++ (line ++ r)) next ∙ ap (λ (r : List ℕ). entry_lines entries ++ r) (sym (append_assoc line (byte ∷ []) (drop (at + 1) text)));
           one = list_any-append (λ (b : ℕ). b == 10) line (byte ∷ []) ∙ ap (λ (b : Bool). b || (byte == 10 || false)) reading.stands.one ∙ ap (λ (b : Bool). b || false) other;
@@ -65,6 +70,7 @@ module _ (plan : PlanParts) (text : List ℕ) where
       record {
         told = takes.told;
         stands = record {
+          fit = fit_snoc entries e reading.stands.fit takes.fits;
           allowed = allowed-snoc plan entries e reading.stands.allowed takes.allowed;
           text_is =
               reading.stands.text_is
@@ -126,6 +132,7 @@ module _ (plan : PlanParts) (text : List ℕ) where
       record {
         entries = entries;
         text_is = reading.stands.text_is ∙ ap (λ (r : List ℕ). entry_lines entries ++ (line ++ r)) (next ∙ ap (λ (r : List ℕ). 10 ∷ r) none) ∙ ap (λ (l : List ℕ). entry_lines entries ++ (l ++ 10 ∷ [])) takes.0;
+        fit = reading.stands.fit;
         legal = legal.0;
         complete = legal.1;
       }
@@ -150,6 +157,7 @@ pub finds_whole : (plan : PlanParts) (text rest : List ℕ) (found : Option ℕ)
 finds_whole plan text rest None is accepted = record {
   entries = accepted.entries;
   text_is = is ∙ ap (λ (r : List ℕ). full_line Line.First ++ r) accepted.text_is;
+  fit = accepted.fit;
   legal = accepted.legal;
   complete = accepted.complete;
 }

@@ -1,5 +1,5 @@
 -- The words of a line: the text with one space between them is cut into them again, and each is read as what it was written for.
-use Rattle.std.proofs.Common.{ℕ, ◌+◌, ◌<◌, ◌≡◌, ◌==◌, not, ◌&&◌, Bool, true, false, cond, List, [], ◌∷◌, ◌++◌, length, map, flat_map, refl, ap, ◌∙◌, arith, codes, decimal, bytes_eq, take, drop, All, length-append, append-nil}
+use Rattle.std.proofs.Common.{ℕ, ◌+◌, ◌<◌, ◌≤◌, ◌≡◌, ◌==◌, not, ◌&&◌, Bool, true, false, cond, List, [], ◌∷◌, ◌++◌, length, map, flat_map, refl, ap, ◌∙◌, arith, codes, decimal, bytes_eq, take, drop, All, length-append, append-nil}
 use Rattle.std.specs.List.{list_all, AllByRecursion}
 use Rattle.std.proofs.lemmas.List.Elements.{All-nil, All-cons}
 use Rattle.std.proofs.lemmas.Bool.{ne_eqb, eq-eqb, and_parts}
@@ -12,7 +12,8 @@ use Rattle.ct_verdict.specs.declared.verdict.Cause.{Cause}
 use Rattle.ct_verdict.specs.declared.verdict.Cause.TheVariants as Why
 use Rattle.ct_journal_text.specs.Journal.{how_text, not_run_word, hit_digit, listed, IsOf32Bits, HowFits, CauseFits}
 use Rattle.ct_journal_text.specs.Guess.{pieces, short_in, code_written, how_in, numbered_cause_in, cause_in, places_in_word}
-use Rattle.ct_journal_text.proofs.NumberLemmas.{is_free, decimal_free, code_free, short_again, code_again, short_fits, code_fits}
+use Rattle.std.proofs.Math.Dec.{ltb}
+use Rattle.ct_journal_text.proofs.NumberLemmas.{is_free, is_spaceless, decimal_free, decimal_spaceless, code_spaceless, spaceless_free, short_again, code_again, short_fits, code_fits}
 
 not_true : (b : Bool) → not b ≡ true → b ≡ false
 not_true true is = cc
@@ -46,13 +47,16 @@ how_again NotStarted fits = refl
 how_again (Lacks place) fits = ap Lacks (short_again place fits)
 how_again NoMemory fits = refl
 
-pub how_free : (how : How) → HowFits how → is_free 32 (how_text how) ≡ true
-how_free (Exited code) fits = code_free code fits
-how_free Signalled fits = refl
-how_free TimedOut fits = refl
-how_free NotStarted fits = refl
-how_free (Lacks place) fits = decimal_free 32 place (omega arith) (omega (arith, fits))
-how_free NoMemory fits = refl
+how_spaceless : (how : How) → HowFits how → is_spaceless (how_text how) ≡ true
+how_spaceless (Exited code) fits = code_spaceless code fits
+how_spaceless Signalled fits = refl
+how_spaceless TimedOut fits = refl
+how_spaceless NotStarted fits = refl
+how_spaceless (Lacks place) fits = decimal_spaceless place (omega (arith, fits))
+how_spaceless NoMemory fits = refl
+
+pub how_free : (separator : ℕ) → separator ≤ 32 → (how : How) → HowFits how → is_free separator (how_text how) ≡ true
+how_free separator least how fits = spaceless_free separator (how_text how) least (how_spaceless how fits)
 
 -- why a test did not run
 pub cause_again : (cause : Cause) → CauseFits cause → cause_in (not_run_word cause) ≡ cause
@@ -65,29 +69,33 @@ cause_again Why.Insufficient fits = refl
 cause_again Why.Stopped fits = refl
 cause_again Why.Memory fits = refl
 
-pub cause_free : (cause : Cause) → CauseFits cause → is_free 32 (not_run_word cause) ≡ true
-cause_free Why.Unstarted fits = refl
-cause_free (Why.Lacks place) fits = decimal_free 32 place (omega arith) (omega (arith, fits))
-cause_free (Why.Fixture setup) fits = decimal_free 32 setup (omega arith) (omega (arith, fits))
-cause_free Why.NotAvailable fits = refl
-cause_free (Why.BadOperation place) fits = decimal_free 32 place (omega arith) (omega (arith, fits))
-cause_free Why.Insufficient fits = refl
-cause_free Why.Stopped fits = refl
-cause_free Why.Memory fits = refl
+cause_spaceless : (cause : Cause) → CauseFits cause → is_spaceless (not_run_word cause) ≡ true
+cause_spaceless Why.Unstarted fits = refl
+cause_spaceless (Why.Lacks place) fits = decimal_spaceless place (omega (arith, fits))
+cause_spaceless (Why.Fixture setup) fits = decimal_spaceless setup (omega (arith, fits))
+cause_spaceless Why.NotAvailable fits = refl
+cause_spaceless (Why.BadOperation place) fits = decimal_spaceless place (omega (arith, fits))
+cause_spaceless Why.Insufficient fits = refl
+cause_spaceless Why.Stopped fits = refl
+cause_spaceless Why.Memory fits = refl
+
+pub cause_free : (separator : ℕ) → separator ≤ 32 → (cause : Cause) → CauseFits cause → is_free separator (not_run_word cause) ≡ true
+cause_free separator least cause fits = spaceless_free separator (not_run_word cause) least (cause_spaceless cause fits)
 
 -- the digit of a hit
 pub hit_again : (hit : Bool) → (hit_digit hit == 49) ≡ hit
 hit_again true = refl
 hit_again false = refl
 
-hit_free : (hit : Bool) → not (hit_digit hit == 32) ≡ true
-hit_free true = refl
-hit_free false = refl
+hit_spaceless : (hit : Bool) → ltb 32 (hit_digit hit) ≡ true
+hit_spaceless true = refl
+hit_spaceless false = refl
 
-pub hits_free : (one two three : Bool) → is_free 32 (hit_digit one ∷ hit_digit two ∷ hit_digit three ∷ []) ≡ true
-hits_free one two three =
-    both (not (hit_digit one == 32)) (is_free 32 (hit_digit two ∷ hit_digit three ∷ [])) (hit_free one)
-    (both (not (hit_digit two == 32)) (is_free 32 (hit_digit three ∷ [])) (hit_free two) (both (not (hit_digit three == 32)) true (hit_free three) refl))
+pub hits_free : (separator : ℕ) → separator ≤ 32 → (one two three : Bool) → is_free separator (hit_digit one ∷ hit_digit two ∷ hit_digit three ∷ []) ≡ true
+hits_free separator least one two three =
+    spaceless_free separator (hit_digit one ∷ hit_digit two ∷ hit_digit three ∷ []) least
+    (both (ltb 32 (hit_digit one)) (is_spaceless (hit_digit two ∷ hit_digit three ∷ [])) (hit_spaceless one)
+    (both (ltb 32 (hit_digit two)) (is_spaceless (hit_digit three ∷ [])) (hit_spaceless two) (both (ltb 32 (hit_digit three)) true (hit_spaceless three) refl)))
 
 -- places as words with a comma between them
 in_words : (places : List ℕ) → flat_map (λ other. codes "," ++ decimal other) places ≡ flat_map (λ word. 44 ∷ word) (map decimal places)
@@ -114,17 +122,20 @@ places_again (place ∷ places) fit =
     ∙ ap (map short_in) (cut_again 44 (decimal place) (map decimal places) (decimal_free 44 place (omega arith) (omega (arith, fit.0))) (decimals_free places fit.1))
     ∙ shorts_again (place ∷ places) fit
 
-others_free : (places : List ℕ) → AllByRecursion IsOf32Bits places → is_free 32 (flat_map (λ other. codes "," ++ decimal other) places) ≡ true
-others_free [] fit = refl
-others_free (place ∷ places) fit =
+others_spaceless : (places : List ℕ) → AllByRecursion IsOf32Bits places → is_spaceless (flat_map (λ other. codes "," ++ decimal other) places) ≡ true
+others_spaceless [] fit = refl
+others_spaceless (place ∷ places) fit =
     let rest = flat_map (λ other. codes "," ++ decimal other) places in
-    list_all-append (λ byte. not (byte == 32)) (decimal place) rest ∙ both (is_free 32 (decimal place)) (is_free 32 rest) (decimal_free 32 place (omega arith) (omega (arith, fit.0))) (others_free places fit.1)
+    list_all-append (λ byte. ltb 32 byte) (decimal place) rest ∙ both (is_spaceless (decimal place)) (is_spaceless rest) (decimal_spaceless place (omega (arith, fit.0))) (others_spaceless places fit.1)
 
-pub listed_free : (places : List ℕ) → AllByRecursion IsOf32Bits places → is_free 32 (listed places) ≡ true
-listed_free [] fit = refl
-listed_free (place ∷ places) fit =
+listed_spaceless : (places : List ℕ) → AllByRecursion IsOf32Bits places → is_spaceless (listed places) ≡ true
+listed_spaceless [] fit = refl
+listed_spaceless (place ∷ places) fit =
     let rest = flat_map (λ other. codes "," ++ decimal other) places in
-    list_all-append (λ byte. not (byte == 32)) (decimal place) rest ∙ both (is_free 32 (decimal place)) (is_free 32 rest) (decimal_free 32 place (omega arith) (omega (arith, fit.0))) (others_free places fit.1)
+    list_all-append (λ byte. ltb 32 byte) (decimal place) rest ∙ both (is_spaceless (decimal place)) (is_spaceless rest) (decimal_spaceless place (omega (arith, fit.0))) (others_spaceless places fit.1)
+
+pub listed_free : (separator : ℕ) → separator ≤ 32 → (places : List ℕ) → AllByRecursion IsOf32Bits places → is_free separator (listed places) ≡ true
+listed_free separator least places fit = spaceless_free separator (listed places) least (listed_spaceless places fit)
 
 how_by : (b : Bool) (one other : How) → HowFits one → HowFits other → HowFits (cond b one other)
 how_by true one other fits also = fits

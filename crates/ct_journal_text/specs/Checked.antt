@@ -49,6 +49,7 @@ IsNoEnd plan front line =
 pub record TakesEntry (plan : PlanParts) (front : List Entry) (line : List ℕ) (audit : Audit) : Type 0 where
   pub entry : Entry
   pub is : line ≡ journal_line_text (Line.Entry (noted entry))
+  pub fits : EntryFits (noted entry)
   pub allowed : is_allowed plan front entry ≡ true
   pub told : TellsHistory plan (front ++ entry ∷ []) audit
 

@@ -8,13 +8,14 @@ use Rattle.ct_history.specs.Legal.{IsComplete, is_allowed_so_far, is_legal}
 use Rattle.ct_audit.specs.declared.audit.Audit.{Audit}
 use Rattle.ct_audit.specs.Tells.{TellsHistory, is_at_end}
 use Rattle.ct_journal_text.specs.declared.lines.JournalLine.TheVariants as Line
-use Rattle.ct_journal_text.specs.Journal.{entry_lines, full_line, journal_of, journal_line_text}
+use Rattle.ct_journal_text.specs.Journal.{EntriesFit, entry_lines, full_line, journal_of, journal_line_text}
 use Rattle.ct_journal_text.specs.Checked.{IsNoEntry}
 
--- the text is the journal of a complete legal history
+-- the text is the journal of a complete legal history, whose numbers are in their ranges
 pub record IsAccepted (plan : PlanParts) (text : List ℕ) : Type 0 where
   pub entries : List Entry
   pub text_is : text ≡ journal_of entries
+  pub fit : EntriesFit entries
   pub legal : is_legal plan entries ≡ true
   pub complete : IsComplete plan entries
 
@@ -31,9 +32,11 @@ IsBadLine plan entries line (byte ∷ rest) =
     × IsNoEntry plan entries line
     × (line ≡ journal_line_text (Line.Done (length entries)) → is_at_end plan entries ≡ true → rest ≡ [] → ⊥)
 
--- the text is the lines of these entries, each allowed behind those in front, then this line, then the rest
+-- the text is the lines of these entries, each allowed behind those in front and with its numbers in their
+-- ranges, then this line, then the rest
 pub record StandsAt (plan : PlanParts) (text : List ℕ) (entries : List Entry) (line rest : List ℕ)
     : Type 0 where
+  pub fit : EntriesFit entries
   pub allowed : is_allowed_so_far plan entries ≡ true
   pub text_is : text ≡ entry_lines entries ++ (line ++ rest)
   pub one : IsOneLine line
@@ -51,6 +54,7 @@ pub record IsRefusedBehind (plan : PlanParts) (text : List ℕ) (number : ℕ) :
 pub record IsAcceptedBehind (plan : PlanParts) (text : List ℕ) : Type 0 where
   pub entries : List Entry
   pub text_is : text ≡ entry_lines entries ++ full_line (Line.Done (length entries))
+  pub fit : EntriesFit entries
   pub legal : is_legal plan entries ≡ true
   pub complete : IsComplete plan entries
 
@@ -73,6 +77,10 @@ pub record IsRefusedAt (plan : PlanParts) (text : List ℕ) (number : ℕ) : Typ
 abbrev pub Finds : PlanParts → List ℕ → Option ℕ → Type 0
 Finds plan text None = IsAccepted plan text
 Finds plan text (Some number) = ((number ≡ 1) × LacksFirst text) ⊎ IsRefusedAt plan text number
+
+-- the text is found to be this, and nothing else: no text is accepted and refused, or refused at two lines
+abbrev pub IsSoleFinding : PlanParts → List ℕ → Option ℕ → Type 0
+IsSoleFinding plan text found = (other : Option ℕ) → Finds plan text other → found ≡ other
 
 -- so far, the audit tells the entries whose lines were read, and the rest of the text stands behind them
 pub record IsReading (plan : PlanParts) (text : List ℕ) (at : ℕ) (audit : Audit) (line : List ℕ) (count : ℕ)

@@ -140,6 +140,10 @@ EntryFits (End test attempt worker seen) =
 EntryFits (Settle test cause) = IsOf32Bits test × CauseFits cause
 EntryFits Stop = ⊤
 
+-- the numbers of these entries are in their ranges
+abbrev pub EntriesFit : List Entry → Type 0
+EntriesFit entries = AllByRecursion (λ (entry : Entry). EntryFits (noted entry)) entries
+
 -- the numbers of a line are in the ranges of their types
 abbrev pub Fits : JournalLine → Type 0
 Fits Line.First = ⊤

@@ -2,7 +2,7 @@ ghost use Rattle.std.specs.Prelude.{◌≡◌, ◌<◌, ◌+◌, ◌-◌, ◌^�
 ghost use Rattle.std.specs.Option.{option_copied};
 ghost use Rattle.ct_journal_text.specs.Journal.{full_line};
 ghost use Rattle.ct_journal_text.specs.declared.lines.JournalLine.TheVariants as Line;
-ghost use Rattle.ct_journal_text.specs.Found.{Finds, FindsBehind, LacksFirst};
+ghost use Rattle.ct_journal_text.specs.Found.{Finds, FindsBehind, IsSoleFinding, LacksFirst};
 
 use crate::check::{Step, take_line};
 use ct_audit::Audit;
@@ -16,10 +16,17 @@ const FIRST_LEN: usize = 13;
 /// Checks a text in one pass: whether it is the journal of a complete legal history for a plan.
 ///
 /// Returns the number of the first line that is not good, from 1. Where the text ends too early,
-/// this is one more than the number of its lines. Returns `None` where the text is accepted.
+/// this is one more than the number of its lines. Returns `None` exactly where the text is accepted.
 ///
 /// Source: this project's choice.
 pub fn check_text(alloc: Global, plan: &Plan, text: &[u8]) -> Result<Option<u64>, NoMemory>
+    ensures found { IfOk result (λ found. Finds plan.now text.now found) }
+    ensures sole { IfOk result (λ found. IsSoleFinding plan.now text.now found) }
+{
+    Ok(find_in(alloc, plan, text)?)
+}
+
+fn find_in(alloc: Global, plan: &Plan, text: &[u8]) -> Result<Option<u64>, NoMemory>
     ensures { IfOk result (λ found. Finds plan.now text.now found) }
 {
     match behind_first(text) {

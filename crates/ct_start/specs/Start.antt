@@ -1,4 +1,4 @@
--- What a program on the machine begins with, and its exit status where it could not begin. This project's own.
+-- What a program on the machine begins with, and its exit status where it cannot begin. This project's own.
 use Rattle.std.specs.Prelude.{ℕ, List, map, drop, replicate, string_bytes}
 use Rattle.std.specs.declared.string.String.{String}
 use Rattle.ct_base.specs.declared.defs.Pair.{Pair}

@@ -20,6 +20,8 @@ good ct-journal 1|start 1 1 0|end 1 1 0 exit:0 000 10000|done 2|
 4 ct-journal 1|start 1 1 0|end 1 1 0 exit:0 000 10000|done 2||
 4 ct-journal 1|start 1 1 0|end 1 1 0 exit:0 000 10000|stop|
 3 ct-journal 1|start 1 1 0|end 1 1 1 exit:0 000 10000|
+good ct-journal 1|start 1 1 0|end 1 1 0 exit:-1 000 18446744073709551615|done 2|
+3 ct-journal 1|start 1 1 0|end 1 1 0 exit:-1 000 18446744073709551616|done 2|
 2 ct-journal 1|start 1 2 0|
 2 ct-journal 1|start 2 1 0|
 3 ct-journal 1|start 1 1 0|done 1|

@@ -1,5 +1,8 @@
-use Rattle.std.proofs.Common.{inl, refl}
+use Rattle.std.proofs.Common.{◌<◌, ◌^◌, length, rules}
+use Rattle.ct_journal_text.proofs.ExactLemmas.{finds_once}
 use Rattle.ct_journal_text.proofs.text.check_text.Goals as goal
 
-pub returns-in-None : goal.returns-in-None
-returns-in-None c = inl (refl, c.in-None.ensures.none refl)
+pub returns-clause-sole : goal.returns-clause-sole
+returns-clause-sole c other found =
+    let small : length c.args.text.now < 2 ^ 64 = search rules in
+    finds_once c.args.plan.now c.args.text.now c.in_ok-find_in.field-0 other small c.in_ok-find_in.ensures found
