@@ -6,3 +6,6 @@ mod SoundLemmas
 mod UrgencyLemmas
 mod QueueLemmas
 mod PlanLemmas
+pub mod WholeLemmas
+pub mod TreeStandingLemmas
+pub mod PlannedTreeLemmas

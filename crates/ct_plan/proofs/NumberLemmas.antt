@@ -92,7 +92,7 @@ numbers_with : (t : PlanTest) (ts : List PlanTest) (b : Bool) → map (λ (u : P
 numbers_with t ts true = refl
 numbers_with t ts false = refl
 
-enabled_ascend : (least : ℕ) (tests : List PlanTest) → IsAscendingFrom least (map (λ (t : PlanTest). t.number) tests) → IsAscendingFrom least (map (λ (t : PlanTest). t.number) (enabled tests))
+pub enabled_ascend : (least : ℕ) (tests : List PlanTest) → IsAscendingFrom least (map (λ (t : PlanTest). t.number) tests) → IsAscendingFrom least (map (λ (t : PlanTest). t.number) (enabled tests))
 enabled_ascend least [] ascends = tt
 enabled_ascend least (t ∷ ts) ascends =
     subst (IsAscendingFrom least) (sym (numbers_with t (enabled ts) (not t.disabled)))
@@ -102,7 +102,7 @@ of_tests_with : (count first : ℕ) (numbers : List ℕ) → (0 < first) × (fir
 of_tests_with count first numbers here rest true = All-cons (λ number. (0 < number) × (number ≤ count)) first numbers here rest
 of_tests_with count first numbers here rest false = rest
 
-enabled_of_tests : (count : ℕ) (tests : List PlanTest) → AreOfTests count (map (λ (t : PlanTest). t.number) tests) → AreOfTests count (map (λ (t : PlanTest). t.number) (enabled tests))
+pub enabled_of_tests : (count : ℕ) (tests : List PlanTest) → AreOfTests count (map (λ (t : PlanTest). t.number) tests) → AreOfTests count (map (λ (t : PlanTest). t.number) (enabled tests))
 enabled_of_tests count [] of_tests = All-nil (λ number. (0 < number) × (number ≤ count))
 enabled_of_tests count (t ∷ ts) of_tests =
     let numbers = map (λ (u : PlanTest). u.number) ts in

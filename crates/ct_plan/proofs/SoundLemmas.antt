@@ -27,7 +27,7 @@ use Rattle.ct_plan.specs.Source.{members_before, setup_members, run_members, sou
 use Rattle.ct_plan.specs.Planned.{ArePlaceable, IsFixedBy, is_not_available, own_cause}
 use Rattle.ct_plan.specs.Queue.{IsQueue}
 use Rattle.ct_plan.specs.PlanOf.{IsPlanOf}
-use Rattle.ct_plan.specs.Linked.{AreLinked}
+use Rattle.ct_plan.specs.Linked.{AreLinked, standing_in}
 use Rattle.ct_plan.proofs.NumberLemmas.{AreOfTests, AreSome, ascends-filter, some-members}
 use Rattle.ct_plan.proofs.LinkLemmas.{AreOrdered, are_ordered, are_planned, numbers_are}
 use Rattle.ct_plan.proofs.RankLemmas.{links_sound}
@@ -151,11 +151,11 @@ module _ (defs : List TestDef) (props : List Props) (wanted : Wanted) (resources
       (subst (λ qs. AreLinked rs wanted.level defs qs links tests) props_are
       (subst (λ es. AreLinked rs wanted.level es ps links tests) defs_are made))
 
-  pub queue_of : (ds : List TestDef) (ps : List Props) (ts tests : List PlanTest) (queue : List ℕ) → ds ≡ defs → ps ≡ props → ts ≡ tests → IsQueue (source ds ps wanted resources costs) ts queue → IsQueue (source defs props wanted resources costs) tests queue
+  pub queue_of : (ds : List TestDef) (ps : List Props) (ts tests : List PlanTest) (queue : List ℕ) → ds ≡ defs → ps ≡ props → ts ≡ tests → IsQueue wanted.level (standing_in ds ps costs) ts queue → IsQueue wanted.level (standing_in defs props costs) tests queue
   queue_of ds ps ts tests queue defs_are props_are tests_are queued =
-      subst (λ us. IsQueue (source defs props wanted resources costs) us queue) tests_are
-      (subst (λ qs. IsQueue (source defs qs wanted resources costs) ts queue) props_are
-      (subst (λ es. IsQueue (source es ps wanted resources costs) ts queue) defs_are queued))
+      subst (λ us. IsQueue wanted.level (standing_in defs props costs) us queue) tests_are
+      (subst (λ qs. IsQueue wanted.level (standing_in defs qs costs) ts queue) props_are
+      (subst (λ es. IsQueue wanted.level (standing_in es ps costs) ts queue) defs_are queued))
 
   module _ (same : length props ≡ length defs) (links : List Links) (order : IsOrder defs props (run_members (source defs props wanted resources costs)) links) (tests : List PlanTest) (linked : AreLinked resources wanted.level defs props links tests) where
     some : AreSome (length defs) (run_members (source defs props wanted resources costs))
@@ -171,7 +171,7 @@ module _ (defs : List TestDef) (props : List Props) (wanted : Wanted) (resources
     pub made_some : AreSome (length defs) (map (λ (t : PlanTest). t.number) tests)
     made_some = subst (AreSome (length defs)) (sym made_numbers) some
 
-    pub plan_sound : All (λ (p : Props). 1 ≤ p.processors) props → 1 ≤ wanted.level → 1 ≤ wanted.repeat.times → (dir queue : List ℕ) → IsQueue (source defs props wanted resources costs) tests queue → IfSome resources AreDistinct → IsSound (parts_with dir tests queue)
+    pub plan_sound : All (λ (p : Props). 1 ≤ p.processors) props → 1 ≤ wanted.level → 1 ≤ wanted.repeat.times → (dir queue : List ℕ) → IsQueue wanted.level (standing_in defs props costs) tests queue → IfSome resources AreDistinct → IsSound (parts_with dir tests queue)
     plan_sound all level times dir queue queued distinct = record {
       numbers = subst (IsAscendingFrom 1) (sym made_numbers) some.ascend;
       before = before_ascend some.ascend (run_members (source defs props wanted resources costs)) links tests ordered linked;
@@ -185,7 +185,7 @@ module _ (defs : List TestDef) (props : List Props) (wanted : Wanted) (resources
       placeable = placeable_sound resources defs props wanted.level links tests linked;
     }
 
-    pub plan_is : (dir queue : List ℕ) → dir ≡ wanted.dir → IsQueue (source defs props wanted resources costs) tests queue → IsPlanOf (source defs props wanted resources costs) (parts_with dir tests queue)
+    pub plan_is : (dir queue : List ℕ) → dir ≡ wanted.dir → IsQueue wanted.level (standing_in defs props costs) tests queue → IsPlanOf (source defs props wanted resources costs) (parts_with dir tests queue)
     plan_is dir queue dir_is queued = record {
       dir = dir_is;
       tests = are_planned defs props wanted resources costs (run_members (source defs props wanted resources costs)) links tests ordered linked;

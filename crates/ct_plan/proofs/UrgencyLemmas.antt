@@ -21,7 +21,7 @@ use Rattle.ct_plan.specs.declared.standing.Standing.{Standing}
 use Rattle.ct_plan.specs.Queue.{costs_more, cost_in, is_more_urgent, goes_first_there, standing_there}
 use Rattle.ct_plan.specs.Linked.{standing_in}
 use Rattle.ct_props.proofs.NumberedLemmas.{at_number_within}
-use Rattle.ct_plan.proofs.NumberLemmas.{AreSome, pairs_ascend}
+use Rattle.ct_plan.proofs.NumberLemmas.{pairs_ascend}
 use Rattle.ct_base.specs.Names.{is_among}
 
 -- what costs less does not go in front
@@ -74,7 +74,7 @@ distinct numbers up = IsDistinct-from_AllPairs Decides-eqb numbers (λ i j d bef
     λ same. omega (arith, less, same))
 
 -- a standing has the number that was asked for
-standing_number : (costs : CostData) (number : ℕ) (def : Option TestDef) (own : Option Props) (x : Standing) → Some x ≡ standing_there costs number def own → x.number ≡ number
+pub standing_number : (costs : CostData) (number : ℕ) (def : Option TestDef) (own : Option Props) (x : Standing) → Some x ≡ standing_there costs number def own → x.number ≡ number
 standing_number costs number None own x is = let no : Some x ≡ None = is in cc
 standing_number costs number (Some def) None x is = let no : Some x ≡ None = is in cc
 standing_number costs number (Some def) (Some own) x is =
@@ -93,33 +93,39 @@ numbered_first level single x y one other one_is other_is less =
     let lesser : nat_lt x.number y.number ≡ true = grind (arith, nat_tests) in
     (λ i. goes_first_there level (one_is i) (other_is i)) ∙ (λ i. cond (single i) (nat_lt x.number y.number) (is_more_urgent x y)) ∙ lesser
 
-module _ (defs : List TestDef) (props : List Props) (costs : CostData) where
+-- what is known of tests by their numbers: each standing has the number that was asked for
+abbrev pub IsOwn : (ℕ → Option Standing) → Type 0
+IsOwn standing = (number : ℕ) (x : Standing) → Some x ≡ standing number → x.number ≡ number
+
+-- it is known how the test with this number stands
+abbrev pub IsKnown : (ℕ → Option Standing) → ℕ → Type 0
+IsKnown standing number = (x : Standing) × (standing number ≡ Some x)
+
+module _ (standing : ℕ → Option Standing) (own : IsOwn standing) where
   -- a standing is that of its own number
   abbrev StandsFor : Standing → Type 0
-  StandsFor x = standing_in defs props costs x.number ≡ Some x
+  StandsFor x = standing x.number ≡ Some x
 
-  stands : (x : Standing) (number : ℕ) → Some x ≡ standing_in defs props costs number → StandsFor x
-  stands x number is =
-      let here : x.number ≡ number = standing_number costs number (at_number defs number) (at_number props number) x is in
-      ap (standing_in defs props costs) here ∙ sym is
+  stands : (x : Standing) (number : ℕ) → Some x ≡ standing number → StandsFor x
+  stands x number is = ap standing (own number x is) ∙ sym is
 
-  all_stand : (xs : List Standing) (numbers : List ℕ) → map Some xs ≡ map (standing_in defs props costs) numbers → All StandsFor xs
+  all_stand : (xs : List Standing) (numbers : List ℕ) → map Some xs ≡ map standing numbers → All StandsFor xs
   all_stand [] numbers made = All-nil StandsFor
   all_stand (x ∷ xs) [] made = absurd (cc)
   all_stand (x ∷ xs) (n ∷ ns) made = All-cons StandsFor x xs (stands x n (cc)) (all_stand xs ns (cc))
 
   -- standings have the numbers that were asked for
-  pub stand_numbers : (xs : List Standing) (numbers : List ℕ) → map Some xs ≡ map (standing_in defs props costs) numbers → map (λ (x : Standing). x.number) xs ≡ numbers
+  pub stand_numbers : (xs : List Standing) (numbers : List ℕ) → map Some xs ≡ map standing numbers → map (λ (x : Standing). x.number) xs ≡ numbers
   stand_numbers [] [] made = refl
   stand_numbers [] (n ∷ ns) made = absurd (cc)
   stand_numbers (x ∷ xs) [] made = absurd (cc)
   stand_numbers (x ∷ xs) (n ∷ ns) made =
-      let one : Some x ≡ standing_in defs props costs n = cc in
-      ap (λ m. m ∷ map (λ (y : Standing). y.number) xs) (standing_number costs n (at_number defs n) (at_number props n) x one)
+      let one : Some x ≡ standing n = cc in
+      ap (λ m. m ∷ map (λ (y : Standing). y.number) xs) (own n x one)
       ∙ ap (λ ms. n ∷ ms) (stand_numbers xs ns (cc))
 
   -- where several tests run at once, each of those sorted by urgency goes in front of those behind it
-  pub urgent_pairs : (level : ℕ) → (level == 1) ≡ false → (numbers : List ℕ) (xs ys : List Standing) → IsAscendingFrom 1 numbers → map Some xs ≡ map (standing_in defs props costs) numbers → IsPermutation xs ys → IsSortedBy is_more_urgent ys → AllPairs (λ one other. goes_first_there level (standing_in defs props costs one) (standing_in defs props costs other) ≡ true) (map (λ (y : Standing). y.number) ys)
+  pub urgent_pairs : (level : ℕ) → (level == 1) ≡ false → (numbers : List ℕ) (xs ys : List Standing) → IsAscendingFrom 1 numbers → map Some xs ≡ map (standing) numbers → IsPermutation xs ys → IsSortedBy is_more_urgent ys → AllPairs (λ one other. goes_first_there level (standing one) (standing other) ≡ true) (map (λ (y : Standing). y.number) ys)
   urgent_pairs level several numbers xs ys up made same sorted = λ i j d before within.
       let long : length (map (λ (y : Standing). y.number) ys) ≡ length ys = length-map ys (λ (y : Standing). y.number) in
       let there : j < length ys = omega (arith, long) in
@@ -137,29 +143,32 @@ module _ (defs : List TestDef) (props : List Props) (costs : CostData) where
       let apart : eqb one.number other.number ≡ false = ap (λ n. eqb n other.number) (sym one_is) ∙ ap (eqb (get_or (map (λ (y : Standing). y.number) ys) i d)) (sym other_is) ∙ apart_from_distinct eqb (map (λ (y : Standing). y.number) ys) i j d apart_all before within in
       let behind : is_more_urgent other one ≡ false = sorted_far is_more_urgent urgent_order ys sorted i j none (omega (arith, before)) there in
       let urgent : is_more_urgent one other ≡ true = urgent_decide one other behind (eqb-false one.number other.number apart) in
-      urgent_first level several one other (standing_in defs props costs (get_or (map (λ (y : Standing). y.number) ys) i d)) (standing_in defs props costs (get_or (map (λ (y : Standing). y.number) ys) j d))
-      (ap (standing_in defs props costs) one_is ∙ one_stands) (ap (standing_in defs props costs) other_is ∙ other_stands) urgent
-
-  -- a test that is there stands with its number
-  has_standing : length props ≡ length defs → (number : ℕ) → 0 < number → number ≤ length defs → (x : Standing) × (standing_in defs props costs number ≡ Some x) × (x.number ≡ number)
-  has_standing paired number low high =
-      let def = at_number_within defs number low high in
-      let own = at_number_within props number low (omega (arith, paired, high)) in (
-        record { failed = is_among def.0.name costs.failed; cost = cost_in costs def.0 own.0; number = number },
-        ap (λ d. standing_there costs number d (at_number props number)) def.1 ∙ ap (standing_there costs number (Some def.0)) own.1,
-        refl,
-      )
+      urgent_first level several one other (standing (get_or (map (λ (y : Standing). y.number) ys) i d)) (standing (get_or (map (λ (y : Standing). y.number) ys) j d))
+      (ap (standing) one_is ∙ one_stands) (ap (standing) other_is ∙ other_stands) urgent
 
   -- where one test runs at a time, each of these tests goes in front of those behind it, by its number
-  pub numbered_pairs : length props ≡ length defs → (level : ℕ) → (level == 1) ≡ true → (numbers : List ℕ) → AreSome (length defs) numbers → AllPairs (λ one other. goes_first_there level (standing_in defs props costs one) (standing_in defs props costs other) ≡ true) numbers
-  numbered_pairs paired level single numbers some = λ i j d before within.
+  pub numbered_pairs : (level : ℕ) → (level == 1) ≡ true → (numbers : List ℕ) → IsAscendingFrom 1 numbers → All (IsKnown standing) numbers → AllPairs (λ one other. goes_first_there level (standing one) (standing other) ≡ true) numbers
+  numbered_pairs level single numbers up known = λ i j d before within.
       let here : i < length numbers = omega (arith, before, within) in
       let one = get_or numbers i d in
       let other = get_or numbers j d in
-      let less : one < other = pairs_ascend 1 numbers some.ascend i j d before within in
-      let low = All-get_or (λ number. (0 < number) × (number ≤ length defs)) numbers i d here some.of_tests in
-      let high = All-get_or (λ number. (0 < number) × (number ≤ length defs)) numbers j d within some.of_tests in
-      let x = has_standing paired one low.0 low.1 in
-      let y = has_standing paired other high.0 high.1 in
-      let less_standing : x.0.number < y.0.number = omega (arith, less, x.2, y.2) in
-      numbered_first level single x.0 y.0 (standing_in defs props costs one) (standing_in defs props costs other) x.1 y.1 less_standing
+      let less : one < other = pairs_ascend 1 numbers up i j d before within in
+      let x = All-get_or (IsKnown standing) numbers i d here known in
+      let y = All-get_or (IsKnown standing) numbers j d within known in
+      let x_is = own one x.0 (sym x.1) in
+      let y_is = own other y.0 (sym y.1) in
+      let less_standing : x.0.number < y.0.number = omega (arith, less, x_is, y_is) in
+      numbered_first level single x.0 y.0 (standing one) (standing other) x.1 y.1 less_standing
+
+module _ (defs : List TestDef) (props : List Props) (costs : CostData) where
+  pub own_in : IsOwn (standing_in defs props costs)
+  own_in number x is = standing_number costs number (at_number defs number) (at_number props number) x is
+
+  -- it is known how a test that is there stands
+  pub known_in : length props ≡ length defs → (number : ℕ) → (0 < number) × (number ≤ length defs) → IsKnown (standing_in defs props costs) number
+  known_in paired number bounds =
+      let def = at_number_within defs number bounds.0 bounds.1 in
+      let own = at_number_within props number bounds.0 (omega (arith, paired, bounds.1)) in (
+        record { failed = is_among def.0.name costs.failed; cost = cost_in costs def.0 own.0; number = number },
+        ap (λ d. standing_there costs number d (at_number props number)) def.1 ∙ ap (standing_there costs number (Some def.0)) own.1,
+      )

@@ -4,3 +4,4 @@ pub mod Planned
 pub mod Queue
 pub mod PlanOf
 pub mod Linked
+pub mod Whole

@@ -3,7 +3,6 @@ use Rattle.std.specs.Prelude.{◌≡◌, ℕ, ⊤, min, List, [], ◌∷◌, Opt
 use Rattle.ct_base.specs.declared.defs.Resource.{Resource}
 use Rattle.ct_base.specs.declared.defs.TestDef.{TestDef}
 use Rattle.ct_props.specs.declared.props.Props.{Props}
-use Rattle.ct_props.specs.declared.wanted.Wanted.{Wanted}
 use Rattle.ct_props.specs.Numbered.{at_number}
 use Rattle.ct_graph.specs.declared.ordering.Links.{Links}
 use Rattle.ct_graph.specs.declared.fault.GraphFault.{GraphFault}
@@ -16,8 +15,7 @@ use Rattle.ct_plan.specs.declared.fault.PlanFault.{PlanFault}
 use Rattle.ct_plan.specs.declared.fault.PlanFault.TheVariants.{Cycle, TooManyEdges, NoMemory}
 use Rattle.ct_plan.specs.declared.standing.Standing.{Standing}
 use Rattle.ct_plan.specs.Planned.{IsFixed, rules_of, shared_by}
-use Rattle.ct_plan.specs.Queue.{IsQueue, standing_there}
-use Rattle.ct_plan.specs.Source.{source}
+use Rattle.ct_plan.specs.Queue.{standing_there}
 
 -- the resources that are lent, if any are, by the value that tells what is free of them
 abbrev pub lent : Option FreeValue → Option (List Resource)
@@ -72,11 +70,6 @@ AreLinked resources level defs props (link ∷ links) (test ∷ tests) =
 abbrev pub standing_in : List TestDef → List Props → CostData → ℕ → Option Standing
 standing_in defs props costs number =
     standing_there costs number (at_number defs number) (at_number props number)
-
--- this is the queue of these tests, whatever resources are lent
-abbrev pub QueuesTests : List TestDef → List Props → Wanted → CostData → List PlanTest → List ℕ → Type 0
-QueuesTests defs props wanted costs tests queue =
-    (resources : Option (List Resource)) → IsQueue (source defs props wanted resources costs) tests queue
 
 -- the fault of planning for a fault of ordering
 abbrev pub plan_fault : GraphFault → PlanFault

@@ -9,14 +9,14 @@ use Rattle.ct_plan.specs.declared.fault.PlanFault.{PlanFault}
 use Rattle.ct_plan.specs.declared.fault.PlanFault.TheVariants.{Cycle, TooManyEdges, NoMemory}
 use Rattle.ct_plan.specs.Source.{Source, run_members, members_before, edge_count}
 use Rattle.ct_plan.specs.Planned.{ArePlannedTests}
-use Rattle.ct_plan.specs.Queue.{IsQueue}
+use Rattle.ct_plan.specs.Queue.{IsQueue, standing_of}
 
 -- the plan of a run. It leaves only the ranks open, each of which is greater than those of the tests before.
 pub record IsPlanOf (s : Source) (plan : PlanParts) : Type 0 where
   pub dir : plan.dir ≡ s.wanted.dir
   pub tests : ArePlannedTests s (run_members s) plan.tests
   pub ranks : list_all (has_sound_links plan.tests) plan.tests ≡ true
-  pub queue : IsQueue s plan.tests plan.queue
+  pub queue : IsQueue s.wanted.level (standing_of s) plan.tests plan.queue
   pub resources : plan.resources ≡ s.resources
   pub level : plan.level ≡ s.wanted.level
   pub repeat : plan.repeat ≡ s.wanted.repeat

@@ -48,9 +48,10 @@ abbrev pub goes_first_there : ℕ → Option Standing → Option Standing → Bo
 goes_first_there level (Some one) (Some other) = goes_first level one other
 goes_first_there level _ _ = false
 
--- the queue of these tests: each that is not disabled stands in it once, and in
--- front of those that it goes before
-pub record IsQueue (s : Source) (tests : List PlanTest) (queue : List ℕ) : Type 0 where
+-- the queue of these tests at this level, where `standing` tells by its number how each of them stands: each
+-- that is not disabled is in it once, and in front of those that it goes before
+pub record IsQueue
+    (level : ℕ) (standing : ℕ → Option Standing) (tests : List PlanTest) (queue : List ℕ) : Type 0 where
   pub all : IsPermutation queue (map (λ (t : PlanTest). t.number) (enabled tests))
   pub order : AllPairs
-      (λ one other. goes_first_there s.wanted.level (standing_of s one) (standing_of s other) ≡ true) queue
+      (λ one other. goes_first_there level (standing one) (standing other) ≡ true) queue

@@ -11,6 +11,8 @@ mod planned;
 mod planning;
 mod queue;
 mod standing;
+mod whole;
 
 pub use fault::PlanFault;
 pub use planning::{members, plan};
+pub use whole::{Tree, whole_plan};

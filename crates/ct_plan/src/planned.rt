@@ -67,7 +67,7 @@ fn plan_test(
     })
 }
 
-fn copy_names(alloc: Global, names: &[Name]) -> Result<List<Name>, NoMemory>
+pub(crate) fn copy_names(alloc: Global, names: &[Name]) -> Result<List<Name>, NoMemory>
     ensures { IfOk result (λ copies. copies ≡ names.now) }
 {
     let mut copies = List::new(alloc);
@@ -96,7 +96,7 @@ fn is_among(name: &Name, others: &[Name]) -> bool
     others.iter().any(|other| name.is(other))
 }
 
-fn copy_needs(alloc: Global, needs: &[Need]) -> Result<List<Need>, NoMemory>
+pub(crate) fn copy_needs(alloc: Global, needs: &[Need]) -> Result<List<Need>, NoMemory>
     ensures { IfOk result (λ copies. copies ≡ needs.now) }
 {
     let mut copies = List::new(alloc);

@@ -93,7 +93,7 @@ fn plan_in_order(
     let free = unused(alloc, spec)?;
     let (defs, props) = (defs.as_slice(), props.as_slice());
     let tests = plan_tests(alloc, defs, props, wanted.level, free.as_ref(), links)?;
-    let queue = queue(alloc, defs, props, wanted, costs, tests.as_slice())?;
+    let queue = queue(alloc, defs, props, wanted.level, costs, tests.as_slice())?;
     Ok(Plan::new(PlanParts {
         dir,
         tests,
@@ -116,7 +116,10 @@ fn copied(alloc: Global, spec: Option<&Spec>) -> Result<Option<List<Resource>>, 
     }
 }
 
-fn copied_resources(alloc: Global, resources: &[Resource]) -> Result<List<Resource>, NoMemory>
+pub(crate) fn copied_resources(
+    alloc: Global,
+    resources: &[Resource],
+) -> Result<List<Resource>, NoMemory>
     ensures { IfOk result (λ copies. copies ≡ resources.now) }
 {
     let mut copies = List::new(alloc);

@@ -1,14 +1,14 @@
 ghost use Rattle.std.specs.Prelude.{◌≡◌, ◌<◌, ◌≤◌, All, IfOk, IsPermutation, Some, length, map};
 ghost use Rattle.std.specs.List.Sorted.{IsSortedBy};
 ghost use Rattle.ct_history.specs.Plan.{IsAscendingFrom, enabled};
-ghost use Rattle.ct_plan.specs.Linked.{QueuesTests, standing_in};
-ghost use Rattle.ct_plan.specs.Queue.{is_more_urgent};
+ghost use Rattle.ct_plan.specs.Linked.{standing_in};
+ghost use Rattle.ct_plan.specs.Queue.{IsQueue, is_more_urgent};
 
 use crate::standing::Standing;
 use ct_base::{List, NoMemory, TestDef};
 use ct_cost::CostData;
 use ct_history::PlanTest;
-use ct_props::{Props, Wanted};
+use ct_props::Props;
 use std::alloc::Global;
 
 /// Returns the numbers of the tests that are not disabled, in the
@@ -19,17 +19,17 @@ pub(crate) fn queue(
     alloc: Global,
     defs: &[TestDef],
     props: &[Props],
-    wanted: &Wanted,
+    level: u32,
     costs: &CostData,
     tests: &[PlanTest],
 ) -> Result<List<u32>, NoMemory>
     requires paired { length props.now ≡ length defs.now }
     requires ascending { IsAscendingFrom 1 (map (λ t. t.number) tests.now) }
     requires within { All (λ number. (0 < number) × (number ≤ length defs.now)) (map (λ t. t.number) tests.now) }
-    ensures { IfOk result (QueuesTests defs.now props.now wanted.now costs.now tests.now) }
+    ensures { IfOk result (IsQueue level (standing_in defs.now props.now costs.now) tests.now) }
 {
     let numbers = enabled_numbers(alloc, tests)?;
-    if wanted.level == 1 {
+    if level == 1 {
         return Ok(numbers);
     }
     let standings = sorted(standings(alloc, defs, props, costs, numbers.as_slice())?);
@@ -37,7 +37,7 @@ pub(crate) fn queue(
 }
 
 /// Returns the numbers of the tests that are not disabled, in order.
-fn enabled_numbers(alloc: Global, tests: &[PlanTest]) -> Result<List<u32>, NoMemory>
+pub(crate) fn enabled_numbers(alloc: Global, tests: &[PlanTest]) -> Result<List<u32>, NoMemory>
     ensures { IfOk result (λ numbers. numbers ≡ map (λ t. t.number) (enabled tests.now)) }
 {
     let mut numbers = List::new(alloc);
@@ -69,7 +69,7 @@ fn standings(
     Ok(standings)
 }
 
-fn sorted(standings: Vec<Standing>) -> Vec<Standing>
+pub(crate) fn sorted(standings: Vec<Standing>) -> Vec<Standing>
     ensures same { IsPermutation standings.items result.items }
     ensures sorted { IsSortedBy is_more_urgent result.items }
 {
@@ -78,7 +78,7 @@ fn sorted(standings: Vec<Standing>) -> Vec<Standing>
     standings
 }
 
-fn numbers_of(alloc: Global, standings: &[Standing]) -> Result<List<u32>, NoMemory>
+pub(crate) fn numbers_of(alloc: Global, standings: &[Standing]) -> Result<List<u32>, NoMemory>
     ensures { IfOk result (λ numbers. numbers ≡ map (λ s. s.number) standings.now) }
 {
     let mut numbers = List::new(alloc);

@@ -40,13 +40,13 @@ queue-requires-clause-within c =
 pub new-requires : goal.new-requires
 new-requires c =
     let made = made_of c.args.defs.now c.args.props.now c.args.wanted.now c.in_ok-resources.resources c.args.costs.now c.as_slice-defs.result.now c.as_slice-props.result.now (lent (option_copied c.as_ref.result)) c.args.links c.in_ok-tests.tests c.as_slice-defs.ensures c.as_slice-props.ensures (ap lent c.as_ref.ensures.value ∙ c.in_ok-free.ensures.whole ∙ sym c.in_ok-resources.ensures.whole) c.in_ok-tests.ensures in
-    let queued = queue_of c.args.defs.now c.args.props.now c.args.wanted.now c.in_ok-resources.resources c.args.costs.now c.as_slice-defs.result.now c.as_slice-props.result.now c.as_slice.result.now c.in_ok-tests.tests c.in_ok-queue.queue c.as_slice-defs.ensures c.as_slice-props.ensures c.as_slice.ensures (c.in_ok-queue.ensures c.in_ok-resources.resources) in
+    let queued = queue_of c.args.defs.now c.args.props.now c.args.wanted.now c.in_ok-resources.resources c.args.costs.now c.as_slice-defs.result.now c.as_slice-props.result.now c.as_slice.result.now c.in_ok-tests.tests c.in_ok-queue.queue c.as_slice-defs.ensures c.as_slice-props.ensures c.as_slice.ensures c.in_ok-queue.ensures in
     record { sound = plan_sound c.args.defs.now c.args.props.now c.args.wanted.now c.in_ok-resources.resources c.args.costs.now c.requires.paired c.args.links c.requires.order c.in_ok-tests.tests made c.requires.processors c.requires.level c.requires.times c.in_ok-dir.dir c.in_ok-queue.queue queued c.in_ok-resources.ensures.distinct }
 
 pub returns : goal.returns
 returns c =
     let made = made_of c.args.defs.now c.args.props.now c.args.wanted.now c.in_ok-resources.resources c.args.costs.now c.as_slice-defs.result.now c.as_slice-props.result.now (lent (option_copied c.as_ref.result)) c.args.links c.in_ok-tests.tests c.as_slice-defs.ensures c.as_slice-props.ensures (ap lent c.as_ref.ensures.value ∙ c.in_ok-free.ensures.whole ∙ sym c.in_ok-resources.ensures.whole) c.in_ok-tests.ensures in
-    let queued = queue_of c.args.defs.now c.args.props.now c.args.wanted.now c.in_ok-resources.resources c.args.costs.now c.as_slice-defs.result.now c.as_slice-props.result.now c.as_slice.result.now c.in_ok-tests.tests c.in_ok-queue.queue c.as_slice-defs.ensures c.as_slice-props.ensures c.as_slice.ensures (c.in_ok-queue.ensures c.in_ok-resources.resources) in
+    let queued = queue_of c.args.defs.now c.args.props.now c.args.wanted.now c.in_ok-resources.resources c.args.costs.now c.as_slice-defs.result.now c.as_slice-props.result.now c.as_slice.result.now c.in_ok-tests.tests c.in_ok-queue.queue c.as_slice-defs.ensures c.as_slice-props.ensures c.as_slice.ensures c.in_ok-queue.ensures in
     let is = plan_is c.args.defs.now c.args.props.now c.args.wanted.now c.in_ok-resources.resources c.args.costs.now c.requires.paired c.args.links c.requires.order c.in_ok-tests.tests made c.in_ok-dir.dir c.in_ok-queue.queue c.in_ok-dir.ensures queued in
     subst (λ (resources : Option (List Resource)). IsPlanOf (source c.args.defs.now c.args.props.now c.args.wanted.now resources c.args.costs.now) c.new.result) c.in_ok-resources.ensures.whole
     (subst (IsPlanOf (source c.args.defs.now c.args.props.now c.args.wanted.now c.in_ok-resources.resources c.args.costs.now)) (sym c.new.ensures) is)
