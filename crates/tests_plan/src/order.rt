@@ -113,7 +113,7 @@ fn ascend(numbers: &[u32]) -> bool
 fn members_of(alloc: Global, text: &str, count: usize) -> Result<List<u32>, NoMemory> {
     let mut members = List::new(alloc);
     if text == "all" {
-        for number in 1..=count.min(100) {
+        for number in 1..=count.min(5_000) {
             members.push(number as u32)?;
         }
     } else if text != "none" {
@@ -142,7 +142,7 @@ fn order_of(
     assert!(rt; ascend(members.as_slice()));
     assert!(rt; are_within(members.as_slice(), tests.defs.len()));
     assert!(rt; tests.props.len() == tests.defs.len());
-    assert!(rt; tests.defs.len() < 100);
+    assert!(rt; tests.defs.len() < 5_000);
     order(alloc, &tests.defs, &tests.props, members)
 }
 
@@ -221,6 +221,31 @@ fn cycle_of(rt: &impl Abort, alloc: Global, given: &str) -> Result<List<u32>, Pr
         Err(GraphFault::Cycle(cycle)) => Ok(cycle),
         _ => Ok(List::new(alloc)),
     }
+}
+
+/// Tells how 2,000 tests that each wait for 2,000 others are ordered, with some more tests behind.
+fn many_told(rt: &impl Abort, alloc: Global, last: &str) -> Result<&'static str, Fail> {
+    let mut rows = String::new(alloc);
+    for _ in 0..2_000 {
+        rows.push_str("a, b depends=a, ")?;
+    }
+    rows.push_str(last)?;
+    let tests = tests_of(alloc, rows.as_str())?;
+    let members = members_of(alloc, "all", tests.defs.len())?;
+    match order_of(rt, alloc, &tests, &members) {
+        Ok(_) => Ok("ordered"),
+        Err(GraphFault::TooManyEdges) => Ok("too many edges"),
+        Err(_) => Ok("no order"),
+    }
+}
+
+#[test]
+fn orders_as_many_edges_as_a_run_may_have(rt: HostRuntime) -> Result<(), Fail> {
+    for (last, want) in [("c", "ordered"), ("c, d depends=c", "too many edges")] {
+        let told = many_told(&rt, rt.alloc(), last)?;
+        assert_eq!(rt; told, want, "{last}");
+    }
+    Ok(())
 }
 
 #[test]

@@ -383,6 +383,51 @@ fn read_held(alloc: Global, held: List<Pair>) -> Result<String, NoMemory> {
     Ok(told(alloc, read_tree(alloc, &mut files, &dir, &config))?)
 }
 
+/// Reads a command with a value of so many bytes.
+fn read_value(alloc: Global, bytes: u32) -> Result<String, NoMemory> {
+    let mut text = Vec::new(alloc);
+    text.extend_from_slice(b"set(a ")?;
+    for _ in 0..bytes {
+        text.push(b'x')?;
+    }
+    text.push(b')')?;
+    read_text(alloc, Name::from_vec(text))
+}
+
+#[test]
+fn reads_a_value_up_to_its_limit(rt: HostRuntime) -> Result<(), Fail> {
+    let alloc = rt.alloc();
+    for (bytes, want) in [(1_048_576, ""), (1_048_577, "1 TooLong")] {
+        let told = read_value(alloc, bytes)?;
+        assert_eq!(rt; told.as_str(), want, "{bytes}");
+    }
+    Ok(())
+}
+
+/// Reads so many files behind the first one, each of which opens the next one.
+fn read_chain(alloc: Global, count: u32) -> Result<String, NoMemory> {
+    let mut held = List::new(alloc);
+    held.push(file(alloc, TOP, b"include(1)")?)?;
+    for number in 1..count {
+        let path = format!(in alloc; "./{number}")?;
+        let text = format!(in alloc; "include({})", number.saturating_add(1))?;
+        held.push(file(alloc, path.as_str(), text.as_bytes())?)?;
+    }
+    let path = format!(in alloc; "./{count}")?;
+    held.push(file(alloc, path.as_str(), b"")?)?;
+    read_held(alloc, held)
+}
+
+#[test]
+fn opens_64_files_inside_one_another(rt: HostRuntime) -> Result<(), Fail> {
+    let alloc = rt.alloc();
+    for (behind, want) in [(63, ""), (64, "./63:1 TooDeep")] {
+        let told = read_chain(alloc, behind)?;
+        assert_eq!(rt; told.as_str(), want, "{behind}");
+    }
+    Ok(())
+}
+
 /// Returns the first bytes of the test file that CMake wrote.
 fn cut(alloc: Global, len: usize) -> Result<Name, NoMemory> {
     Name::of(alloc, GENERATED.as_bytes().get(..len).unwrap_or(b""))
