@@ -16,7 +16,7 @@ give-requires-clause-continues g c =
     let old = c.take-core.result in
     let new = c.next-next.new.self in
     let suits = c.take-core.ensures.suits in
-    let works = next_works old c.args.worker c.next-next.result new c.next-next.ensures in
+    let works = next_works old c.args.worker c.next-next.result new c.next-next.ensures.step in
     subst (λ (p : PassValue). IsSomeAnd p.taken (λ taken. Continues p.known taken (record { plan = new.plan; base = no_base; now = moment new.entries new.aborted }))) (sym c.take-core.ensures.pass)
     (continues c.args.pass.now.known c.args.worker old new c.requires.worker suits.plan suits.base works (search rules))
 
@@ -26,4 +26,4 @@ returns-clause-held g c =
     let new = c.next-next.new.self in
     let free : open_start_of_worker c.args.worker old.entries ≡ None = ap (λ (w : ℕ). open_start_of_worker w old.entries) (sym c.requires.worker) ∙ c.take-core.ensures.suits.start ∙ c.requires.idle.1 in
     ap (λ (p : PassValue). held_start p.known) c.give.ensures ∙ ap (λ (p : PassValue). open_start_of_worker p.known.worker new.entries) c.take-core.ensures.pass
-    ∙ ap (λ (w : ℕ). open_start_of_worker w new.entries) c.requires.worker ∙ next_holds old c.args.worker c.next-next.result new c.next-next.ensures free
+    ∙ ap (λ (w : ℕ). open_start_of_worker w new.entries) c.requires.worker ∙ next_holds old c.args.worker c.next-next.result new c.next-next.ensures.step free
