@@ -29,7 +29,7 @@ use Rattle.ct_app.specs.declared.outcome.Refusal.TheVariants.{TestFile, Prop, Sp
 use Rattle.ct_app.specs.declared.outcome.SpecRefusal.{SpecRefusal}
 use Rattle.ct_app.specs.Answers.{Answers}
 use Rattle.ct_app.specs.Calls.{IsReadFault, IsUndeclared, IsUnreadable, IsUsage, Sides}
-use Rattle.ct_app.specs.Complete.{Completes, CompletesList, IsListable, IsRunnable, IsUnfailed}
+use Rattle.ct_app.specs.Complete.{Completes, CompletesList, CompletesRun, IsListable, IsRunnable, IsUnfailed}
 use Rattle.ct_app.specs.Lists.{AnswersList}
 use Rattle.ct_app.specs.Reading.{AskFor, IsSource, ListAsks, RefusesReading, RunAsks}
 use Rattle.ct_app.specs.Rerun.{AreOnly, choice_for}
@@ -231,6 +231,10 @@ module _ (s : Sides) (can : IsRunnable s) where
 -- a list that can be made is put
 pub list_completes : (s : Sides) (outcome : Outcome) (status : ℕ) → AnswersList s outcome status → CompletesList s outcome
 list_completes s outcome status answer can calm = list_by s can outcome status answer calm
+
+-- a run that can be made is completed
+pub run_completes : (s : Sides) (outcome : Outcome) (status : ℕ) → AnswersRun s outcome status → CompletesRun s outcome
+run_completes s outcome status answer can calm = run_by s can outcome status answer calm
 
 -- what the words ask for is carried out where it can be made
 pub call_completes : {s : Sides} {outcome : Outcome} {status : ℕ} → Answers s outcome status → Completes s outcome

@@ -31,7 +31,9 @@ pub(crate) fn tell<S: Sink>(
 ///
 /// Where the sink has failed, or a list was put, nothing is put. Where memory runs out for the
 /// line, the outcome is Memory. `names` are the names of the tests of a cycle.
-pub(crate) fn tell_outcome<S: Sink>(
+///
+/// Source: this project's choice.
+pub fn tell_outcome<S: Sink>(
     alloc: Global,
     sink: &mut S,
     names: &[Name],
