@@ -10,10 +10,13 @@ use ct_testfile::ReadKind;
 use std::alloc::Global;
 
 /// Puts the line of the outcome where the call did not complete a run, and returns the outcome and
-/// the status of the call.
+/// the status of the call: that of the run, or else 1 for refused words, 2 for a refusal, 3 for a
+/// fault of the files, 4 for a fault of the sink and 5 for want of memory.
 ///
 /// `names` are the names of the tests of a cycle.
-pub(crate) fn tell<S: Sink>(
+///
+/// Source: this project's choice.
+pub fn tell<S: Sink>(
     alloc: Global,
     sink: &mut S,
     names: &[Name],

@@ -1,8 +1,9 @@
 //! The top calls of ctest. They turn the words of a command line into a run with a report, an exit
 //! status and two files, or into a list.
 //!
-//! Hands up: `ctest_main`, which does all that the program does, `list_main`, which lists alone,
-//! `plan_main`, which makes the plan of a run alone, and `tell_outcome`, which puts an outcome's line.
+//! Hands up: `ctest_main`, which does all that the program does, `list_main`, which lists alone, and
+//! `plan_main`, which makes the plan of a run alone. For calls of other crates: the steps `read_tests`,
+//! `read_spec`, `read_costs`, `why_unplanned`, `write_files`, `tell` and `tell_outcome`.
 //! Read first: `specs/Reading.antt`, `specs/SpecFile.antt`, `specs/Run.antt`, `specs/Stops.antt`,
 //! `specs/RunFiles.antt`, `specs/Rerun.antt`, `specs/Answers.antt`, `specs/Lists.antt`,
 //! `specs/Complete.antt`, then `top.rt`, and the steps of a call: `words.rt`, `reading.rt`,
@@ -26,7 +27,11 @@ mod words;
 pub use ct_args::UsageKind;
 pub use ct_props::PropKind;
 pub use ct_spec::SpecFault;
-pub use fault::tell_outcome;
+pub use fault::{tell, tell_outcome};
 pub use outcome::{Finished, Listed, Outcome, Refusal, SpecRefusal};
-pub use planning::{Unplanned, plan_main, plan_words};
+pub use planning::{Unplanned, plan_main, plan_words, unread, why_unplanned};
+pub use props::Tests;
+pub use reading::read_tests;
+pub use run_files::{RunFileFault, read_costs, write_files};
+pub use spec_file::{SpecFileFault, read_spec};
 pub use top::{ctest_main, list_main};

@@ -107,11 +107,12 @@ pub(crate) fn plan_folder<F: Files>(
     let spec = spec.as_ref();
     match plan(alloc, &tests.defs, &tests.props, wanted, spec, &costs) {
         Ok(plan) => Ok(PlannedFolder { tests, costs, plan }),
-        Err(fault) => Err(refused(alloc, tests.defs.as_slice(), fault)),
+        Err(fault) => Err(why_unplanned(alloc, tests.defs.as_slice(), fault)),
     }
 }
 
-fn unread(alloc: Global, outcome: Outcome) -> Unplanned
+/// Makes the end of a call without a cycle, with this outcome.
+pub fn unread(alloc: Global, outcome: Outcome) -> Unplanned
     ensures { result ≡ record { outcome = outcome; names = [] } }
 {
     Unplanned {
@@ -120,8 +121,9 @@ fn unread(alloc: Global, outcome: Outcome) -> Unplanned
     }
 }
 
-/// Says why these tests have no plan.
-fn refused(alloc: Global, defs: &[TestDef], fault: PlanFault) -> Unplanned
+/// Says why these tests have no plan, by the fault of their plan. For a cycle it copies the names of
+/// the tests.
+pub fn why_unplanned(alloc: Global, defs: &[TestDef], fault: PlanFault) -> Unplanned
     ensures { IsUnplanned defs.now fault result.names (Err result.outcome) }
 {
     match fault {

@@ -13,9 +13,9 @@ use std::alloc::Global;
 
 /// The tests of a call and their properties, in the same order.
 #[derive(Drop)]
-pub(crate) struct Tests {
-    pub(crate) defs: List<TestDef>,
-    pub(crate) props: List<Props>,
+pub struct Tests {
+    pub defs: List<TestDef>,
+    pub props: List<Props>,
 }
 
 /// Looks up the item of a list for the test with this number.

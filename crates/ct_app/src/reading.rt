@@ -12,8 +12,13 @@ use ct_testfile::read_tree;
 use std::alloc::Global;
 
 /// Reads the tests of the folder that an invocation names, and their properties.
+///
+/// A test file or a property that is refused, a fault of the files, or want of memory is the outcome
+/// of the call. The files stay as they are.
+///
+/// Source: CMake manual, cmake-properties(7), Properties on Tests.
 #[tactic(auto, using(crate::proofs::ReadLemmas::unread_props, crate::proofs::ReadLemmas::unread_tree))]
-pub(crate) fn read_tests<F: Files>(
+pub fn read_tests<F: Files>(
     alloc: Global,
     files: &mut F,
     invocation: &Invocation,

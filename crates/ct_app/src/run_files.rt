@@ -23,7 +23,7 @@ const MOST_COST_BYTES: u64 = 67_108_864;
 
 /// Why a file that a run reads or writes could not be used.
 #[derive(Drop)]
-pub(crate) enum RunFileFault {
+pub enum RunFileFault {
     /// The path could not be read or written.
     Failed { path: Name },
     /// Memory ran out.
@@ -39,10 +39,10 @@ impl From<NoMemory> for RunFileFault {
 }
 
 /// Reads the cost data that the last run left in a folder. An absent file, or a file above 64 MiB,
-/// counts as empty.
+/// counts as empty. The files stay as they are.
 ///
 /// Source: this project's choice.
-pub(crate) fn read_costs<F: Files>(
+pub fn read_costs<F: Files>(
     alloc: Global,
     files: &mut F,
     dir: &Name,
@@ -71,10 +71,11 @@ fn costs_of(alloc: Global, held: Option<Blob>) -> Result<CostData, NoMemory>
 /// Writes the files of a complete run for the next one: the cost data, and then, if a test failed,
 /// the log of the failed tests. A run without tests writes nothing.
 ///
-/// It returns whether a test failed, which it knows from the log without another pass.
+/// The paths are those of the plan's folder. It returns whether a test failed, which it knows from the
+/// log without another pass.
 ///
 /// Source: CMake manual, ctest(1), --rerun-failed; cmake-properties(7), COST.
-pub(crate) fn write_files<F: Files>(
+pub fn write_files<F: Files>(
     alloc: Global,
     files: &mut F,
     costs: &CostData,

@@ -13,7 +13,7 @@ const MOST_SPEC_BYTES: u64 = 16_777_216;
 
 /// Why the resources were not read from the file that declares those of the machine.
 #[derive(Drop)]
-pub(crate) enum SpecFileFault {
+pub enum SpecFileFault {
     /// The file is refused.
     Refused(SpecRefusal),
     /// The path could not be read.
@@ -45,9 +45,12 @@ impl From<SpecFault> for SpecFileFault {
 
 /// Reads the resources that the machine lends from the named file; `None` where no file is named.
 ///
-/// Source: CMake manual, ctest(1), --resource-spec-file.
+/// A file that is absent, has more than 16 MiB or is no specification is refused. The files stay as
+/// they are.
+///
+/// Source: CMake manual, ctest(1), --resource-spec-file. The limit is this project's choice.
 #[tactic(auto, using(crate::proofs::SpecLemmas::named_unread))]
-pub(crate) fn read_spec<F: Files>(
+pub fn read_spec<F: Files>(
     alloc: Global,
     files: &mut F,
     file: Option<&Name>,

@@ -43,6 +43,6 @@ returns-clause-err g c words env gates sink asked =
     let files = g.F.Files.tells c.args.files.now in
     let files_now = g.F.Files.tells c.read_folder.new.files in
     let read = subst (λ (l : Option (List Resource)). IsReadFolder c.args.invocation files files_now folder.tests l folder.costs folder.only) (sym c.as_ref-spec.ensures.value) c.in-Ok.ensures.ok in
-    let bad = c.refused.result in
-    let why = subst (λ (defs : List TestDef). IsUnplanned defs c.in-Err-plan.fault bad.names (Err bad.outcome)) c.as_slice.ensures c.refused.ensures in
+    let bad = c.why_unplanned.result in
+    let why = subst (λ (defs : List TestDef). IsUnplanned defs c.in-Err-plan.fault bad.names (Err bad.outcome)) c.as_slice.ensures c.why_unplanned.ensures in
     unplanned_unrun words env c.args.invocation asked files files_now files_now folder.tests lent folder.costs folder.only read gates sink bad.names (Err bad.outcome) c.in-Err-plan.fault c.in-Err-plan.ensures.answer why
