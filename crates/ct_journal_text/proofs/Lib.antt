@@ -7,3 +7,4 @@ pub mod CheckLemmas
 pub mod RangeLemmas
 pub mod TextLemmas
 pub mod ExactLemmas
+pub mod WithinLemmas

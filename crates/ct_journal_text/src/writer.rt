@@ -1,4 +1,4 @@
-ghost use Rattle.std.specs.Prelude.{◌≡◌, ◌++◌, IfOk, OnOk, codes, decimal, flat_map, option_map};
+ghost use Rattle.std.specs.Prelude.{◌≡◌, ◌++◌, IfOk, None, OnOk, Some, codes, decimal, flat_map, if◌then◌else◌, length, nat_lt, option_map};
 ghost use Rattle.std.specs.Option.{option_copied};
 ghost use Rattle.ct_journal_text.specs.Journal.{attempt_text as front_of_line, not_run_word as cause_written, entry_text as line_of_entry, full_line, journal_of, journal_line_text as written, listed, noted as said, places_of_placement as resources_of, places_text as said_of_places, seen_text as said_of_attempt};
 
@@ -24,6 +24,30 @@ pub fn journal_text(alloc: Global, entries: &[Entry]) -> Result<Blob, NoMemory>
     }
     append_line(alloc, &mut text, &JournalLine::Done(entries.len() as u64))?;
     Ok(text)
+}
+
+/// Writes the journal of a history, or returns `None` where it has more than `most` bytes.
+///
+/// A journal that is too long is given up at the first line behind the limit.
+///
+/// Source: this project's choice.
+pub fn journal_within(alloc: Global, entries: &[Entry], most: u64) -> Result<Option<Blob>, NoMemory>
+    ensures { IfOk result (λ text. text ≡ (if nat_lt most (length (journal_of entries.now)) then None else Some (journal_of entries.now))) }
+{
+    let mut text = Blob::new(alloc);
+    append_line(alloc, &mut text, &JournalLine::First)?;
+    for entry in entries {
+        if text.bytes().len() as u64 > most {
+            return Ok(None);
+        }
+        append_line(alloc, &mut text, &JournalLine::Entry(noted(alloc, entry)?))?;
+    }
+    let count = entries.len() as u64;
+    append_line(alloc, &mut text, &JournalLine::Done(count))?;
+    if text.bytes().len() as u64 > most {
+        return Ok(None);
+    }
+    Ok(Some(text))
 }
 
 /// Puts a line with its line feed behind the text.
