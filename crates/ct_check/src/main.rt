@@ -1,0 +1,14 @@
+//! The program `ct_check`: it checks whether the file that its first word names is the journal of a whole run of
+//! the tests of the folder that it is started in. It runs no test.
+//!
+//! Hands up: nothing; it is the program.
+//! Read first: `start.rt`.
+#![tactic(auto)]
+
+mod start;
+
+use std::process::ExitCode;
+
+fn main(rt: HostRuntime) -> ExitCode {
+    start::exit_code(start::begin(rt))
+}

@@ -1,0 +1,5 @@
+pub mod RecordPlanLemmas
+pub mod RecordLemmas
+pub mod CheckFoundLemmas
+pub mod CheckStepLemmas
+pub mod CheckAnswerLemmas

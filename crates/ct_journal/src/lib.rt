@@ -1,0 +1,16 @@
+//! The calls that keep the journal of a run as a file, and that check one.
+//!
+//! Hands up: `record_main`, which runs the tests that words ask for and writes the journal of the run;
+//! `check_main`, which says whether a file is the journal of a complete legal history for the plan that words
+//! ask for, and runs no test.
+//! Read first: `specs/File.antt`, `specs/Record.antt`, `specs/CheckFound.antt`, `specs/Check.antt`, then `record.rt`, `check.rt`.
+#![tactic(auto)]
+
+mod check;
+mod check_find;
+mod check_tell;
+mod limit;
+mod record;
+
+pub use check::{CheckOutcome, Checked, check_main};
+pub use record::{JournalEnd, Recorded, record_main};

@@ -1,0 +1,219 @@
+ghost use Rattle.std.specs.Prelude.{◌≡◌, ◌<◌, ◌-◌, ◌^◌, ⊤, [], IfSome, IsSomeAnd, drop, length, map, option_map, true, vec_len};
+ghost use Rattle.std.specs.Option.{option_copied};
+ghost use Rattle.ct_args.specs.declared.usage.UsageKind.TheVariants.{NoValue};
+ghost use Rattle.ct_app.specs.Calls.{Tries, sides};
+ghost use Rattle.ct_app.specs.Ends.{history_entries};
+ghost use Rattle.ct_app.specs.Outcome.{fault_line};
+ghost use Rattle.ct_app.specs.Reading.{ask_for_list};
+ghost use Rattle.ct_app.specs.Run.{OthersStay};
+ghost use Rattle.ct_app.specs.declared.outcome.Outcome.TheVariants as Ran;
+ghost use Rattle.ct_journal.specs.declared.record.JournalEnd.TheVariants as End;
+ghost use Rattle.ct_journal_text.specs.Journal.{EntriesFit, journal_of};
+ghost use Rattle.ct_journal.specs.Record.{AcceptsWritten, IsJournalEnd, RecordsFor, TriesLine, WritesJournal, run_end, status_after as status_with};
+
+use crate::limit::MOST_JOURNAL_BYTES;
+use ct_app::{Finished, Outcome, UsageKind, ctest_main, tell_outcome};
+use ct_base::{Files, FilesFault, Name, NoMemory, Pair, Sink};
+use ct_core::Gate;
+use ct_history::{Entry, History};
+use ct_journal_text::{hand_out_ranges, journal_within};
+use std::alloc::Global;
+use std::sync::Wait;
+use std::thread::Threads;
+
+/// What became of the journal of a call.
+#[derive(Clone, Copy, Debug, PartialEq, Eq)]
+pub enum JournalEnd {
+    /// The path holds the journal.
+    Written,
+    /// The run was not completed, and the path was not touched.
+    NoRun,
+    /// The journal has more than 256 MiB. Nothing was written.
+    TooLong,
+    /// The path could not be written.
+    FilesFault,
+    /// Memory ran out for the journal. Nothing was written.
+    Memory,
+}
+
+/// What `record_main` returns: the end of its run, and what became of the journal.
+#[derive(Drop)]
+pub struct Recorded<F, G, S> {
+    /// The end of the run, with its own status.
+    pub finished: Finished<F, G, S>,
+    pub journal: JournalEnd,
+    /// The exit status of the program.
+    pub status: u8,
+}
+
+/// Runs tests as `ctest_main` does, and writes the journal of a completed run.
+///
+/// - The first of the words is the path of the journal. The others are the words of `ctest_main`; a
+///   refused word is counted from the one behind the path.
+/// - `env` is the environment of the tests.
+/// - `files`, `gates` and `sink` stand for the machine.
+///
+/// The journal is written behind all that the run does. Where it is too long, or its path cannot be
+/// written, a line says so; a put of this line that fails changes nothing. The call may wait for the
+/// programs that its gates run.
+///
+/// Source: this project's choice.
+pub fn record_main<R: Threads + Wait + Sync, F: Files, G: Gate + Send, S: Sink + Send>(
+    rt: &R,
+    alloc: Global,
+    words: &[Name],
+    env: &[Pair],
+    files: F,
+    gates: Vec<G>,
+    mut sink: S,
+) -> Recorded<F, G, S>
+    requires some { 0 < vec_len gates }
+    requires few { length words.now < 2 ^ 32 - 1 }
+    ensures recorded { RecordsFor words.now (sides words.now env.now (F.tells files) (F.tells result.finished.files)
+        (map G.tells gates.items) (map G.tells result.finished.gates.items) (S.tells sink) (S.tells result.finished.sink)
+        result.finished.plan (option_map history_entries result.finished.history))
+        (record { outcome = result.finished.outcome; run_status = result.finished.status; journal = result.journal; status = result.status }) }
+    ensures accepted { AcceptsWritten result.finished.plan (option_map history_entries result.finished.history) result.journal }
+    ensures all { length result.finished.gates.items ≡ length gates.items }
+    ensures unasked { ask_for_list (drop 1 words.now) ≡ true → result.finished.gates.items ≡ gates.items }
+    ensures others { OthersStay result.finished.plan gates.items result.finished.gates.items }
+{
+    match words {
+        [] => {
+            let outcome = miss_path(alloc, &mut sink);
+            let finished = Finished {
+                outcome,
+                status: 1,
+                plan: None,
+                history: None,
+                files,
+                gates,
+                sink,
+            };
+            end_call(finished, JournalEnd::NoRun)
+        }
+        [path, run_words @ ..] => {
+            let mut run = ctest_main(rt, alloc, run_words, env, files, gates, sink);
+            let ran = &mut run;
+            let history = ran.history.as_ref();
+            let end = keep_journal(
+                alloc,
+                path,
+                &ran.outcome,
+                history,
+                &mut ran.files,
+                &mut ran.sink,
+            );
+            end_call(run, end)
+        }
+    }
+}
+
+/// Makes what a call returns, with its status.
+fn end_call<F, G, S>(finished: Finished<F, G, S>, journal: JournalEnd) -> Recorded<F, G, S>
+    ensures { result ≡ record { finished = finished; journal = journal; status = status_with finished.status journal } }
+{
+    let status = status_after(finished.status, journal);
+    Recorded {
+        finished,
+        journal,
+        status,
+    }
+}
+
+/// Tries the line of a call without any word, and returns its outcome.
+fn miss_path<S: Sink>(alloc: Global, sink: &mut S) -> Outcome
+    ensures outcome { result ≡ Ran.Usage 1 NoValue }
+    ensures line { Tries (fault_line [] (Ran.Usage 1 NoValue)) (S.tells sink.old) (S.tells sink.new) }
+{
+    let kind = UsageKind::NoValue;
+    let _told = tell_outcome(alloc, sink, &[], Outcome::Usage { word: 1, kind });
+    Outcome::Usage { word: 1, kind }
+}
+
+/// Writes the journal of a run that was completed, and tries the line of a fault.
+#[tactic(auto, using(crate::proofs::RecordLemmas::journal_ends))]
+fn keep_journal<F: Files, S: Sink>(
+    alloc: Global,
+    path: &Name,
+    outcome: &Outcome,
+    history: Option<&History>,
+    files: &mut F,
+    sink: &mut S,
+) -> JournalEnd
+    requires has { outcome.now ≡ Ran.Completed → IsSomeAnd (option_map history_entries (option_copied history)) (λ entries. ⊤) }
+    ensures end { IsJournalEnd (run_end path.now outcome.now (option_map history_entries (option_copied history.entry))
+        (F.tells files.old) (F.tells files.new) (S.tells sink.old) (S.tells sink.new)) result }
+    ensures fit { result ≡ End.Written → IfSome (option_map history_entries (option_copied history.entry)) EntriesFit }
+{
+    match outcome {
+        Outcome::Completed => {}
+        _ => return JournalEnd::NoRun,
+    }
+    match history {
+        Some(history) => {
+            let end = write_journal(alloc, files, path, &history.entries);
+            tell_end(alloc, sink, path, end);
+            end
+        }
+        None => JournalEnd::NoRun,
+    }
+}
+
+/// Writes the journal of these entries to the path.
+fn write_journal<F: Files>(
+    alloc: Global,
+    files: &mut F,
+    path: &Name,
+    entries: &[Entry],
+) -> JournalEnd
+    ensures end { WritesJournal path.now (journal_of entries.now) (F.tells files.old) (F.tells files.new) result }
+    ensures fit { EntriesFit entries.now }
+{
+    hand_out_ranges(entries);
+    let text = match journal_within(alloc, entries, MOST_JOURNAL_BYTES) {
+        Ok(Some(text)) => text,
+        Ok(None) => return JournalEnd::TooLong,
+        Err(NoMemory) => return JournalEnd::Memory,
+    };
+    match files.write(alloc, path, text.bytes()) {
+        Ok(()) => JournalEnd::Written,
+        Err(FilesFault::Failed) => JournalEnd::FilesFault,
+        Err(FilesFault::NoMemory) => JournalEnd::Memory,
+    }
+}
+
+/// Tries the line of an end of the journal, where it has one. A put that fails changes nothing.
+#[tactic(auto, using(crate::proofs::RecordLemmas::put_tries))]
+fn tell_end<S: Sink>(alloc: Global, sink: &mut S, path: &Name, end: JournalEnd)
+    ensures { TriesLine path.now (S.tells sink.old) (S.tells sink.new) end }
+{
+    match end {
+        JournalEnd::TooLong => {
+            let _put = sink.put(b"ctest: journal: too long\n");
+        }
+        JournalEnd::FilesFault => tell_path(alloc, sink, path),
+        JournalEnd::Written | JournalEnd::NoRun | JournalEnd::Memory => {}
+    }
+}
+
+/// Tries the line that says that the path cannot be used.
+fn tell_path<S: Sink>(alloc: Global, sink: &mut S, path: &Name)
+    ensures { Tries (fault_line [] (Ran.FilesFault path.now)) (S.tells sink.old) (S.tells sink.new) }
+{
+    if let Ok(path) = path.copy(alloc) {
+        let _told = tell_outcome(alloc, sink, &[], Outcome::FilesFault { path });
+    }
+}
+
+/// Returns the exit status of the call, by the status of its run and the end of the journal.
+fn status_after(status: u8, end: JournalEnd) -> u8
+    ensures { result ≡ status_with status end }
+{
+    match end {
+        JournalEnd::Written | JournalEnd::NoRun => status,
+        JournalEnd::TooLong => 2,
+        JournalEnd::FilesFault => 3,
+        JournalEnd::Memory => 5,
+    }
+}

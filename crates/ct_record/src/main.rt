@@ -1,0 +1,18 @@
+//! The program `ct_record`: it runs the tests of the folder that it is started in, as `ctest` does, and writes
+//! the journal of the run to the path that its first word names.
+//!
+//! Hands up: nothing; it is the program.
+//! Read first: `start.rt`.
+#![tactic(auto)]
+
+mod start;
+
+use ct_start::gates_of;
+use std::process::ExitCode;
+
+fn main(rt: HostRuntime) -> ExitCode {
+    start::exit_code(match gates_of(rt.alloc(), rt) {
+        Ok(gates) => start::begin(&rt, rt, gates),
+        Err(fault) => Err(fault.into()),
+    })
+}

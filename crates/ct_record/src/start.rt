@@ -1,0 +1,73 @@
+ghost use Rattle.std.specs.Prelude.{◌≡◌, ◌≤◌, ◌^◌, IfOk, IsErrOf, length, map};
+ghost use Rattle.std.specs.Process.{exit_status};
+ghost use Rattle.ct_start.specs.declared.fault.BeginFault.TheVariants as BeginCause;
+ghost use Rattle.ct_start.specs.Start.{pairs_in, unused_gates, words_in};
+ghost use Rattle.ct_record.specs.Start.{RecordsOnMachine, status_of_record};
+
+use ct_core::Gate;
+use ct_edge::{RealFiles, RealSink};
+use ct_journal::{Recorded, record_main};
+use ct_start::{BeginFault, pairs_of, words_of};
+use std::env;
+use std::io::Stdout;
+use std::process::ExitCode;
+use std::sync::Wait;
+use std::thread::Threads;
+
+/// What a run on the machine that keeps its journal returns.
+pub type Record<G> = Recorded<RealFiles<HostRuntime>, G, RealSink<Stdout>>;
+
+/// Runs the tests that the words of the process behind the first ask for, with its environment, through
+/// these gates, and writes the journal to the path that the first word names.
+///
+/// Where it cannot begin, it writes nothing.
+pub fn begin<R: Threads + Wait + Sync, G: Gate + Send + Drop>(
+    threads: &R,
+    rt: HostRuntime,
+    gates: Vec<G>,
+) -> Result<Record<G>, BeginFault>
+    requires { map G.tells gates.items ≡ unused_gates }
+{
+    let args: Vec<String> = env::args(&rt)?.collect(rt.alloc())?;
+    let vars: Vec<(String, String)> = env::vars(&rt)?.collect(rt.alloc())?;
+    run(threads, rt, args.as_slice(), vars.as_slice(), gates)
+}
+
+/// Passes the words, the variables and the machine to `record_main`.
+fn run<R: Threads + Wait + Sync, G: Gate + Send + Drop>(
+    threads: &R,
+    rt: HostRuntime,
+    args: &[String],
+    vars: &[(String, String)],
+    gates: Vec<G>,
+) -> Result<Record<G>, BeginFault>
+    requires { map G.tells gates.items ≡ unused_gates }
+    ensures run { IfOk result (λ recorded. RecordsOnMachine G.tells (words_in args.now) (pairs_in vars.now) recorded) }
+    ensures many { IsErrOf result BeginCause.Failed → 2 ^ 32 ≤ length args.now }
+{
+    let words = words_of(rt.alloc(), args)?;
+    let env = pairs_of(rt.alloc(), vars)?;
+    Ok(record_main(
+        threads,
+        rt.alloc(),
+        words.as_slice(),
+        env.as_slice(),
+        RealFiles::new(rt),
+        gates,
+        RealSink::new(rt.stdout()),
+    ))
+}
+
+/// Returns the exit code of the program.
+///
+/// Source: this project's choice where the run could not begin.
+pub fn exit_code<F: Drop, G: Drop, S: Drop>(
+    begun: Result<Recorded<F, G, S>, BeginFault>,
+) -> ExitCode
+    ensures { exit_status result ≡ status_of_record begun }
+{
+    ExitCode::from(match begun {
+        Ok(recorded) => recorded.status,
+        Err(fault) => fault.status(),
+    })
+}

@@ -1,0 +1,5 @@
+add_test(makes "true")
+set_tests_properties(makes PROPERTIES FIXTURES_SETUP file)
+add_test(reads "true")
+set_tests_properties(reads PROPERTIES FIXTURES_REQUIRED file RESOURCE_LOCK disk)
+add_test(fails "false")
