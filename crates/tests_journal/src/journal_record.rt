@@ -2,7 +2,6 @@
 //! journal says.
 
 use crate::rows::{Call, calls_of, files_of, sink_of, words_of, written};
-use ct_app::Finished;
 use ct_base::{Blob, List, MemFiles, MemSink, Name, NoMemory};
 use ct_core::{Ended, ScriptGate, Told};
 use ct_journal::{JournalEnd, Recorded, check_main, record_main};
@@ -162,44 +161,56 @@ fn journal_in(alloc: Global, files: &MemFiles) -> Result<String, NoMemory> {
     Ok(line)
 }
 
-/// Records a run and checks a journal that was written. Reports both statuses of the run, the end of the
-/// journal, what was put, what the path holds, and the status of the check.
+/// A recorded run over files, a gate and a sink in memory.
+type Kept = Recorded<MemFiles, ScriptGate, MemSink>;
+
+/// Records the run of a call with these words.
+fn record(
+    rt: &(impl Abort + AllocGlobal + Threads + Wait + Sync),
+    call: &Call<'_>,
+    words: &[Name],
+) -> Result<Kept, Fail> {
+    let alloc = rt.alloc();
+    let mut gates = Vec::new(alloc);
+    gates.push(gate(alloc, call.facts)?)?;
+    assert!(rt; !gates.is_empty(), "{call}");
+    assert!(rt; words.len() < 100, "{call}");
+    let (files, sink) = (files_of(alloc, call)?, sink_of(alloc, call)?);
+    Ok(record_main(rt, alloc, words, &[], files, gates, sink))
+}
+
+/// Makes the lines of both statuses, the end of the journal, what was put, and what the path holds.
+fn outcome_of(alloc: Global, kept: &Kept) -> Result<String, NoMemory> {
+    let status = kept.status;
+    let of_run = kept.finished.status;
+    let journal = kept.journal;
+    let put = written(&kept.finished.sink);
+    let held = journal_in(alloc, &kept.finished.files)?;
+    Ok(format!(in alloc; "status {status} of {of_run}, {journal:?}\n{put}{held}")?)
+}
+
+/// Checks the journal of a call, and returns the status.
+fn check(rt: &(impl Abort + AllocGlobal), words: &[Name], kept: Kept) -> u8 {
+    let alloc = rt.alloc();
+    assert!(rt; words.len() < 100, "too many words");
+    let sink = MemSink::new(alloc, List::new(alloc));
+    check_main(alloc, words, kept.finished.files, sink).status
+}
+
+/// Records a run, checks a journal that was written, and reports what came of both.
 fn report(
     rt: &(impl Abort + AllocGlobal + Threads + Wait + Sync),
     call: &Call<'_>,
 ) -> Result<String, Fail> {
     let alloc = rt.alloc();
-    let mut gates = Vec::new(alloc);
-    gates.push(gate(alloc, call.facts)?)?;
-    assert!(rt; !gates.is_empty(), "{call}");
-    let (files, sink) = (files_of(alloc, call)?, sink_of(alloc, call)?);
     let words = words_of(alloc, call)?;
-    assert!(rt; words.len() < 100, "{call}");
-    let recorded = record_main(rt, alloc, words.as_slice(), &[], files, gates, sink);
-    let Recorded {
-        finished,
-        journal,
-        status,
-    } = recorded;
-    let Finished {
-        status: of_run,
-        files,
-        sink,
-        ..
-    } = finished;
-    let held = journal_in(alloc, &files)?;
-    let put = written(&sink);
-    let text = format!(in alloc; "status {status} of {of_run}, {journal:?}\n{put}{held}")?;
-    if journal != JournalEnd::Written {
+    let kept = record(rt, call, words.as_slice())?;
+    let text = outcome_of(alloc, &kept)?;
+    if kept.journal != JournalEnd::Written {
         return Ok(text);
     }
-    let answer = check_main(
-        alloc,
-        words.as_slice(),
-        files,
-        MemSink::new(alloc, List::new(alloc)),
-    );
-    Ok(format!(in alloc; "{text}check {}", answer.status)?)
+    let status = check(rt, words.as_slice(), kept);
+    Ok(format!(in alloc; "{text}check {status}")?)
 }
 
 #[test]
