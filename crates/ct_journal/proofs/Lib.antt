@@ -1,4 +1,6 @@
 pub mod RecordPlanLemmas
+pub mod RecordMemberLemmas
+pub mod RecordReadLemmas
 pub mod RecordLemmas
 pub mod CheckFoundLemmas
 pub mod CheckStepLemmas

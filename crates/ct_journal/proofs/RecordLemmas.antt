@@ -13,11 +13,14 @@ use Rattle.ct_app.specs.declared.outcome.Outcome.{Outcome}
 use Rattle.ct_app.specs.declared.outcome.Outcome.TheVariants as Ran
 use Rattle.ct_app.specs.Calls.{Sides, Tries}
 use Rattle.ct_app.specs.MeantRuns.{AnswersAsMeant, RanAsMeant}
+use Rattle.ct_app.specs.Planning.{HasPlan}
 use Rattle.ct_journal.specs.declared.record.JournalEnd.{JournalEnd}
 use Rattle.ct_journal.specs.declared.record.JournalEnd.TheVariants.{Written, NoRun, TooLong, FilesFault, Memory}
 use Rattle.ct_journal.specs.Record.{AcceptsWritten, IsJournalEnd, TriesLine, WritesJournal, run_end}
 use Rattle.ct_journal.specs.RecordPlan.{without_order}
+use Rattle.ct_journal.specs.RecordReads.{ReadsAlike, RechecksWritten}
 use Rattle.ct_journal.proofs.RecordPlanLemmas.{complete_same, legal_same}
+use Rattle.ct_journal.proofs.RecordReadLemmas.{told_alike}
 
 -- the journal of a completed run is accepted for its plan, and for each plan that differs from it in the order of the starts alone
 pub is_accepted : (s : Sides) (status : ℕ) (plan : Option PlanParts) (history : Option (List Entry)) → IfSome history EntriesFit → IsSomeAnd plan (λ plan. IsSomeAnd history (λ entries. RanAsMeant s status plan entries)) → IsSomeAnd plan (λ plan. IsSomeAnd history (λ entries. (other : PlanParts) → without_order plan ≡ without_order other → IsAccepted other (journal_of entries)))
@@ -56,3 +59,20 @@ accepts_run s outcome status path files_then files_now sink_then sink_now NoRun 
 accepts_run s outcome status path files_then files_now sink_then sink_now TooLong meant journal fit = λ is. absurd (cc)
 accepts_run s outcome status path files_then files_now sink_then sink_now FilesFault meant journal fit = λ is. absurd (cc)
 accepts_run s outcome status path files_then files_now sink_then sink_now Memory meant journal fit = λ is. absurd (cc)
+
+-- the journal of a completed run is accepted for each plan that its words have where the files read alike
+rechecks : (s : Sides) (status : ℕ) (plan : Option PlanParts) (history : Option (List Entry)) → IfSome history EntriesFit → IsSomeAnd plan (λ plan. IsSomeAnd history (λ entries. RanAsMeant s status plan entries)) → IsSomeAnd history (λ entries. (before now : FilesTell) (other : PlanParts) → ReadsAlike s.words s.files.before.held before.held → HasPlan s.words before now other → IsAccepted other (journal_of entries))
+rechecks s status None history fit ran = absurd ran
+rechecks s status (Some plan) None fit ran = absurd ran
+rechecks s status (Some plan) (Some entries) fit ran =
+    λ before now other reads has.
+    is_accepted s status (Some plan) (Some entries) fit ran other
+    (told_alike s.words s.files.before.held before.held ran.invocation has.invocation ran.source has.source plan other reads ran.run.words has.words_are ran.run.read has.read ran.run.ran.planned has.planned)
+
+-- a journal that was written behind a run is accepted for each plan that its words have where the files read alike
+pub rechecks_run : (s : Sides) (outcome : Outcome) (status : ℕ) (path : List ℕ) (files_then files_now : FilesTell) (sink_then sink_now : SinkTell) (end : JournalEnd) → AnswersAsMeant s outcome status → IsJournalEnd (run_end path outcome s.history files_then files_now sink_then sink_now) end → (end ≡ Written → IfSome s.history EntriesFit) → RechecksWritten s.words s.files.before.held s.history end
+rechecks_run s outcome status path files_then files_now sink_then sink_now Written meant journal fit = λ is. rechecks s status s.plan s.history (fit is) (meant journal.completed)
+rechecks_run s outcome status path files_then files_now sink_then sink_now NoRun meant journal fit = λ is. absurd (cc)
+rechecks_run s outcome status path files_then files_now sink_then sink_now TooLong meant journal fit = λ is. absurd (cc)
+rechecks_run s outcome status path files_then files_now sink_then sink_now FilesFault meant journal fit = λ is. absurd (cc)
+rechecks_run s outcome status path files_then files_now sink_then sink_now Memory meant journal fit = λ is. absurd (cc)

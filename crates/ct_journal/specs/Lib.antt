@@ -1,6 +1,7 @@
 -- The definitions that contracts cite, in reading order.
 pub mod File
 pub mod RecordPlan
+pub mod RecordReads
 pub mod Record
 pub mod CheckFound
 pub mod Check

@@ -2,6 +2,7 @@
 //! journal says.
 
 use crate::rows::{Call, calls_of, files_of, sink_of, words_of, written};
+use ct_app::Finished;
 use ct_base::{Blob, List, MemFiles, MemSink, Name, NoMemory};
 use ct_core::{Ended, ScriptGate, Told};
 use ct_journal::{JournalEnd, Recorded, check_main, record_main};
@@ -194,7 +195,10 @@ fn check(rt: &(impl Abort + AllocGlobal), words: &[Name], kept: Kept) -> u8 {
     let alloc = rt.alloc();
     assert!(rt; words.len() < 100, "too many words");
     let sink = MemSink::new(alloc, List::new(alloc));
-    check_main(alloc, words, kept.finished.files, sink).status
+    let Recorded { finished, .. } = kept;
+    let Finished { files, .. } = finished;
+    let checked = check_main(alloc, words, files, sink);
+    checked.status
 }
 
 /// Records a run, checks a journal that was written, and reports what came of both.

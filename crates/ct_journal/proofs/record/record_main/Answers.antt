@@ -1,11 +1,13 @@
-use Rattle.std.proofs.Common.{◌≡◌, map, option_map, rules}
-use Rattle.std.specs.Prelude.{IfSome}
+use Rattle.std.proofs.Common.{◌≡◌, ℕ, List, length, map, option_map, rules, subst}
+use Rattle.std.specs.Prelude.{IfSome, ◌-◌, drop, take}
+use Rattle.std.proofs.lemmas.List.{take_rest}
 use Rattle.ct_app.specs.Calls.{sides}
 use Rattle.ct_app.specs.Ends.{history_entries}
 use Rattle.ct_journal_text.specs.Journal.{EntriesFit}
 use Rattle.ct_journal.specs.Record.{IsJournalEnd, run_end}
+use Rattle.ct_journal.specs.RecordReads.{RechecksWritten}
 use Rattle.ct_journal.specs.declared.record.JournalEnd.TheVariants.{Written}
-use Rattle.ct_journal.proofs.RecordLemmas.{accepts_run}
+use Rattle.ct_journal.proofs.RecordLemmas.{accepts_run, rechecks_run}
 use Rattle.ct_journal.proofs.record.record_main.Goals as goal
 
 pub returns-in-len1-up-clause-accepted : goal.returns-in-len1-up-clause-accepted
@@ -18,3 +20,15 @@ returns-in-len1-up-clause-accepted g c =
     let fit : (kept.result ≡ Written → IfSome (option_map history_entries run.history) EntriesFit) = search rules in
     let told = sides _ c.args.env.now (files c.args.files) (files run.files) (map g.G.Gate.tells c.args.gates.items) (map g.G.Gate.tells run.gates.items) (sink c.args.sink) (sink run.sink) run.plan (option_map history_entries run.history) in
     rw c.end_call-in-len1-up.ensures (accepts_run told run.outcome run.status c.path-item.result (files run.files) (files kept.new.files) (sink run.sink) (sink kept.new.sink) kept.result c.ctest_main-run.ensures.meant ends fit)
+
+pub returns-in-len1-up-clause-rechecked : goal.returns-in-len1-up-clause-rechecked
+returns-in-len1-up-clause-rechecked g c =
+    let run = c.ctest_main-run.result in
+    let kept = c.keep_journal-end in
+    let files = g.F.Files.tells in
+    let sink = g.S.Sink.tells in
+    let ends : IsJournalEnd (run_end c.path-item.result run.outcome (option_map history_entries run.history) (files run.files) (files kept.new.files) (sink run.sink) (sink kept.new.sink)) kept.result = search rules in
+    let fit : (kept.result ≡ Written → IfSome (option_map history_entries run.history) EntriesFit) = search rules in
+    let told = sides _ c.args.env.now (files c.args.files) (files run.files) (map g.G.Gate.tells c.args.gates.items) (map g.G.Gate.tells run.gates.items) (sink c.args.sink) (sink run.sink) run.plan (option_map history_entries run.history) in
+    let kept_for : RechecksWritten (take (length c.args.words.now - 1) (drop 1 c.args.words.now)) (files c.args.files).held (option_map history_entries run.history) kept.result = rechecks_run told run.outcome run.status c.path-item.result (files run.files) (files kept.new.files) (sink run.sink) (sink kept.new.sink) kept.result c.ctest_main-run.ensures.meant ends fit in
+    rw c.end_call-in-len1-up.ensures (subst (λ (ws : List (List ℕ)). RechecksWritten ws (files c.args.files).held (option_map history_entries run.history) kept.result) (take_rest c.args.words.now 1) kept_for)
