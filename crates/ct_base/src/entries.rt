@@ -13,7 +13,7 @@ use std::alloc::Global;
 pub fn split_list(alloc: Global, text: &[u8]) -> Result<List<Name>, NoMemory>
     ensures { IfOk result (λ entries. entries ≡ entries_of text.now) }
 {
-    let mut entries = List::new(alloc);
+    let mut entries = List::from_vec(Vec::with_capacity(alloc, pieces(text))?);
     let mut entry = Vec::new(alloc);
     let mut at = 0;
     while at < text.len() {
@@ -31,6 +31,13 @@ pub fn split_list(alloc: Global, text: &[u8]) -> Result<List<Name>, NoMemory>
     }
     push_entry(&mut entries, entry)?;
     Ok(entries)
+}
+
+/// Counts the pieces between all semicolons that are not empty, so that their list has the room that it takes.
+fn pieces(text: &[u8]) -> usize {
+    text.split(|byte| *byte == b';')
+        .filter(|piece| !piece.is_empty())
+        .count()
 }
 
 /// Appends an entry, if it is not empty.
