@@ -1,81 +1,36 @@
 -- Where the reader refuses a text, the text is no pattern by the grammar, for the same fault.
-use Rattle.std.proofs.Common.{◌≡◌, ◌<◌, ◌≤◌, ◌⊎◌, inl, inr, ℕ, zero, suc, ◌+◌, Bool, true, false, List, [], ◌∷◌, ◌++◌, length, refl, sym, ◌∙◌, ap, subst, append-nil, append_assoc, nat_lt, Result, Ok, Err, arith}
+use Rattle.std.proofs.Common.{◌≡◌, ◌<◌, ◌≤◌, ◌⊎◌, inl, inr, ℕ, zero, suc, Bool, true, false, List, [], ◌∷◌, ◌++◌, length, refl, sym, ◌∙◌, ap, subst, append-nil, append_assoc, nat_lt, Result, Ok, Err, arith}
 use Rattle.std.proofs.lemmas.Bool.Decides.{nat_tests}
 use Rattle.std.proofs.lemmas.List.{length-append}
 use Rattle.ct_regex.specs.declared.tree.Quantifier.{Quantifier}
 use Rattle.ct_regex.specs.declared.fault.RegexFault.{RegexFault}
 use Rattle.ct_regex.specs.declared.fault.RegexFault.TheVariants.{OpenGroup, StrayClose, OpenSet, BadRange, NothingToRepeat, EmptyRepeat, NestedRepeat, EndsInBackslash, TooLarge, NoMemory}
-use Rattle.ct_regex.specs.Tree.{Tree, repeat}
+use Rattle.ct_regex.specs.Tree.{Tree}
 use Rattle.ct_regex.specs.Signs.{Sign, signs}
 use Rattle.ct_regex.specs.Reading.{Last, no_part, bare, quantified, Group, Groups, opened_at, with_atom, with_branch, closed, may_repeat, with_quantifier, with_group, with_close, with_sign, at_end, and_then, map_ok, read, reading}
 use Rattle.ct_regex.specs.Gives.{Gives}
-use Rattle.ct_regex.specs.Grammar as grammar
-use Rattle.ct_regex.specs.Grammar.{IsAtom, byte_of, may_stand_behind}
+use Rattle.ct_regex.specs.Grammar.{byte_of}
 use Rattle.ct_regex.specs.Faulty as faulty
-use Rattle.ct_regex.specs.Faulty.{PartEnd, IsBegun, IsFaulty, RefusesFault}
-use Rattle.ct_regex.proofs.EmptyLemmas.{may_as}
-use Rattle.ct_regex.proofs.SoundLemmas.{atom_sound}
+use Rattle.ct_regex.specs.Faulty.{IsBegun, HasFault, IsFaulty, RefusesFault}
 use Rattle.ct_regex.proofs.GrammarLemmas.{IsSign, of_one, of_open, of_close, of_bar, of_often, PlacedAt, SignRead, SignFault, sign_view, sign_len}
-use Rattle.ct_regex.proofs.WrittenLemmas.{IsLast, HasRead, opened_read, atom_read, bar_read, often_read, closed_read}
-
--- what a last part is, as the end of a beginning
-abbrev end_of : Last → PartEnd
-end_of no_part = faulty.nothing
-end_of (bare tree) = faulty.alone tree
-end_of (quantified tree) = faulty.repeated
-
--- the places of the open groups, the last one first
-abbrev places_of : Group → List Group → List ℕ
-places_of inner [] = []
-places_of inner (around ∷ outer) = inner.place ∷ places_of around outer
-
-places_len : (inner : Group) (outer : List Group) → length (places_of inner outer) ≡ length outer
-places_len inner [] = refl
-places_len inner (around ∷ outer) = let more : length (places_of around outer) ≡ length outer = places_len around outer in omega arith
-
--- the text is the beginning of a pattern with these open groups
-abbrev HasBegun : List ℕ → Group → List Group → Type 0
-HasBegun text inner [] = HasRead text inner × IsBegun text [] (end_of inner.last)
-HasBegun text inner (around ∷ outer) =
-    (before : List ℕ) × (within : List ℕ) × (text ≡ before ++ 40 ∷ within) × HasBegun before around outer × HasRead within inner × IsBegun text (inner.place ∷ places_of around outer) (end_of inner.last)
-
-begun_of : (outer : List Group) (text : List ℕ) (inner : Group) → HasBegun text inner outer → IsBegun text (places_of inner outer) (end_of inner.last)
-begun_of [] text inner h = h.1
-begun_of (around ∷ outer) text inner h = h.5
-
--- the text of the innermost group
-inner_of : (outer : List Group) (text : List ℕ) (inner : Group) → HasBegun text inner outer → (within : List ℕ) × HasRead within inner
-inner_of [] text inner h = (text, h.0)
-inner_of (around ∷ outer) text inner h = (h.1, h.4)
-
--- more text in the innermost group
-inner_begun : (outer : List Group) (text more : List ℕ) (inner next : Group) → ((t : List ℕ) → HasRead t inner → HasRead (t ++ more) next) → next.place ≡ inner.place →
-    HasBegun text inner outer → IsBegun (text ++ more) (places_of inner outer) (end_of next.last) → HasBegun (text ++ more) next outer
-inner_begun [] text more inner next f same h b = (f text h.0, b)
-inner_begun (around ∷ outer) text more inner next f same h b = (
-  h.0,
-  h.1 ++ more,
-  ap (λ xs. xs ++ more) h.2 ∙ append_assoc h.0 (40 ∷ h.1) more,
-  h.3,
-  f h.1 h.4,
-  subst (λ (p : ℕ). IsBegun (text ++ more) (p ∷ places_of around outer) (end_of next.last)) (sym same) b,
-)
+use Rattle.ct_regex.proofs.WrittenLemmas.{opened_read}
+use Rattle.ct_regex.proofs.BegunLemmas.{end_of, places_of, places_len, HasBegun, begun_of, one_begun, bar_begun, open_begun, close_begun, may_behind, with_often, often_begun}
 
 -- one more sign was taken, or the text is faulty there
 data Goes (text back : List ℕ) (rest : Groups → Result Tree RegexFault) (why : RegexFault) : Type 0 where
   on : (next : Groups) → rest next ≡ Err why → HasBegun text next.inner next.outer → Goes text back rest why
-  stops : IsFaulty (text ++ back) why → Goes text back rest why
+  stops : HasFault (text ++ back) why → Goes text back rest why
 
-same_why : (a b : RegexFault) → ◌≡◌ {A = Result Tree RegexFault} (Err a) (Err b) → a ≡ b
+pub same_why : (a b : RegexFault) → ◌≡◌ {A = Result Tree RegexFault} (Err a) (Err b) → a ≡ b
 same_why a b e = cc
 
-faulty_as : (text other : List ℕ) (a b : RegexFault) → other ≡ text → a ≡ b → IsFaulty other a → IsFaulty text b
-faulty_as text other a b e f is = subst (λ (w : RegexFault). IsFaulty text w) f (subst (λ (xs : List ℕ). IsFaulty xs a) e is)
+fault_as : (text other : List ℕ) (a b : RegexFault) → other ≡ text → a ≡ b → HasFault other a → HasFault text b
+fault_as text other a b e f is = subst (λ (w : RegexFault). HasFault text w) f (subst (λ (xs : List ℕ). HasFault xs a) e is)
 
 -- a fault at the byte behind a beginning
-stops_at : (text back : List ℕ) (byte at : ℕ) (rest : Groups → Result Tree RegexFault) (named : ℕ → RegexFault) (why : RegexFault) → at ≡ length text → named at ≡ why → IsFaulty (text ++ byte ∷ back) (named (length text)) → Goes (text ++ byte ∷ []) back rest why
+stops_at : (text back : List ℕ) (byte at : ℕ) (rest : Groups → Result Tree RegexFault) (named : ℕ → RegexFault) (why : RegexFault) → at ≡ length text → named at ≡ why → HasFault (text ++ byte ∷ back) (named (length text)) → Goes (text ++ byte ∷ []) back rest why
 stops_at text back byte at rest named why e f is =
-    stops (faulty_as ((text ++ byte ∷ []) ++ back) (text ++ byte ∷ back) (named (length text)) why (sym (append_assoc text (byte ∷ []) back)) (ap named (sym e) ∙ f) is)
+    stops (fault_as ((text ++ byte ∷ []) ++ back) (text ++ byte ∷ back) (named (length text)) why (sym (append_assoc text (byte ∷ []) back)) (ap named (sym e) ∙ f) is)
 
 take_often : (text back : List ℕ) (at : ℕ) (inner : Group) (outer : List Group) (rest : Groups → Result Tree RegexFault) (why : RegexFault) (quantifier : Quantifier) (last : Last) → at ≡ length text →
     inner.last ≡ last → HasBegun text inner outer →
@@ -89,35 +44,20 @@ take_often text back at inner outer rest why quantifier (quantified part) e l h 
     stops_at text back (byte_of quantifier) at rest (λ n. NestedRepeat n) why e (same_why (NestedRepeat at) why k) (faulty.nested_repeat quantifier back b)
 take_often text back at inner outer rest why quantifier (bare part) e l h k = by_may (may_repeat quantifier part) refl
   where
-    next : Group
-    next = record { place = inner.place; branches = inner.branches; parts = inner.parts; last = quantified (repeat quantifier part) }
-
     begun : IsBegun text (places_of inner outer) (faulty.alone part)
     begun = subst (λ (x : Last). IsBegun text (places_of inner outer) (end_of x)) l (begun_of outer text inner h)
 
-    same : may_stand_behind quantifier part ≡ may_repeat quantifier part
-    same = let r = (inner_of outer text inner h).1 in
-        let a : IsAtom r.tail part = subst (λ (x : Last). IsLast r.tail x) l r.last in
-        may_as quantifier part (atom_sound a)
-
     by_may : (b : Bool) → may_repeat quantifier part ≡ b → Goes (text ++ byte_of quantifier ∷ []) back rest why
-    by_may true may = on (record { inner = record { place = inner.place; branches = inner.branches; parts = inner.parts; last = quantified (repeat quantifier part) }; outer = outer }) (rw may at k)
-        (inner_begun outer text (byte_of quantifier ∷ []) inner (record { place = inner.place; branches = inner.branches; parts = inner.parts; last = quantified (repeat quantifier part) })
-        (λ t r. often_read t inner quantifier part l may r) refl h (faulty.and_often quantifier begun (same ∙ may)))
+    by_may true may = on (record { inner = with_often quantifier part inner; outer = outer }) (rw may at k) (often_begun outer text inner quantifier part l may h)
     by_may false may =
-        stops_at text back (byte_of quantifier) at rest (λ n. EmptyRepeat n) why e (same_why (EmptyRepeat at) why (rw may at k)) (faulty.empty_repeat quantifier back begun (same ∙ may))
+        stops_at text back (byte_of quantifier) at rest (λ n. EmptyRepeat n) why e (same_why (EmptyRepeat at) why (rw may at k))
+        (faulty.empty_repeat quantifier back begun (may_behind outer text inner quantifier part l h ∙ may))
 
 take_close : (outer : List Group) (text back : List ℕ) (at : ℕ) (inner : Group) (rest : Groups → Result Tree RegexFault) (why : RegexFault) → at ≡ length text → HasBegun text inner outer →
     and_then (with_close at inner outer) rest ≡ Err why → Goes (text ++ 41 ∷ []) back rest why
 take_close [] text back at inner rest why e h k = stops_at text back 41 at rest (λ n. StrayClose n) why e (same_why (StrayClose at) why k) (faulty.stray_close back h.1)
 take_close (around ∷ outer) text back at inner rest why e h k =
-    let group : List ℕ = 40 ∷ h.1 ++ 41 ∷ [] in
-    let split : h.0 ++ group ≡ text ++ 41 ∷ [] = sym (ap (λ xs. xs ++ 41 ∷ []) h.2 ∙ append_assoc h.0 (40 ∷ h.1) (41 ∷ [])) in
-    let written = closed_read h.1 inner h.4 in
-    let begun = faulty.and_group (begun_of outer h.0 around h.3) written in
-    on (record { inner = with_atom (closed inner) around; outer = outer }) k
-    (subst (λ (xs : List ℕ). HasBegun xs (with_atom (closed inner) around) outer) split
-    (inner_begun outer h.0 group around (with_atom (closed inner) around) (λ t r. atom_read t group around (closed inner) (grammar.group written) r) refl h.3 begun))
+    on (record { inner = with_atom (closed inner) around; outer = outer }) k (close_begun outer text inner around h)
 
 take_open : (text back : List ℕ) (at : ℕ) (groups : Groups) (rest : Groups → Result Tree RegexFault) (why : RegexFault) → at ≡ length text → HasBegun text groups.inner groups.outer →
     and_then (with_group at groups) rest ≡ Err why → Goes (text ++ 40 ∷ []) back rest why
@@ -128,8 +68,8 @@ take_open text back at groups rest why e h k = by_depth (nat_lt (length groups.o
 
     by_depth : (b : Bool) → nat_lt (length groups.outer) 200 ≡ b → Goes (text ++ 40 ∷ []) back rest why
     by_depth true few =
-        on (record { inner = opened_at at; outer = groups.inner ∷ groups.outer }) (rw few at k)
-        (text, [], refl, h, opened_read at, subst (λ (p : ℕ). IsBegun (text ++ 40 ∷ []) (p ∷ places_of groups.inner groups.outer) faulty.nothing) (sym e) (faulty.and_open begun))
+        let room : length groups.outer < 200 = grind (arith, nat_tests) in
+        on (record { inner = opened_at at; outer = groups.inner ∷ groups.outer }) (rw few at k) (open_begun groups.outer text groups.inner at e room h)
     by_depth false few =
         let many : 200 ≤ length (places_of groups.inner groups.outer) = (let deep : 200 ≤ length groups.outer = grind (arith, nat_tests) in omega (arith, deep, places_len groups.inner groups.outer)) in
         stops_at text back 40 at rest (λ n. TooLarge n) why e (same_why (TooLarge at) why (rw few at k)) (faulty.too_deep back begun many)
@@ -137,44 +77,41 @@ take_open text back at groups rest why e h k = by_depth (nat_lt (length groups.o
 goes : {more : List ℕ} {sign : Sign} → IsSign more sign → (text back : List ℕ) (at : ℕ) (groups : Groups) (rest : Groups → Result Tree RegexFault) (why : RegexFault) → at ≡ length text →
     HasBegun text groups.inner groups.outer → and_then (with_sign groups sign) rest ≡ Err why → PlacedAt at sign → Goes (text ++ more) back rest why
 goes {more} (of_one {tree = part} o) text back at groups rest why e h k p =
-    on (record { inner = with_atom part groups.inner; outer = groups.outer }) k
-    (inner_begun groups.outer text more groups.inner (with_atom part groups.inner) (λ t r. atom_read t more groups.inner part (grammar.alone o) r) refl h
-    (faulty.and_one (begun_of groups.outer text groups.inner h) o))
+    on (record { inner = with_atom part groups.inner; outer = groups.outer }) k (one_begun groups.outer text more groups.inner part o h)
 goes (of_open place) text back at groups rest why e h k p = take_open text back place groups rest why (p ∙ e) h k
 goes (of_close place) text back at groups rest why e h k p = take_close groups.outer text back place groups.inner rest why (p ∙ e) h k
 goes of_bar text back at groups rest why e h k p =
-    on (record { inner = with_branch groups.inner; outer = groups.outer }) k
-    (inner_begun groups.outer text (124 ∷ []) groups.inner (with_branch groups.inner) (λ t r. bar_read t groups.inner r) refl h (faulty.and_bar (begun_of groups.outer text groups.inner h)))
+    on (record { inner = with_branch groups.inner; outer = groups.outer }) k (bar_begun groups.outer text groups.inner h)
 goes (of_often quantifier place) text back at groups rest why e h k p =
     take_often text back place groups.inner groups.outer rest why quantifier groups.inner.last (p ∙ e) refl h k
 
-ended : (outer : List Group) (inner : Group) (text : List ℕ) (why : RegexFault) → HasBegun text inner outer → at_end inner outer ≡ Err why → IsFaulty text why
+ended : (outer : List Group) (inner : Group) (text : List ℕ) (why : RegexFault) → HasBegun text inner outer → at_end inner outer ≡ Err why → HasFault text why
 ended [] inner text why h k = absurd (cc)
 ended (around ∷ outer) inner text why h k =
-    faulty_as text text (OpenGroup inner.place) why refl (same_why (OpenGroup inner.place) why k) (faulty.not_closed inner.place h.5)
+    fault_as text text (OpenGroup inner.place) why refl (same_why (OpenGroup inner.place) why k) (faulty.not_closed inner.place h.6)
 
 reads_faulty : (n at : ℕ) (text rest : List ℕ) (groups : Groups) (why : RegexFault) → length rest ≤ n → at ≡ length text → HasBegun text groups.inner groups.outer →
-    read groups (signs at rest) ≡ Err why → IsFaulty (text ++ rest) why
+    read groups (signs at rest) ≡ Err why → HasFault (text ++ rest) why
 reads_faulty n at text [] groups why few e h k =
-    faulty_as (text ++ []) text why why (sym (append-nil text)) refl (ended groups.outer groups.inner text why h k)
+    fault_as (text ++ []) text why why (sym (append-nil text)) refl (ended groups.outer groups.inner text why h k)
 reads_faulty zero at text (byte ∷ rest) groups why few e h k = absurd (omega arith)
 reads_faulty (suc n) at text (byte ∷ rest) groups why few e h k = by_view (sign_view at byte rest) (λ where_at front back next short place begun read_on. reads_faulty n where_at front back next why short place begun read_on)
   where
     by_goes : (s : SignRead at (byte ∷ rest)) → Goes (text ++ s.text) s.back (λ (next : Groups). read next (signs s.behind s.back)) why →
-        ((where_at : ℕ) (front back : List ℕ) (next : Groups) → length back ≤ n → where_at ≡ length front → HasBegun front next.inner next.outer → read next (signs where_at back) ≡ Err why → IsFaulty (front ++ back) why) → IsFaulty (text ++ byte ∷ rest) why
+        ((where_at : ℕ) (front back : List ℕ) (next : Groups) → length back ≤ n → where_at ≡ length front → HasBegun front next.inner next.outer → read next (signs where_at back) ≡ Err why → HasFault (front ++ back) why) → HasFault (text ++ byte ∷ rest) why
     by_goes s (stops is) again =
-        faulty_as (text ++ byte ∷ rest) ((text ++ s.text) ++ s.back) why why (append_assoc text s.text s.back ∙ ap (λ xs. text ++ xs) (sym s.split)) refl is
+        fault_as (text ++ byte ∷ rest) ((text ++ s.text) ++ s.back) why why (append_assoc text s.text s.back ∙ ap (λ xs. text ++ xs) (sym s.split)) refl is
     by_goes s (on next read_on begun) again =
-        faulty_as (text ++ byte ∷ rest) ((text ++ s.text) ++ s.back) why why (append_assoc text s.text s.back ∙ ap (λ xs. text ++ xs) (sym s.split)) refl
+        fault_as (text ++ byte ∷ rest) ((text ++ s.text) ++ s.back) why why (append_assoc text s.text s.back ∙ ap (λ xs. text ++ xs) (sym s.split)) refl
         (again s.behind (text ++ s.text) s.back next (omega (arith, few, ap length s.split, length-append s.text s.back, sign_len s.written)) (omega (arith, s.size, e, length-append text s.text)) begun read_on)
 
     by_view : SignRead at (byte ∷ rest) ⊎ SignFault at (byte ∷ rest) →
-        ((where_at : ℕ) (front back : List ℕ) (next : Groups) → length back ≤ n → where_at ≡ length front → HasBegun front next.inner next.outer → read next (signs where_at back) ≡ Err why → IsFaulty (front ++ back) why) → IsFaulty (text ++ byte ∷ rest) why
+        ((where_at : ℕ) (front back : List ℕ) (next : Groups) → length back ≤ n → where_at ≡ length front → HasBegun front next.inner next.outer → read next (signs where_at back) ≡ Err why → HasFault (front ++ back) why) → HasFault (text ++ byte ∷ rest) why
     by_view (inl s) again =
         by_goes s (goes s.written text s.back at groups (λ (next : Groups). read next (signs s.behind s.back)) why e h (sym (ap (read groups) s.reads) ∙ k) s.placed) again
     by_view (inr f) again =
         let same : f.why ≡ why = same_why f.why why (sym (ap (read groups) f.reads) ∙ k) in
-        faulty_as (text ++ byte ∷ rest) (text ++ byte ∷ rest) f.why why refl same (f.is text (places_of groups.inner groups.outer) (end_of groups.inner.last) e (begun_of groups.outer text groups.inner h))
+        fault_as (text ++ byte ∷ rest) (text ++ byte ∷ rest) f.why why refl same (f.is text (places_of groups.inner groups.outer) (end_of groups.inner.last) e (begun_of groups.outer text groups.inner h))
 
 -- a text that is not read is faulty
 pub reading_faulty : (text : List ℕ) (why : RegexFault) → reading text ≡ Err why → IsFaulty text why
@@ -183,9 +120,11 @@ reading_faulty text why h = by_len (nat_lt 65536 (length text)) refl
     by_len : (b : Bool) → nat_lt 65536 (length text) ≡ b → IsFaulty text why
     by_len true many =
         let far : 65536 < length text = grind (arith, nat_tests) in
-        faulty_as text text (TooLarge 65536) why refl (same_why (TooLarge 65536) why (rw many at h)) (faulty.too_long far)
+        subst (λ (w : RegexFault). IsFaulty text w) (same_why (TooLarge 65536) why (rw many at h)) (faulty.too_long far)
     by_len false few =
-        reads_faulty (length text) 0 [] text (record { inner = opened_at 0; outer = [] }) why (omega arith) refl (opened_read 0, faulty.empty) (rw few at h)
+        let short : length text ≤ 65536 = grind (arith, nat_tests) in
+        faulty.behind_begin short
+        (reads_faulty (length text) 0 [] text (record { inner = opened_at 0; outer = [] }) why (omega arith) refl (opened_read 0, faulty.empty) (rw few at h))
 
 -- what a call refuses, in terms of the grammar
 pub refuses_fault : {X : Type 0} (view : X → Tree) (text : List ℕ) (answer : Result X RegexFault) → Gives view answer (reading text) → RefusesFault text answer

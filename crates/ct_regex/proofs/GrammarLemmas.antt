@@ -11,7 +11,7 @@ use Rattle.ct_regex.specs.Signs.{Sign, atom, opens, closes, bar, often, fault, s
 use Rattle.ct_regex.specs.Grammar as grammar
 use Rattle.ct_regex.specs.Grammar.{MayBegin, IsItems, IsOne, byte_of}
 use Rattle.ct_regex.specs.Faulty as faulty
-use Rattle.ct_regex.specs.Faulty.{PartEnd, IsBegun, IsOpenSet, IsBrokenSet, IsFaulty}
+use Rattle.ct_regex.specs.Faulty.{PartEnd, IsBegun, IsOpenSet, IsBrokenSet, HasFault}
 use Rattle.ct_regex.proofs.SignsLemmas.{skip_two, set_item}
 
 -- a set was read: its items and its `]`, and what stands behind it
@@ -250,26 +250,26 @@ pub record SignRead (at : ℕ) (rest : List ℕ) : Type 0 where
 pub record SignFault (at : ℕ) (rest : List ℕ) : Type 0 where
   pub why : RegexFault
   pub reads : signs at rest ≡ fault why ∷ []
-  pub is : (front opened : List ℕ) (last : PartEnd) → at ≡ length front → IsBegun front opened last → IsFaulty (front ++ rest) why
+  pub is : (front opened : List ℕ) (last : PartEnd) → at ≡ length front → IsBegun front opened last → HasFault (front ++ rest) why
 
 -- a set that has a fault, behind the beginning of a pattern
 set_is : (at : ℕ) (rest : List ℕ) (why : RegexFault) → begins_negated rest ≡ false → SetSays true at (at + 1) rest why →
-    (front opened : List ℕ) (last : PartEnd) → at ≡ length front → IsBegun front opened last → IsFaulty (front ++ 91 ∷ rest) why
+    (front opened : List ℕ) (last : PartEnd) → at ≡ length front → IsBegun front opened last → HasFault (front ++ 91 ∷ rest) why
 set_is at rest why neg (inl f) front opened last e b =
-    subst (λ (w : RegexFault). IsFaulty (front ++ 91 ∷ rest) w) (ap (λ (n : ℕ). OpenSet n) (sym e) ∙ sym f.0) (faulty.set_not_closed b neg f.1)
+    subst (λ (w : RegexFault). HasFault (front ++ 91 ∷ rest) w) (ap (λ (n : ℕ). OpenSet n) (sym e) ∙ sym f.0) (faulty.set_not_closed b neg f.1)
 set_is at rest why neg (inr f) front opened last e b =
     let sums : length front + 1 + length f.0 ≡ (at + 1) + length f.0 = omega (arith, e) in
-    subst (λ (w : RegexFault). IsFaulty (front ++ 91 ∷ rest) w) (ap (λ (n : ℕ). BadRange n) sums ∙ sym f.4)
-    (subst (λ (xs : List ℕ). IsFaulty (front ++ 91 ∷ xs) (BadRange (length front + 1 + length f.0))) (sym f.2) (faulty.bad_range b (ap begins_negated (sym f.2) ∙ neg) f.3))
+    subst (λ (w : RegexFault). HasFault (front ++ 91 ∷ rest) w) (ap (λ (n : ℕ). BadRange n) sums ∙ sym f.4)
+    (subst (λ (xs : List ℕ). HasFault (front ++ 91 ∷ xs) (BadRange (length front + 1 + length f.0))) (sym f.2) (faulty.bad_range b (ap begins_negated (sym f.2) ∙ neg) f.3))
 
 negated_is : (at : ℕ) (rest : List ℕ) (why : RegexFault) → SetSays true at (at + 1 + 1) rest why →
-    (front opened : List ℕ) (last : PartEnd) → at ≡ length front → IsBegun front opened last → IsFaulty (front ++ 91 ∷ 94 ∷ rest) why
+    (front opened : List ℕ) (last : PartEnd) → at ≡ length front → IsBegun front opened last → HasFault (front ++ 91 ∷ 94 ∷ rest) why
 negated_is at rest why (inl f) front opened last e b =
-    subst (λ (w : RegexFault). IsFaulty (front ++ 91 ∷ 94 ∷ rest) w) (ap (λ (n : ℕ). OpenSet n) (sym e) ∙ sym f.0) (faulty.negated_not_closed b f.1)
+    subst (λ (w : RegexFault). HasFault (front ++ 91 ∷ 94 ∷ rest) w) (ap (λ (n : ℕ). OpenSet n) (sym e) ∙ sym f.0) (faulty.negated_not_closed b f.1)
 negated_is at rest why (inr f) front opened last e b =
     let sums : length front + 2 + length f.0 ≡ (at + 1 + 1) + length f.0 = omega (arith, e) in
-    subst (λ (w : RegexFault). IsFaulty (front ++ 91 ∷ 94 ∷ rest) w) (ap (λ (n : ℕ). BadRange n) sums ∙ sym f.4)
-    (subst (λ (xs : List ℕ). IsFaulty (front ++ 91 ∷ 94 ∷ xs) (BadRange (length front + 2 + length f.0))) (sym f.2) (faulty.bad_negated b f.3))
+    subst (λ (w : RegexFault). HasFault (front ++ 91 ∷ 94 ∷ rest) w) (ap (λ (n : ℕ). BadRange n) sums ∙ sym f.4)
+    (subst (λ (xs : List ℕ). HasFault (front ++ 91 ∷ 94 ∷ xs) (BadRange (length front + 2 + length f.0))) (sym f.2) (faulty.bad_negated b f.3))
 
 -- a single byte is written as its sign
 plain_view : (at byte : ℕ) → (byte == 91) ≡ false → (byte == 92) ≡ false → IsSign (byte ∷ []) (plain_sign at byte)
@@ -324,8 +324,8 @@ escaped_view at byte [] no91 is92 = inr (record {
   why = EndsInBackslash at;
   reads = rw (no91, is92) refl;
   is = λ front opened last e b.
-      subst (λ (c : ℕ). IsFaulty (front ++ c ∷ []) (EndsInBackslash at)) (sym (same_byte byte 92 is92))
-      (subst (λ (n : ℕ). IsFaulty (front ++ 92 ∷ []) (EndsInBackslash n)) (sym e) (faulty.ends_in_backslash b));
+      subst (λ (c : ℕ). HasFault (front ++ c ∷ []) (EndsInBackslash at)) (sym (same_byte byte 92 is92))
+      (subst (λ (n : ℕ). HasFault (front ++ 92 ∷ []) (EndsInBackslash n)) (sym e) (faulty.ends_in_backslash b));
 })
 escaped_view at byte (next ∷ rest) no91 is92 = inl (record {
   text = 92 ∷ next ∷ [];
@@ -358,7 +358,7 @@ negated_view at byte (next ∷ rest) is91 neg =
       why = f.why;
       reads = begins ∙ f.reads;
       is = λ front opened last e b.
-          subst (λ (xs : List ℕ). IsFaulty (front ++ xs) f.why) (sym (ap (λ c. c ∷ next ∷ rest) (same_byte byte 91 is91) ∙ ap (λ c. 91 ∷ c ∷ rest) (same_byte next 94 neg)))
+          subst (λ (xs : List ℕ). HasFault (front ++ xs) f.why) (sym (ap (λ c. c ∷ next ∷ rest) (same_byte byte 91 is91) ∙ ap (λ c. 91 ∷ c ∷ rest) (same_byte next 94 neg)))
           (negated_is at rest f.why f.is front opened last e b);
     }))
     (set_view (length rest) at true (at + 1 + 1) [] rest (omega arith))
@@ -384,7 +384,7 @@ set_sign_view at byte rest is91 neg =
       why = f.why;
       reads = begins ∙ f.reads;
       is = λ front opened last e b.
-          subst (λ (c : ℕ). IsFaulty (front ++ c ∷ rest) f.why) (sym (same_byte byte 91 is91)) (set_is at rest f.why neg f.is front opened last e b);
+          subst (λ (c : ℕ). HasFault (front ++ c ∷ rest) f.why) (sym (same_byte byte 91 is91)) (set_is at rest f.why neg f.is front opened last e b);
     }))
     (set_view (length rest) at false (at + 1) [] rest (omega arith))
   where

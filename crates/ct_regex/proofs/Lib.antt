@@ -8,8 +8,10 @@ pub mod GrammarLemmas
 pub mod EmptyLemmas
 pub mod SoundLemmas
 pub mod WrittenLemmas
+pub mod BegunLemmas
 pub mod FaultLemmas
 pub mod ReadBackLemmas
+pub mod OneAnswerLemmas
 pub mod Live
 pub mod LiveLemmas
 pub mod MemoryLemmas

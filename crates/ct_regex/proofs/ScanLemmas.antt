@@ -8,7 +8,7 @@ use Rattle.ct_regex.specs.Reading.{can_be_empty}
 use Rattle.ct_regex.specs.Sound.{is_sound}
 use Rattle.ct_regex.specs.Walk.{Step, step_of, all_flow, walked, steps_of, no_marks}
 use Rattle.ct_regex.specs.Stand.{Stand, a_stand, stand_with, stand_by, behind_byte, behind_bytes, answer}
-use Rattle.ct_regex.specs.Scan.{stand_of, answer_behind, StandsFor, ScansOn}
+use Rattle.ct_regex.specs.Scan.{stand_of, StandsFor, ScansOn}
 use Rattle.ct_regex.specs.declared.walk.Flow.{Flow}
 use Rattle.ct_regex.specs.declared.scan.Scan.{Scan}
 use Rattle.ct_regex.proofs.HitLemmas.{hits_from, hits_to}

@@ -6,6 +6,7 @@ pub mod Signs
 pub mod Reading
 pub mod Grammar
 pub mod Faulty
+pub mod OneAnswer
 pub mod Laws
 pub mod Meaning
 pub mod TreeOf

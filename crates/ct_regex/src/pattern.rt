@@ -33,7 +33,8 @@ impl Regex {
     ghost use Rattle.ct_regex.specs.Reading.{reading};
     ghost use Rattle.ct_regex.specs.Gives.{Gives, IsReadAs};
     ghost use Rattle.ct_regex.specs.Grammar.{IsPattern};
-    ghost use Rattle.ct_regex.specs.Faulty.{RefusesFault};
+    ghost use Rattle.ct_regex.specs.Faulty.{RefusesFault, IsSoleAnswer};
+    ghost use Rattle.ct_regex.specs.OneAnswer.{HasOneAnswer};
 
     /// Reads a pattern, or finds its first fault from the left.
     ///
@@ -44,8 +45,12 @@ impl Regex {
         // The tree is what the grammar writes. The grammar does not depend on how a text is read.
         ensures written { IfOk result (λ regex. IsPattern text.now (regex_tree regex)) }
         ensures read { (tree : Tree) → IsPattern text.now tree → IsReadAs regex_tree tree result }
-        // A refusal has the kind and the place that the grammar gives.
+        // A refusal has the kind and the place that the grammar of faulty texts gives, and a text that it
+        // calls faulty is refused so.
         ensures refused { RefusesFault text.now result }
+        ensures sole { IsSoleAnswer text.now result }
+        // The two grammars agree: a text is written as one tree or has one fault.
+        ensures one { HasOneAnswer text.now }
     {
         if text.len() > MOST_BYTES {
             return Err(RegexFault::TooLarge(65_536));

@@ -1,4 +1,4 @@
-use Rattle.std.proofs.Common.{rules, ◌≡◌, List, ℕ, map, get_or, refl, sym, ap, ◌∙◌}
+use Rattle.std.proofs.Common.{rules, List, map, get_or, refl, sym, ap, ◌∙◌}
 use Rattle.ct_regex.specs.Walk.{Step, step_of}
 use Rattle.ct_regex.specs.Stand.{Stand, a_stand}
 use Rattle.ct_regex.specs.declared.walk.Flow.{Flow}
