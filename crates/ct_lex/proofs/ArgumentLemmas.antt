@@ -161,7 +161,7 @@ argument-some (grammar.unquoted {text = text} t some unopened) = some-of text so
 
 -- an argument that is written is found;
 -- first: a text that is not empty does not begin with a byte that ends it
-quoted-front : {kind : ArgKind} {text : List ℕ} {parts : List Part} → IsText kind text parts → (text ≡ [] → ⊥) → ends_text kind (get_or text 0 0) ≡ false
+pub quoted-front : {kind : ArgKind} {text : List ℕ} {parts : List Part} → IsText kind text parts → (text ≡ [] → ⊥) → ends_text kind (get_or text 0 0) ≡ false
 quoted-front grammar.nothing some = absurd (some refl)
 quoted-front {kind} (grammar.plain byte fits t) some =
     (or_parts (ends_text kind byte) (byte == 92 || byte == 36) (not_true (ends_text kind byte || (byte == 92 || byte == 36)) fits)).0
@@ -169,7 +169,7 @@ quoted-front {kind} (grammar.escape byte piece e t) some = ends-backslash kind
 quoted-front {kind} (grammar.dollar e t) some = ends-dollar kind
 quoted-front {kind} (grammar.reference name v t) some = ends-dollar kind
 
-ending : (gap left close hash quote : Bool) → (gap || close || hash) ≡ true → (gap || left || close || hash || quote) ≡ true
+pub ending : (gap left close hash quote : Bool) → (gap || close || hash) ≡ true → (gap || left || close || hash || quote) ≡ true
 ending true left close hash quote a = refl
 ending false true close hash quote a = refl
 ending false false true hash quote a = refl
@@ -180,14 +180,14 @@ abbrev pub follows_byte : ℕ → Bool
 follows_byte byte = is_gap byte || byte == 41 || byte == 35
 
 -- the byte may begin an unquoted argument: it is no blank, line feed, `(`, `)`, `#` or `"`
-record IsWordFront (byte : ℕ) : Type 0 where
+pub record IsWordFront (byte : ℕ) : Type 0 where
   pub gap : is_gap byte ≡ false
   pub paren : (byte == 40) ≡ false
   pub close : (byte == 41) ≡ false
   pub hash : (byte == 35) ≡ false
   pub quote : (byte == 34) ≡ false
 
-word-front-of : (byte : ℕ) → ends_text Unquoted byte ≡ false → IsWordFront byte
+pub word-front-of : (byte : ℕ) → ends_text Unquoted byte ≡ false → IsWordFront byte
 word-front-of byte e =
     let quote = or_parts (is_gap byte || byte == 40 || byte == 41 || byte == 35) (byte == 34) e in
     let hash = or_parts (is_gap byte || byte == 40 || byte == 41) (byte == 35) quote.0 in
@@ -200,13 +200,12 @@ apart-read front rest arg follows =
     let left : drop (length front) (front ++ rest) ≡ rest = drop-front front rest in
     rw (left, follows) refl
 
-unquoted-read : (text : List ℕ) (byte : ℕ) (back : List ℕ) (parts : List Part) → IsText Unquoted text parts → (text ≡ [] → ⊥) → (BeginsBracket text → ⊥) → follows_byte byte ≡ true → argument_by (text ++ byte ∷ back) (opening (text ++ byte ∷ back)) ≡ read_of (record { kind = Unquoted; parts = parts }) (length text)
-unquoted-read [] byte back parts t some unopened follows = absurd (some refl)
-unquoted-read (first ∷ text) byte back parts t some unopened follows =
+unquoted-read : (text : List ℕ) (byte : ℕ) (back : List ℕ) (parts : List Part) → IsText Unquoted text parts → (text ≡ [] → ⊥) → (BeginsBracket text → ⊥) → ends_text Unquoted byte ≡ true → argument_by (text ++ byte ∷ back) (opening (text ++ byte ∷ back)) ≡ read_of (record { kind = Unquoted; parts = parts }) (length text)
+unquoted-read [] byte back parts t some unopened ends = absurd (some refl)
+unquoted-read (first ∷ text) byte back parts t some unopened ends =
     let whole : List ℕ = first ∷ (text ++ byte ∷ back) in
     let front = word-front-of first (quoted-front t some) in
-    let other : is_opening_byte byte ≡ false = or_from (byte == 91) (byte == 61) (is-other follows_byte byte 91 follows refl) (is-other follows_byte byte 61 follows refl) in
-    let ends : ends_text Unquoted byte ≡ true = ending (is_gap byte) (byte == 40) (byte == 41) (byte == 35) (byte == 34) follows in
+    let other : is_opening_byte byte ≡ false = or_from (byte == 91) (byte == 61) (is-other (ends_text Unquoted) byte 91 ends refl) (is-other (ends_text Unquoted) byte 61 ends refl) in
     let no_paren : stands 40 0 whole ≡ false = stands-front 40 first (text ++ byte ∷ back) ∙ front.paren in
     let no_quote : stands 34 0 whole ≡ false = stands-front 34 first (text ++ byte ∷ back) ∙ front.quote in
     let inner : text_from Unquoted 0 whole ≡ Ok (parts, length (first ∷ text)) = text-read t byte back ends in
@@ -234,21 +233,27 @@ bracket-read-as n inside rest only =
     ∙ ap P behind
     ∙ ap Q (take_at inside (closes_with n ++ rest) (length inside) refl)
 
-argument_by-read : {front : List ℕ} {arg : Arg} → IsArgument front arg → (byte : ℕ) (back : List ℕ) → follows_byte byte ≡ true → argument_by (front ++ byte ∷ back) (opening (front ++ byte ∷ back)) ≡ Ok (arg, length front)
-argument_by-read (grammar.bracketed (grammar.bracket {inside = inside} n only)) byte back follows =
-    let split : (opens_with n ++ (inside ++ closes_with n)) ++ byte ∷ back ≡ opens_with n ++ (inside ++ (closes_with n ++ byte ∷ back)) =
-    append_assoc (opens_with n) (inside ++ closes_with n) (byte ∷ back) ∙ ap (λ t. opens_with n ++ t) (append_assoc inside (closes_with n) (byte ∷ back)) in
+-- the text begins with a byte that ends an unquoted argument
+abbrev pub EndsUnquoted : List ℕ → Type 0
+EndsUnquoted text = (byte : ℕ) × (back : List ℕ) × (text ≡ byte ∷ back) × (ends_text Unquoted byte ≡ true)
+
+pub argument_by-read : {front : List ℕ} {arg : Arg} → IsArgument front arg → (rest : List ℕ) → (arg.kind ≡ Unquoted → EndsUnquoted rest) → argument_by (front ++ rest) (opening (front ++ rest)) ≡ Ok (arg, length front)
+argument_by-read (grammar.bracketed (grammar.bracket {inside = inside} n only)) rest ends =
+    let split : (opens_with n ++ (inside ++ closes_with n)) ++ rest ≡ opens_with n ++ (inside ++ (closes_with n ++ rest)) =
+    append_assoc (opens_with n) (inside ++ closes_with n) rest ∙ ap (λ t. opens_with n ++ t) (append_assoc inside (closes_with n) rest) in
     let Q : ℕ → Result (Arg × ℕ) Stop = λ k. Ok (record { kind = Bracket; parts = with_bytes (without_feed inside) [] }, k) in
-    ap (λ t. argument_by t (opening t)) split ∙ bracket-read-as n inside (byte ∷ back) only ∙ ap Q (sym (bracket-length n inside))
-argument_by-read (grammar.quoted {text = text} {parts = parts} t) byte back follows =
+    ap (λ t. argument_by t (opening t)) split ∙ bracket-read-as n inside rest only ∙ ap Q (sym (bracket-length n inside))
+argument_by-read (grammar.quoted {text = text} {parts = parts} t) rest ends =
     let Q : ℕ → Result (Arg × ℕ) Stop = λ k. Ok (record { kind = Quoted; parts = parts }, k) in
     let sums : length text + 2 ≡ length (34 ∷ (text ++ 34 ∷ [])) = omega (arith, length-append text (34 ∷ [])) in
-    ap (λ t. argument_by (34 ∷ t) (opening (34 ∷ t))) (append_assoc text (34 ∷ []) (byte ∷ back)) ∙ quoted-read-as text (byte ∷ back) parts t ∙ ap Q sums
-argument_by-read (grammar.unquoted {text = text} {parts = parts} t some unopened) byte back follows = unquoted-read text byte back parts t some unopened follows
+    ap (λ t. argument_by (34 ∷ t) (opening (34 ∷ t))) (append_assoc text (34 ∷ []) rest) ∙ quoted-read-as text rest parts t ∙ ap Q sums
+argument_by-read (grammar.unquoted {text = text} {parts = parts} t some unopened) rest ends =
+    let end = ends refl in
+    ap (λ r. argument_by (text ++ r) (opening (text ++ r))) end.2 ∙ unquoted-read text end.0 end.1 parts t some unopened end.3
 
 pub argument-read : {front : List ℕ} {arg : Arg} → IsArgument front arg → (byte : ℕ) (back : List ℕ) → follows_byte byte ≡ true → argument (front ++ byte ∷ back) ≡ Ok (arg, length front)
 argument-read {front} {arg} a byte back follows =
-    let read : argument_by (front ++ byte ∷ back) (opening (front ++ byte ∷ back)) ≡ Ok (arg, length front) = argument_by-read a byte back follows in
+    let read : argument_by (front ++ byte ∷ back) (opening (front ++ byte ∷ back)) ≡ Ok (arg, length front) = argument_by-read a (byte ∷ back) (λ _. (byte, back, refl, ending (is_gap byte) (byte == 40) (byte == 41) (byte == 35) (byte == 34) follows)) in
     let whole : argument (front ++ byte ∷ back) ≡ apart (front ++ byte ∷ back) (arg, length front) = rw read refl in
     whole ∙ apart-read front (byte ∷ back) arg follows
 

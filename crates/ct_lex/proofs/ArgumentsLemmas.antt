@@ -169,7 +169,7 @@ pub record ArgumentsGo (behind : Bool) (text back : List ℕ) (args : List Arg) 
   pub reads : arguments_from 0 (text ++ 41 ∷ back) ≡ Ok (args, length text + 1)
   pub follows : behind ≡ true → (byte : ℕ) × (rest : List ℕ) × (text ++ 41 ∷ back ≡ byte ∷ rest) × (follows_byte byte ≡ true)
 
-gap-first : {front : List ℕ} → IsSpace front → (back : List ℕ) → (byte : ℕ) × (rest : List ℕ) × (front ++ back ≡ byte ∷ rest) × (follows_byte byte ≡ true) × ((byte == 41) ≡ false)
+pub gap-first : {front : List ℕ} → IsSpace front → (back : List ℕ) → (byte : ℕ) × (rest : List ℕ) × (front ++ back ≡ byte ∷ rest) × (follows_byte byte ≡ true) × ((byte == 41) ≡ false)
 gap-first (grammar.blank byte b) back = (byte, back, refl, rw b refl, is-other is_gap byte 41 (rw b refl) refl)
 gap-first (grammar.bracket_comment b) back = (35, _, refl, refl, refl)
 

@@ -10,17 +10,17 @@ use Rattle.ct_lex.specs.Broken as broken
 use Rattle.ct_lex.specs.Broken.{IsBrokenCommand, IsCutCommand, IsBroken}
 use Rattle.ct_lex.specs.Bytes.{stands, is_space, is_word, begins_word, lower, feeds}
 use Rattle.ct_lex.specs.Command.{CommandRead, word_len, named, command_by, command, shifted, start_from}
-use Rattle.ct_lex.specs.Files.{IsBrokenFrom, RefusesFiles, BreaksOn}
+use Rattle.ct_lex.specs.Files.{IsBrokenFrom}
 use Rattle.ct_lex.specs.Grammar as grammar
 use Rattle.ct_lex.specs.Grammar.{IsIdentifier}
-use Rattle.ct_lex.specs.Place.{Place, beginning, fault_of, fault_at, call_at, next_by, next_of}
-use Rattle.ct_lex.specs.Reads.{ReadsFrom, AnswersNext}
+use Rattle.ct_lex.specs.Place.{Place, fault_of, fault_at, call_at, next_by, next_of}
+use Rattle.ct_lex.specs.Reads.{ReadsFrom}
 use Rattle.ct_lex.specs.Stop.{refused}
 use Rattle.ct_lex.specs.Text.{arguments_from}
 use Rattle.ct_lex.specs.declared.call.Arg.{Arg}
 use Rattle.ct_lex.specs.declared.call.Call.{Call}
 use Rattle.ct_lex.specs.declared.fault.LexFault.{LexFault}
-use Rattle.ct_lex.specs.declared.fault.LexFault.TheVariants.{OpenString, OpenBracket, OpenCall, BadEscape, BadChar, BadReference, NoMemory}
+use Rattle.ct_lex.specs.declared.fault.LexFault.TheVariants.{OpenCall}
 use Rattle.ct_lex.specs.declared.stop.Cause.{Cause}
 use Rattle.ct_lex.specs.declared.stop.Cause.TheVariants as cause
 use Rattle.ct_lex.specs.declared.stop.Stop.{Stop}
@@ -36,7 +36,7 @@ use Rattle.ct_lex.proofs.BrokenText.{same_stop, run-ends}
 use Rattle.ct_lex.proofs.BrokenArguments.{BrokenAt, gap-stops, arguments-stop, ArgumentsStop}
 
 -- the command at the front of a text is broken, or the text ends in it
-abbrev CommandStops : List ℕ → Stop → Type 0
+abbrev pub CommandStops : List ℕ → Stop → Type 0
 CommandStops text Ended = IsCutCommand text
 CommandStops text (At cause left) = BrokenAt IsBrokenCommand text cause left
 
@@ -108,7 +108,7 @@ opens-stops word spaces (byte ∷ inner) stop fit blank ends e = by_paren (byte 
         let stops = arguments-stop (suc (length inner)) false inner stop (omega arith) (λ (no_way : false ≡ true). absurd (true≢false (sym no_way))) none in
         subst (λ (b : ℕ). CommandStops (word ++ (spaces ++ b ∷ inner)) stop) (sym same) (inside-stops word spaces inner stop fit blank stops)
 
-command-stops : (byte : ℕ) (rest : List ℕ) (stop : Stop) → begins_word byte ≡ true → command (byte ∷ rest) ≡ Err stop → CommandStops (byte ∷ rest) stop
+pub command-stops : (byte : ℕ) (rest : List ℕ) (stop : Stop) → begins_word byte ≡ true → command (byte ∷ rest) ≡ Err stop → CommandStops (byte ∷ rest) stop
 command-stops byte rest stop begins e =
     let run = run-of is_word rest in
     let spaces = run-of is_space run.back in
@@ -126,7 +126,7 @@ command-stops byte rest stop begins e =
     subst (λ (t : List ℕ). CommandStops t stop) (sym split) (opens-stops word spaces.run spaces.back stop (begins, run.all) spaces.all ends (sym read ∙ ap (λ t. command t) (sym split) ∙ e))
 
 -- the text from a place on is broken in front of the next command
-record StartStops (behind : Bool) (line : ℕ) (text : List ℕ) (stop : Stop) : Type 0 where
+pub record StartStops (behind : Bool) (line : ℕ) (text : List ℕ) (stop : Stop) : Type 0 where
   pub why : Cause
   pub front : List ℕ
   pub rest : List ℕ
@@ -187,7 +187,7 @@ start-here : (behind : Bool) (line : ℕ) (why : Cause) (text : List ℕ) (stop 
 start-here behind line why text stop e is =
     record { why = why; front = []; rest = text; split = refl; stop_is = e; is = subst (λ (k : ℕ). IsBroken behind line text [] (fault_of why k)) (sym (add-zero line)) is }
 
-start-stops : (fuel : ℕ) (behind : Bool) (line : ℕ) (text : List ℕ) (stop : Stop) → length text < fuel → start_from behind 0 text ≡ Err stop → StartStops behind line text stop
+pub start-stops : (fuel : ℕ) (behind : Bool) (line : ℕ) (text : List ℕ) (stop : Stop) → length text < fuel → start_from behind 0 text ≡ Err stop → StartStops behind line text stop
 start-stops zero behind line text stop fits e = absurd (omega arith)
 start-stops (suc fuel) behind line [] stop fits e = cc
 start-stops (suc fuel) behind line (byte ∷ rest) stop fits e = by_gap (gap_at (byte ∷ rest)) refl (λ b l t less r. start-stops fuel b l t stop (omega arith) r)
@@ -217,7 +217,7 @@ start-stops (suc fuel) behind line (byte ∷ rest) stop fits e = by_gap (gap_at 
     by_gap (Ok (suc k)) g again = start-gap (gap-is byte rest (suc k) g) behind line stop (omega arith) g e again
 
 -- the bytes in front of what is left of a text
-taken-front : (text front rest : List ℕ) (left : ℕ) → text ≡ front ++ rest → length rest ≡ left → take (length text - left) text ≡ front
+pub taken-front : (text front rest : List ℕ) (left : ℕ) → text ≡ front ++ rest → length rest ≡ left → take (length text - left) text ≡ front
 taken-front text front rest left split size =
     let far : length text - left ≡ length front = omega (arith, size, ap (λ t. length t) split, length-append front rest) in
     ap (λ k. take k text) far ∙ ap (λ t. take (length front) t) split ∙ take_at front rest (length front) refl
@@ -240,7 +240,7 @@ command-breaks place line front rest (At why left) lines split s =
     subst (λ (k : ℕ). IsBroken false line rest [] (fault_of why k)) here (subst (λ (t : List ℕ). IsBroken false line t [] (fault_of why (line + feeds s.front))) (sym s.split) is)
 
 -- a text that is refused at a place is broken there
-next-breaks : (place : Place) (fault : LexFault) → next_of place ≡ Err fault → IsBrokenFrom place [] fault
+pub next-breaks : (place : Place) (fault : LexFault) → next_of place ≡ Err fault → IsBrokenFrom place [] fault
 next-breaks place fault e = by_start (start_from place.behind 0 place.rest) refl e
   where
     by_command : (n : ℕ) → start_from place.behind 0 place.rest ≡ Ok (Some n) → (read : Result CommandRead Stop) → command (drop n place.rest) ≡ read → call_at place n read ≡ Err fault → IsBrokenFrom place [] fault
@@ -267,18 +267,3 @@ next-breaks place fault e = by_start (start_from place.behind 0 place.rest) refl
 pub breaks-is : (calls : List Call) (place : Place) (fault : LexFault) → ReadsFrom place calls (Some fault) → IsBrokenFrom place calls fault
 breaks-is [] place fault e = next-breaks place fault e
 breaks-is (call ∷ calls) place fault read = (call-read place call read.0 (next-some place call read.0 read.1)).breaks calls fault (breaks-is calls read.0 fault read.2)
-
-pub refuses_files : (text : List ℕ) → RefusesFiles text
-refuses_files text calls fault read = breaks-is calls (beginning text) fault read
-
--- what `next` refuses, in terms of the grammar
-pub breaks_on : (old new : Place) (answer : Result (Option Call) LexFault) → AnswersNext old answer new → BreaksOn old answer
-breaks_on old new (Ok (Some call)) e = tt
-breaks_on old new (Ok None) e = tt
-breaks_on old new (Err NoMemory) e = tt
-breaks_on old new (Err (OpenString line)) e = next-breaks old (OpenString line) e.0
-breaks_on old new (Err (OpenBracket line)) e = next-breaks old (OpenBracket line) e.0
-breaks_on old new (Err (OpenCall line)) e = next-breaks old (OpenCall line) e.0
-breaks_on old new (Err (BadEscape line)) e = next-breaks old (BadEscape line) e.0
-breaks_on old new (Err (BadChar line)) e = next-breaks old (BadChar line) e.0
-breaks_on old new (Err (BadReference line)) e = next-breaks old (BadReference line) e.0

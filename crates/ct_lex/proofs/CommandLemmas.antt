@@ -133,16 +133,16 @@ command-is byte rest name args n begins e =
     subst (λ (t : List ℕ). CommandWritten t name args n) (sym split) (opens-is word spaces.run spaces.back name args n (begins, run.all) spaces.all (sym read ∙ ap (λ t. command t) (sym split) ∙ e))
 
 -- a command that is written is found; first: an identifier is one run of its bytes
-identifier-run : (word : List ℕ) → IsIdentifier word → prefix_len is_word word ≡ length word
+pub identifier-run : (word : List ℕ) → IsIdentifier word → prefix_len is_word word ≡ length word
 identifier-run [] fit = absurd fit
 identifier-run (byte ∷ bytes) fit = run-whole is_word (byte ∷ bytes) (and_from (is_word byte) (list_all is_word bytes) (word-of-begins byte fit.0) fit.1)
 
--- an identifier in front of spaces and a `(` ends with its own last byte
-word-ends : (word spaces inner : List ℕ) → IsIdentifier word → list_all is_space spaces ≡ true → word_len (word ++ (spaces ++ 40 ∷ inner)) ≡ length word
-word-ends word [] inner fit blank = run-read is_word word 40 inner (identifier-run word fit) refl
-word-ends word (first ∷ spaces) inner fit blank =
+-- an identifier ends with its own last byte if spaces stand behind it, or else if it does not go on behind it
+pub word-ends : (word spaces back : List ℕ) → IsIdentifier word → list_all is_space spaces ≡ true → (spaces ≡ [] → word_len (word ++ back) ≡ length word) → word_len (word ++ (spaces ++ back)) ≡ length word
+word-ends word [] back fit blank alone = alone refl
+word-ends word (first ∷ spaces) back fit blank alone =
     let both = and_parts (is_space first) (list_all is_space spaces) blank in
-    run-read is_word word first (spaces ++ 40 ∷ inner) (identifier-run word fit) (space-no_word first both.0)
+    run-read is_word word first (spaces ++ back) (identifier-run word fit) (space-no_word first both.0)
   where
     space-no_word : (byte : ℕ) → is_space byte ≡ true → is_word byte ≡ false
     space-no_word byte e = by_test (byte == 32) refl e
@@ -153,15 +153,12 @@ word-ends word (first ∷ spaces) inner fit blank =
             let tab : (byte == 9) ≡ true = f in
             let same : byte ≡ 9 = grind (arith, nat_tests) in ap (λ b. is_word b) same
 
-pub command-read : {front name : List ℕ} {args : List Arg} → IsCommand front name args → (back : List ℕ) → command (front ++ back) ≡ Ok (name, args, length front)
-command-read (grammar.command {text = inner} {args = args} word spaces fit blank written) back =
-    let rest : List ℕ = inner ++ 41 ∷ back in
-    let front : List ℕ = word ++ (spaces ++ 40 ∷ (inner ++ 41 ∷ [])) in
+-- behind a word, spaces and a `(`, the arguments are read
+pub opens-read : (word spaces rest : List ℕ) → IsIdentifier word → list_all is_space spaces ≡ true → command (word ++ (spaces ++ 40 ∷ rest)) ≡ named (lower word) (length word + length spaces + 1) (arguments_from 0 rest)
+opens-read word spaces rest fit blank =
     let text : List ℕ = word ++ (spaces ++ 40 ∷ rest) in
     let paren : ℕ = length word + length spaces in
-    let split : front ++ back ≡ text =
-    append_assoc word (spaces ++ 40 ∷ (inner ++ 41 ∷ [])) back ∙ ap (λ t. word ++ t) (append_assoc spaces (40 ∷ (inner ++ 41 ∷ [])) back) ∙ ap (λ t. word ++ (spaces ++ 40 ∷ t)) (append_assoc inner (41 ∷ []) back) in
-    let count : word_len text ≡ length word = word-ends word spaces rest fit blank in
+    let count : word_len text ≡ length word = word-ends word spaces (40 ∷ rest) fit blank (λ _. run-read is_word word 40 rest (identifier-run word fit) refl) in
     let spaced : prefix_len is_space (spaces ++ 40 ∷ rest) ≡ length spaces = run-read is_space spaces 40 rest (run-whole is_space spaces blank) refl in
     let size : length text ≡ paren + suc (length rest) = omega (arith, length-append word (spaces ++ 40 ∷ rest), length-append spaces (40 ∷ rest)) in
     let not_end : (paren == length text) ≡ false = grind (arith, nat_tests, size) in
@@ -170,8 +167,17 @@ command-read (grammar.command {text = inner} {args = args} word spaces fit blank
     let opens : stands 40 paren text ≡ true = stands-at 40 paren text (omega (arith, size)) seam in
     let left : drop (paren + 1) text ≡ rest =
     ap (λ t. drop (paren + 1) t) (ap (λ t. word ++ t) (sym (append_assoc spaces (40 ∷ []) rest))) ∙ behind-both word (spaces ++ 40 ∷ []) rest (paren + 1) (omega (arith, length-append spaces (40 ∷ []))) in
-    let inside = arguments-read written back in
     let read : command_by text (lower word) paren ≡ named (lower word) (paren + 1) (arguments_from 0 rest) = rw (not_end, opens, left) refl in
+    command-as word spaces (40 ∷ rest) count spaced ∙ read
+
+pub command-read : {front name : List ℕ} {args : List Arg} → IsCommand front name args → (back : List ℕ) → command (front ++ back) ≡ Ok (name, args, length front)
+command-read (grammar.command {text = inner} {args = args} word spaces fit blank written) back =
+    let rest : List ℕ = inner ++ 41 ∷ back in
+    let front : List ℕ = word ++ (spaces ++ 40 ∷ (inner ++ 41 ∷ [])) in
+    let paren : ℕ = length word + length spaces in
+    let split : front ++ back ≡ word ++ (spaces ++ 40 ∷ rest) =
+    append_assoc word (spaces ++ 40 ∷ (inner ++ 41 ∷ [])) back ∙ ap (λ t. word ++ t) (append_assoc spaces (40 ∷ (inner ++ 41 ∷ [])) back) ∙ ap (λ t. word ++ (spaces ++ 40 ∷ t)) (append_assoc inner (41 ∷ []) back) in
+    let inside = arguments-read written back in
     let P : ℕ → Result CommandRead Stop = λ k. Ok (lower word, args, k) in
     let sums : (length inner + 1) + (paren + 1) ≡ length front = omega (arith, length-append word (spaces ++ 40 ∷ (inner ++ 41 ∷ [])), length-append spaces (40 ∷ (inner ++ 41 ∷ [])), length-append inner (41 ∷ [])) in
-    ap (λ t. command t) split ∙ command-as word spaces (40 ∷ rest) count spaced ∙ read ∙ ap (λ r. named (lower word) (paren + 1) r) inside.reads ∙ ap P sums
+    ap (λ t. command t) split ∙ opens-read word spaces rest fit blank ∙ ap (λ r. named (lower word) (paren + 1) r) inside.reads ∙ ap P sums

@@ -13,5 +13,8 @@ pub mod BrokenText
 pub mod BrokenArguments
 pub mod RestLemmas
 pub mod BrokenFiles
+pub mod RefusedText
+pub mod RefusedArguments
+pub mod RefusedFiles
 pub mod RoundTrip
 pub mod CallerLemmas

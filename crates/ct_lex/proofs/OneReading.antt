@@ -22,7 +22,7 @@ place_in place (Ok (Some x)) = x.1
 place_in place (Ok None) = place
 place_in place (Err fault) = place
 
-same_call : (r : Result (Option (Call × Place)) LexFault) (a b : Call) (p q : Place) → r ≡ Ok (Some (a, p)) → r ≡ Ok (Some (b, q)) → a ≡ b
+pub same_call : (r : Result (Option (Call × Place)) LexFault) (a b : Call) (p q : Place) → r ≡ Ok (Some (a, p)) → r ≡ Ok (Some (b, q)) → a ≡ b
 unfolding call_in
 same_call r a b p q e f = ap (λ x. call_in a x) (sym e ∙ f)
 

@@ -240,15 +240,20 @@ pub rest-is : (calls : List Call) (place : Place) → ReadsFrom place calls None
 rest-is [] place e = start-is (suc (length place.rest)) place.behind place.line place.rest None (omega arith) (next-none place e)
 rest-is (call ∷ calls) place read = call-is place call read.0 calls (next-some place call read.0 read.1) (rest-is calls read.0 read.2)
 
+-- the line of a place that is moved behind a front
+pub lines-behind : (front back : List ℕ) (line m : ℕ) → line + feeds (take (m + length front) (front ++ back)) ≡ (line + feeds front) + feeds (take m back)
+lines-behind front back line m =
+    let taken : take (m + length front) (front ++ back) ≡ front ++ take m back = ap (λ j. take j (front ++ back)) (add_comm m (length front)) ∙ take-append-add front back m in
+    ap (λ t. line + feeds t) taken ∙ omega (arith, feeds-append front (take m back))
+
 -- what is written is read; first: a call that is moved behind a front
 shift-call : (front back : List ℕ) (line : ℕ) (behind after : Bool) (k : ℕ) (read : Result CommandRead Stop) (x : Option (Call × Place)) → call_at (record { rest = back; line = line + feeds front; behind = after }) k read ≡ Ok x →
     call_at (record { rest = front ++ back; line = line; behind = behind }) (k + length front) read ≡ Ok x
 shift-call front back line behind after k (Err stop) x e = cc
 shift-call front back line behind after k (Ok read) x e =
     let n : ℕ = length front in
-    let taken : (m : ℕ) → take (m + n) (front ++ back) ≡ front ++ take m back = λ m. ap (λ j. take j (front ++ back)) (add_comm m n) ∙ take-append-add front back m in
     let left : (m : ℕ) → drop (m + n) (front ++ back) ≡ drop m back = λ m. ap (λ j. drop j (front ++ back)) (add_comm m n) ∙ drop-append-add front back m in
-    let lines : (m : ℕ) → line + feeds (take (m + n) (front ++ back)) ≡ (line + feeds front) + feeds (take m back) = λ m. ap (λ t. line + feeds t) (taken m) ∙ omega (arith, feeds-append front (take m back)) in
+    let lines : (m : ℕ) → line + feeds (take (m + n) (front ++ back)) ≡ (line + feeds front) + feeds (take m back) = λ m. lines-behind front back line m in
     let sums : (k + n) + read.2 ≡ (k + read.2) + n = omega arith in
     let A : ℕ → ℕ → List ℕ → Result (Option (Call × Place)) LexFault = λ here there rest. Ok (Some (record { name = read.0; args = read.1; line = here }, record { rest = rest; line = there; behind = true })) in
     let there : line + feeds (take ((k + n) + read.2) (front ++ back)) ≡ (line + feeds front) + feeds (take (k + read.2) back) = ap (λ j. line + feeds (take j (front ++ back))) sums ∙ lines (k + read.2) in
@@ -258,7 +263,7 @@ shift-call front back line behind after k (Ok read) x e =
     ∙ ap (λ r. A ((line + feeds front) + feeds (take k back)) ((line + feeds front) + feeds (take (k + read.2) back)) r) rest
     ∙ e
 
-shift-next : (front back : List ℕ) (line : ℕ) (behind after : Bool) (start : Result (Option ℕ) Stop) (x : Option (Call × Place)) → next_by (record { rest = back; line = line + feeds front; behind = after }) start ≡ Ok x →
+pub shift-next : (front back : List ℕ) (line : ℕ) (behind after : Bool) (start : Result (Option ℕ) Stop) (x : Option (Call × Place)) → next_by (record { rest = back; line = line + feeds front; behind = after }) start ≡ Ok x →
     next_by (record { rest = front ++ back; line = line; behind = behind }) (shifted (length front) start) ≡ Ok x
 shift-next front back line behind after (Err stop) x e = cc
 shift-next front back line behind after (Ok None) x e = e
@@ -270,17 +275,21 @@ reads-shift : (p q : Place) (calls : List Call) → ((x : Option (Call × Place)
 reads-shift p q [] same e = same None e
 reads-shift p q (call ∷ calls) same read = (read.0, same (Some (call, read.0)) read.1, read.2)
 
+-- behind a gap, the next command is looked for from there on
+pub gap-start : (front back : List ℕ) (behind after : Bool) → 0 < length front → gap_at (front ++ back) ≡ Ok (length front) → (behind && not (get_or (front ++ back) 0 0 == 10)) ≡ after → start_from behind 0 (front ++ back) ≡ shifted (length front) (start_from after 0 back)
+gap-start front back behind after some gap goes =
+    let fits : length front ≤ length (front ++ back) = omega (arith, length-append front back) in
+    start_from-step behind (front ++ back) (length front) some fits gap ∙ ap (λ b. shifted (length front) (start_from b 0 (drop (length front) (front ++ back)))) goes ∙ ap (λ t. shifted (length front) (start_from after 0 t)) (drop-front front back)
+
 gap-shift : (front back : List ℕ) (line : ℕ) (behind after : Bool) (calls : List Call) → 0 < length front → gap_at (front ++ back) ≡ Ok (length front) → (behind && not (get_or (front ++ back) 0 0 == 10)) ≡ after →
     ReadsFrom (record { rest = back; line = line + feeds front; behind = after }) calls None → ReadsFrom (record { rest = front ++ back; line = line; behind = behind }) calls None
 gap-shift front back line behind after calls some gap goes read =
-    let fits : length front ≤ length (front ++ back) = omega (arith, length-append front back) in
-    let step : start_from behind 0 (front ++ back) ≡ shifted (length front) (start_from after 0 back) =
-    start_from-step behind (front ++ back) (length front) some fits gap ∙ ap (λ b. shifted (length front) (start_from b 0 (drop (length front) (front ++ back)))) goes ∙ ap (λ t. shifted (length front) (start_from after 0 t)) (drop-front front back) in
+    let step = gap-start front back behind after some gap goes in
     reads-shift (record { rest = back; line = line + feeds front; behind = after }) (record { rest = front ++ back; line = line; behind = behind }) calls
     (λ x e. ap (λ r. next_by (record { rest = front ++ back; line = line; behind = behind }) r) step ∙ shift-next front back line behind after (start_from after 0 back) x e) read
 
 -- a byte that begins a command begins no gap, so the command begins there
-start-name : (byte : ℕ) (rest : List ℕ) → begins_word byte ≡ true → start_from false 0 (byte ∷ rest) ≡ Ok (Some 0)
+pub start-name : (byte : ℕ) (rest : List ℕ) → begins_word byte ≡ true → start_from false 0 (byte ∷ rest) ≡ Ok (Some 0)
 start-name byte rest begins =
     rw (is-other begins_word byte 32 begins refl, is-other begins_word byte 9 begins refl, is-other begins_word byte 13 begins refl, is-other begins_word byte 10 begins refl, is-other begins_word byte 35 begins refl, begins) refl
 
@@ -288,7 +297,7 @@ command-front : {front name : List ℕ} {args : List Arg} → IsCommand front na
 command-front (grammar.command [] spaces fit blank written) back = absurd fit
 command-front (grammar.command {text = text} (byte ∷ bytes) spaces fit blank written) back = start-name byte ((bytes ++ (spaces ++ 40 ∷ (text ++ 41 ∷ []))) ++ back) fit.0
 
-call-reads : (front back name : List ℕ) (args : List Arg) (line : ℕ) → IsCommand front name args → next_of (record { rest = front ++ back; line = line; behind = false }) ≡ Ok (Some (record { name = name; args = args; line = line }, record { rest = back; line = line + feeds front; behind = true }))
+pub call-reads : (front back name : List ℕ) (args : List Arg) (line : ℕ) → IsCommand front name args → next_of (record { rest = front ++ back; line = line; behind = false }) ≡ Ok (Some (record { name = name; args = args; line = line }, record { rest = back; line = line + feeds front; behind = true }))
 call-reads front back name args line c =
     let place : Place = record { rest = front ++ back; line = line; behind = false } in
     let n : ℕ = length front in

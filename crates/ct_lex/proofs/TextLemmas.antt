@@ -105,7 +105,7 @@ none-of p byte (c ∷ word) holds none =
 word-same : (kind : ArgKind) (word text : List ℕ) (byte : ℕ) (back : List ℕ) → ends_text kind byte ≡ true → list_any (ends_text kind) word ≡ false → starts_with ◌==◌ (text ++ byte ∷ back) word ≡ starts_with ◌==◌ text word
 word-same kind word text byte back ends never = starts-same word text byte back (none-of (ends_text kind) byte word ends never)
 
-three-same : (a b c d e f : Bool) → a ≡ d → b ≡ e → c ≡ f → (a || (b || c)) ≡ (d || (e || f))
+pub three-same : (a b c d e f : Bool) → a ≡ d → b ≡ e → c ≡ f → (a || (b || c)) ≡ (d || (e || f))
 three-same a b c d e f p q r = cc
 
 pub reference-same : (kind : ArgKind) (text : List ℕ) (byte : ℕ) (back : List ℕ) → ends_text kind byte ≡ true → begins_reference (text ++ byte ∷ back) ≡ begins_reference text

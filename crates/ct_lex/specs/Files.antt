@@ -1,9 +1,9 @@
 -- The reading of a file, in terms of the grammar.
-use Rattle.std.specs.Prelude.{ℕ, ◌↔◌, ⊤, List, [], ◌∷◌, Option, Some, None, Result, Ok, Err}
+use Rattle.std.specs.Prelude.{◌≡◌, ℕ, ◌↔◌, ⊤, List, [], ◌∷◌, Option, Some, None, Result, Ok, Err}
 use Rattle.ct_lex.specs.Broken.{IsBroken}
 use Rattle.ct_lex.specs.Grammar.{IsRest}
 use Rattle.ct_lex.specs.Place.{Place, beginning}
-use Rattle.ct_lex.specs.Reads.{Reads, Refuses}
+use Rattle.ct_lex.specs.Reads.{Ending, Reads, Refuses, commands_read}
 use Rattle.ct_lex.specs.declared.call.Call.{Call}
 use Rattle.ct_lex.specs.declared.fault.LexFault.{LexFault}
 use Rattle.ct_lex.specs.declared.fault.LexFault.TheVariants.{NoMemory}
@@ -38,12 +38,33 @@ WritesOn old (Ok None) new = IsRestFrom old []
 WritesOn old (Err NoMemory) new = ⊤
 WritesOn old (Err fault) new = (calls : List Call) → IsRestFrom old calls → ⊥
 
--- a text that is read as some commands and then refused with a fault is broken there by the grammar, with that fault
+-- a text is read as some commands and then refused with a fault
+-- exactly if it has these commands by the grammar, and then this fault
 abbrev pub RefusesFiles : List ℕ → Type 0
-RefusesFiles text = (calls : List Call) (fault : LexFault) → Refuses text calls fault → IsBrokenFile text calls fault
+RefusesFiles text =
+    (calls : List Call) (fault : LexFault) → Refuses text calls fault ↔ IsBrokenFile text calls fault
 
--- a refusal of `next` is the fault that the text has by the grammar, with no command in front of it
-abbrev pub BreaksOn : Place → Result (Option Call) LexFault → Type 0
-BreaksOn old (Ok found) = ⊤
-BreaksOn old (Err NoMemory) = ⊤
-BreaksOn old (Err fault) = IsBrokenFrom old [] fault
+-- the text from a place on has these commands by the grammar, and then its end or a fault
+abbrev pub SaysFrom : Place → List Call → Ending → Type 0
+SaysFrom place calls None = IsRestFrom place calls
+SaysFrom place calls (Some fault) = IsBrokenFrom place calls fault
+
+-- The grammar says one thing of the text from a place on, and this is what is read.
+-- So no list of commands is broken, and no text is broken with two faults or behind two lists of commands.
+pub record HasSoleAnswer (place : Place) : Type 0 where
+  pub said : SaysFrom place (commands_read place).0 (commands_read place).1
+  pub sole : (calls : List Call) (ending : Ending) → SaysFrom place calls ending
+      → (calls ≡ (commands_read place).0) × (ending ≡ (commands_read place).1)
+
+-- What an answer of `next` means in terms of the grammar of what is broken, by cases:
+-- a command: the text is broken exactly if it is so from the new place on, with this command in front;
+-- None: the text is not broken; a refusal: the text is broken with this fault and no command in front,
+-- and in no other way; NoMemory says nothing.
+abbrev pub BreaksOn : Place → Result (Option Call) LexFault → Place → Type 0
+BreaksOn old (Ok (Some call)) new =
+    (calls : List Call) (fault : LexFault) → IsBrokenFrom old calls fault
+    ↔ ((more : List Call) × (calls ≡ call ∷ more) × IsBrokenFrom new more fault)
+BreaksOn old (Ok None) new = (calls : List Call) (fault : LexFault) → IsBrokenFrom old calls fault → ⊥
+BreaksOn old (Err NoMemory) new = ⊤
+BreaksOn old (Err fault) new =
+    (calls : List Call) (other : LexFault) → IsBrokenFrom old calls other ↔ ((calls ≡ []) × (other ≡ fault))

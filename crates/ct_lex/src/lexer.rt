@@ -33,7 +33,7 @@ impl<'a> Lexer<'a> {
     ghost use Rattle.ct_lex.specs.Place.{beginning, line_behind, fault_at};
     ghost use Rattle.ct_lex.specs.Reads.{AnswersNext, HasOneReading, ReadsOn};
     ghost use Rattle.ct_lex.specs.Written.{ReadsWritten};
-    ghost use Rattle.ct_lex.specs.Files.{BreaksOn, ReadsFiles, RefusesFiles, WritesOn};
+    ghost use Rattle.ct_lex.specs.Files.{BreaksOn, HasSoleAnswer, ReadsFiles, RefusesFiles, WritesOn};
 
     /// Begins at the front of a text, which it borrows.
     pub fn new(text: &'a [u8]) -> Lexer<'a>
@@ -43,8 +43,10 @@ impl<'a> Lexer<'a> {
         ensures one { HasOneReading (beginning text.now) }
         // The reading is what the grammar writes. The grammar does not depend on how a text is read.
         ensures grammar { ReadsFiles text.now }
-        // Each fault is the one that the text has by the grammar of what is broken.
+        // A fault is returned exactly where the grammar of what is broken has it.
         ensures refusals { RefusesFiles text.now }
+        // So the grammar has one answer for a text: its commands, and then its end or one fault.
+        ensures sole { HasSoleAnswer (beginning text.now) }
         // Commands that are written as CMake writes them are read back.
         ensures again { ReadsWritten text.now }
     {
@@ -67,8 +69,8 @@ impl<'a> Lexer<'a> {
         ensures reading { ReadsOn self.old result self.new }
         // The answer in terms of the grammar: a text that is refused is no list of commands.
         ensures grammar { WritesOn self.old result self.new }
-        // A refusal has the kind and the line that the grammar of what is broken gives.
-        ensures refusal { BreaksOn self.old result }
+        // A refusal comes exactly where the grammar of what is broken has one, with its kind and line.
+        ensures refusal { BreaksOn self.old result self.new }
         // Behind a command, less of the text is left.
         ensures shrinks { IfOk result (λ found. IsSome found → length self.new.rest < length self.old.rest) }
     {

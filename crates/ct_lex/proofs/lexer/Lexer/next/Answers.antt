@@ -1,6 +1,6 @@
 use Rattle.ct_lex.proofs.OneReading.{reads_on}
 use Rattle.ct_lex.proofs.RestLemmas.{writes_on}
-use Rattle.ct_lex.proofs.BrokenFiles.{breaks_on}
+use Rattle.ct_lex.proofs.RefusedFiles.{breaks_on}
 use Rattle.ct_lex.proofs.lexer.Lexer.next.Goals as goal
 
 pub returns-clause-reading : goal.returns-clause-reading
