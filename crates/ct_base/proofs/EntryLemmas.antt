@@ -8,15 +8,15 @@ use Rattle.ct_base.specs.Entries.{entries_of, is_entry, is_escape, parts_of, par
 byte-other : (byte : ℕ) → (byte ≡ semicolon → ⊥) → (byte == semicolon) ≡ false
 byte-other byte other = ne_eqb byte semicolon other
 
-with_front-append : (one other : List ℕ) (parts : List (List ℕ)) → with_front one (with_front other parts) ≡ with_front (one ++ other) parts
+pub with_front-append : (one other : List ℕ) (parts : List (List ℕ)) → with_front one (with_front other parts) ≡ with_front (one ++ other) parts
 with_front-append one other [] = refl
 with_front-append one other (part ∷ parts) = ap (λ p. p ∷ parts) (sym (append_assoc one other part))
 
-no_front : (parts : List (List ℕ)) → filter is_entry (with_front [] parts) ≡ filter is_entry parts
+pub no_front : (parts : List (List ℕ)) → filter is_entry (with_front [] parts) ≡ filter is_entry parts
 no_front [] = refl
 no_front (part ∷ parts) = refl
 
-front_ends : (piece : List ℕ) (parts : List (List ℕ)) → filter is_entry (with_front piece ([] ∷ parts)) ≡ filter is_entry (piece ∷ []) ++ filter is_entry parts
+pub front_ends : (piece : List ℕ) (parts : List (List ℕ)) → filter is_entry (with_front piece ([] ∷ parts)) ≡ filter is_entry (piece ∷ []) ++ filter is_entry parts
 front_ends [] parts = refl
 front_ends (byte ∷ bytes) parts = ap (λ p. p ∷ filter is_entry parts) (append-nil (byte ∷ bytes))
 
