@@ -13,26 +13,18 @@ use Rattle.std.proofs.lemmas.Slice.Eq.{bytes_eq-Decides}
 use Rattle.indexmap.specs.IndexMap.{IndexMap, UpdatesBy}
 use Rattle.ct_base.specs.declared.defs.Need.{Need}
 use Rattle.ct_base.specs.declared.defs.Resource.{Resource}
+use Rattle.ct_base.proofs.NameLemmas.{bytes_eq_comm}
 use Rattle.ct_alloc.specs.Free.{FreeValue, free_at}
 use Rattle.ct_alloc.specs.ByKind.{found_places, places_for}
 use Rattle.ct_alloc.specs.Spread.{HasRoom, cards_from, is_of_kind}
 use Rattle.ct_alloc.proofs.SpreadLemmas.{card-kind, card-there, index-at, index_of}
-
-turned : (one other : List ℕ) → bytes_eq one other ≡ bytes_eq other one
-turned one other = by_tests (bytes_eq one other) refl (bytes_eq other one) refl
-  where
-    by_tests : (a : Bool) → bytes_eq one other ≡ a → (b : Bool) → bytes_eq other one ≡ b → a ≡ b
-    by_tests true s true t = refl
-    by_tests true s false t = sym ((bytes_eq-Decides other one).1 (sym ((bytes_eq-Decides one other).0 s))) ∙ t
-    by_tests false s true t = sym s ∙ (bytes_eq-Decides one other).1 (sym ((bytes_eq-Decides other one).0 t))
-    by_tests false s false t = refl
 
 module _ {Y : Type 0} where
   key_test : (asked : List ℕ) → IsKeyTest (λ (one other : Vec ℕ Y). bytes_eq one.items other.items) (λ (name : Vec ℕ Y). bytes_eq asked name.items)
   key_test asked = λ one other at_one. ap (λ bytes. bytes_eq bytes other.items) ((bytes_eq-Decides asked one.items).0 at_one)
 
   apart : (kind asked : List ℕ) → bytes_eq kind asked ≡ false → AreApart (λ (name : Vec ℕ Y). bytes_eq kind name.items) (λ (name : Vec ℕ Y). bytes_eq asked name.items)
-  apart kind asked differ = λ name at_it. ap (bytes_eq asked) (sym ((bytes_eq-Decides kind name.items).0 at_it)) ∙ turned asked kind ∙ differ
+  apart kind asked differ = λ name at_it. ap (bytes_eq asked) (sym ((bytes_eq-Decides kind name.items).0 at_it)) ∙ bytes_eq_comm asked kind ∙ differ
 
 module _ {Y Z : Type 0} where
   kept_apart : (kind asked : List ℕ) (before now : List (Vec ℕ Y × Vec ℕ Z)) → bytes_eq kind asked ≡ false → KeepsOthers (λ (one other : Vec ℕ Y). bytes_eq one.items other.items) (λ (name : Vec ℕ Y). bytes_eq kind name.items) before now → lookup (λ (name : Vec ℕ Y). bytes_eq asked name.items) now ≡ lookup (λ (name : Vec ℕ Y). bytes_eq asked name.items) before

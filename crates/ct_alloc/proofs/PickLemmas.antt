@@ -8,6 +8,7 @@ use Rattle.std.proofs.lemmas.List.Sums.{sum_by-cons}
 use Rattle.std.proofs.lemmas.Bool.{and_parts, and_from, true≢false}
 use Rattle.std.proofs.lemmas.Bool.Decides.{nat_tests}
 use Rattle.ct_base.specs.declared.defs.Resource.{Resource}
+use Rattle.ct_base.proofs.TruthLemmas.{same_truth}
 use Rattle.ct_alloc.specs.declared.placement.Pick.{Pick}
 use Rattle.ct_alloc.specs.Placement.{slots_at, fits_from, fits_beside}
 use Rattle.ct_alloc.specs.Free.{IsWithinSlots, are_there, slot_counts}
@@ -142,14 +143,9 @@ all-have resources used all (pick ∷ picks) fits there =
     (let le : slots_at pick.resource all ≤ get_or (slot_counts resources) pick.resource 0 - get_or used pick.resource 0 = omega (arith, fits-each 0 resources (λ place. get_or used place 0) all fits pick.resource pick.resource (omega arith) inside) in grind (arith, nat_tests))
     (all-have resources used all picks fits both.1)
 
-both-ways : (a b : Bool) → (a ≡ true → b ≡ true) → (b ≡ true → a ≡ true) → a ≡ b
-both-ways true b f g = sym (f refl)
-both-ways false true f g = g refl
-both-ways false false f g = refl
-
 -- picks fit exactly if the resource of each pick has room for all the picks on it
 pub fits-by-picks : (resources : List Resource) (used : List ℕ) (picks : List Pick) → IsWithinSlots resources used → are_there resources picks ≡ true → list_all (have_room resources used picks) picks ≡ fits_beside resources (λ place. get_or used place 0) picks
-fits-by-picks resources used picks within there = both-ways _ _
+fits-by-picks resources used picks within there = same_truth _ _
     (λ have. each-fits 0 resources (λ place. get_or used place 0) picks (λ at inside.
     (let same : 0 + at ≡ at = omega arith in
     subst (λ (i : ℕ). get_or used i 0 + slots_at i picks ≤ get_or (slot_counts resources) at 0) (sym same)

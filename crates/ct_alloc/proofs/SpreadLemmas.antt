@@ -3,11 +3,12 @@ use Rattle.std.proofs.Common.{◌≡◌, ◌∙◌, sym, ap, subst, refl, ℕ, z
 use Rattle.std.proofs.lemmas.List.{get_or-map, get_or_past, length-map}
 use Rattle.std.specs.Prelude.{not, ◌&&◌, slice_get, Option, Some, None, filter, bytes_eq}
 use Rattle.std.specs.List.{list_all}
-use Rattle.std.proofs.lemmas.Bool.{and_parts, and_from, true≢false}
+use Rattle.std.proofs.lemmas.Bool.{and_parts, and_from, true≢false, not-true}
 use Rattle.std.proofs.lemmas.Bool.Decides.{nat_tests}
 use Rattle.std.proofs.lemmas.Slice.Eq.{bytes_eq-Decides}
 use Rattle.ct_base.specs.declared.defs.Need.{Need}
 use Rattle.ct_base.specs.declared.defs.Resource.{Resource}
+use Rattle.ct_base.proofs.NameLemmas.{bytes_eq-refl}
 use Rattle.ct_alloc.specs.Free.{FreeValue, free_at}
 use Rattle.ct_alloc.specs.Packing.{load, IsPacking, CanPack}
 use Rattle.ct_alloc.specs.Spread.{is_of_kind, are_of_kind, sizes_of, IsSpread, NoneSpread, asks_kind, asks_other, cards_from, interleaved}
@@ -15,9 +16,6 @@ use Rattle.ct_alloc.proofs.PackLemmas.{share}
 
 same-kind : (one other : List ℕ) → bytes_eq one other ≡ true → one ≡ other
 same-kind one other e = (bytes_eq-Decides one other).0 e
-
-kind-self : (kind : List ℕ) → bytes_eq kind kind ≡ true
-kind-self kind = (bytes_eq-Decides kind kind).1 refl
 
 -- the places of the needs that pass a test
 abbrev pub kept : (Need → Bool) → List Need → List ℕ → List ℕ
@@ -131,7 +129,7 @@ kind-differs one other (Some r) is differ = by_test (bytes_eq r.kind other) refl
     by_test false t = t
     by_test true t =
         let equal : other ≡ one = sym (same-kind r.kind other t) ∙ same-kind r.kind one is in
-        absurd (true≢false (sym (kind-self one) ∙ ap (λ k. bytes_eq k one) (sym equal) ∙ differ))
+        absurd (true≢false (sym (bytes_eq-refl one) ∙ ap (λ k. bytes_eq k one) (sym equal) ∙ differ))
 
 kind-same : (one other : List ℕ) (r : Option Resource) → is_of_kind one r ≡ false → bytes_eq other one ≡ true → is_of_kind other r ≡ false
 kind-same one other r is same = ap (λ k. is_of_kind k r) (same-kind other one same) ∙ is
@@ -146,12 +144,9 @@ spread-interleaved kind free needs here rest mine others = record {
     by_test : (place : ℕ) (test : Bool) → is_of_kind kind (slice_get free.resources place) ≡ test → load place (sizes_of needs) (interleaved kind needs here rest) ≤ free_at free place
     by_test place true t =
         let none : load place (sizes_of (filter (asks_other kind) needs)) rest ≡ 0 =
-        none-here (asks_other kind) place free.resources needs rest (λ need other. kind-differs kind need.kind (slice_get free.resources place) t (from_not (asks_kind kind need) other)) others.kinds in
+        none-here (asks_other kind) place free.resources needs rest (λ need other. kind-differs kind need.kind (slice_get free.resources place) t (not-true (asks_kind kind need) other)) others.kinds in
         omega (arith, interleaved-load kind place free.resources needs here rest mine.kinds others.kinds, none, mine.room place)
-      where
-        from_not : (b : Bool) → not b ≡ true → b ≡ false
-        from_not true e = cc
-        from_not false e = refl
+
     by_test place false t =
         let none : load place (sizes_of (filter (asks_kind kind) needs)) here ≡ 0 =
         none-here (asks_kind kind) place free.resources needs here (λ need same. kind-same kind need.kind (slice_get free.resources place) t same) mine.kinds in
@@ -398,7 +393,7 @@ filter-less p (need ∷ needs) = by_test (filter-less p needs) (p need) refl
 -- without the needs of the first need's kind there are fewer needs
 pub others-less : (need : Need) (needs : List Need) → length (filter (asks_other need.kind) (need ∷ needs)) < suc (length needs)
 others-less need needs =
-    let own : asks_other need.kind need ≡ false = ap (λ b. not b) (kind-self need.kind) in
+    let own : asks_other need.kind need ≡ false = ap (λ b. not b) (bytes_eq-refl need.kind) in
     rw own (omega (arith, filter-less (asks_other need.kind) needs))
 
 pub others-fewer : {X : Type 0} (f : X → Need) (needs : List X) (first : X) → slice_get needs 0 ≡ Some first → length (filter (asks_other (f first).kind) (map f needs)) < length needs
