@@ -4,9 +4,10 @@ use Rattle.std.specs.BTreeMap as tree
 use Rattle.std.specs.Ordering.{nat_cmp, is_eq}
 use Rattle.std.specs.declared.cmp.Ordering.TheVariants.{Less, Equal, Greater}
 use Rattle.std.proofs.lemmas.Bool.{cases_eq, cases_lt, lt-ltb, le-ltb, ltb-true, ne_eqb, and_parts}
-use Rattle.std.proofs.lemmas.List.{length-set, length-map, map-set, get_or_past, get_or-set_other, get_or-replicate, length-replicate, set-get_or}
+use Rattle.std.proofs.lemmas.List.{length-set, length-map, map-set, get_or-set_other, set-get_or}
 use Rattle.std.proofs.lemmas.List.FromFn.{get_or-range_with_len, length-range_with_len}
 use Rattle.std.proofs.lemmas.Grind.{get_or-set_at}
+use Rattle.ct_base.proofs.ListLemmas.{none_new}
 use Rattle.ct_queue.specs.Ready.{ReadyValue, NamesOnce, StandsIn, place_of, count_at, is_out_at, is_member, none_out, lowered, with_out, IsBehind, NoneBehind, IsLeastBehind, IsHead, IsOfSeenBunch, NoNewBunch, IsOfNewBunch, NoHeadBehind, IsNextHead}
 use Rattle.ct_queue.specs.Marks.{is_marked}
 use Rattle.ct_queue.specs.Lines.{AreNumbered, BunchedValue, own_lines, without_bunches, IsHeadIn, IsOfBunchBefore, IsOfNewBunchFrom, NoNewBunchFrom, IsNextHeadOfBunch, NoHeadOfBunchBehind, with_bunched}
@@ -117,17 +118,10 @@ ready_new order counts lines bunches one =
     ap (λ (cs : List ℕ). tests_of order cs (map out_in (map waiting counts)) lines bunches) (counts_waiting counts)
     ∙ ap (λ (os : List Bool). tests_of order counts os lines bunches) (outs_waiting counts ∙ ap (λ (n : ℕ). replicate n false) one)
 
-get_or_replicate : (n k : ℕ) → get_or (replicate n false) k false ≡ false
-get_or_replicate n k =
-    ⊎_elim
-    (λ (inner : k < n). get_or-replicate n k false false inner)
-    (λ (beyond : n ≤ k). get_or_past (replicate n false) k false (subst (λ (len : ℕ). len ≤ k) (sym (length-replicate n false)) beyond))
-    (cases_lt k n)
-
 -- marks at exactly the places whose count is 0 are at the members, if no test is out
 marked_new : (order counts lines bunches : List ℕ) (marks : List Bool) → length counts ≡ length order → AreMarkedAtZero counts marks → (place : ℕ) → is_marked marks place ≡ is_member (ready_of order (map waiting counts) lines bunches) place
 marked_new order counts lines bunches marks one marked q =
-    let out : get_or (map out_in (map waiting counts)) q false ≡ false = ap (λ (l : List Bool). get_or l q false) (outs_waiting counts) ∙ get_or_replicate (length counts) q in
+    let out : get_or (map out_in (map waiting counts)) q false ≡ false = ap (λ (l : List Bool). get_or l q false) (outs_waiting counts) ∙ none_new (length counts) q in
     marked q ∙ and_true (ltb q (length counts) && eqb (get_or counts q 0) 0)
     ∙ sym (same_member (ltb q (length order)) (ltb q (length counts)) (get_or (map count_in (map waiting counts)) q 0) (get_or counts q 0) (get_or (map out_in (map waiting counts)) q false) false
     (ap (λ (n : ℕ). ltb q n) (sym one))
