@@ -1,28 +1,15 @@
 -- The pieces of a text while it is read byte by byte; each step keeps what the whole text stands for.
-use Rattle.std.proofs.Common.{ℕ, ◌+◌, ◌<◌, ◌≤◌, ◌≡◌, List, [], ◌∷◌, ◌++◌, Bool, true, false, cond, drop, length, slice_index, refl, sym, ap, ◌∙◌, ◌==◌}
+use Rattle.std.proofs.Common.{ℕ, ◌+◌, ◌<◌, ◌≤◌, ◌≡◌, List, [], ◌∷◌, ◌++◌, drop, length, slice_index, refl, sym, ap, ◌∙◌, ◌==◌}
 use Rattle.std.specs.List.{onto_first}
 use Rattle.std.proofs.lemmas.Bool.{ne_eqb, eq-eqb}
 use Rattle.std.proofs.lemmas.List.{append_assoc, append-nil, drop_more, drop_all}
 use Rattle.std.proofs.lemmas.List.Splits.{slice_split-cons_yes, slice_split-cons_no}
+use Rattle.ct_base.proofs.PieceLemmas.{with_piece, no_piece-by, piece-more}
 use Rattle.ct_groups.specs.Description.{pieces_of, comma}
-
--- the pieces, with the bytes of the piece so far in front of the first one
-abbrev pub with_piece : List ℕ → List (List ℕ) → List (List ℕ)
-with_piece piece [] = piece ∷ []
-with_piece piece (first ∷ pieces) = (piece ++ first) ∷ pieces
-
-no_piece-by : (cut : Bool) (byte : ℕ) (pieces : List (List ℕ)) → with_piece [] (cond cut ([] ∷ pieces) (onto_first byte pieces)) ≡ cond cut ([] ∷ pieces) (onto_first byte pieces)
-no_piece-by true byte pieces = refl
-no_piece-by false byte [] = refl
-no_piece-by false byte (first ∷ pieces) = refl
 
 no_piece : (text : List ℕ) → with_piece [] (pieces_of text) ≡ pieces_of text
 no_piece [] = refl
 no_piece (byte ∷ text) = no_piece-by (byte == comma) byte (pieces_of text)
-
-piece-more : (piece : List ℕ) (byte : ℕ) (pieces : List (List ℕ)) → with_piece piece (onto_first byte pieces) ≡ with_piece (piece ++ byte ∷ []) pieces
-piece-more piece byte [] = refl
-piece-more piece byte (first ∷ pieces) = ap (λ p. p ∷ pieces) (sym (append_assoc piece (byte ∷ []) first))
 
 -- a comma is read: it ends the piece
 pub cuts_at_comma : (pieces all : List (List ℕ)) (piece text : List ℕ) (at : ℕ) → at < length text → slice_index text at ≡ comma → pieces ++ with_piece piece (pieces_of (drop at text)) ≡ all → pieces ++ piece ∷ [] ++ with_piece [] (pieces_of (drop (at + 1) text)) ≡ all

@@ -1,6 +1,6 @@
 use Rattle.std.proofs.Common.{◌≡◌, ◌++◌, drop}
+use Rattle.ct_base.proofs.PieceLemmas.{with_piece}
 use Rattle.ct_groups.specs.Description.{pieces_of}
-use Rattle.ct_groups.proofs.PieceLemmas.{with_piece}
 use Rattle.ct_groups.proofs.pieces.pieces_of.Given as goal
 
 abbrev pub invariant-loop-byte : goal.invariant-loop-byte
