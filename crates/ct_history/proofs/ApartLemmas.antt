@@ -2,7 +2,7 @@
 use Rattle.std.proofs.Common.{◌≡◌, ◌≢◌, ◌∙◌, sym, subst, Bool, true, false, ℕ, suc, List, [], ◌∷◌, ◌++◌, get_or, refl, arith, append_assoc}
 use Rattle.std.specs.Prelude.{AllPairs, filter, not, ◌&&◌, ◌==◌}
 use Rattle.std.specs.List.{list_any}
-use Rattle.std.proofs.lemmas.Bool.{and_parts, not-true}
+use Rattle.std.proofs.lemmas.Bool.{and_parts, not-true, true≢false, eq-eqb}
 use Rattle.std.proofs.lemmas.Bool.Decides.{nat_tests}
 use Rattle.std.proofs.lemmas.List.{append-nil}
 use Rattle.std.proofs.lemmas.List.Folds.{list_any_at, list_any_none}
@@ -15,13 +15,9 @@ use Rattle.ct_history.specs.declared.history.Entry.TheVariants.{Start, End, Sett
 use Rattle.ct_history.specs.Plan.{test_at}
 use Rattle.ct_history.specs.History.{Running, is_busy_in, open_starts}
 use Rattle.ct_history.specs.Legal.{are_allowed_behind, is_allowed, is_allowed_so_far, is_stop_due, starts}
-use Rattle.ct_history.proofs.BoolLemmas.{eq_is}
 use Rattle.ct_history.proofs.MayLemmas.{pending-parts, starts-parts}
 use Rattle.ct_history.proofs.OpenLemmas.{is_of, open_starts-end, open_starts-snoc}
 use Rattle.ct_history.proofs.PlanLemmas.{find_passes}
-
-true_is_false : true ≡ false → ⊥
-true_is_false is = cc
 
 -- what holds at first, and stays with each allowed entry, holds of each allowed history
 module _ (plan : PlanParts) (P : List Entry → Type 0) (step : (es : List Entry) (e : Entry) → is_allowed plan es e ≡ true → P es → P (es ++ e ∷ [])) where
@@ -50,7 +46,7 @@ differ-tail key r rs all = λ i j d less lt. all (suc i) (suc j) d (omega (arith
 
 differ-snoc : (key : Running → ℕ) (rs : List Running) (r : Running) → Differ key rs → list_any (λ (q : Running). key q == key r) rs ≡ false → Differ key (rs ++ r ∷ [])
 differ-snoc key rs r all none =
-    all_pairs_push (λ (x y : Running). key x ≢ key y) rs r all (λ k d lt same. true_is_false (sym (list_any_at (λ (q : Running). key q == key r) rs k d lt (eq_is (key (get_or rs k d)) (key r) same)) ∙ none))
+    all_pairs_push (λ (x y : Running). key x ≢ key y) rs r all (λ k d lt same. true≢false (sym (list_any_at (λ (q : Running). key q == key r) rs k d lt (eq-eqb (key (get_or rs k d)) (key r) same)) ∙ none))
 
 differ-filter : (key : Running → ℕ) (p : Running → Bool) (rs : List Running) → Differ key rs → Differ key (filter p rs)
 differ-filter key p rs all = AllPairs-filter (λ (x y : Running). key x ≢ key y) p rs all

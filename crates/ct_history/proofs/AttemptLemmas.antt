@@ -1,5 +1,5 @@
 -- A list of attempts has a last one exactly where it is not empty.
-use Rattle.std.proofs.Common.{◌≡◌, ℕ, ◌-◌, ◌^◌, ◌<◌, min, List, [], ◌∷◌, length, refl, ap, None, Some, is_none, arith}
+use Rattle.std.proofs.Common.{◌≡◌, ℕ, ◌-◌, ◌^◌, ◌<◌, min, List, [], ◌∷◌, length, refl, ap, None, Some, is_none, arith, ◌++◌}
 use Rattle.std.specs.Prelude.{IsNone, Option, Bool, true, false, ◌&&◌, ◌⊎◌, not, is_some, nat_lt, if◌then◌else◌}
 use Rattle.std.proofs.Common.{◌∙◌, sym, subst, inl, inr}
 use Rattle.std.proofs.lemmas.Bool.{and_parts, ltb-true}
@@ -64,3 +64,7 @@ attempts_left plan t es pending =
     by_last vs (Some v) is again =
         let here : (nat_lt (length vs) plan.repeat.times && asks_again plan.repeat.mode v) ≡ true = sym (ap (λ (o : Option Verdict). is_repeated plan.repeat (length vs) o) is) ∙ again in
         inr (ltb-true (length vs) plan.repeat.times (and_parts (nat_lt (length vs) plan.repeat.times) (asks_again plan.repeat.mode v) here).0)
+
+pub last_behind-snoc : {A : Type 0} (found : Option A) (xs : List A) (x : A) → last_behind found (xs ++ x ∷ []) ≡ Some x
+last_behind-snoc found [] x = refl
+last_behind-snoc found (y ∷ ys) x = last_behind-snoc (Some y) ys x

@@ -49,3 +49,6 @@ eq_less m n less = grind (arith, nat_tests)
 
 pub eq_more : (m n : ℕ) → n < m → (m == n) ≡ false
 eq_more m n more = grind (arith, nat_tests)
+
+pub flipped : (m n : ℕ) → (m == n) ≡ false → (n == m) ≡ false
+flipped m n other = grind (arith, nat_tests)

@@ -18,7 +18,7 @@ use Rattle.ct_history.specs.History.{settled_by, attempts_of, is_open_in}
 use Rattle.ct_history.specs.Verdicts.{first_of_list, last_of_list, last_behind, settled_or, settled_cause, attempted_verdict, is_over, verdict_in, is_final_in}
 use Rattle.ct_history.specs.Endings.{ending_at, ending_in, first_there, ending_after, last_seen, seen_at_end, verdict_by, AreEndings, TellVerdicts}
 
-first_snoc : {A : Type 0} (xs : List A) (o : Option A) → first_of_list (xs ++ cons_option o []) ≡ first_there (first_of_list xs) o
+pub first_snoc : {A : Type 0} (xs : List A) (o : Option A) → first_of_list (xs ++ cons_option o []) ≡ first_there (first_of_list xs) o
 first_snoc [] None = refl
 first_snoc [] (Some x) = refl
 first_snoc (x ∷ xs) o = refl

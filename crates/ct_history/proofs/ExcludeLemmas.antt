@@ -6,7 +6,7 @@ use Rattle.ct_history.specs.Rules.{exclude, is_serial, locks_out}
 use Rattle.ct_base.specs.Names.{shares_name}
 
 -- no name is shared with an empty list
-shares_none : (names : List (List ℕ)) → shares_name names [] ≡ false
+pub shares_none : (names : List (List ℕ)) → shares_name names [] ≡ false
 shares_none [] = refl
 shares_none (name ∷ names) = shares_none names
 

@@ -2,7 +2,7 @@
 use Rattle.std.proofs.Common.{◌≡◌, ◌∙◌, sym, ap, subst, Bool, true, false, ℕ, List, [], ◌∷◌, ◌++◌, refl, arith, inl, inr}
 use Rattle.std.specs.Prelude.{Option, Some, None, is_some, not, ◌&&◌, ◌||◌, ◌==◌, cond, filter, filter_map, if◌then◌else◌}
 use Rattle.std.specs.List.{list_any, cons_option}
-use Rattle.std.proofs.lemmas.Bool.{and_parts, cases_Bool, false_from_ne_true}
+use Rattle.std.proofs.lemmas.Bool.{and_parts, cases_Bool, false_from_ne_true, true≢false}
 use Rattle.std.proofs.lemmas.Bool.Decides.{nat_tests}
 use Rattle.std.proofs.lemmas.List.{append-nil}
 use Rattle.std.proofs.lemmas.List.Elements.{filter_map-append}
@@ -26,11 +26,8 @@ use Rattle.ct_history.specs.Legal.{is_allowed, is_stop_due, settles, starts}
 use Rattle.ct_history.proofs.MayLemmas.{pending-parts, settles-parts, starts-parts}
 use Rattle.ct_history.proofs.OpenLemmas.{is_of, open_starts-end, open_starts-snoc}
 
-true_is_false : true ≡ false → ⊥
-true_is_false is = cc
-
 -- an entry that settles other tests leaves the cause as it is
-settled-snoc : (n : ℕ) (es : List Entry) (e : Entry) → settled_by n e ≡ None → settled_cause n (es ++ e ∷ []) ≡ settled_cause n es
+pub settled-snoc : (n : ℕ) (es : List Entry) (e : Entry) → settled_by n e ≡ None → settled_cause n (es ++ e ∷ []) ≡ settled_cause n es
 settled-snoc n es e none =
     ap first_of_list (filter_map-append (settled_by n) es (e ∷ []) ∙ ap (λ (o : Option Cause). filter_map (settled_by n) es ++ cons_option o []) none ∙ append-nil (filter_map (settled_by n) es))
 
@@ -43,7 +40,7 @@ settled_stays : (n : ℕ) (es more : List Entry) (c : Cause) → settled_cause n
 settled_stays n es more c is =
     ap first_of_list (filter_map-append (settled_by n) es more) ∙ first-append (filter_map (settled_by n) es) (filter_map (settled_by n) more) c is
 
-attempts-snoc : (n : ℕ) (rules : Rules) (es : List Entry) (e : Entry) → attempt_by n rules e ≡ None → attempts_of n rules (es ++ e ∷ []) ≡ attempts_of n rules es
+pub attempts-snoc : (n : ℕ) (rules : Rules) (es : List Entry) (e : Entry) → attempt_by n rules e ≡ None → attempts_of n rules (es ++ e ∷ []) ≡ attempts_of n rules es
 attempts-snoc n rules es e none =
     filter_map-append (attempt_by n rules) es (e ∷ []) ∙ ap (λ (o : Option Verdict). filter_map (attempt_by n rules) es ++ cons_option o []) none ∙ append-nil (filter_map (attempt_by n rules) es)
 
@@ -139,7 +136,7 @@ verdict_left repeat t es e v leaves is = by_disabled t.disabled is
     by_disabled false has = undisabled_stays repeat t es e v leaves has
 
 -- where a start of a test is held, a start of the test is open
-open_by_hold : (n a w : ℕ) (rs : List Running) → list_any (λ (r : Running). r.test == n && r.attempt == a && r.worker == w) rs ≡ true → list_any (λ (r : Running). r.test == n) rs ≡ true
+pub open_by_hold : (n a w : ℕ) (rs : List Running) → list_any (λ (r : Running). r.test == n && r.attempt == a && r.worker == w) rs ≡ true → list_any (λ (r : Running). r.test == n) rs ≡ true
 open_by_hold n a w [] is = is
 open_by_hold n a w (r ∷ rs) is =
     by_test (r.test == n) (r.attempt == a) (r.worker == w) (list_any (λ (q : Running). q.test == n && q.attempt == a && q.worker == w) rs) (list_any (λ (q : Running). q.test == n) rs) (open_by_hold n a w rs) is
@@ -162,7 +159,7 @@ module _ (plan : PlanParts) (t : PlanTest) (at : test_at plan.tests t.number ≡
   not_pending : (n : ℕ) (u : PlanTest) → test_at plan.tests n ≡ Some u → is_final_in plan.repeat u es ≡ false → (n == t.number) ≡ false
   not_pending n u found unfinished =
       false_from_ne_true (n == t.number)
-      (λ same. true_is_false (sym final_is ∙ ap (λ (x : PlanTest). is_final_in plan.repeat x es) (sym (found_same n u found same)) ∙ unfinished))
+      (λ same. true≢false (sym final_is ∙ ap (λ (x : PlanTest). is_final_in plan.repeat x es) (sym (found_same n u found same)) ∙ unfinished))
 
   stays-start : (n a w : ℕ) (p : Option Placement) → starts plan es a p (test_at plan.tests n) ≡ true → verdict_in plan.repeat t (es ++ Start n a w p ∷ []) ≡ Some v
   stays-start n a w p is =
@@ -181,7 +178,7 @@ module _ (plan : PlanParts) (t : PlanTest) (at : test_at plan.tests t.number ≡
   stays-own n a w s opens = by_disabled t.disabled final
     where
       by_cause : (o : Option Cause) → settled_or o (attempted_verdict plan.repeat t es) ≡ Some v → settled_or o (attempted_verdict plan.repeat t (es ++ End n a w s ∷ [])) ≡ Some v
-      by_cause None has = absurd (true_is_false (sym opens ∙ closed_by_verdict plan.repeat t es v has))
+      by_cause None has = absurd (true≢false (sym opens ∙ closed_by_verdict plan.repeat t es v has))
       by_cause (Some c) has = has
 
       by_disabled : (d : Bool) → (if d then Some Disabled else settled_or (settled_cause t.number es) (attempted_verdict plan.repeat t es)) ≡ Some v → (if d then Some Disabled else settled_or (settled_cause t.number (es ++ End n a w s ∷ [])) (attempted_verdict plan.repeat t (es ++ End n a w s ∷ []))) ≡ Some v

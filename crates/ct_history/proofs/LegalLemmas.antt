@@ -1,9 +1,9 @@
 -- A history that is allowed or legal, with one entry more, and when a Stop is due behind it.
 use Rattle.std.proofs.Common.{◌≡◌, ◌∙◌, sym, ap, subst, Bool, true, false, ℕ, ◌-◌, List, [], ◌∷◌, ◌++◌, length, take, refl, arith, append_assoc, length-append, inl, inr}
-use Rattle.std.specs.Prelude.{Option, Some, None, find, map, not, ◌&&◌, ◌||◌, cond}
+use Rattle.std.specs.Prelude.{Option, Some, None, find, map, not, ◌&&◌, ◌||◌, cond, if◌then◌else◌}
 use Rattle.std.specs.List.{list_any}
 use Rattle.std.proofs.Math.Seq.{take-append_seam}
-use Rattle.std.proofs.lemmas.Bool.{and_parts, and_from, cases_Bool}
+use Rattle.std.proofs.lemmas.Bool.{and_parts, and_from, cases_Bool, true≢false, or_from, or_right}
 use Rattle.std.proofs.lemmas.Bool.Decides.{nat_tests}
 use Rattle.std.proofs.lemmas.List.{append-nil}
 use Rattle.std.proofs.lemmas.List.Folds.{list_any-append}
@@ -11,6 +11,7 @@ use Rattle.ct_alloc.specs.declared.placement.Placement.{Placement}
 use Rattle.ct_verdict.specs.declared.verdict.Cause.{Cause}
 use Rattle.ct_verdict.specs.declared.verdict.Cause.TheVariants.{Unstarted, Lacks, Fixture, NotAvailable, BadOperation, Insufficient, Stopped, Memory}
 use Rattle.ct_verdict.specs.declared.verdict.Verdict.{Verdict}
+use Rattle.ct_verdict.specs.declared.verdict.Verdict.TheVariants.{Disabled}
 use Rattle.ct_history.specs.declared.plan.PlanTest.{PlanTest}
 use Rattle.ct_history.specs.declared.plan.PlanParts.{PlanParts}
 use Rattle.ct_history.specs.declared.history.Entry.{Entry}
@@ -21,9 +22,6 @@ use Rattle.ct_history.specs.Verdicts.{is_failing_in, verdict_in}
 use Rattle.ct_history.specs.Legal.{are_allowed_behind, ends_in_first_failure, has_failing, is_allowed, is_allowed_so_far, is_legal, is_stop_due, same_cause, without_last}
 use Rattle.ct_history.proofs.FinalLemmas.{start_ends_none, verdict_stays}
 use Rattle.ct_history.proofs.PlanLemmas.{find_passes, found_at}
-
-true_is_false : true ≡ false → ⊥
-true_is_false is = cc
 
 allowed_behind-snoc : (plan : PlanParts) (front es : List Entry) (e : Entry) → are_allowed_behind plan front es ≡ true → is_allowed plan (front ++ es) e ≡ true → are_allowed_behind plan front (es ++ e ∷ []) ≡ true
 allowed_behind-snoc plan front [] e so_far allowed =
@@ -65,7 +63,7 @@ without_last-snoc es e =
 pub due-snoc : (plan : PlanParts) (es : List Entry) (e : Entry) → is_stop_due plan (es ++ e ∷ []) ≡ (plan.stop_on_failure && (has_failing plan (es ++ e ∷ []) && not (has_failing plan es)))
 due-snoc plan es e = ap (λ (xs : List Entry). plan.stop_on_failure && (has_failing plan (es ++ e ∷ []) && not (has_failing plan xs))) (without_last-snoc es e)
 
-any_found : {A : Type 0} (p : A → Bool) (xs : List A) → list_any p xs ≡ true → (x : A) × (find p xs ≡ Some x)
+pub any_found : {A : Type 0} (p : A → Bool) (xs : List A) → list_any p xs ≡ true → (x : A) × (find p xs ≡ Some x)
 any_found p [] any = cc
 any_found p (x ∷ xs) any = elim (cases_Bool (p x)) [
   | inl here ↦ (x, ap (λ (b : Bool). cond b (Some x) (find p xs)) here)
@@ -82,12 +80,8 @@ found_any p q (y ∷ ys) x is passes = elim (cases_Bool (p y)) [
       let found : Some y ≡ Some x = sym (ap (λ (b : Bool). cond b (Some y) (find p ys)) here) ∙ is in
       let same : y ≡ x = cc in
       ap (λ (b : Bool). b || list_any q ys) (ap q same ∙ passes)
-  | inr not_here ↦ or_true (q y) (list_any q ys) (found_any p q ys x (sym (ap (λ (b : Bool). cond b (Some y) (find p ys)) not_here) ∙ is) passes)
+  | inr not_here ↦ or_right (q y) (list_any q ys) (found_any p q ys x (sym (ap (λ (b : Bool). cond b (Some y) (find p ys)) not_here) ∙ is) passes)
 ]
-  where
-    or_true : (a b : Bool) → b ≡ true → (a || b) ≡ true
-    or_true true b is = refl
-    or_true false b is = is
 
 failing_verdict : (o : Option Verdict) → is_failing_in o ≡ true → (v : Verdict) × (o ≡ Some v)
 failing_verdict None is = cc
@@ -124,7 +118,7 @@ start_not_due plan es n a w p =
     by_cases false now then' same = refl
     by_cases true false then' same = refl
     by_cases true true true same = refl
-    by_cases true true false same = absurd (true_is_false (sym (same refl)))
+    by_cases true true false same = absurd (true≢false (sym (same refl)))
 
 -- where a failing verdict stands already, no Stop is due
 pub failing_not_due : (plan : PlanParts) (es : List Entry) (e : Entry) → has_failing plan es ≡ true → is_stop_due plan (es ++ e ∷ []) ≡ false
@@ -172,7 +166,7 @@ module _ (plan : PlanParts) (ascends : IsAscendingFrom 1 (map (λ (t : PlanTest)
       (stop_failed_behind (front ++ e ∷ []) es both.1 (stop_failed-snoc front e both.0 before))
 
   pub stop_failed : (es : List Entry) → is_allowed_so_far plan es ≡ true → has_stop es ≡ true → has_failing plan es ≡ true
-  stop_failed es so_far stop = stop_failed_behind [] es so_far (λ none. absurd (true_is_false (sym none))) stop
+  stop_failed es so_far stop = stop_failed_behind [] es so_far (λ none. absurd (true≢false (sym none))) stop
 
 pub same_cause_refl : (cause : Cause) → same_cause cause (Some cause) ≡ true
 same_cause_refl Unstarted = refl
@@ -183,3 +177,15 @@ same_cause_refl (BadOperation k) = grind (arith, nat_tests)
 same_cause_refl Insufficient = refl
 same_cause_refl Stopped = refl
 same_cause_refl Memory = refl
+
+-- in the empty history no test has failed
+pub failing-nil : (plan : PlanParts) → has_failing plan [] ≡ false
+failing-nil plan = by_tests plan.tests
+  where
+    by_disabled : (d : Bool) → is_failing_in (if d then Some Disabled else None) ≡ false
+    by_disabled true = refl
+    by_disabled false = refl
+
+    by_tests : (ts : List PlanTest) → list_any (λ (t : PlanTest). is_failing_in (verdict_in plan.repeat t [])) ts ≡ false
+    by_tests [] = refl
+    by_tests (t ∷ ts) = or_from (is_failing_in (verdict_in plan.repeat t [])) (list_any (λ (u : PlanTest). is_failing_in (verdict_in plan.repeat u [])) ts) (by_disabled t.disabled) (by_tests ts)

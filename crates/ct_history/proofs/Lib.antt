@@ -14,3 +14,6 @@ pub mod EndingLemmas
 pub mod PartListLemmas
 pub mod PartLemmas
 pub mod PartLegalLemmas
+pub mod AscendLemmas
+pub mod PlaceLemmas
+pub mod OtherLemmas

@@ -3,11 +3,14 @@ use Rattle.std.proofs.Common.{◌≡◌, ◌∙◌, sym, ap, Bool, true, false, 
 use Rattle.std.specs.Prelude.{Option, Some, None, filter, not, ◌==◌, ◌&&◌, ◌||◌, ◌⊎◌, cond, IsSomeAnd}
 use Rattle.std.specs.List.{list_any, cons_option}
 use Rattle.std.proofs.Common.{inl, inr}
-use Rattle.std.proofs.lemmas.Bool.{cases_Bool}
+use Rattle.std.proofs.Math.Bool.{or-false}
+use Rattle.std.proofs.lemmas.Bool.{cases_Bool, true≢false, or_parts}
 use Rattle.std.proofs.lemmas.Bool.Decides.{nat_tests}
 use Rattle.std.proofs.lemmas.List.Folds.{list_any-append}
+use Rattle.std.proofs.lemmas.List.{append-nil}
 use Rattle.ct_alloc.specs.declared.placement.Placement.{Placement}
 use Rattle.ct_verdict.specs.declared.attempt.Seen.{Seen}
+use Rattle.ct_verdict.specs.declared.verdict.Cause.{Cause}
 use Rattle.ct_history.specs.declared.history.Entry.{Entry}
 use Rattle.ct_history.specs.declared.history.Entry.TheVariants.{Start, End, Settle, Stop}
 use Rattle.ct_history.specs.History.{Running, is_end_of, opened, open_starts, holds_start}
@@ -29,15 +32,11 @@ no_end t a Stop is = refl
 any-snoc : (t a : ℕ) (es : List Entry) (e : Entry) → list_any (is_end_of t a) (es ++ e ∷ []) ≡ (list_any (is_end_of t a) es || (is_end_of t a e || false))
 any-snoc t a es e = list_any-append (is_end_of t a) es (e ∷ [])
 
-or_false : (b : Bool) → (b || (false || false)) ≡ b
-or_false true = refl
-or_false false = refl
-
 -- an entry that is no End leaves what an earlier one opened
 opened_before_no_end : (x : Entry) (es : List Entry) (e : Entry) → is_no_end e ≡ true → opened x (es ++ e ∷ []) ≡ opened x es
 opened_before_no_end (Start t a w p) es e is =
     ap (λ (b : Bool). cond b None (Some (record { test = t; attempt = a; worker = w; placement = p })))
-    (any-snoc t a es e ∙ ap (λ (b : Bool). list_any (is_end_of t a) es || (b || false)) (no_end t a e is) ∙ or_false (list_any (is_end_of t a) es))
+    (any-snoc t a es e ∙ ap (λ (b : Bool). list_any (is_end_of t a) es || (b || false)) (no_end t a e is) ∙ or-false (list_any (is_end_of t a) es))
 opened_before_no_end (End t a w s) es e is = refl
 opened_before_no_end (Settle t c) es e is = refl
 opened_before_no_end Stop es e is = refl
@@ -57,9 +56,6 @@ open_starts-snoc (x ∷ xs) e is =
 -- this attempt of the test
 abbrev pub is_of : ℕ → ℕ → Running → Bool
 is_of t a r = r.test == t && r.attempt == a
-
-true_is_false : true ≡ false → ⊥
-true_is_false is = cc
 
 -- an End closes the start that it ends, and leaves the others
 closes : (x : Entry) (es : List Entry) (t a w : ℕ) (s : Seen) → ((opened x (es ++ End t a w s ∷ []) ≡ opened x es) × (IsSomeAnd (opened x es) (λ r. is_of t a r ≡ true) → ⊥)) ⊎ ((opened x (es ++ End t a w s ∷ []) ≡ None) × IsSomeAnd (opened x es) (λ r. is_of t a r ≡ true))
@@ -87,7 +83,7 @@ closes (Start u b v p) es t a w s = elim (cases_Bool (list_any (is_end_of u b) e
             let unlike : (u == t && b == a) ≡ false = grind (arith, nat_tests) in
             inl (
               ap (λ (c : Bool). cond c None (Some (record { test = u; attempt = b; worker = v; placement = p }))) none ∙ sym opens,
-              λ some. let like = subst (λ (o : Option Running). IsSomeAnd o (λ r. is_of t a r ≡ true)) opens some in true_is_false (sym like ∙ unlike),
+              λ some. let like = subst (λ (o : Option Running). IsSomeAnd o (λ r. is_of t a r ≡ true)) opens some in true≢false (sym like ∙ unlike),
             )
       ]
 ]
@@ -132,7 +128,7 @@ length_some (Some r) t a ys some = omega arith
 
 -- the End of an open attempt leaves at least one open start less
 pub one_less_open : (es : List Entry) (t a w : ℕ) (s : Seen) → list_any (is_of t a) (open_starts es) ≡ true → length (open_starts (es ++ End t a w s ∷ [])) + 1 ≤ length (open_starts es)
-one_less_open [] t a w s any = absurd (true_is_false (sym any))
+one_less_open [] t a w s any = absurd (true≢false (sym any))
 one_less_open (x ∷ xs) t a w s any = elim (closes x xs t a w s) [
   | inl same ↦ elim (any_cons (opened x xs) t a (open_starts xs) any) [
     | inl here ↦ absurd (same.1 here)
@@ -213,3 +209,18 @@ pub closed_both : (t a w : ℕ) (p : Option Placement) (s : Seen) → open_start
 closed_both t a w p s =
     let run : Running = record { test = t; attempt = a; worker = w; placement = p } in
     ap (λ (b : Bool). cons_option (cond ((b && a == a) || false) None (Some run)) []) (eq_same t) ∙ ap (λ (b : Bool). cons_option (cond (b || false) None (Some run)) []) (eq_same a)
+
+-- a Settle or a Stop leaves the open starts
+pub opens_settle : (es : List Entry) (n : ℕ) (c : Cause) → open_starts (es ++ Settle n c ∷ []) ≡ open_starts es
+opens_settle es n c = open_starts-snoc es (Settle n c) refl ∙ append-nil (open_starts es)
+
+pub opens_stop : (es : List Entry) → open_starts (es ++ Stop ∷ []) ≡ open_starts es
+opens_stop es = open_starts-snoc es Stop refl ∙ append-nil (open_starts es)
+
+-- where a test has no open start, leaving out a start of it leaves all
+pub filter_none : (t a : ℕ) (rs : List Running) → list_any (λ (q : Running). q.test == t) rs ≡ false → filter (λ r. not (is_of t a r)) rs ≡ rs
+filter_none t a [] none = refl
+filter_none t a (x ∷ xs) none =
+    let both = or_parts (x.test == t) (list_any (λ (q : Running). q.test == t) xs) none in
+    ap (λ (b : Bool). cond (not (b && x.attempt == a)) (x ∷ filter (λ r. not (is_of t a r)) xs) (filter (λ r. not (is_of t a r)) xs)) both.0
+    ∙ ap (λ (rs : List Running). x ∷ rs) (filter_none t a xs both.1)

@@ -4,7 +4,7 @@ use Rattle.std.specs.Prelude.{Option, Some, None, option_map, option_and_then, �
 use Rattle.std.specs.List.{list_all, list_any, cons_option}
 use Rattle.std.proofs.lemmas.Bool.{and_parts, cases_Bool}
 use Rattle.std.proofs.lemmas.Bool.Decides.{nat_tests}
-use Rattle.std.proofs.lemmas.List.Sums.{sum_by-append}
+use Rattle.std.proofs.lemmas.List.Sums.{sum_by-cons}
 use Rattle.ct_history.specs.Verdicts.{first_of_list, last_behind, last_of_list}
 
 -- the value is there, and passes the test
@@ -38,12 +38,9 @@ any_less f p q less (x ∷ xs) none =
     both true false c d here there is = let both' : false ≡ true = here refl in (cc)
     both false false c d here there is = there is
 
-sum_by-step : {A : Type 0} (g : A → ℕ) (x : A) (xs : List A) → sum_by g (x ∷ xs) ≡ g x + sum_by g xs
-sum_by-step g x xs = let one : sum_by g (x ∷ []) ≡ g x = omega arith in sum_by-append g (x ∷ []) xs ∙ ap (λ (n : ℕ). n + sum_by g xs) one
-
 sum-cons : {A : Type 0} (g : A → ℕ) (o : Option A) (xs : List A) → sum_by g (cons_option o xs) ≡ count_some g o + sum_by g xs
 sum-cons g None xs = omega arith
-sum-cons g (Some x) xs = sum_by-step g x xs
+sum-cons g (Some x) xs = sum_by-cons g x xs
 
 -- kept elements that count for no more are in sum no more
 pub sum_less : {A B : Type 0} (f : A → Option B) (g : B → ℕ) (h : A → ℕ) → ((x : A) → count_some g (f x) ≤ h x) → (xs : List A) → sum_by g (filter_map f xs) ≤ sum_by h xs
@@ -52,7 +49,7 @@ sum_less f g h less (x ∷ xs) =
     let more = sum_less f g h less xs in
     let sum : count_some g (f x) + sum_by g (filter_map f xs) ≤ h x + sum_by h xs = omega (arith, less x, more) in
     subst (λ (n : ℕ). n ≤ sum_by h (x ∷ xs)) (sym (sum-cons g (f x) (filter_map f xs)))
-    (subst (λ (n : ℕ). count_some g (f x) + sum_by g (filter_map f xs) ≤ n) (sym (sum_by-step h x xs)) sum)
+    (subst (λ (n : ℕ). count_some g (f x) + sum_by g (filter_map f xs) ≤ n) (sym (sum_by-cons h x xs)) sum)
 
 pub filter_map-cons : {A B : Type 0} (g : A → Option B) (o : Option A) (xs : List A) → filter_map g (cons_option o xs) ≡ cons_option (option_and_then g o) (filter_map g xs)
 filter_map-cons g None xs = refl

@@ -1,7 +1,7 @@
 -- A history that is allowed so far has stayed within the plan at each moment.
-use Rattle.std.proofs.Common.{◌≡◌, ◌∙◌, sym, ap, subst, Bool, true, false, ℕ, zero, suc, ◌+◌, ◌<◌, ◌≤◌, List, [], ◌∷◌, ◌++◌, length, get_or, take, refl, arith, inl, inr, append_assoc, leb-true}
+use Rattle.std.proofs.Common.{◌≡◌, ◌∙◌, sym, ap, subst, Bool, true, ℕ, zero, suc, ◌+◌, ◌<◌, ◌≤◌, List, [], ◌∷◌, ◌++◌, length, get_or, take, refl, arith, inl, inr, append_assoc, leb-true}
 use Rattle.std.specs.Prelude.{Option, Some, None, IfSome, AllPairs, not, ◌&&◌, slice_get, filter, nat_le, sum_by}
-use Rattle.std.proofs.lemmas.Bool.{and_parts, cases_Bool}
+use Rattle.std.proofs.lemmas.Bool.{and_parts, cases_Bool, true≢false}
 use Rattle.std.proofs.lemmas.List.{append-nil}
 use Rattle.std.proofs.lemmas.List.Folds.{list_any_at}
 use Rattle.std.proofs.lemmas.List.Filters.{sum_by-filter_both}
@@ -83,9 +83,6 @@ are_within-filter plan p rs all = record {
 one_sum : (f : Running → ℕ) (rs : List Running) (r : Running) → sum_by f (rs ++ r ∷ []) ≡ sum_by f rs + f r
 one_sum f rs r = let one : sum_by f (r ∷ []) ≡ f r = omega arith in sum_by-append f rs (r ∷ []) ∙ ap (λ (n : ℕ). sum_by f rs + n) one
 
-true_is_false : true ≡ false → ⊥
-true_is_false is = cc
-
 -- a history with one more Start
 module _ (plan : PlanParts) (es : List Entry) (n a w : ℕ) (p : Option Placement) where
   abbrev begun : Running
@@ -96,7 +93,7 @@ module _ (plan : PlanParts) (es : List Entry) (n a w : ℕ) (p : Option Placemen
       let x = get_or (open_starts es) k d in
       elim (cases_Bool (exclude (Some begins.test) (test_at plan.tests x.test))) [
         | inl both ↦
-            absurd (true_is_false (sym (list_any_at (λ (r : Running). exclude (Some begins.test) (test_at plan.tests r.test)) (open_starts es) k d lt both) ∙ begins.may.apart))
+            absurd (true≢false (sym (list_any_at (λ (r : Running). exclude (Some begins.test) (test_at plan.tests r.test)) (open_starts es) k d lt both) ∙ begins.may.apart))
         | inr neither ↦
             exclude-sym (test_at plan.tests x.test) (test_at plan.tests n)
             ∙ ap (λ (o : Option PlanTest). exclude o (test_at plan.tests x.test)) begins.found
