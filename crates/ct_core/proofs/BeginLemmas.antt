@@ -2,6 +2,7 @@
 use Rattle.std.proofs.Common.{◌≡◌, ◌∙◌, sym, ap, subst, Bool, true, false, not, cond, ◌&&◌, ◌==◌, if◌then◌else◌, ℕ, zero, suc, ◌+◌, ◌≤◌, List, [], ◌∷◌, length, filter, find, slice_get, is_some, is_none, nat_lt, refl, arith}
 use Rattle.std.specs.Prelude.{Option, Some, None}
 use Rattle.std.specs.List.{list_all, list_any}
+use Rattle.std.proofs.Math.Bool.{and-true}
 use Rattle.std.proofs.lemmas.Bool.{true≢false, and_parts, eqb-true, not-true}
 use Rattle.std.proofs.lemmas.List.{get_or-map, get_or-replicate, length-map, length-replicate}
 use Rattle.std.proofs.lemmas.Option.{none-some, same_Some}
@@ -22,7 +23,7 @@ use Rattle.ct_core.specs.Standing.{open_before}
 use Rattle.ct_core.specs.Waiting.{AreSettleable, IsQueued, cause_then, is_pending_at, open_before_at, settles_but}
 use Rattle.ct_core.specs.Begin.{count_before, first_counts, settles_first}
 use Rattle.ct_core.proofs.EnabledLemmas.{queued_enabled}
-use Rattle.ct_core.proofs.LowerLemmas.{and_true, follows_by_count, settle_going}
+use Rattle.ct_core.proofs.LowerLemmas.{follows_by_count, settle_going}
 
 -- what holds of each element holds of the element at a place
 all_there : {A : Type 0} (p : A → Bool) (xs : List A) (place : ℕ) (x : A) → list_all p xs ≡ true → slice_get xs place ≡ Some x → p x ≡ true
@@ -82,7 +83,7 @@ settles_at_first plan t linked =
     by_parts : (d e : Bool) (c f : Option Cause) → (e ≡ true → c ≡ f) → (is_some (if e && not d then c else None) && true) ≡ (not d && e && is_some f)
     by_parts true true c f same = refl
     by_parts true false c f same = refl
-    by_parts false true c f same = and_true (is_some c) ∙ ap is_some (same refl)
+    by_parts false true c f same = and-true (is_some c) ∙ ap is_some (same refl)
     by_parts false false c f same = refl
 
 module _ (plan : PlanParts) (sound : IsSound plan) where

@@ -2,7 +2,7 @@
 use Rattle.std.proofs.Common.{◌≡◌, ◌∙◌, sym, ap, subst, Bool, true, false, ℕ, ◌<◌, List, [], ◌∷◌, ◌++◌, length, refl, arith, inl, inr}
 use Rattle.std.specs.Prelude.{Option, Some, None, is_some, is_none, ◌&&◌, ◌||◌, ◌==◌, cond, find, nat_lt}
 use Rattle.std.specs.List.{list_any}
-use Rattle.std.proofs.lemmas.Bool.{and_parts, and_from, cases_Bool}
+use Rattle.std.proofs.lemmas.Bool.{and_parts, and_from, cases_Bool, or_right, lt-ltb}
 use Rattle.std.proofs.lemmas.Bool.Decides.{nat_tests}
 use Rattle.ct_verdict.specs.declared.verdict.Verdict.{Verdict}
 use Rattle.ct_history.specs.declared.plan.PlanTest.{PlanTest}
@@ -14,10 +14,11 @@ use Rattle.ct_history.specs.History.{Running, attempts_of, open_starts}
 use Rattle.ct_history.specs.Verdicts.{verdict_at, verdict_of_test}
 use Rattle.ct_history.specs.Rules.{first_unpassed, follows_finals, is_ready}
 use Rattle.ct_history.specs.Legal.{is_allowed, is_allowed_so_far}
-use Rattle.ct_history.proofs.FinalLemmas.{verdict_stays}
+use Rattle.ct_history.proofs.FinalLemmas.{verdict_stays, attempts-snoc}
+use Rattle.ct_history.proofs.OtherLemmas.{is_about, attempts_other}
+use Rattle.ct_history.proofs.OpenLemmas.{opens_settle}
 use Rattle.ct_core.specs.Standing.{open_start_of_test}
-use Rattle.ct_core.proofs.AllowedLemmas.{allowed_induction, attempts-snoc, attempts_other, end_holds, is_about, number_at, start_begins}
-use Rattle.ct_core.proofs.OpenStartLemmas.{opens_settle}
+use Rattle.ct_core.proofs.AllowedLemmas.{allowed_induction, end_holds, number_at, start_begins}
 use Rattle.ct_core.proofs.PredecessorLemmas.{all_stay, passed_stay}
 use Rattle.ct_core.proofs.StateLemmas.{open_other}
 
@@ -106,11 +107,4 @@ module _ (plan : PlanParts) (es : List Entry) (so_far : is_allowed_so_far plan e
 
   -- a test of which an attempt has ended is ready
   pub tried_is_ready : 0 < length (attempts_of t.number t.rules es) → is_ready plan t es ≡ true
-  tried_is_ready tried = begun_is_ready plan t found_itself es so_far (by_open (is_some (open_start_of_test t.number es)) (nat_lt 0 (length (attempts_of t.number t.rules es))) (lt_true 0 (length (attempts_of t.number t.rules es)) tried))
-    where
-      by_open : (a b : Bool) → b ≡ true → (a || b) ≡ true
-      by_open true b is = refl
-      by_open false b is = is
-
-      lt_true : (x y : ℕ) → x < y → nat_lt x y ≡ true
-      lt_true x y lt = grind (arith, nat_tests)
+  tried_is_ready tried = begun_is_ready plan t found_itself es so_far (or_right (is_some (open_start_of_test t.number es)) (nat_lt 0 (length (attempts_of t.number t.rules es))) (lt-ltb 0 (length (attempts_of t.number t.rules es)) tried))

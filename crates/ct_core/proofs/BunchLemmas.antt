@@ -5,8 +5,9 @@ use Rattle.std.proofs.Common.{◌≡◌, ◌∙◌, sym, ap, subst, Bool, true, 
 use Rattle.std.specs.Prelude.{Option, Some, None, MatchOption, IfSome, option_and_then, option_map}
 use Rattle.std.specs.List.{list_any}
 use Rattle.std.specs.Option.{option_or}
-use Rattle.std.proofs.lemmas.Bool.{true≢false, and_from, cases_eq, cases_lt, eqb-true, or_right}
+use Rattle.std.proofs.lemmas.Bool.{true≢false, and_from, cases_eq, cases_lt, eqb-true, or_right, not-false}
 use Rattle.std.proofs.Math.Seq.{get_or-append_seam}
+use Rattle.std.proofs.Math.Bool.{and-false}
 use Rattle.std.proofs.lemmas.List.{get_or_append_left, get_or_default}
 use Rattle.std.proofs.lemmas.List.Elements.{All-push}
 use Rattle.std.proofs.lemmas.List.Folds.{list_any_at}
@@ -188,10 +189,6 @@ pub record IsLooked (plan : PlanParts) (es : List Entry) (r : ReadyValue) (behin
   pub none : (head : ℕ) → IsHead r head → IsOfSeenBunch r behind head → IsBefore found head → CanStart plan es (get_or plan.queue head 0) → ⊥
   pub best : IfSome found (StartsAt plan es r)
 
-and_no : (b : Bool) → (b && false) ≡ false
-and_no true = refl
-and_no false = refl
-
 before_both : (best : Option ℕ) (place other : ℕ) → other ≤ place → IsBefore best place → IsBefore best other
 before_both None place other upto before = tt
 before_both (Some b) place other upto before = omega (arith, upto, before)
@@ -318,16 +315,12 @@ module _ (plan : PlanParts) (sound : IsSound plan) (es : List Entry) (r : ReadyV
             none_alike plan es (get_or plan.queue first 0) (get_or plan.queue head 0) (head_due first here)
             (one_demand plan keys r.bunches are first head (head_within first here) within (sym same) none) unable
         by_key (Some key) some =
-            let shut : is_closed u key.alone key.lock ≡ true = shut_lock (is_closed u key.alone key.lock) (sym (ap (λ (k : Option Key). is_open_key u k) some) ∙ closed) in
+            let shut : is_closed u key.alone key.lock ≡ true = not-false (is_closed u key.alone key.lock) (sym (ap (λ (k : Option Key). is_open_key u k) some) ∙ closed) in
             let has = has_key (test_in_queue plan head) (get_or keys head None) key (one_key plan keys r.bunches are head first within (head_within first here) same ∙ some) in
             let t = has.test in
             let found : test_at plan.tests (get_or plan.queue head 0) ≡ Some t = sym (queue_there plan head within) ∙ has.found in
             not_due plan es t (get_or plan.queue head 0) found (excluded t found (closed_excludes u t key.lock key.alone shut has.named))
           where
-            shut_lock : (b : Bool) → not b ≡ false → b ≡ true
-            shut_lock true is = refl
-            shut_lock false is = absurd (true≢false is)
-
             excluded : (t : PlanTest) → test_at plan.tests (get_or plan.queue head 0) ≡ Some t → is_excluded_beside u t ≡ true → may_start_if_placed plan t es ≡ false
             excluded t found out =
                 let next = member_may plan sound es r q head on unsettled is.member in
@@ -335,7 +328,7 @@ module _ (plan : PlanParts) (sound : IsSound plan) (es : List Entry) (r : ReadyV
                 subst (λ (v : PlanTest). may_start_if_placed plan v es ≡ has_room plan v es) this next.may
                 ∙ sym (room_beside plan es u t in_use)
                 ∙ ap (λ (b : Bool). nat_le (t.processors + u.processors) plan.level && not b) out
-                ∙ and_no (nat_le (t.processors + u.processors) plan.level)
+                ∙ and-false (nat_le (t.processors + u.processors) plan.level)
 
     -- if the lock of the bunch is open, a head may start exactly if there is room for it
     module _ (free : is_open_key u (key_at plan keys first) ≡ true) (head : ℕ) (same : get_or r.bunches head 0 ≡ get_or r.bunches first 0) (is : IsHead r head) where

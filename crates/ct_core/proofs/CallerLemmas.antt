@@ -2,7 +2,7 @@
 use Rattle.std.proofs.Common.{◌≡◌, ◌∙◌, sym, ap, subst, Bool, true, false, ℕ, List, [], ◌∷◌, ◌++◌, get_or, refl, arith}
 use Rattle.std.specs.Prelude.{Option, Some, None, All, Contains, map, not, ◌&&◌, ◌==◌, is_none, is_some, if◌then◌else◌}
 use Rattle.std.specs.List.{list_all}
-use Rattle.std.proofs.lemmas.Bool.{and_from}
+use Rattle.std.proofs.lemmas.Bool.{and_from, true≢false}
 use Rattle.std.proofs.lemmas.List.{map-append}
 use Rattle.std.proofs.lemmas.List.Elements.{All-contains, All-head, All-map, All-tail, Contains-append_left, Contains-append_right, Contains-get_or}
 use Rattle.ct_alloc.specs.declared.placement.Placement.{Placement}
@@ -24,9 +24,6 @@ use Rattle.ct_history.proofs.ProgressLemmas.{IsLeft, all_found, can_start, found
 use Rattle.ct_core.specs.Choice.{IsFirstToStart, NoneSettles, NoneStarts}
 use Rattle.ct_core.specs.Core.{with_entry, with_final}
 use Rattle.ct_core.specs.CoreValue.{CoreValue}
-
-true_is_false : true ≡ false → ⊥
-true_is_false is = cc
 
 -- in a run that does not stop on failure, no entry makes a Stop due
 pub with_final-off : (core : CoreValue) (e : Entry) → core.plan.stop_on_failure ≡ false → with_final core e ≡ with_entry core e
@@ -72,9 +69,9 @@ pub done_starts_none : (plan : PlanParts) (es : List Entry) (n : ℕ) → are_al
 done_starts_none plan es n done can = by_test (test_at plan.tests n) refl
   where
     by_test : (o : Option PlanTest) → test_at plan.tests n ≡ o → ⊥
-    by_test None is = true_is_false (sym can.may ∙ ap (λ (o : Option PlanTest). may_start_at plan es can.placement o) is)
+    by_test None is = true≢false (sym can.may ∙ ap (λ (o : Option PlanTest). may_start_at plan es can.placement o) is)
     by_test (Some t) is =
-        true_is_false (sym (all_found (λ (x : PlanTest). is_final_in plan.repeat x es) (λ (x : PlanTest). x.number == n) plan.tests t done is) ∙ unfinished plan es n t is can)
+        true≢false (sym (all_found (λ (x : PlanTest). is_final_in plan.repeat x es) (λ (x : PlanTest). x.number == n) plan.tests t done is) ∙ unfinished plan es n t is can)
 
 -- if all tests are final, none may be settled
 pub done_settles_none : (plan : PlanParts) (es : List Entry) (n : ℕ) (cause : Cause) → are_all_final plan es ≡ true → settle_cause_of_test plan es n ≡ Some cause → ⊥
@@ -84,7 +81,7 @@ done_settles_none plan es n cause done may = by_test (test_at plan.tests n) refl
     by_test None is = let never = sym may ∙ ap (λ (o : Option PlanTest). settle_cause_at plan es o) is in (cc)
     by_test (Some t) is =
         let settled = sym (ap (λ (o : Option PlanTest). settle_cause_at plan es o) is) ∙ may in
-        true_is_false (sym (all_found (λ (x : PlanTest). is_final_in plan.repeat x es) (λ (x : PlanTest). x.number == n) plan.tests t done is) ∙ (pending-parts plan t es (settled_pending plan t es cause settled)).unfinished)
+        true≢false (sym (all_found (λ (x : PlanTest). is_final_in plan.repeat x es) (λ (x : PlanTest). x.number == n) plan.tests t done is) ∙ (pending-parts plan t es (settled_pending plan t es cause settled)).unfinished)
 
 -- a test without links and without a fixed cause
 pub record IsFree (t : PlanTest) : Type 0 where
@@ -139,7 +136,7 @@ module _ (plan : PlanParts) (sound : IsSound plan) (free : All IsFree plan.tests
         (λ k d lt can.
         let u = get_or done k d in
         let there : Contains plan.tests u = subst (λ (ts : List PlanTest). Contains ts u) (sym tests) (Contains-append_left done (t ∷ rest) u (Contains-get_or done k d lt)) in
-        true_is_false (sym (final k d lt) ∙ unfinished plan es u.number u (contained_at 1 plan.tests u sound.numbers there) can))
+        true≢false (sym (final k d lt) ∙ unfinished plan es u.number u (contained_at 1 plan.tests u sound.numbers there) can))
 
     pub free_starts : (m : ℕ) (p : Option Placement) → IsFirstToStart plan es m p → m ≡ t.number
     free_starts m p first =

@@ -3,6 +3,7 @@ use Rattle.std.proofs.Common.{◌≡◌, ◌∙◌, sym, ap, subst, Bool, true, 
 use Rattle.std.specs.Prelude.{Option, Some, None, is_some, is_none, not, ◌&&◌, ◌==◌, cond, filter, find, slice_get, slice_set, if◌then◌else◌}
 use Rattle.std.specs.List.{list_any, list_all}
 use Rattle.std.proofs.Math.Path.{fun_ext}
+use Rattle.std.proofs.Math.Bool.{and-false}
 use Rattle.std.proofs.lemmas.Bool.{and_parts, cases_Bool, cases_eq}
 use Rattle.std.proofs.lemmas.Bool.Decides.{nat_tests}
 use Rattle.std.proofs.lemmas.Grind.{get_or-set_at}
@@ -18,7 +19,6 @@ use Rattle.ct_history.specs.Plan.{AllAscend, IsAscendingFrom, IsSound, has_sound
 use Rattle.ct_history.specs.History.{has_stop, is_open_in}
 use Rattle.ct_history.specs.Verdicts.{attempted_verdict, is_passed_verdict, settled_cause, settled_or, verdict_of_test}
 use Rattle.ct_history.specs.Rules.{cause_behind, first_unpassed, follows_finals, is_pending, is_ready, settle_cause}
-use Rattle.ct_history.proofs.BoolLemmas.{and_false}
 use Rattle.ct_history.proofs.ProgressLemmas.{all_found}
 use Rattle.ct_queue.specs.Ready.{ReadyValue, StandsIn, predecessors_left, is_out, place_of, with_out}
 use Rattle.ct_queue.proofs.CallerLemmas.{out_said}
@@ -28,9 +28,6 @@ use Rattle.ct_core.proofs.NumberLemmas.{listed}
 use Rattle.ct_core.proofs.PredecessorLemmas.{none_of_setups, not_all, one_if, one_less, same_all, same_first}
 use Rattle.ct_core.proofs.EnabledLemmas.{out_other, queued_enabled}
 use Rattle.ct_core.proofs.QueueLemmas.{one_place, there_found}
-
-true_is_false : true ≡ false → ⊥
-true_is_false is = cc
 
 -- between two histories only one test changes
 pub record ChangesOne (plan : PlanParts) (es more : List Entry) (n : ℕ) : Type 0 where
@@ -277,7 +274,7 @@ module _ (plan : PlanParts) (sound : IsSound plan) (es more : List Entry) (n : �
               elim (cases_Bool (is_one_of_numbers n u.before)) [
                 | inl waits ↦
                     ap (λ (b : Bool). is_some (settle_cause plan u more) && not b) (follower_is u itself enabled ∙ waits)
-                    ∙ and_false (is_some (settle_cause plan u more))
+                    ∙ and-false (is_some (settle_cause plan u more))
                     ∙ sym (ap (λ (c : Option Cause). is_some c && true) (no_cause_yet plan u es on (not_all (verdict_of_test plan es) (verdict_of_test plan more) n one.verdicts before u.before waits)))
                 | inr free ↦
                     ap (λ (b : Bool). is_some (settle_cause plan u more) && not b) (follower_is u itself enabled ∙ free)

@@ -2,7 +2,7 @@
 use Rattle.std.proofs.Common.{◌≡◌, ◌≢◌, ◌∙◌, sym, ap, subst, Bool, true, false, ℕ, ◌-◌, ◌<◌, ◌≤◌, ◌^◌, List, [], ◌∷◌, ◌++◌, length, refl, arith, inl, inr, get_or, suc, take, drop}
 use Rattle.std.specs.Prelude.{◌⊎◌, Result, Ok, Err, IfErr, Option, Some, None, ◌==◌, ◌&&◌, ◌||◌, not, is_some, nat_le, option_and_then, slice_get, if◌then◌else◌, MatchOption}
 use Rattle.std.proofs.Math.Path.{fun_ext}
-use Rattle.std.proofs.lemmas.Bool.{and_from, and_parts, cases_Bool, false_from_ne_true, leb-true, ne_eqb}
+use Rattle.std.proofs.lemmas.Bool.{and_from, and_parts, cases_Bool, false_from_ne_true, leb-true, ne_eqb, true≢false}
 use Rattle.std.proofs.Math.Seq.{split_at}
 use Rattle.std.proofs.lemmas.List.{length-map}
 use Rattle.std.proofs.lemmas.List.Elements.{All-contains}
@@ -41,13 +41,10 @@ use Rattle.ct_core.proofs.InUseLemmas.{room_beside}
 use Rattle.ct_core.proofs.PickLemmas.{MayBeNext, SettlesAt, cause_going, cause_stopped, none_beside_serial, none_when_full}
 use Rattle.ct_core.proofs.StandingLemmas.{all_finished, pending_at, verdict_state_at}
 
-true_is_false : true ≡ false → ⊥
-true_is_false is = cc
-
 -- if no placement fits, none is right for needs that are not empty
 pub none_placed : (free : FreeValue) (needs : List Need) → NoneFits free needs → (length needs == 0) ≡ false → (p : Option Placement) → is_placed (Some free.resources) needs (used_at free) p ≡ true → ⊥
-none_placed free [] none some p placed = true_is_false some
-none_placed free (need ∷ needs) none some None placed = true_is_false (sym placed)
+none_placed free [] none some p placed = true≢false some
+none_placed free (need ∷ needs) none some None placed = true≢false (sym placed)
 none_placed free (need ∷ needs) none some (Some p) placed =
     let both = and_parts (is_placement free.resources (need ∷ needs) p.picks) (fits_beside free.resources (used_at free) p.picks) placed in
     none (record { picks = p.picks; placed = both.0; fits = both.1 })
@@ -79,7 +76,7 @@ module _ (plan : PlanParts) (es : List Entry) where
   pub not_due : (t : PlanTest) (n : ℕ) → test_at plan.tests n ≡ Some t → may_start_if_placed plan t es ≡ false → CanStart plan es n → ⊥
   not_due t n found may_not can =
       let both = and_parts (may_start_if_placed plan t es) (is_placed plan.resources t.needs (used_slots es) can.placement) (found_may t n found can) in
-      true_is_false (sym both.0 ∙ may_not)
+      true≢false (sym both.0 ∙ may_not)
 
   -- a test without a right placement can't start
   pub nowhere : (free : Option FreeValue) (t : PlanTest) (n : ℕ) → IsFreeBeside plan es free → test_at plan.tests n ≡ Some t → ((p : Option Placement) → is_placed (given_resources free) t.needs (used_of free) p ≡ true → ⊥) → CanStart plan es n → ⊥
@@ -103,12 +100,12 @@ module _ (plan : PlanParts) (es : List Entry) where
   }
 
   pub first_found : (i n : ℕ) (found : Option Startable) → i < length plan.queue → n ≡ get_or plan.queue i 0 → NoneStarts plan es (take i plan.queue) → is_some found ≡ true → MatchOption found (CanStart plan es n → ⊥) (λ s. IsStartOf plan es n s) → MatchOption found (NoneStarts plan es plan.queue) (λ s. IsStartable plan es s)
-  first_found i n None lt is none some of = absurd (true_is_false (sym some))
+  first_found i n None lt is none some of = absurd (true≢false (sym some))
   first_found i n (Some start) lt is none some of = first_starts i n start lt is none of
 
   -- if no start was found for the test, it can't start
   pub first_unable : (n m : ℕ) (found : Option Startable) → n ≡ m → is_some found ≡ false → MatchOption found (CanStart plan es n → ⊥) (λ s. IsStartOf plan es n s) → CanStart plan es m → ⊥
-  first_unable n m (Some start) same unfound of = absurd (true_is_false unfound)
+  first_unable n m (Some start) same unfound of = absurd (true≢false unfound)
   first_unable n m None same unfound of = subst (λ (k : ℕ). CanStart plan es k → ⊥) same of
 
 -- if nothing can be done, some attempt is open

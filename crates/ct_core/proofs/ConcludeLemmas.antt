@@ -1,10 +1,10 @@
 -- A run is kept once it has noted that a test is final.
 use Rattle.std.proofs.Common.{◌≡◌, ◌∙◌, sym, ap, subst, Bool, true, false, ℕ, ◌+◌, ◌-◌, ◌<◌, ◌≤◌, List, [], ◌∷◌, ◌++◌, length, refl, arith, length-append, inl, inr, zero, suc}
 use Rattle.std.specs.Prelude.{is_some, Option, Some, None, not, ◌&&◌, ◌||◌, option_map, slice_get, nat_lt, if◌then◌else◌}
-use Rattle.std.proofs.lemmas.Bool.{cases_Bool}
-use Rattle.std.proofs.lemmas.Bool.Decides.{nat_tests}
+use Rattle.std.proofs.lemmas.Bool.{cases_Bool, true≢false, ltb-false}
 use Rattle.std.proofs.lemmas.List.{length-map}
 use Rattle.std.proofs.lemmas.Option.{slice_get-map}
+use Rattle.std.proofs.Math.Bool.{and-false, and-true}
 use Rattle.ct_verdict.specs.declared.verdict.Verdict.{Verdict}
 use Rattle.ct_verdict.specs.Verdict.{is_failing_verdict}
 use Rattle.ct_history.specs.declared.plan.PlanTest.{PlanTest}
@@ -15,6 +15,7 @@ use Rattle.ct_history.specs.History.{Running, has_stop, open_starts}
 use Rattle.ct_history.specs.Legal.{is_stop_due}
 use Rattle.ct_history.specs.Verdicts.{verdict_at}
 use Rattle.ct_history.proofs.LegalLemmas.{legal_from, legal_with_stop, stop-snoc}
+use Rattle.ct_history.proofs.OpenLemmas.{opens_stop}
 use Rattle.ct_queue.specs.Marks.{is_marked}
 use Rattle.ct_core.specs.declared.state.State.{State}
 use Rattle.ct_core.specs.declared.in_use.InUse.{InUse}
@@ -25,13 +26,9 @@ use Rattle.ct_core.specs.Places.{stop_places}
 use Rattle.ct_core.specs.Standing.{IsPlaceOf, count_unfinished, state_of, states_of}
 use Rattle.ct_core.specs.Waiting.{followers_of, is_pending_at, settles_but}
 use Rattle.ct_core.specs.Parts.{AreQueued, IsConcluding, IsKept, IsLowered, IsStopped, followers_at, is_pending_in, is_pending_at_place}
-use Rattle.ct_core.proofs.OpenStartLemmas.{opens_stop}
 use Rattle.ct_core.proofs.StateLemmas.{pending_state}
 use Rattle.ct_core.proofs.StandingLemmas.{states_stopped}
 use Rattle.ct_core.proofs.WaitingLemmas.{stop_settleable}
-
-true_is_false : true ≡ false → ⊥
-true_is_false is = cc
 
 -- the same parts, with one less in the count of tests that are not final
 abbrev pub counted : Parts → Parts
@@ -64,16 +61,9 @@ pub is_planned : (plan : PlanParts) (es : List Entry) (o : Option PlanTest) (v :
 is_planned plan es None v is = cc
 is_planned plan es (Some t) v is = refl
 
-lt_false : (x y : ℕ) → nat_lt x y ≡ false → y ≤ x
-lt_false x y less = grind (arith, nat_tests)
-
 module _ (plan : PlanParts) (es : List Entry) (room n : ℕ) (v : Verdict) (parts : Parts) (c : IsConcluding plan es room n v parts) where
   not_due : has_stop es ≡ true → is_stop_due plan es ≡ false
-  not_due stop = c.due ∙ ap (λ (b : Bool). plan.stop_on_failure && is_failing_verdict v && not b) stop ∙ and_false (plan.stop_on_failure && is_failing_verdict v)
-    where
-      and_false : (b : Bool) → (b && false) ≡ false
-      and_false true = refl
-      and_false false = refl
+  not_due stop = c.due ∙ ap (λ (b : Bool). plan.stop_on_failure && is_failing_verdict v && not b) stop ∙ and-false (plan.stop_on_failure && is_failing_verdict v)
 
   -- if no Stop is due, none is added
   pub none_added : is_stop_due plan es ≡ false → with_due_stop plan es ≡ es
@@ -87,11 +77,7 @@ module _ (plan : PlanParts) (es : List Entry) (room n : ℕ) (v : Verdict) (part
 
   -- while there is no Stop, one is due exactly if the plan stops at a failure and the verdict is failing
   pub due_here : has_stop es ≡ false → (b : Bool) → (plan.stop_on_failure && is_failing_verdict v) ≡ b → is_stop_due plan es ≡ b
-  due_here going b is = c.due ∙ ap (λ (x : Bool). plan.stop_on_failure && is_failing_verdict v && not x) going ∙ and_true (plan.stop_on_failure && is_failing_verdict v) ∙ is
-    where
-      and_true : (x : Bool) → (x && true) ≡ x
-      and_true true = refl
-      and_true false = refl
+  due_here going b is = c.due ∙ ap (λ (x : Bool). plan.stop_on_failure && is_failing_verdict v && not x) going ∙ and-true (plan.stop_on_failure && is_failing_verdict v) ∙ is
 
   -- if there is a Stop already, the run is kept without a further step
   pub kept_behind : has_stop es ≡ true → IsKept plan es room (counted parts)
@@ -101,8 +87,8 @@ module _ (plan : PlanParts) (es : List Entry) (room n : ℕ) (v : Verdict) (part
     told = record { sound = c.told.sound; states = c.told.states; in_use = c.told.in_use; stopped = c.told.stopped; followers = c.told.followers };
     unfinished = let u = c.unfinished in omega (arith, u);
     queued = record {
-      ready = λ going. absurd (true_is_false (sym stop ∙ going));
-      bunches = λ going. absurd (true_is_false (sym stop ∙ going));
+      ready = λ going. absurd (true≢false (sym stop ∙ going));
+      bunches = λ going. absurd (true≢false (sym stop ∙ going));
       settleable = c.stopped stop;
     };
   }
@@ -159,8 +145,8 @@ module _ (plan : PlanParts) (es : List Entry) (room n : ℕ) (v : Verdict) (part
         let less = halted.unfinished in
         omega (arith, u, same, less);
     queued = record {
-      ready = λ goes_on. absurd (true_is_false (sym (stop_added es) ∙ goes_on));
-      bunches = λ goes_on. absurd (true_is_false (sym (stop_added es) ∙ goes_on));
+      ready = λ goes_on. absurd (true≢false (sym (stop_added es) ∙ goes_on));
+      bunches = λ goes_on. absurd (true≢false (sym (stop_added es) ∙ goes_on));
       settleable = stop_settleable plan es new.settleable
           (let have = (c.waiting going).settleable.room in let same = halted.room in omega (arith, have, same))
           marked;
@@ -178,7 +164,7 @@ module _ (plan : PlanParts) (es : List Entry) (room n : ℕ) (v : Verdict) (part
             ∙ ap (λ (ss : List State). is_pending_at_place ss place) c.told.states
             ∙ pending_here plan es place
         | inr beyond ↦
-            let le : length plan.tests ≤ place = omega (arith, count, lt_false place (length parts.states.items) beyond) in
+            let le : length plan.tests ≤ place = omega (arith, count, ltb-false place (length parts.states.items) beyond) in
             let none = none_behind plan.tests place le in
             halted.marked place
             ∙ ap (λ (b : Bool). if b then is_pending_at_place parts.states.items place else is_marked parts.settleable place) beyond

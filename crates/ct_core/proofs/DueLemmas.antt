@@ -2,12 +2,12 @@
 use Rattle.std.proofs.Common.{◌≡◌, ◌∙◌, sym, ap, Bool, true, false, ℕ, ◌+◌, ◌<◌, List, [], ◌∷◌, ◌++◌, refl, arith, inl, inr}
 use Rattle.std.specs.Prelude.{Option, Some, None, length, not, ◌&&◌, ◌||◌, ◌==◌, cond, map, if◌then◌else◌}
 use Rattle.std.specs.List.{list_any}
-use Rattle.std.proofs.lemmas.Bool.{and_parts, cases_Bool, not-true, or_from, or_left, or_parts, or_right}
+use Rattle.std.proofs.lemmas.Bool.{and_parts, cases_Bool, not-true, or_from, or_left, or_parts, or_right, true≢false}
 use Rattle.std.proofs.lemmas.Bool.Decides.{nat_tests}
+use Rattle.std.proofs.Math.Bool.{or-false, and-false}
 use Rattle.ct_verdict.specs.declared.attempt.Seen.{Seen}
 use Rattle.ct_verdict.specs.declared.verdict.Cause.{Cause}
 use Rattle.ct_verdict.specs.declared.verdict.Verdict.{Verdict}
-use Rattle.ct_verdict.specs.declared.verdict.Verdict.TheVariants.{Disabled}
 use Rattle.ct_verdict.specs.Verdict.{is_failing_cause, verdict_of}
 use Rattle.ct_history.specs.declared.plan.PlanTest.{PlanTest}
 use Rattle.ct_history.specs.declared.plan.PlanParts.{PlanParts}
@@ -18,29 +18,15 @@ use Rattle.ct_history.specs.History.{attempts_of, has_stop, holds_start, is_busy
 use Rattle.ct_history.specs.Verdicts.{is_failing_in, verdict_at, verdict_in, verdict_of_test}
 use Rattle.ct_history.specs.Rules.{is_pending}
 use Rattle.ct_history.specs.Legal.{has_failing, is_allowed, is_allowed_so_far, is_legal, is_stop_due, settles, starts}
-use Rattle.ct_history.proofs.LegalLemmas.{due-snoc, legal_allowed, legal_not_due, stop_failed, stop-snoc}
+use Rattle.ct_history.proofs.LegalLemmas.{due-snoc, legal_allowed, legal_not_due, stop_failed, stop-snoc, failing-nil}
+use Rattle.ct_history.proofs.OpenLemmas.{opens_stop}
+use Rattle.ct_history.proofs.OtherLemmas.{verdict_in_other}
 use Rattle.ct_core.specs.Standing.{states_of, verdict_of_state}
 use Rattle.ct_core.specs.Core.{with_due_stop}
 use Rattle.ct_core.proofs.AllowedLemmas.{IsAboutOnly, about_end, about_settle, allowed_induction}
 use Rattle.ct_core.proofs.KeptLemmas.{stop_stays}
-use Rattle.ct_core.proofs.OpenStartLemmas.{opens_stop}
-use Rattle.ct_core.proofs.StateLemmas.{pending_other, state_after, verdict_ended, verdict_in_other, verdict_other, verdict_settled}
+use Rattle.ct_core.proofs.StateLemmas.{pending_other, state_after, verdict_ended, verdict_other, verdict_settled}
 use Rattle.ct_core.proofs.StandingLemmas.{states_stopped}
-
-true_is_false : true ≡ false → ⊥
-true_is_false is = cc
-
--- in the empty history no test has failed
-pub failing-nil : (plan : PlanParts) → has_failing plan [] ≡ false
-failing-nil plan = by_tests plan.tests
-  where
-    by_disabled : (d : Bool) → is_failing_in (if d then Some Disabled else None) ≡ false
-    by_disabled true = refl
-    by_disabled false = refl
-
-    by_tests : (ts : List PlanTest) → list_any (λ (t : PlanTest). is_failing_in (verdict_in plan.repeat t [])) ts ≡ false
-    by_tests [] = refl
-    by_tests (t ∷ ts) = or_from (is_failing_in (verdict_in plan.repeat t [])) (list_any (λ (u : PlanTest). is_failing_in (verdict_in plan.repeat u [])) ts) (by_disabled t.disabled) (by_tests ts)
 
 -- if an allowed entry is no Stop, no Stop was due in front of it
 not_due_before : (plan : PlanParts) (es : List Entry) (e : Entry) → is_allowed plan es e ≡ true → is_stop e ≡ false → is_stop_due plan es ≡ false
@@ -72,7 +58,7 @@ module _ (plan : PlanParts) (on : plan.stop_on_failure ≡ true) where
 
   failed_stopped : (es : List Entry) → is_allowed_so_far plan es ≡ true → IsStopped es
   failed_stopped es so_far =
-      allowed_induction plan IsStopped stopped-snoc (λ failing not_due. absurd (true_is_false (sym failing ∙ failing-nil plan))) es so_far
+      allowed_induction plan IsStopped stopped-snoc (λ failing not_due. absurd (true≢false (sym failing ∙ failing-nil plan))) es so_far
 
 -- in a plan that stops on failure, a legal history has a failed test exactly if it has a Stop
 pub failing_is_stop : (plan : PlanParts) → IsSound plan → (es : List Entry) → is_legal plan es ≡ true → plan.stop_on_failure ≡ true → has_failing plan es ≡ has_stop es
@@ -105,15 +91,11 @@ module _ (p q : PlanTest → Bool) (n : ℕ) (same : (u : PlanTest) → (u.numbe
             let this : Some x ≡ Some t = sym (ap (λ (b : Bool). cond b (Some x) (test_at xs n)) here) ∙ found in
             let is : x ≡ t = cc in
             let above : n < x.number + 1 = grind (arith, nat_tests) in
-            ap (λ (b : Bool). q x || b) (none_above (x.number + 1) xs ascends.1 above both.1) ∙ or_false (q x) ∙ ap q is
+            ap (λ (b : Bool). q x || b) (none_above (x.number + 1) xs ascends.1 above both.1) ∙ or-false (q x) ∙ ap q is
         | inr other ↦
             ap (λ (b : Bool). b || list_any q xs) (same x other ∙ both.0)
             ∙ any_one (x.number + 1) xs t ascends.1 both.1 (sym (ap (λ (b : Bool). cond b (Some x) (test_at xs n)) other) ∙ found)
       ]
-    where
-      or_false : (b : Bool) → (b || false) ≡ b
-      or_false true = refl
-      or_false false = refl
 
 -- if no test had failed in front of the entry, some test has behind it exactly if this test has
 failing_one : (plan : PlanParts) → IsSound plan → (es : List Entry) (e : Entry) (n : ℕ) (t : PlanTest) → IsAboutOnly n e → test_at plan.tests n ≡ Some t → has_failing plan es ≡ false → has_failing plan (es ++ e ∷ []) ≡ is_failing_in (verdict_of_test plan (es ++ e ∷ []) n)
@@ -132,11 +114,8 @@ due_is plan sound es legal e n t only found =
   where
     by_tests : (s now then' fails stop : Bool) → (s ≡ true → then' ≡ stop) → (then' ≡ false → now ≡ fails) → (s && (now && not then')) ≡ (s && fails && not stop)
     by_tests false now then' fails stop same one = refl
-    by_tests true now then' fails true same one = ap (λ (b : Bool). now && not b) (same refl) ∙ and_false now ∙ sym (and_false fails)
-      where
-        and_false : (b : Bool) → (b && false) ≡ false
-        and_false true = refl
-        and_false false = refl
+    by_tests true now then' fails true same one = ap (λ (b : Bool). now && not b) (same refl) ∙ and-false now ∙ sym (and-false fails)
+
     by_tests true now then' fails false same one = ap (λ (b : Bool). now && not b) (same refl) ∙ ap (λ (b : Bool). b && true) (one (same refl))
 
 -- behind an entry that gives its test no verdict no Stop is due

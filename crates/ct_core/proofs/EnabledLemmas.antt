@@ -2,7 +2,7 @@
 use Rattle.std.proofs.Common.{◌≡◌, ◌∙◌, sym, ap, Bool, true, false, ℕ, List, [], ◌∷◌, get_or, refl, inl, inr}
 use Rattle.std.specs.Prelude.{Contains, Option, Some, None, not, ◌||◌, ◌==◌, cond, find, map}
 use Rattle.std.specs.List.{list_any}
-use Rattle.std.proofs.lemmas.Bool.{cases_Bool, eq-eqb, not-true}
+use Rattle.std.proofs.lemmas.Bool.{cases_Bool, eq-eqb, not-true, true≢false}
 use Rattle.std.proofs.lemmas.List.{get_or-set_other}
 use Rattle.std.proofs.lemmas.List.Folds.{find_at, list_any_at}
 use Rattle.std.proofs.lemmas.List.Sorted.{list_any-IsPermutation}
@@ -16,9 +16,6 @@ use Rattle.ct_queue.proofs.CallerLemmas.{places_apart}
 use Rattle.ct_core.specs.Waiting.{is_one_of_numbers}
 use Rattle.ct_core.proofs.AllowedLemmas.{number_at}
 use Rattle.ct_core.proofs.NumberLemmas.{listed, numbers_of, unlisted}
-
-true_is_false : true ≡ false → ⊥
-true_is_false is = cc
 
 -- a test stands in an order exactly if its number is in the list
 stands_one : (order : List ℕ) (j : ℕ) → StandsIn order j → is_one_of_numbers j order ≡ true
@@ -58,7 +55,7 @@ module _ (plan : PlanParts) (sound : IsSound plan) where
       one = sym (in_queue j) ∙ stands_one plan.queue j stands
 
       by_test : (o : Option PlanTest) → test_at plan.tests j ≡ o → IsEnabled plan j
-      by_test None found = absurd (true_is_false (sym one ∙ unlisted (λ (t : PlanTest). not t.disabled) plan.tests j found))
+      by_test None found = absurd (true≢false (sym one ∙ unlisted (λ (t : PlanTest). not t.disabled) plan.tests j found))
       by_test (Some t) found =
           let number = number_at plan.tests j t found in
           let itself : test_at plan.tests t.number ≡ Some t = ap (λ (m : ℕ). test_at plan.tests m) number ∙ found in

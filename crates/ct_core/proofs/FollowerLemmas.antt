@@ -2,8 +2,8 @@
 use Rattle.std.proofs.Common.{◌≡◌, ◌∙◌, sym, ap, subst, Bool, true, false, ℕ, zero, suc, ◌+◌, ◌<◌, ◌≤◌, List, [], ◌∷◌, ◌++◌, length, get_or, set, take, map, arith, refl, inl, inr}
 use Rattle.std.specs.Prelude.{Some, None, filter, not, ◌&&◌, ◌||◌, ◌==◌, cond}
 use Rattle.std.specs.List.{list_any}
-use Rattle.std.proofs.lemmas.Bool.{cases_Bool, false_from_ne_true, eqb-true}
-use Rattle.ct_history.proofs.BoolLemmas.{eq_is, eq_less, eq_more}
+use Rattle.std.proofs.lemmas.Bool.{cases_Bool, false_from_ne_true, eqb-true, eq-eqb, false≢true}
+use Rattle.ct_history.proofs.BoolLemmas.{eq_less, eq_more}
 use Rattle.std.proofs.lemmas.List.{append-nil, append_assoc, get_or-map, map-append, take_more}
 use Rattle.std.proofs.lemmas.List.Elements.{filter-append}
 use Rattle.std.proofs.lemmas.List.Folds.{list_any_more}
@@ -11,9 +11,9 @@ use Rattle.std.proofs.lemmas.Option.{slice_get-get_or}
 use Rattle.ct_history.specs.declared.plan.PlanTest.{PlanTest}
 use Rattle.ct_history.specs.Plan.{AllAscend, IsAscendingFrom, test_at}
 use Rattle.ct_history.proofs.PlanLemmas.{find_passes}
+use Rattle.ct_history.proofs.PlaceLemmas.{numbers, number_at}
 use Rattle.ct_core.specs.Standing.{IsPlaceOf}
 use Rattle.ct_core.specs.Followers.{follows, followers_among, followers_of, is_one_of_numbers}
-use Rattle.ct_core.proofs.PlaceLemmas.{number_at, numbers}
 
 -- a list of this number if true, else the empty list
 abbrev pub one_if : Bool → ℕ → List ℕ
@@ -58,7 +58,7 @@ pub put-at : (f : ℕ → List ℕ) (j number least : ℕ) (tests : List PlanTes
 put-at f j number least [] place ascends lt is = absurd (omega (arith, lt))
 put-at f j number least (t ∷ tests) zero ascends lt is =
     let here : t.number ≡ j = is in
-    let same : (j == t.number) ≡ true = eq_is j t.number (sym here) in
+    let same : (j == t.number) ≡ true = eq-eqb j t.number (sym here) in
     ap (λ (b : Bool). (f t.number ++ one_if b number) ∷ map (λ (x : PlanTest). f x.number) tests) (sym same)
     ∙ ap (λ (rest : List (List ℕ)). put_behind f j number t.number ∷ rest) (later_unchanged f j number (t.number + 1) tests ascends.1 (omega (arith, here)))
 put-at f j number least (t ∷ tests) (suc place) ascends lt is =
@@ -73,9 +73,6 @@ put-at f j number least (t ∷ tests) (suc place) ascends lt is =
     later_bound from (x ∷ ts) zero up in' = up.0
     later_bound from (x ∷ ts) (suc k) up in' = omega (arith, up.0, later_bound (x.number + 1) ts k up.1 (omega (arith, in')))
 
-apart : false ≡ true → ⊥
-apart is = cc
-
 -- if no test has the number, all lists stay
 pub put-nowhere : (f : ℕ → List ℕ) (j number : ℕ) (tests : List PlanTest) → test_at tests j ≡ None → map (λ (t : PlanTest). f t.number) tests ≡ map (λ (t : PlanTest). put_behind f j number t.number) tests
 put-nowhere f j number [] none = refl
@@ -83,7 +80,7 @@ put-nowhere f j number (t ∷ tests) none = elim (cases_Bool (t.number == j)) [
   | inl here ↦ let found : Some t ≡ None = sym (ap (λ (b : Bool). cond b (Some t) (test_at tests j)) here) ∙ none in cc
   | inr other ↦
       let rest : test_at tests j ≡ None = sym (ap (λ (b : Bool). cond b (Some t) (test_at tests j)) other) ∙ none in
-      let unlike : (j == t.number) ≡ false = false_from_ne_true (j == t.number) (λ is. apart (sym other ∙ eq_is t.number j (sym (eqb-true j t.number is)))) in
+      let unlike : (j == t.number) ≡ false = false_from_ne_true (j == t.number) (λ is. false≢true (sym other ∙ eq-eqb t.number j (sym (eqb-true j t.number is)))) in
       ap (λ (ns : List ℕ). ns ∷ map (λ (x : PlanTest). f x.number) tests) (sym (append-nil (f t.number)) ∙ ap (λ (b : Bool). f t.number ++ one_if b number) (sym unlike))
       ∙ ap (λ (rest : List (List ℕ)). put_behind f j number t.number ∷ rest) (put-nowhere f j number tests rest)
 ]

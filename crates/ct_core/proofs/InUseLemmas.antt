@@ -9,6 +9,7 @@ use Rattle.std.proofs.lemmas.List.Elements.{All-head, All-tail}
 use Rattle.std.proofs.lemmas.List.Folds.{list_any-append}
 use Rattle.std.proofs.lemmas.List.Sums.{sum_by-cons, sum_by_push}
 use Rattle.std.proofs.lemmas.Slice.Eq.{bytes_eq-Decides}
+use Rattle.std.proofs.Math.Bool.{or-false}
 use Rattle.ct_base.specs.declared.defs.Resource.{Resource}
 use Rattle.ct_alloc.specs.declared.placement.Placement.{Placement}
 use Rattle.ct_history.specs.declared.plan.PlanTest.{PlanTest}
@@ -18,7 +19,7 @@ use Rattle.ct_history.specs.Plan.{test_at}
 use Rattle.ct_history.specs.History.{Running, open_starts, placed_slots, processors_of, used_processors, used_slots}
 use Rattle.ct_history.specs.Rules.{exclude, has_room, is_placed, is_serial, locks_of, locks_out, may_start, shared_of}
 use Rattle.ct_history.specs.Legal.{GetAlong}
-use Rattle.ct_history.proofs.ExcludeLemmas.{exclude-sym}
+use Rattle.ct_history.proofs.ExcludeLemmas.{exclude-sym, shares_none}
 use Rattle.ct_history.proofs.MayLemmas.{may_start-parts}
 use Rattle.ct_history.proofs.PlanLemmas.{find_passes}
 use Rattle.ct_core.specs.Locks.{is_held, knows}
@@ -28,6 +29,7 @@ use Rattle.ct_core.specs.declared.in_use.InUse.{InUse}
 use Rattle.ct_core.specs.InUse.{CanGive, CanTake, CountsSharers, GivesBack, IsInUse, KnowsLocks, Takes, has_room_beside, is_excluded_beside, is_locked}
 use Rattle.ct_core.proofs.FreeLemmas.{placed_beside, taken_for, used_if_some}
 use Rattle.ct_base.specs.Names.{is_among, shares_name}
+use Rattle.ct_base.proofs.NameLemmas.{bytes_eq_comm}
 
 -- if each lock is known as before, the locks of all tests stay known
 still_known : (tests : List PlanTest) (old new : InUse) → ((name : List ℕ) → knows new.locks name ≡ knows old.locks name) → KnowsLocks tests old → KnowsLocks tests new
@@ -42,11 +44,7 @@ still_counted tests old new same counted = λ k d lt.
     ap (λ (p : List ℕ → Bool). list_all p (get_or tests k d).shared) all ∙ counted k d lt
 
 any_one : (p : Running → Bool) (rs : List Running) (r : Running) → list_any p (rs ++ r ∷ []) ≡ (list_any p rs || p r)
-any_one p rs r = list_any-append p rs (r ∷ []) ∙ ap (λ (b : Bool). list_any p rs || b) (or_false (p r))
-  where
-    or_false : (b : Bool) → (b || false) ≡ b
-    or_false true = refl
-    or_false false = refl
+any_one p rs r = list_any-append p rs (r ∷ []) ∙ ap (λ (b : Bool). list_any p rs || b) (or-false (p r))
 
 -- once a test takes what it needs, what is in use agrees with the starts and the new one
 pub taken : (plan : PlanParts) (rs : List Running) (r : Running) (t : PlanTest) (old new : InUse) → IsInUse plan rs old → test_at plan.tests r.test ≡ Some t → Takes t r.placement old new → IsInUse plan (rs ++ r ∷ []) new
@@ -341,26 +339,12 @@ any_counted p (r ∷ rs) =
     by_first true n rest is = lt-ltb 0 (one_if true + n) (omega arith)
     by_first false n rest is = let none : one_if false + n ≡ n = omega arith in ap (nat_lt 0) none ∙ is
 
-bytes_eq-sym : (xs ys : List ℕ) → bytes_eq xs ys ≡ bytes_eq ys xs
-bytes_eq-sym xs ys = elim (cases_Bool (bytes_eq xs ys)) [
-  | inl same ↦ same ∙ sym ((bytes_eq-Decides ys xs).1 (sym ((bytes_eq-Decides xs ys).0 same)))
-  | inr other ↦
-      other ∙ sym (false_from_ne_true (bytes_eq ys xs) (λ same. false_is_true (sym other ∙ (bytes_eq-Decides xs ys).1 (sym ((bytes_eq-Decides ys xs).0 same)))))
-]
-  where
-    false_is_true : false ≡ true → ⊥
-    false_is_true is = cc
-
-shares_none : (names : List (List ℕ)) → shares_name names [] ≡ false
-shares_none [] = refl
-shares_none (name ∷ names) = shares_none names
-
 -- two lists share a name, whichever is looked at first
 shares_name-sym : (xs ys : List (List ℕ)) → shares_name xs ys ≡ shares_name ys xs
 shares_name-sym [] ys = sym (shares_none ys)
 shares_name-sym (x ∷ xs) ys =
     ap (λ (b : Bool). is_among x ys || b) (shares_name-sym xs ys)
-    ∙ ap (λ (b : Bool). b || shares_name ys xs) (any_same (λ y. bytes_eq x y) (λ y. bytes_eq y x) (λ y. bytes_eq-sym x y) ys)
+    ∙ ap (λ (b : Bool). b || shares_name ys xs) (any_same (λ y. bytes_eq x y) (λ y. bytes_eq y x) (λ y. bytes_eq_comm x y) ys)
     ∙ sym (any_either (λ y. bytes_eq y x) (λ y. is_among y xs) ys)
 
 -- two tests exclude each other: a lock that the one holds is held or shared by the other, or a lock that the one

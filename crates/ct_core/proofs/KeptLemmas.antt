@@ -1,8 +1,8 @@
 -- Which entry is allowed next, and that a legal history stays legal with it.
 use Rattle.std.proofs.Common.{◌≡◌, ◌∙◌, sym, ap, subst, Bool, true, false, ℕ, ◌+◌, ◌≤◌, List, [], ◌∷◌, ◌++◌, length, refl, arith, length-append, inl, inr}
-use Rattle.std.specs.Prelude.{Option, Some, None, map, not, ◌&&◌, ◌||◌, ◌==◌, if◌then◌else◌}
-use Rattle.std.proofs.lemmas.Bool.{and_from, cases_Bool, false_from_ne_true}
-use Rattle.std.proofs.lemmas.Bool.Decides.{nat_tests}
+use Rattle.std.specs.Prelude.{Option, Some, None, map, not, ◌&&◌, ◌||◌, if◌then◌else◌}
+use Rattle.std.proofs.Math.Bool.{or-false}
+use Rattle.std.proofs.lemmas.Bool.{and_from, cases_Bool, false_from_ne_true, true≢false, eq-eqb}
 use Rattle.std.proofs.lemmas.List.{append-nil}
 use Rattle.ct_alloc.specs.declared.placement.Placement.{Placement}
 use Rattle.ct_verdict.specs.declared.attempt.Seen.{Seen}
@@ -21,16 +21,9 @@ use Rattle.ct_core.specs.Choice.{attempt_after}
 use Rattle.ct_core.specs.Core.{with_due_stop}
 use Rattle.ct_core.specs.Places.{stop_places}
 
-true_is_false : true ≡ false → ⊥
-true_is_false is = cc
-
-or_falses : (b : Bool) → (b || (false || false)) ≡ b
-or_falses true = refl
-or_falses false = refl
-
 -- an entry that is no Stop leaves whether there is a Stop
 pub stop_stays : (es : List Entry) (e : Entry) → is_stop e ≡ false → has_stop (es ++ e ∷ []) ≡ has_stop es
-stop_stays es e plain = stop-snoc es e ∙ ap (λ (b : Bool). has_stop es || (b || false)) plain ∙ or_falses (has_stop es)
+stop_stays es e plain = stop-snoc es e ∙ ap (λ (b : Bool). has_stop es || (b || false)) plain ∙ or-false (has_stop es)
 
 -- a Stop takes at most one place
 pub one_place_most : (es : List Entry) → stop_places es ≤ 1
@@ -47,10 +40,7 @@ or_stop false = refl
 -- a Start of the test that was looked up is allowed if the test may start and the attempt is its next
 starts_found : (plan : PlanParts) (es : List Entry) (o : Option PlanTest) (p : Option Placement) (a : ℕ) → may_start_at plan es p o ≡ true → a ≡ attempt_after es o → starts plan es a p o ≡ true
 starts_found plan es None p a may next = may
-starts_found plan es (Some t) p a may next = and_from (may_start plan t p es) (is_next_attempt t a es) may (eq_test a (length (attempts_of t.number t.rules es) + 1) next)
-  where
-    eq_test : (m n : ℕ) → m ≡ n → (m == n) ≡ true
-    eq_test m n is = grind (arith, nat_tests)
+starts_found plan es (Some t) p a may next = and_from (may_start plan t p es) (is_next_attempt t a es) may (eq-eqb a (length (attempts_of t.number t.rules es) + 1) next)
 
 settles_found : (plan : PlanParts) (es : List Entry) (o : Option PlanTest) (c : Cause) → settle_cause_at plan es o ≡ Some c → settles plan es c o ≡ true
 settles_found plan es None c is = cc
@@ -81,7 +71,7 @@ module _ (plan : PlanParts) (ascends : IsAscendingFrom 1 (map (λ (t : PlanTest)
   pub due_first : (e : Entry) → is_stop_due plan (es ++ e ∷ []) ≡ true → has_stop es ≡ false
   due_first e due =
       false_from_ne_true (has_stop es)
-      (λ stop. true_is_false (sym due ∙ failing_not_due plan es e (stop_failed plan ascends es (legal_allowed plan es legal) stop)))
+      (λ stop. true≢false (sym due ∙ failing_not_due plan es e (stop_failed plan ascends es (legal_allowed plan es legal) stop)))
 
   with_stop : (e : Entry) → is_stop e ≡ false → is_allowed plan es e ≡ true → is_stop_due plan (es ++ e ∷ []) ≡ true → IsFinalStep plan es e ((es ++ e ∷ []) ++ Is.Stop ∷ [])
   with_stop e plain allowed due =

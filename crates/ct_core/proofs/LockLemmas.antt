@@ -4,6 +4,7 @@ use Rattle.std.specs.Prelude.{Option, Some, All, not, ◌&&◌, ◌||◌, bytes_
 use Rattle.std.specs.List.{list_any, list_all}
 use Rattle.std.specs.Map.{AreApart, IsKeyTest, KeepsOthers, lookup}
 use Rattle.std.specs.declared.vec.Vec.{Vec}
+use Rattle.std.proofs.Math.Bool.{or-false}
 use Rattle.std.proofs.lemmas.List.Folds.{list_any_at}
 use Rattle.std.proofs.lemmas.List.Sums.{list_all-from_AllPass}
 use Rattle.std.proofs.lemmas.Slice.Eq.{bytes_eq-Decides}
@@ -37,14 +38,10 @@ or_true : (b : Bool) → true ≡ (b || true)
 or_true true = refl
 or_true false = refl
 
-or_false : (b : Bool) → b ≡ (b || false)
-or_false true = refl
-or_false false = refl
-
 -- one more lock is known, or the same locks are
 pub known_more : {V : Type 0} (now before : Option V) (held : V) (is : Bool) → now ≡ cond is (Some held) before → is_some now ≡ (is_some before || is)
 known_more now before held true same = ap is_some same ∙ or_true (is_some before)
-known_more now before held false same = ap is_some same ∙ or_false (is_some before)
+known_more now before held false same = ap is_some same ∙ sym (or-false (is_some before))
 
 pub known_still : {V : Type 0} (now before : Option V) (held : V) (is : Bool) → now ≡ cond is (Some held) before → (is ≡ true → is_some before ≡ true) → is_some now ≡ is_some before
 known_still now before held true same there = ap is_some same ∙ sym (there refl)

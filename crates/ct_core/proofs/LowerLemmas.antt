@@ -2,7 +2,8 @@
 use Rattle.std.proofs.Common.{◌≡◌, ◌∙◌, sym, ap, subst, Bool, true, false, not, cond, ◌&&◌, ◌||◌, ◌==◌, if◌then◌else◌, ℕ, zero, suc, ◌+◌, ◌-◌, ◌<◌, ◌≤◌, List, [], ◌∷◌, length, filter, drop, set, All, Contains, slice_get, is_some, is_none, refl, arith, inl, inr}
 use Rattle.std.specs.Prelude.{Option, Some, None}
 use Rattle.std.specs.List.{list_all}
-use Rattle.std.proofs.lemmas.Bool.{and_parts, and_right, cases_Bool, cases_eq, lt-ltb, ne_eqb}
+use Rattle.std.proofs.Math.Bool.{and-true, not-not}
+use Rattle.std.proofs.lemmas.Bool.{and_parts, and_right, cases_Bool, cases_eq, lt-ltb, ne_eqb, eq-eqb}
 use Rattle.std.proofs.lemmas.List.{get_or-set_other, get_or-set_same, length-set}
 use Rattle.std.proofs.lemmas.List.Elements.{All-contains_itself, All-drop, All-head, All-weaker}
 use Rattle.ct_verdict.specs.declared.verdict.Cause.{Cause}
@@ -15,7 +16,7 @@ use Rattle.ct_history.specs.Plan.{IsAscendingFrom, IsSound, test_at}
 use Rattle.ct_history.specs.History.{has_stop}
 use Rattle.ct_history.specs.Verdicts.{verdict_of_test}
 use Rattle.ct_history.specs.Rules.{follows_finals, is_pending, settle_cause}
-use Rattle.ct_history.proofs.BoolLemmas.{eq_is, eq_same}
+use Rattle.ct_history.proofs.BoolLemmas.{eq_same}
 use Rattle.ct_queue.specs.Ready.{ReadyValue, StandsIn, place_of, predecessors_left, is_out, is_in_ready_set, lowered}
 use Rattle.ct_queue.specs.Marks.{is_marked}
 use Rattle.ct_queue.proofs.CallerLemmas.{count_lowered, places_apart}
@@ -36,14 +37,6 @@ none_left verdict (j ∷ js) = by_verdict (verdict j) (none_left verdict js)
 
 pub follows_by_count : (plan : PlanParts) (t : PlanTest) (es : List Entry) → follows_finals plan t es ≡ (open_before plan es t == 0)
 follows_by_count plan t es = none_left (verdict_of_test plan es) t.before
-
-pub and_true : (b : Bool) → (b && true) ≡ b
-and_true true = refl
-and_true false = refl
-
-not_not : (b : Bool) → not (not b) ≡ b
-not_not true = refl
-not_not false = refl
 
 -- without a Stop, a test may be settled if it is pending and
 -- its predecessors are final, with the cause of `cause_then`
@@ -72,7 +65,7 @@ ready_says plan es left r n t q stands once found =
     ∙ ap (λ (c : ℕ). c == 0 && not (is_out r n)) exact
     ∙ ap (λ (b : Bool). open_before plan es t == 0 && not b) out
     ∙ ap (λ (b : Bool). b && not (not (is_pending plan t es))) (sym (follows_by_count plan t es))
-    ∙ ap (λ (b : Bool). follows_finals plan t es && b) (not_not (is_pending plan t es))
+    ∙ ap (λ (b : Bool). follows_finals plan t es && b) (not-not (is_pending plan t es))
 
 -- the count of the first test of `left` is lowered, and the rest of `left` remains
 module _ (plan : PlanParts) (es : List Entry) (n : ℕ) (left : List ℕ) (r : ReadyValue) (q : IsQueued plan es (n ∷ left) r) (stands : StandsIn plan.queue n) where
@@ -136,7 +129,7 @@ module _ (plan : PlanParts) (sound : IsSound plan) (es : List Entry) (n : ℕ) (
   unmarked =
       marks.marked place
       ∙ ap (λ (o : Option PlanTest). settles_but plan es (n ∷ left) o) there
-      ∙ ap (λ (b : Bool). is_some (settle_cause plan t es) && not (b || is_one_of_numbers t.number left)) (eq_is n t.number (sym number))
+      ∙ ap (λ (b : Bool). is_some (settle_cause plan t es) && not (b || is_one_of_numbers t.number left)) (eq-eqb n t.number (sym number))
       ∙ and_right (is_some (settle_cause plan t es)) false refl
 
   -- behind the step the test is to be marked exactly if it may be settled
@@ -145,7 +138,7 @@ module _ (plan : PlanParts) (sound : IsSound plan) (es : List Entry) (n : ℕ) (
       ap (λ (o : Option PlanTest). settles_but plan es left o) there
       ∙ ap (λ (k : ℕ). is_some (settle_cause plan t es) && not (is_one_of_numbers k left)) number
       ∙ ap (λ (b : Bool). is_some (settle_cause plan t es) && not b) low.once
-      ∙ and_true (is_some (settle_cause plan t es))
+      ∙ and-true (is_some (settle_cause plan t es))
 
   settles_there : (p : ℕ) → (p ≡ place → ⊥) → settles_but plan es (n ∷ left) (slice_get plan.tests p) ≡ settles_but plan es left (slice_get plan.tests p)
   settles_there p apart = by_test (slice_get plan.tests p) refl

@@ -3,11 +3,11 @@
 use Rattle.std.proofs.Common.{◌≡◌, ◌≢◌, ◌⊎◌, ◌∙◌, sym, ap, subst, Bool, true, false, ℕ, zero, suc, ◌+◌, ◌<◌, List, [], ◌∷◌, ◌++◌, length, get_or, refl, arith, append_assoc, inl, inr}
 use Rattle.std.specs.Prelude.{Option, Some, None, not, ◌&&◌, ◌||◌, ◌==◌, cond, find, filter, All, AllPairs, Contains, if◌then◌else◌}
 use Rattle.std.specs.List.{list_any}
-use Rattle.std.proofs.lemmas.Bool.{and_parts, cases_Bool}
+use Rattle.std.proofs.lemmas.Bool.{and_parts, cases_Bool, true≢false, eq-eqb}
 use Rattle.std.proofs.lemmas.Bool.Decides.{nat_tests}
-use Rattle.std.proofs.lemmas.List.{append-nil}
 use Rattle.std.proofs.lemmas.List.Elements.{All-contains, All-filter, All-nil, All-push, filter_passes}
 use Rattle.std.proofs.lemmas.List.Folds.{list_any_at}
+use Rattle.std.proofs.Math.Bool.{and-true}
 use Rattle.ct_alloc.specs.declared.placement.Placement.{Placement}
 use Rattle.ct_verdict.specs.declared.attempt.Seen.{Seen}
 use Rattle.ct_verdict.specs.declared.repeat.Repeat.{Repeat}
@@ -25,20 +25,19 @@ use Rattle.ct_history.specs.Rules.{is_placed}
 use Rattle.ct_history.specs.Legal.{is_allowed, is_allowed_so_far}
 use Rattle.ct_history.proofs.ApartLemmas.{starts_apart}
 use Rattle.ct_history.proofs.AttemptLemmas.{attempts_left}
-use Rattle.ct_history.proofs.BoolLemmas.{eq_is}
 use Rattle.ct_history.proofs.MayLemmas.{SettlesAs, StartsAs}
-use Rattle.ct_history.proofs.OpenLemmas.{is_of, open_starts-end, open_starts-snoc}
+use Rattle.ct_history.proofs.OpenLemmas.{is_of, open_starts-end, open_starts-snoc, opens_settle, opens_stop}
 use Rattle.ct_history.proofs.PlanLemmas.{find_passes}
 use Rattle.ct_history.proofs.ProgressLemmas.{found_contains}
+use Rattle.ct_history.proofs.FinalLemmas.{settled-snoc, attempts-snoc}
+use Rattle.ct_history.proofs.OtherLemmas.{is_about, settled_other, attempts_other}
+use Rattle.ct_history.proofs.LegalLemmas.{any_found}
 use Rattle.ct_core.specs.Standing.{open_start_of_test}
-pub use Rattle.ct_core.proofs.AllowedLemmas.{IsAboutOnly, IsUndecided, about_end, about_settle, about_start, allowed_induction, attempts-snoc, attempts_other, end_holds, is_about, number_at, settle_settles, settled-snoc, settled_other, start_begins, undecided}
-
-true_is_false : true ≡ false → ⊥
-true_is_false is = cc
+pub use Rattle.ct_core.proofs.AllowedLemmas.{IsAboutOnly, IsUndecided, about_end, about_settle, about_start, allowed_induction, end_holds, number_at, settle_settles, start_begins, undecided}
 
 -- if no open start is of the test, then the open start at each position is of another test
 closed_unlike : (n : ℕ) (rs : List Running) → list_any (λ (r : Running). r.test == n) rs ≡ false → (k : ℕ) (d : Running) → k < length rs → (get_or rs k d).test ≢ n
-closed_unlike n rs closed k d lt same = true_is_false (sym (list_any_at (λ (r : Running). r.test == n) rs k d lt (eq_is (get_or rs k d).test n same)) ∙ closed)
+closed_unlike n rs closed k d lt same = true≢false (sym (list_any_at (λ (r : Running). r.test == n) rs k d lt (eq-eqb (get_or rs k d).test n same)) ∙ closed)
 
 module _ (plan : PlanParts) (es : List Entry) where
   pub start_unlike : (n a : ℕ) (p : Option Placement) → StartsAs plan es a p (test_at plan.tests n) → (k : ℕ) (d : Running) → k < length (open_starts es) → (get_or (open_starts es) k d).test ≢ n
@@ -50,13 +49,6 @@ module _ (plan : PlanParts) (es : List Entry) where
   settle_unlike n c settled =
       let closed = (undecided plan settled.test es settled.pending).closed in
       closed_unlike n (open_starts es) (subst (λ (m : ℕ). is_open_in m es ≡ false) (number_at plan.tests n settled.test settled.found) closed)
-
--- a Settle or a Stop leaves the open starts
-pub opens_settle : (es : List Entry) (n : ℕ) (c : Cause) → open_starts (es ++ Settle n c ∷ []) ≡ open_starts es
-opens_settle es n c = open_starts-snoc es (Settle n c) refl ∙ append-nil (open_starts es)
-
-pub opens_stop : (es : List Entry) → open_starts (es ++ Stop ∷ []) ≡ open_starts es
-opens_stop es = open_starts-snoc es Stop refl ∙ append-nil (open_starts es)
 
 -- a Start adds itself to the open starts
 pub start_opens : (es : List Entry) (n a w : ℕ) (p : Option Placement) → open_starts (es ++ Start n a w p ∷ []) ≡ open_starts es ++ (record { test = n; attempt = a; worker = w; placement = p }) ∷ []
@@ -128,15 +120,6 @@ pub record Held (n a w : ℕ) (rs : List Running) : Type 0 where
   pub attempt : start.attempt ≡ a
   pub worker : start.worker ≡ w
 
-any_found : {A : Type 0} (p : A → Bool) (xs : List A) → list_any p xs ≡ true → (x : A) × (find p xs ≡ Some x)
-any_found p [] any = cc
-any_found p (x ∷ xs) any = elim (cases_Bool (p x)) [
-  | inl here ↦ (x, ap (λ (b : Bool). cond b (Some x) (find p xs)) here)
-  | inr not_here ↦
-      let later = any_found p xs (sym (ap (λ (b : Bool). b || list_any p xs) not_here) ∙ any) in
-      (later.0, ap (λ (b : Bool). cond b (Some x) (find p xs)) not_here ∙ later.1)
-]
-
 -- an element that is found is in the list
 pub found_in : {A : Type 0} (p : A → Bool) (xs : List A) (x : A) → find p xs ≡ Some x → Contains xs x
 found_in p xs x is = let at = found_contains p xs x is in (at.0, at.1, at.2)
@@ -166,7 +149,7 @@ end-kept plan es n a w s q r ended test attempt start unlike = elim (cases_Bool 
       let here : r.test ≡ q.test = grind (arith, nat_tests, test) in
       let attempts : r.attempt ≡ a = same_attempt plan es r q start ended here ∙ attempt in
       let of : is_of n a r ≡ true = grind (arith, nat_tests) in
-      absurd (true_is_false (sym unlike ∙ ap not of))
+      absurd (true≢false (sym unlike ∙ ap not of))
   | inr other ↦ start-kept plan es (End n a w s) r start other
 ]
 
@@ -279,7 +262,7 @@ found_apart : (rs : List Running) (q : Running) → AllPairs (λ (x y : Running)
 found_apart [] q apart is = absurd (omega (arith, is.1))
 found_apart (r ∷ rs) q apart (zero, lt, same) =
     let here : r ≡ q = same in
-    let itself : (r.test == q.test) ≡ true = eq_is r.test q.test (ap (λ (x : Running). x.test) here) in
+    let itself : (r.test == q.test) ≡ true = eq-eqb r.test q.test (ap (λ (x : Running). x.test) here) in
     ap (λ (b : Bool). cond b (Some r) (find (λ (x : Running). x.test == q.test) rs)) itself ∙ ap Some here
 found_apart (r ∷ rs) q apart (suc k, lt, same) =
     let within : k < length rs = omega (arith, lt) in
@@ -336,10 +319,6 @@ held_open plan es n a w so_far holds =
       | inl same ↦
           let here : r.test ≡ q.test = grind (arith, nat_tests, test) in
           let attempts : r.attempt ≡ a = same_attempt plan es r q start ended here ∙ attempt in
-          ap (λ (b : Bool). r.test == n && b) (eq_is r.attempt a attempts) ∙ and_true (r.test == n)
+          ap (λ (b : Bool). r.test == n && b) (eq-eqb r.attempt a attempts) ∙ and-true (r.test == n)
       | inr other ↦ ap (λ (b : Bool). b && r.attempt == a) other ∙ sym other
     ]
-      where
-        and_true : (b : Bool) → (b && true) ≡ b
-        and_true true = refl
-        and_true false = refl

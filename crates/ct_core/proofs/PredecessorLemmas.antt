@@ -2,17 +2,14 @@
 use Rattle.std.proofs.Common.{◌≡◌, ◌∙◌, sym, ap, Bool, true, false, ℕ, suc, ◌+◌, List, [], ◌∷◌, length, refl, arith, inl, inr}
 use Rattle.std.specs.Prelude.{Option, Some, None, is_some, is_none, not, ◌&&◌, ◌||◌, ◌==◌, cond, filter, find, if◌then◌else◌}
 use Rattle.std.specs.List.{list_any, list_all}
-use Rattle.std.proofs.lemmas.Bool.{and_parts, cases_Bool, or_parts}
+use Rattle.std.proofs.Math.Bool.{and-false}
+use Rattle.std.proofs.lemmas.Bool.{and_parts, cases_Bool, or_parts, true≢false}
 use Rattle.std.proofs.lemmas.Bool.Decides.{nat_tests}
 use Rattle.ct_verdict.specs.declared.verdict.Verdict.{Verdict}
 use Rattle.ct_history.specs.Plan.{IsAscendingFrom}
 use Rattle.ct_history.specs.Verdicts.{is_passed_verdict}
-use Rattle.ct_history.proofs.BoolLemmas.{and_false}
 use Rattle.ct_core.specs.Waiting.{is_one_of_numbers}
 use Rattle.ct_core.proofs.QueueLemmas.{none_lesser}
-
-true_is_false : true ≡ false → ⊥
-true_is_false is = cc
 
 -- 1 if true, else 0
 abbrev pub one_if : Bool → ℕ
@@ -26,7 +23,7 @@ none_of_setups n js (s ∷ ss) among none =
     elim (cases_Bool (s == n)) [
       | inl here ↦
           let this : s ≡ n = grind (arith, nat_tests) in
-          absurd (true_is_false (sym both.0 ∙ ap (λ (m : ℕ). is_one_of_numbers m js) this ∙ none))
+          absurd (true≢false (sym both.0 ∙ ap (λ (m : ℕ). is_one_of_numbers m js) this ∙ none))
       | inr other ↦ ap (λ (b : Bool). b || is_one_of_numbers n ss) other ∙ none_of_setups n js ss both.1 none
     ]
 
@@ -67,7 +64,7 @@ module _ (f g : ℕ → Option Verdict) (keeps : (j : ℕ) (v : Verdict) → f j
         ap (λ (b : Bool). is_none (cond (not b) (Some j) (find (λ k. not (is_passed_verdict (g k))) js))) now
         ∙ passed_stay js (sym (ap (λ (b : Bool). is_none (cond (not b) (Some j) (find (λ k. not (is_passed_verdict (f k))) js))) passed) ∙ none)
     | inr failed ↦
-        absurd (true_is_false (sym none ∙ ap (λ (b : Bool). is_none (cond (not b) (Some j) (find (λ k. not (is_passed_verdict (f k))) js))) failed))
+        absurd (true≢false (sym none ∙ ap (λ (b : Bool). is_none (cond (not b) (Some j) (find (λ k. not (is_passed_verdict (f k))) js))) failed))
   ]
 
 -- verdicts before and behind, which differ for one number at most
@@ -102,7 +99,7 @@ module _ (f g : ℕ → Option Verdict) (n : ℕ) (same : (j : ℕ) → (j == n)
           let this : j ≡ n = grind (arith, nat_tests) in
           ap (λ (o : Option Verdict). is_some o && list_all (λ k. is_some (f k)) js) (ap f this ∙ before)
       | inr other ↦
-          ap (λ (b : Bool). is_some (f j) && b) (not_all js (sym (ap (λ (b : Bool). b || is_one_of_numbers n js) other) ∙ one)) ∙ and_false (is_some (f j))
+          ap (λ (b : Bool). is_some (f j) && b) (not_all js (sym (ap (λ (b : Bool). b || is_one_of_numbers n js) other) ∙ one)) ∙ and-false (is_some (f j))
     ]
 
     -- if the number is in the list, one less is not final behind

@@ -5,20 +5,19 @@ use Rattle.std.specs.List.{IsDistinct}
 use Rattle.std.proofs.lemmas.Bool.{true≢false, cases_Bool, cases_eq, cases_lt, cases_order, eq-eqb, ne_eqb, or_from}
 use Rattle.std.proofs.lemmas.Bool.Decides.{Decides-eqb}
 use Rattle.std.proofs.lemmas.List.{length-map}
-use Rattle.std.proofs.lemmas.List.Elements.{All-cons, All-nil, All-weaker, Contains-get_or}
-use Rattle.std.proofs.lemmas.List.Kept.{AllPairs-cons}
+use Rattle.std.proofs.lemmas.List.Elements.{Contains-get_or}
 use Rattle.std.proofs.lemmas.List.Sorted.{IsPermutation-sym, length_permutation}
 use Rattle.std.proofs.lemmas.List.Sums.{count_by-le-length, fails_before_first, length-filter}
 use Rattle.std.proofs.lemmas.Map.Keys.{IsDistinct-IsPermutation}
 use Rattle.std.proofs.lemmas.Map.Made.{AllPairs-from_IsDistinct, IsDistinct-from_AllPairs}
 use Rattle.std.proofs.lemmas.Option.{get_or_from_slice_get, none-some, same_Some, slice_get_read, slice_get_within}
-use Rattle.std.specs.List.{All, AllPairs}
 use Rattle.ct_history.specs.declared.plan.PlanTest.{PlanTest}
 use Rattle.ct_history.specs.declared.plan.PlanParts.{PlanParts}
 use Rattle.ct_history.specs.Plan.{IsAscendingFrom, IsSound, enabled, test_at}
 use Rattle.ct_history.proofs.BoolLemmas.{eq_more}
 use Rattle.ct_history.proofs.PlanLemmas.{contained_at}
 use Rattle.ct_history.proofs.ProgressLemmas.{found_contains}
+use Rattle.ct_history.proofs.AscendLemmas.{pairs_ascend}
 use Rattle.ct_queue.specs.Ready.{NamesOnce, StandsIn, place_of}
 use Rattle.ct_queue.proofs.CallerLemmas.{place_of_test}
 use Rattle.ct_core.specs.Waiting.{is_one_of_numbers}
@@ -53,20 +52,6 @@ pub none_lesser : (least n : ℕ) (ns : List ℕ) → IsAscendingFrom least ns �
 none_lesser least n [] ascends less = refl
 none_lesser least n (m ∷ ms) ascends less =
     or_from (m == n) (is_one_of_numbers n ms) (eq_more m n (omega (arith, ascends.0, less))) (none_lesser (m + 1) n ms ascends.1 (omega (arith, ascends.0, less)))
-
-all_behind : (least : ℕ) (ns : List ℕ) → IsAscendingFrom least ns → All (λ n. least ≤ n) ns
-all_behind least [] ascends = All-nil (λ n. least ≤ n)
-all_behind least (m ∷ ms) ascends =
-    All-cons (λ n. least ≤ n) m ms ascends.0
-    (All-weaker (λ n. m + 1 ≤ n) (λ n. least ≤ n) (λ n more. omega (arith, more, ascends.0)) ms (all_behind (m + 1) ms ascends.1))
-
--- of numbers that ascend, each is below each later one
-pairs_ascend : (least : ℕ) (ns : List ℕ) → IsAscendingFrom least ns → AllPairs (λ one other. one < other) ns
-pairs_ascend least [] ascends = λ i j d before within. absurd (omega (arith, before, within))
-pairs_ascend least (m ∷ ms) ascends =
-    AllPairs-cons (λ one other. one < other) m ms
-    (All-weaker (λ n. m + 1 ≤ n) (λ n. m < n) (λ n more. omega (arith, more)) ms (all_behind (m + 1) ms ascends.1))
-    (pairs_ascend (m + 1) ms ascends.1)
 
 there_bound : (least : ℕ) (ts : List PlanTest) (place : ℕ) (t : PlanTest) → IsAscendingFrom least (numbers_of ts) → slice_get ts place ≡ Some t → least ≤ t.number
 there_bound least [] place t ascends there = absurd (none-some t there)

@@ -13,6 +13,7 @@ use Rattle.ct_history.specs.History.{Running, attempts_of, has_stop, open_starts
 use Rattle.ct_history.specs.Rules.{is_pending, settle_cause, settle_cause_at, settle_cause_of_test}
 use Rattle.ct_history.proofs.LegalLemmas.{allowed-snoc, legal_allowed}
 use Rattle.ct_history.proofs.MayLemmas.{settled_pending}
+use Rattle.ct_history.proofs.OpenLemmas.{opens_settle}
 use Rattle.ct_queue.specs.Ready.{ReadyValue, StandsIn, is_in_ready_set}
 use Rattle.ct_core.specs.declared.state.State.{State}
 use Rattle.ct_core.specs.declared.state.State.TheVariants.{Final, Pending}
@@ -26,7 +27,6 @@ use Rattle.ct_core.specs.Parts.{IsConcluding, IsKept, IsSettled}
 use Rattle.ct_core.proofs.KeyLemmas.{bunches_stay}
 use Rattle.ct_core.proofs.DueLemmas.{settle_due}
 use Rattle.ct_core.proofs.KeptLemmas.{one_place_most, settle_allowed, stop_stays}
-use Rattle.ct_core.proofs.OpenStartLemmas.{opens_settle}
 use Rattle.ct_core.proofs.StateLemmas.{verdict_settled}
 use Rattle.ct_core.proofs.StandingLemmas.{pending_settles, states_settled, unfinished_less}
 use Rattle.ct_core.proofs.WaitingLemmas.{settle_member, settle_queued, settle_settleable, settle_stands, settle_stopped}

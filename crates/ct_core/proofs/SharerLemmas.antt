@@ -1,15 +1,12 @@
 -- How many tests share a lock, once one name more of a test's list was looked at.
 use Rattle.std.proofs.Common.{◌≡◌, ◌∙◌, sym, ap, Bool, true, false, ℕ, ◌+◌, ◌-◌, ◌<◌, List, get_or, length, take, cond, refl, arith, inl, inr}
 use Rattle.std.specs.Prelude.{◌||◌, bytes_eq}
+use Rattle.std.proofs.Math.Bool.{or-false}
 use Rattle.std.proofs.lemmas.Bool.{cases_Bool, or_right}
 use Rattle.std.proofs.lemmas.List.Folds.{list_any_at, list_any_more}
 use Rattle.std.proofs.lemmas.Slice.Eq.{bytes_eq-Decides}
 use Rattle.ct_core.specs.Sharers.{one_if}
 use Rattle.ct_base.specs.Names.{is_among}
-
-or_false : (b : Bool) → (b || false) ≡ b
-or_false true = refl
-or_false false = refl
 
 -- one name more was looked at
 pub seen_more : (names : List (List ℕ)) (at : ℕ) (name : List ℕ) → at < length names → get_or names at name ≡ name → (asked : List ℕ) → is_among asked (take (at + 1) names) ≡ (is_among asked (take at names) || bytes_eq asked name)
@@ -29,7 +26,7 @@ module _ (seen : List ℕ → Bool) (name asked : List ℕ) where
     | inl same ↦
         let here : seen asked ≡ true = ap seen ((bytes_eq-Decides asked name).0 same) ∙ again in
         ap (λ (b : Bool). one_if (b || bytes_eq asked name)) here ∙ sym (ap one_if here)
-    | inr other ↦ ap (λ (b : Bool). one_if (seen asked || b)) other ∙ ap one_if (or_false (seen asked))
+    | inr other ↦ ap (λ (b : Bool). one_if (seen asked || b)) other ∙ ap one_if (or-false (seen asked))
   ]
 
 module _ (seen : List ℕ → Bool) (cur old : List ℕ → ℕ) (name : List ℕ) (fresh : seen name ≡ false) where
@@ -44,7 +41,7 @@ module _ (seen : List ℕ → Bool) (cur old : List ℕ → ℕ) (name : List �
         omega (arith, now, is, kept name, one, none, ap old this)
     | inr other ↦
         let now : new ≡ cur asked = set ∙ ap (λ (b : Bool). cond b count (cur asked)) other in
-        let alike : one_if (seen asked || bytes_eq asked name) ≡ one_if (seen asked) = ap (λ (b : Bool). one_if (seen asked || b)) other ∙ ap one_if (or_false (seen asked)) in
+        let alike : one_if (seen asked || bytes_eq asked name) ≡ one_if (seen asked) = ap (λ (b : Bool). one_if (seen asked || b)) other ∙ ap one_if (or-false (seen asked)) in
         omega (arith, now, kept asked, alike)
   ]
 
@@ -59,6 +56,6 @@ module _ (seen : List ℕ → Bool) (cur old : List ℕ → ℕ) (name : List �
         omega (arith, now, is, kept name, one, none, ap old this)
     | inr other ↦
         let now : new ≡ cur asked = set ∙ ap (λ (b : Bool). cond b count (cur asked)) other in
-        let alike : one_if (seen asked || bytes_eq asked name) ≡ one_if (seen asked) = ap (λ (b : Bool). one_if (seen asked || b)) other ∙ ap one_if (or_false (seen asked)) in
+        let alike : one_if (seen asked || bytes_eq asked name) ≡ one_if (seen asked) = ap (λ (b : Bool). one_if (seen asked || b)) other ∙ ap one_if (or-false (seen asked)) in
         omega (arith, now, kept asked, alike)
   ]

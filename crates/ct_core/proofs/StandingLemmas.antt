@@ -24,7 +24,7 @@ use Rattle.ct_core.specs.declared.state.State.{State}
 use Rattle.ct_core.specs.declared.state.State.TheVariants.{Pending, Open, Final}
 use Rattle.ct_core.specs.Standing.{IsPlaceOf, count_unfinished, open_start_of_test, state_of, states_of, verdict_of_state}
 use Rattle.ct_core.proofs.OpenStartLemmas.{IsAboutOnly, about_end, about_settle, about_start, number_at}
-pub use Rattle.ct_core.proofs.StateLemmas.{attempts_few, open_other, pending_other, pending_state, state_after, state_ended, state_first, state_open, state_other, state_pending, state_settled, state_started, verdict_ended, verdict_in_other, verdict_other, verdict_settled, verdict_standing, verdict_started, verdict_state}
+pub use Rattle.ct_core.proofs.StateLemmas.{attempts_few, open_other, pending_other, pending_state, state_after, state_ended, state_first, state_open, state_other, state_pending, state_settled, state_started, verdict_ended, verdict_other, verdict_settled, verdict_standing, verdict_started, verdict_state}
 
 -- the state at a test's place is the state of the test
 pub state_at : (plan : PlanParts) (es : List Entry) (n place : ℕ) (t : PlanTest) → IsPlaceOf plan.tests n place → test_at plan.tests n ≡ Some t → slice_get (states_of plan es) place ≡ Some (state_of plan.repeat es t)

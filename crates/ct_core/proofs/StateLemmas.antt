@@ -2,7 +2,7 @@
 use Rattle.std.proofs.Common.{◌≡◌, ◌∙◌, sym, ap, subst, Bool, true, false, ℕ, ◌+◌, ◌<◌, ◌^◌, List, [], ◌∷◌, ◌++◌, length, refl, arith, inl, inr, length-append}
 use Rattle.std.specs.Prelude.{Option, Some, None, is_some, not, ◌&&◌, ◌||◌, ◌==◌, cond, find, filter, filter_map, if◌then◌else◌}
 use Rattle.std.specs.List.{list_any, cons_option}
-use Rattle.std.proofs.lemmas.Bool.{cases_Bool}
+use Rattle.std.proofs.lemmas.Bool.{cases_Bool, true≢false, eq-eqb}
 use Rattle.std.proofs.lemmas.Bool.Decides.{nat_tests}
 use Rattle.std.proofs.lemmas.List.Elements.{filter_map-append}
 use Rattle.ct_alloc.specs.declared.placement.Placement.{Placement}
@@ -18,18 +18,17 @@ use Rattle.ct_history.specs.declared.history.Entry.{Entry}
 use Rattle.ct_history.specs.declared.history.Entry.TheVariants.{Start, End, Settle, Stop}
 use Rattle.ct_history.specs.Plan.{test_at}
 use Rattle.ct_history.specs.History.{Running, attempt_by, attempts_of, holds_start, open_starts, settled_by}
-use Rattle.ct_history.specs.Verdicts.{first_of_list, is_final_in, is_over, last_behind, last_of_list, settled_cause, settled_or, verdict_at, verdict_in, verdict_of_test}
+use Rattle.ct_history.specs.Verdicts.{first_of_list, is_final_in, is_over, last_of_list, settled_cause, settled_or, verdict_at, verdict_in, verdict_of_test}
 use Rattle.ct_history.specs.Rules.{is_pending}
 use Rattle.ct_history.specs.Legal.{is_allowed_so_far}
-use Rattle.ct_history.proofs.BoolLemmas.{eq_is}
-use Rattle.ct_history.proofs.OpenLemmas.{is_of, open_starts-end}
+use Rattle.ct_history.proofs.OpenLemmas.{is_of, open_starts-end, opens_settle, opens_stop}
+use Rattle.ct_history.proofs.AttemptLemmas.{last_behind-snoc}
+use Rattle.ct_history.proofs.OtherLemmas.{verdict_in_other, attempts_other, is_about, settled_other}
+use Rattle.ct_history.proofs.FinalLemmas.{attempts-snoc, settled-snoc}
 use Rattle.ct_core.specs.declared.state.State.{State}
 use Rattle.ct_core.specs.declared.state.State.TheVariants.{Pending, Open, Final}
 use Rattle.ct_core.specs.Standing.{is_pending_state, open_start_of_test, standing, state_of, verdict_of_state}
-use Rattle.ct_core.proofs.OpenStartLemmas.{HasLeft, attempts-snoc, attempts_other, held_open, is_about, number_at, open_planned, opens_settle, opens_stop, settled-snoc, settled_other, start_opens, undecided}
-
-true_is_false : true ≡ false → ⊥
-true_is_false is = cc
+use Rattle.ct_core.proofs.OpenStartLemmas.{HasLeft, held_open, number_at, open_planned, start_opens, undecided}
 
 -- some element of a list passes exactly if one is found
 any_is_found : {A : Type 0} (p : A → Bool) (xs : List A) → list_any p xs ≡ is_some (find p xs)
@@ -101,7 +100,7 @@ find_filter p q (x ∷ xs) keeps = elim (cases_Bool (q x)) [
   where
     fails_with : (a b : Bool) → b ≡ false → (a ≡ true → b ≡ true) → a ≡ false
     fails_with false b gone keeps = refl
-    fails_with true b gone keeps = absurd (true_is_false (sym (keeps refl) ∙ gone))
+    fails_with true b gone keeps = absurd (true≢false (sym (keeps refl) ∙ gone))
 
 find_gone : {A : Type 0} (p : A → Bool) (xs : List A) → find p (filter (λ x. not (p x)) xs) ≡ None
 find_gone p [] = refl
@@ -143,10 +142,6 @@ state_other repeat t es e other =
     state_by repeat (es ++ e ∷ []) t (open_start_of_test t.number es) (settled_cause t.number es) (attempts_of t.number t.rules es) (says_same t es e other)
     ∙ sym (state_by repeat es t (open_start_of_test t.number es) (settled_cause t.number es) (attempts_of t.number t.rules es) (says_itself t es))
 
-pub verdict_in_other : (repeat : Repeat) (t : PlanTest) (es : List Entry) (e : Entry) → is_about t.number e ≡ false → verdict_in repeat t (es ++ e ∷ []) ≡ verdict_in repeat t es
-verdict_in_other repeat t es e other =
-    verdict_by repeat (es ++ e ∷ []) t (open_start_of_test t.number es) (settled_cause t.number es) (attempts_of t.number t.rules es) (says_same t es e other) ∙ sym (verdict_is repeat es t)
-
 -- an entry that is not about a test leaves its verdict
 pub verdict_other : (plan : PlanParts) (es : List Entry) (e : Entry) (n : ℕ) → is_about n e ≡ false → verdict_of_test plan (es ++ e ∷ []) n ≡ verdict_of_test plan es n
 verdict_other plan es e n other = by_test (test_at plan.tests n) (λ t found. number_at plan.tests n t found)
@@ -186,10 +181,6 @@ state_first repeat t = by_disabled t.disabled
     by_disabled true = refl
     by_disabled false = refl
 
-last-snoc : {A : Type 0} (o : Option A) (xs : List A) (x : A) → last_behind o (xs ++ x ∷ []) ≡ Some x
-last-snoc o [] x = refl
-last-snoc o (y ∷ ys) x = last-snoc (Some y) ys x
-
 -- the state behind so many attempts, of which the last had
 -- this verdict: the test is tried again, or final
 abbrev pub state_after : Repeat → ℕ → Verdict → State
@@ -201,7 +192,7 @@ module _ (plan : PlanParts) (es : List Entry) (n : ℕ) (t : PlanTest) (found : 
   number = number_at plan.tests n t found
 
   is_number : (n == t.number) ≡ true
-  is_number = eq_is n t.number (sym number)
+  is_number = eq-eqb n t.number (sym number)
 
   pending_none : is_pending plan t es ≡ true → open_start_of_test t.number es ≡ None
   pending_none pending = none (open_start_of_test t.number es) (sym (any_is_found (λ (r : Running). r.test == t.number) (open_starts es)) ∙ (undecided plan t es pending).closed)
@@ -267,7 +258,7 @@ module _ (plan : PlanParts) (es : List Entry) (n : ℕ) (t : PlanTest) (found : 
       } in
       state_by plan.repeat (es ++ end ∷ []) t None None (vs ++ v ∷ []) says
       ∙ ap (λ (d : Bool). standing (if d then Some Disabled else (if is_over plan.repeat (vs ++ v ∷ []) then last_of_list (vs ++ v ∷ []) else None)) None (length (vs ++ v ∷ []))) enabled
-      ∙ ap (λ (o : Option Verdict). standing (if not (is_repeated plan.repeat (length (vs ++ v ∷ [])) o) then o else None) None (length (vs ++ v ∷ []))) (last-snoc None vs v)
+      ∙ ap (λ (o : Option Verdict). standing (if not (is_repeated plan.repeat (length (vs ++ v ∷ [])) o) then o else None) None (length (vs ++ v ∷ []))) (last_behind-snoc None vs v)
       ∙ ap (λ (k : ℕ). standing (if not (is_repeated plan.repeat k (Some v)) then Some v else None) None k) (length-append vs (v ∷ []))
       ∙ by_again (is_repeated plan.repeat (length vs + 1) (Some v)) (length vs + 1) v
     where

@@ -1,6 +1,6 @@
 -- The marks at a Stop, place after place.
 use Rattle.std.proofs.Common.{◌≡◌, ◌∙◌, ◌+◌, ◌<◌, ℕ, Bool, true, false, List, length, set, eqb, ltb, cond, sym, ap, arith, inl, inr}
-use Rattle.std.proofs.lemmas.Bool.{cases_Bool, eqb-true, eq-eqb}
+use Rattle.std.proofs.lemmas.Bool.{cases_Bool, eqb-true, eq-eqb, true≢false}
 use Rattle.std.proofs.lemmas.Bool.Decides.{nat_tests}
 use Rattle.std.proofs.lemmas.List.{get_or-set_same, get_or-set_other}
 use Rattle.ct_queue.specs.Marks.{is_marked}
@@ -24,10 +24,7 @@ marked-more before now more states n b lt is same marked place = elim (cases_Boo
   | inr other ↦
       let bound : ltb place (n + 1) ≡ ltb place n = grind (arith, nat_tests) in
       ap (λ (m : List Bool). is_marked m place) same
-      ∙ get_or-set_other now n place b false (λ at. absurd (true_is_false (sym (eq-eqb place n at) ∙ other)))
+      ∙ get_or-set_other now n place b false (λ at. absurd (true≢false (sym (eq-eqb place n at) ∙ other)))
       ∙ marked place
       ∙ sym (ap (λ (c : Bool). cond c (is_pending_at_place states place) (is_marked before place)) bound)
 ]
-  where
-    true_is_false : true ≡ false → ⊥
-    true_is_false is = cc

@@ -2,10 +2,11 @@
 use Rattle.std.proofs.Common.{◌≡◌, ◌∙◌, sym, ap, subst, Bool, true, false, ℕ, ◌+◌, ◌<◌, ◌≤◌, List, [], ◌∷◌, ◌++◌, length, refl, arith}
 use Rattle.std.specs.Prelude.{Option, Some, None, is_some, is_none, not, ◌&&◌, ◌||◌, ◌==◌, nat_lt, slice_get, slice_set}
 use Rattle.std.specs.List.{list_any}
-use Rattle.std.proofs.lemmas.Bool.{and_parts, and_from}
-use Rattle.std.proofs.lemmas.Bool.Decides.{nat_tests}
+use Rattle.std.proofs.lemmas.Bool.{and_parts, and_from, eq-eqb, lt-ltb}
 use Rattle.std.proofs.lemmas.List.Folds.{list_any-append}
 use Rattle.std.proofs.lemmas.Map.Views.{any-filter_same}
+use Rattle.std.proofs.Math.Bool.{and-false}
+use Rattle.ct_base.proofs.OptionLemmas.{not_some}
 use Rattle.ct_alloc.specs.declared.placement.Placement.{Placement}
 use Rattle.ct_verdict.specs.declared.attempt.Seen.{Seen}
 use Rattle.ct_verdict.specs.declared.verdict.Cause.{Cause}
@@ -19,7 +20,6 @@ use Rattle.ct_history.specs.History.{Running, attempts_of, has_stop, holds_start
 use Rattle.ct_history.specs.Verdicts.{verdict_at, verdict_in, verdict_of_test}
 use Rattle.ct_history.specs.Rules.{first_unpassed, follows_finals, is_pending, is_ready, may_start, settle_cause}
 use Rattle.ct_history.specs.Legal.{is_allowed_so_far}
-use Rattle.ct_history.proofs.BoolLemmas.{eq_is}
 use Rattle.ct_history.proofs.LegalLemmas.{stop-snoc}
 use Rattle.ct_history.proofs.MayLemmas.{may_start-parts, pending-parts, settled_pending}
 use Rattle.ct_queue.specs.Ready.{ReadyValue, StandsIn, predecessors_left, is_out, place_of, with_out}
@@ -44,10 +44,6 @@ changes_one plan es e n plain only = record {
   pendings = λ u other. pending_other plan u es e (only u.number other);
 }
 
-not_some : {A : Type 0} (o : Option A) → is_some o ≡ false → o ≡ None
-not_some None none = refl
-not_some (Some x) none = cc
-
 -- a pending test whose predecessors are final is a member of the ready set
 ready_member : (plan : PlanParts) → IsSound plan → (es : List Entry) (n : ℕ) (t : PlanTest) → test_at plan.tests n ≡ Some t → (r : ReadyValue) → IsQueued plan es [] r → is_pending plan t es ≡ true → follows_finals plan t es ≡ true → Queue.is_in_ready_set r n ≡ true
 ready_member plan sound es n t found r queued pending follows =
@@ -59,11 +55,8 @@ ready_member plan sound es n t found r queued pending follows =
     let out : is_out r n ≡ false = queued.outs n stands ∙ ap not (ap (λ (o : Option PlanTest). is_pending_at plan es o) found ∙ pending) in
     let within : place_of r.order n < length r.order = subst (λ (xs : List ℕ). place_of xs n < length xs) (sym queued.order) stands in
     and_from (nat_lt (place_of r.order n) (length r.order) && (predecessors_left r n == 0)) (not (is_out r n))
-    (and_from (nat_lt (place_of r.order n) (length r.order)) (predecessors_left r n == 0) (lt_true (place_of r.order n) (length r.order) within) (eq_is (predecessors_left r n) 0 count))
+    (and_from (nat_lt (place_of r.order n) (length r.order)) (predecessors_left r n == 0) (lt-ltb (place_of r.order n) (length r.order) within) (eq-eqb (predecessors_left r n) 0 count))
     (ap not out)
-  where
-    lt_true : (x y : ℕ) → x < y → nat_lt x y ≡ true
-    lt_true x y lt = grind (arith, nat_tests)
 
 module _ (plan : PlanParts) (sound : IsSound plan) (es : List Entry) (n : ℕ) (t : PlanTest) (found : test_at plan.tests n ≡ Some t) where
   own_verdict : (xs : List Entry) → verdict_of_test plan xs n ≡ verdict_in plan.repeat t xs
@@ -84,11 +77,7 @@ module _ (plan : PlanParts) (sound : IsSound plan) (es : List Entry) (n : ℕ) (
       by_verdict (Some v) opens none = refl
 
   open_busy : (xs : List Entry) → is_open_in t.number xs ≡ true → is_pending plan t xs ≡ false
-  open_busy xs opens = ap (λ (b : Bool). not (is_some (verdict_in plan.repeat t xs)) && not b) opens ∙ and_none (not (is_some (verdict_in plan.repeat t xs)))
-    where
-      and_none : (b : Bool) → (b && false) ≡ false
-      and_none true = refl
-      and_none false = refl
+  open_busy xs opens = ap (λ (b : Bool). not (is_some (verdict_in plan.repeat t xs)) && not b) opens ∙ and-false (not (is_some (verdict_in plan.repeat t xs)))
 
   -- a pending test has no verdict
   pending_none : is_pending plan t es ≡ true → verdict_of_test plan es n ≡ None
@@ -113,7 +102,7 @@ module _ (plan : PlanParts) (sound : IsSound plan) (es : List Entry) (n : ℕ) (
         let run : Running = record { test = n; attempt = a; worker = w; placement = p } in
         ap (λ (rs : List Running). list_any (λ (r : Running). r.test == t.number) rs) (start_opens es n a w p)
         ∙ list_any-append (λ (r : Running). r.test == t.number) (open_starts es) (run ∷ [])
-        ∙ ap (λ (b : Bool). list_any (λ (r : Running). r.test == t.number) (open_starts es) || (b || false)) (eq_is n t.number (sym number))
+        ∙ ap (λ (b : Bool). list_any (λ (r : Running). r.test == t.number) (open_starts es) || (b || false)) (eq-eqb n t.number (sym number))
         ∙ or_true (list_any (λ (r : Running). r.test == t.number) (open_starts es))
       where
         or_true : (b : Bool) → (b || (true || false)) ≡ true

@@ -2,6 +2,7 @@ use Rattle.std.proofs.Common.{◌≡◌, ◌∙◌, ◌++◌, ◌∷◌, [], ◌
 use Rattle.std.specs.Prelude.{Option, Some, is_some, slice_set, vec_capacity}
 use Rattle.std.specs.Vec.{with_item}
 use Rattle.std.proofs.lemmas.List.{set-set}
+use Rattle.std.proofs.lemmas.Bool.{true≢false}
 use Rattle.ct_alloc.specs.declared.placement.Placement.{Placement}
 use Rattle.ct_verdict.specs.declared.verdict.Verdict.{Verdict}
 use Rattle.ct_verdict.specs.Verdict.{is_repeated, verdict_of}
@@ -24,9 +25,6 @@ use Rattle.ct_core.proofs.DueLemmas.{verdict_with_stop}
 use Rattle.ct_core.proofs.EndLemmas.{IsClosed, can_give, concluding-ended, ended, final, is_gone, kept-again, next, no_verdict, none_added, open_here, open_is, open_read, placement, stands_queued, within_states}
 use Rattle.ct_core.proofs.NoteLemmas.{found_here}
 use Rattle.ct_core.proofs.run.Run.end.Goals as goal
-
-true_is_false : true ≡ false → ⊥
-true_is_false is = cc
 
 pub expect_place-place-requires-clause-there : goal.expect_place-place-requires-clause-there
 expect_place-place-requires-clause-there c =
@@ -63,7 +61,7 @@ again-requires c =
     let read : t ≡ get_or run.plan.tests place t = c.index-as_slice-place.is ∙ ap (λ (ts : List PlanTest). get_or ts place t) (c.as_slice-2.ensures ∙ ap (λ (p : PlanParts). p.tests) c.parts-plan.ensures.is) in
     let found = found_here run.plan.tests c.args.number place t at read in
     let behind = next run.plan es room run.parts c.requires.kept c.args.number c.args.attempt c.args.worker c.args.seen c.requires.holds place at t found in
-    (λ never. absurd (true_is_false never), λ none. absurd (omega (arith, behind, none)))
+    (λ never. absurd (true≢false never), λ none. absurd (omega (arith, behind, none)))
 
 pub give-requires : goal.give-requires
 give-requires c =
