@@ -16,20 +16,12 @@ use Rattle.ct_history.specs.declared.history.Entry.{Entry}
 use Rattle.ct_history.specs.declared.history.Entry.TheVariants.{Start, End, Settle, Stop}
 use Rattle.ct_history.specs.History.{attempts_of, is_open_in, open_starts, settled_by}
 use Rattle.ct_history.specs.Verdicts.{first_of_list, is_over, last_behind, last_of_list, settled_cause, settled_or, verdict_in}
-use Rattle.ct_history.specs.Endings.{first_there, seen_at_end}
-use Rattle.ct_history.proofs.AttemptLemmas.{repeated_few}
+use Rattle.ct_history.specs.Endings.{seen_at_end}
+use Rattle.ct_history.proofs.AttemptLemmas.{repeated_few, last_behind-snoc}
+use Rattle.ct_history.proofs.EndingLemmas.{first_snoc}
 use Rattle.ct_audit.specs.declared.course.Ended.{Ended}
 use Rattle.ct_audit.specs.Course.{course_after, course_in, ended_after, ended_in, ended_with, most_attempts_seen, seens_of}
 use Rattle.ct_audit.specs.Seen.{attempted_by, next_attempt, verdict_in_course}
-
-first_snoc : {A : Type 0} (xs : List A) (o : Option A) → first_of_list (xs ++ cons_option o []) ≡ first_there (first_of_list xs) o
-first_snoc [] None = refl
-first_snoc [] (Some x) = refl
-first_snoc (x ∷ xs) o = refl
-
-last_one : {A : Type 0} (found : Option A) (xs : List A) (x : A) → last_behind found (xs ++ x ∷ []) ≡ Some x
-last_one found [] x = refl
-last_one found (y ∷ ys) x = last_one (Some y) ys x
 
 last_there : {A : Type 0} (x : A) (xs : List A) → (y : A) × (last_of_list (x ∷ xs) ≡ Some y)
 last_there x [] = (x, refl)
@@ -50,7 +42,7 @@ ended_one (x ∷ xs) seen =
     let found = last_there x xs in
     let count : length (x ∷ xs ++ seen ∷ []) ≡ length (x ∷ xs) + 1 = length-append (x ∷ xs) (seen ∷ []) in
     let same : min (length (x ∷ xs ++ seen ∷ []) - 1) most_attempts_seen ≡ min (min (length (x ∷ xs) - 1) most_attempts_seen + 1) most_attempts_seen = omega (arith, count) in
-    ap (λ (o : Option Seen). option_map (λ (s : Seen). made (min (length (x ∷ xs ++ seen ∷ []) - 1) most_attempts_seen) s) o) (last_one (Some x) xs seen)
+    ap (λ (o : Option Seen). option_map (λ (s : Seen). made (min (length (x ∷ xs ++ seen ∷ []) - 1) most_attempts_seen) s) o) (last_behind-snoc (Some x) xs seen)
     ∙ ap (λ (n : ℕ). Some (made n seen)) same
     ∙ sym (ap (λ (o : Option Seen). Some (ended_after (option_map (λ (s : Seen). made (min (length (x ∷ xs) - 1) most_attempts_seen) s) o) seen)) (found.1))
 

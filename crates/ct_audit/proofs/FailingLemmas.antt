@@ -1,10 +1,10 @@
 -- Whether some test has a failing verdict behind an allowed entry, and whether a Stop is due there.
 use Rattle.std.proofs.Common.{◌≡◌, ◌∙◌, sym, ap, subst, ℕ, ◌+◌, ◌<◌, Bool, true, false, not, ◌&&◌, List, [], ◌∷◌, ◌++◌, map, refl, arith, cond, inl, inr, Option, Some, None}
-use Rattle.std.specs.Prelude.{◌==◌, ◌||◌, if◌then◌else◌}
+use Rattle.std.specs.Prelude.{◌==◌, ◌||◌}
 use Rattle.std.specs.List.{list_any}
 use Rattle.std.proofs.lemmas.Bool.{cases_Bool, or_from, or_parts}
 use Rattle.std.proofs.lemmas.Bool.Decides.{nat_tests}
-use Rattle.ct_verdict.specs.declared.verdict.Verdict.TheVariants.{Disabled}
+use Rattle.std.proofs.Math.Bool.{or-false}
 use Rattle.ct_history.specs.declared.plan.PlanTest.{PlanTest}
 use Rattle.ct_history.specs.declared.plan.PlanParts.{PlanParts}
 use Rattle.ct_history.specs.declared.history.Entry.{Entry}
@@ -13,20 +13,8 @@ use Rattle.ct_history.specs.Plan.{IsAscendingFrom, IsSound, test_at}
 use Rattle.ct_history.specs.Verdicts.{is_failing_in, verdict_at, verdict_in, verdict_of_test}
 use Rattle.ct_history.specs.Legal.{has_failing, is_allowed, is_stop_due}
 use Rattle.ct_history.proofs.LegalLemmas.{due-snoc, failing_stays}
+use Rattle.ct_history.proofs.OtherLemmas.{is_about, verdict_in_other}
 use Rattle.ct_audit.specs.Seen.{test_of_entry}
-use Rattle.ct_audit.proofs.OtherLemmas.{is_about, verdict_other}
-
--- in the empty history no test has failed
-pub failing-nil : (plan : PlanParts) → has_failing plan [] ≡ false
-failing-nil plan = by_tests plan.tests
-  where
-    by_disabled : (d : Bool) → is_failing_in (if d then Some Disabled else None) ≡ false
-    by_disabled true = refl
-    by_disabled false = refl
-
-    by_tests : (ts : List PlanTest) → list_any (λ (t : PlanTest). is_failing_in (verdict_in plan.repeat t [])) ts ≡ false
-    by_tests [] = refl
-    by_tests (t ∷ ts) = or_from (is_failing_in (verdict_in plan.repeat t [])) (list_any (λ (u : PlanTest). is_failing_in (verdict_in plan.repeat u [])) ts) (by_disabled t.disabled) (by_tests ts)
 
 -- the test that was looked up is there and passes
 abbrev holds_at : (PlanTest → Bool) → Option PlanTest → Bool
@@ -51,17 +39,13 @@ module _ (p q : PlanTest → Bool) (n : ℕ) (same : (u : PlanTest) → (u.numbe
         | inl here ↦
             let above : n < x.number + 1 = grind (arith, nat_tests) in
             ap (λ (b : Bool). q x || b) (none_above (x.number + 1) xs ascends.1 above both.1)
-            ∙ or_false (q x)
+            ∙ or-false (q x)
             ∙ sym (ap (λ (b : Bool). holds_at q (cond b (Some x) (test_at xs n))) here)
         | inr other ↦
             ap (λ (b : Bool). b || list_any q xs) (same x other ∙ both.0)
             ∙ any_one (x.number + 1) xs ascends.1 both.1
             ∙ sym (ap (λ (b : Bool). holds_at q (cond b (Some x) (test_at xs n))) other)
       ]
-    where
-      or_false : (b : Bool) → (b || false) ≡ b
-      or_false true = refl
-      or_false false = refl
 
 -- the test that an entry is about has a failing verdict
 abbrev pub has_failed_in : PlanParts → List Entry → Option ℕ → Bool
@@ -76,7 +60,7 @@ module _ (plan : PlanParts) (sound : IsSound plan) (es : List Entry) where
   failing_one : (e : Entry) (n : ℕ) → ((u : ℕ) → (u == n) ≡ false → is_about u e ≡ false) → has_failing plan es ≡ false → has_failing plan (es ++ e ∷ []) ≡ is_failing_in (verdict_of_test plan (es ++ e ∷ []) n)
   failing_one e n only none =
       any_one (λ u. is_failing_in (verdict_in plan.repeat u es)) (λ u. is_failing_in (verdict_in plan.repeat u (es ++ e ∷ []))) n
-      (λ u other. ap is_failing_in (verdict_other plan.repeat u es e (only u.number other))) 1 plan.tests sound.numbers none
+      (λ u other. ap is_failing_in (verdict_in_other plan.repeat u es e (only u.number other))) 1 plan.tests sound.numbers none
       ∙ at_found (es ++ e ∷ []) (test_at plan.tests n)
 
   by_before : (e : Entry) (now : Bool) → is_allowed plan es e ≡ true → (has_failing plan es ≡ false → has_failing plan (es ++ e ∷ []) ≡ now) → has_failing plan (es ++ e ∷ []) ≡ (has_failing plan es || now)
@@ -94,7 +78,7 @@ module _ (plan : PlanParts) (sound : IsSound plan) (es : List Entry) where
   failing_more (End n a w s) allowed = by_before (End n a w s) _ allowed (λ none. failing_one (End n a w s) n (λ u other. flipped u n other) none)
   failing_more (Settle n c) allowed = by_before (Settle n c) _ allowed (λ none. failing_one (Settle n c) n (λ u other. flipped u n other) none)
   failing_more Stop allowed =
-      by_before Stop false allowed (λ none. (λ i. list_any (λ (u : PlanTest). is_failing_in (verdict_other plan.repeat u es Stop refl i)) plan.tests) ∙ none)
+      by_before Stop false allowed (λ none. (λ i. list_any (λ (u : PlanTest). is_failing_in (verdict_in_other plan.repeat u es Stop refl i)) plan.tests) ∙ none)
 
   -- a Stop is due behind an allowed entry exactly where the entry's test is the first with a failing verdict
   pub due_more : (e : Entry) → is_allowed plan es e ≡ true → is_stop_due plan (es ++ e ∷ []) ≡ (plan.stop_on_failure && has_failed_in plan (es ++ e ∷ []) (test_of_entry e) && not (has_failing plan es))

@@ -2,6 +2,7 @@
 use Rattle.std.proofs.Common.{◌≡◌, ◌∙◌, sym, ap, subst, ℕ, ◌^◌, ◌<◌, Bool, true, false, not, ◌&&◌, List, [], ◌∷◌, ◌++◌, filter, length, arith, map, refl, cond, inl, inr, Option, Some, None}
 use Rattle.std.specs.Prelude.{◌==◌, ◌||◌, is_some}
 use Rattle.std.specs.List.{list_all, list_any}
+use Rattle.std.proofs.Math.Bool.{or-false}
 use Rattle.std.proofs.lemmas.Bool.{cases_Bool, not-true}
 use Rattle.std.proofs.lemmas.Bool.Decides.{nat_tests}
 use Rattle.std.proofs.lemmas.List.{append-nil, map-append}
@@ -12,7 +13,7 @@ use Rattle.ct_history.specs.declared.history.Entry.TheVariants.{Start, End, Sett
 use Rattle.ct_history.specs.Plan.{IsSound}
 use Rattle.ct_history.specs.History.{Running, has_stop, is_stop, open_starts}
 use Rattle.ct_history.specs.Legal.{is_allowed, is_stop_due}
-use Rattle.ct_history.proofs.LegalLemmas.{legal-nil, legal_not_due, stop-snoc}
+use Rattle.ct_history.proofs.LegalLemmas.{legal-nil, legal_not_due, stop-snoc, failing-nil}
 use Rattle.ct_history.proofs.OpenLemmas.{is_of, open_starts-end, open_starts-snoc}
 use Rattle.ct_audit.specs.declared.audit.Audit.{Audit}
 use Rattle.ct_audit.specs.declared.open_start.OpenStart.{OpenStart}
@@ -20,7 +21,7 @@ use Rattle.ct_audit.specs.Course.{course_after, course_at, course_in, open_start
 use Rattle.ct_audit.specs.Seen.{has_failed_by, is_allowed_by, test_of_entry, verdict_in_course}
 use Rattle.ct_audit.specs.Tells.{HasShortAttempt, Marks, TellsHistory, are_all_final_by, is_at_end, is_idle_by, with_failure}
 use Rattle.ct_audit.proofs.CourseLemmas.{course_snoc}
-use Rattle.ct_audit.proofs.FailingLemmas.{failing-nil, due_more, failing_more, has_failed_in}
+use Rattle.ct_audit.proofs.FailingLemmas.{due_more, failing_more, has_failed_in}
 use Rattle.ct_audit.proofs.RuleLemmas.{allowed_is, failed_is, final_is}
 
 map_filter : (t a : ℕ) (xs : List OpenStart) → runs (filter (λ (s : OpenStart). not (s.test == t && s.attempt == a)) xs) ≡ filter (λ r. not (is_of t a r)) (runs xs)
@@ -44,10 +45,6 @@ opens_more xs front (Start t a w p) are =
 opens_more xs front (End t a w s) are = map_filter t a xs ∙ ap (λ (rs : List Running). filter (λ r. not (is_of t a r)) rs) are ∙ sym (open_starts-end front t a w s)
 opens_more xs front (Settle t c) are = are ∙ sym (open_starts-snoc front (Settle t c) refl ∙ append-nil (open_starts front))
 opens_more xs front Stop are = are ∙ sym (open_starts-snoc front Stop refl ∙ append-nil (open_starts front))
-
-or_false : (b : Bool) → (b || false) ≡ b
-or_false true = refl
-or_false false = refl
 
 module _ (plan : PlanParts) (small : plan.repeat.times < 2 ^ 32) (front : List Entry) (audit : Audit) (told : TellsHistory plan front audit) where
   -- what the audit says of an entry is the rule over the entries
@@ -73,7 +70,7 @@ module _ (plan : PlanParts) (small : plan.repeat.times < 2 ^ 32) (front : List E
       record {
         opens = opens;
         courses = courses;
-        stopped = marks.stopped ∙ (λ i. told.stopped i || is_stop e) ∙ ap (λ (b : Bool). has_stop front || b) (sym (or_false (is_stop e))) ∙ sym (stop-snoc front e);
+        stopped = marks.stopped ∙ (λ i. told.stopped i || is_stop e) ∙ ap (λ (b : Bool). has_stop front || b) (sym (or-false (is_stop e))) ∙ sym (stop-snoc front e);
         failing = (λ i. was i || fails i) ∙ sym (failing_more plan sound front e allowed);
         due = (λ i. plan.stop_on_failure && fails i && not (was i)) ∙ sym (due_more plan sound front e allowed);
       }

@@ -1,6 +1,7 @@
 use Rattle.std.proofs.Common.{◌≡◌, ◌+◌, ◌-◌, ◌/◌, ◌<◌, ◌≤◌, length, ap, arith, sym, ◌∙◌}
 use Rattle.ct_history.specs.declared.plan.PlanTest.{PlanTest}
-use Rattle.ct_audit.proofs.PlaceLemmas.{less_up_to, most_from, none_beside, number_at, number_here, place_here}
+use Rattle.ct_history.proofs.PlaceLemmas.{number_at, less_up_to, most_from, number_here, none_beside}
+use Rattle.ct_audit.proofs.PlaceLemmas.{place_here}
 use Rattle.ct_audit.proofs.places.search.Goals as goal
 use Rattle.ct_audit.proofs.places.search.Goals.{else-low-tests-via-then-low-tests+else-tests-low, else-low-tests-via-else-low-tests}
 

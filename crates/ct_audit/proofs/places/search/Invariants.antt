@@ -1,5 +1,5 @@
 use Rattle.std.proofs.Common.{ℕ, ◌-◌, ◌<◌, ◌≤◌, length}
-use Rattle.ct_audit.proofs.PlaceLemmas.{number_at}
+use Rattle.ct_history.proofs.PlaceLemmas.{number_at}
 use Rattle.ct_audit.proofs.places.search.Given as goal
 
 abbrev pub invariant-loop-low : goal.invariant-loop-low
