@@ -16,15 +16,12 @@ use Rattle.std.proofs.lemmas.List.Folds.{list_any_more}
 use Rattle.std.proofs.lemmas.List.Sums.{fold-append}
 use Rattle.std.proofs.lemmas.Map.Lookups.{exact_bytes}
 use Rattle.std.proofs.lemmas.Slice.Eq.{bytes_eq-Decides}
+use Rattle.ct_base.proofs.NameLemmas.{by_bytes, same_name}
 use Rattle.ct_report.specs.Labels.{kept_labels, count_at, CountsLabel, CountsLabels}
 
 -- what is folded over one list and then over another is folded over both in a row
 pub fold_behind : {A B : Type 0} (f : B → A → B) (a : B) (xs ys : List A) → fold f (fold f a xs) ys ≡ fold f a (xs ++ ys)
 fold_behind f a xs ys = sym (fold-append f a xs ys)
-
--- the order of labels
-abbrev by_bytes : List ℕ → List ℕ → Ordering
-by_bytes = slice_cmp nat_cmp
 
 abbrev by_label : {Y : Type 0} → Vec ℕ Y → Vec ℕ Y → Ordering
 by_label one other = by_bytes one.items other.items
@@ -39,23 +36,6 @@ pub labels-insert_key : {Y : Type 0} (kept : List (Vec ℕ Y)) (label : Vec ℕ 
 labels-insert_key [] label = refl
 labels-insert_key {Y} (first ∷ kept) label =
     labels-insert_by first label kept (insert_key (λ (x y : Vec ℕ Y). slice_cmp nat_cmp x.items y.items) kept label) (insert_key (slice_cmp nat_cmp) (kept_labels kept) label.items) (labels-insert_key kept label) (slice_cmp nat_cmp label.items first.items)
-
-same_truth : (b c : Bool) → (b ≡ true → c ≡ true) → (c ≡ true → b ≡ true) → b ≡ c
-same_truth true c to from = sym (to refl)
-same_truth false true to from = from refl
-same_truth false false to from = refl
-
-is_eq-true : (order : Ordering) → is_eq order ≡ true → order ≡ Equal
-is_eq-true Less is = absurd (true≢false (sym is))
-is_eq-true Equal is = refl
-is_eq-true Greater is = absurd (true≢false (sym is))
-
--- labels are compared as equal where they are the same
-same_label : (label other : List ℕ) → is_eq (by_bytes label other) ≡ bytes_eq other label
-same_label label other =
-    same_truth (is_eq (by_bytes label other)) (bytes_eq other label)
-    (λ is. (bytes_eq-Decides other label).1 (sym (exact_bytes label other (is_eq-true (by_bytes label other) is))))
-    (λ is. ap (λ n. is_eq (by_bytes label n)) ((bytes_eq-Decides other label).0 is) ∙ ap is_eq (tied_itself nat_list_cmp_total label))
 
 twice : {X : Type 0} (value old : X) (found : Option X) (is : Bool) → cond is (Some value) found ≡ cond is (Some value) (cond is (Some old) found)
 twice value old found true = refl
@@ -72,7 +52,7 @@ module _ {Y X : Type 0} where
   seen entries label = lookup (λ (key : Vec ℕ Y). is_eq (slice_cmp nat_cmp label key.items)) entries
 
   seen-cons : (entry : Vec ℕ Y × X) (entries : List (Vec ℕ Y × X)) (label : List ℕ) → seen (entry ∷ entries) label ≡ cond (bytes_eq entry.0.items label) (Some entry.1) (seen entries label)
-  seen-cons entry entries label = ap (λ is. cond is (Some entry.1) (seen entries label)) (same_label label entry.0.items)
+  seen-cons entry entries label = ap (λ is. cond is (Some entry.1) (seen entries label)) (same_name label entry.0.items)
 
   insert-by : (entry : Vec ℕ Y × X) (entries more : List (Vec ℕ Y × X)) (key : Vec ℕ Y) (value : X) (other : List ℕ) → seen more other ≡ cond (bytes_eq key.items other) (Some value) (seen entries other) → (order : Ordering) → by_label key entry.0 ≡ order → seen (match_ordering order ((key, value) ∷ entry ∷ entries) ((entry.0, value) ∷ entries) (entry ∷ more)) other ≡ cond (bytes_eq key.items other) (Some value) (seen (entry ∷ entries) other)
   insert-by entry entries more key value other rest Less is = seen-cons (key, value) (entry ∷ entries) other

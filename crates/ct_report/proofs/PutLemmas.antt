@@ -8,6 +8,7 @@ use Rattle.ct_base.specs.declared.sink.SinkFault.TheVariants as Sinks
 use Rattle.ct_base.specs.Outside.{Adds, AddsPrefix, Becomes, HasCause, Puts, PutsEach, SinkTell}
 use Rattle.ct_report.specs.PutLines.{PutsLines}
 use Rattle.ct_report.specs.Report.{text_of}
+use Rattle.ct_report.proofs.LineLemmas.{text_of-append}
 
 -- adding a piece and then another adds both in a row
 pub adds_then_adds : {A : Type 0} (old mid new : Option (List A)) (a b : List A) → Becomes old mid (Adds a) → Becomes mid new (Adds b) → Becomes old new (Adds (a ++ b))
@@ -148,9 +149,6 @@ puts_stop old new a b put = record {
 pub puts_same : (old new : SinkTell) (a b : List ℕ) (result : Result (Unit {0}) SinkFault) → a ≡ b → Puts a old new result → Puts b old new result
 puts_same old new a b result is put = subst (λ (t : List ℕ). Puts t old new result) is put
 
-text_of-both : (front back : List (List ℕ)) → text_of (front ++ back) ≡ text_of front ++ text_of back
-text_of-both front back = flat_map-append (λ (line : List ℕ). line) front back
-
 -- a put of lines is one of equal lines
 pub lines_as : {lines named : List (List ℕ)} {old new : SinkTell} {result : Result (Unit {0}) SinkFault} → named ≡ lines → PutsLines named old new result → PutsLines lines old new result
 lines_as {old = old} {new = new} {result = result} is put = subst (λ (ls : List (List ℕ)). PutsLines ls old new result) is put
@@ -162,25 +160,25 @@ one_line old new piece result put each = record { bytes = puts_same old new piec
 -- lines were put whole, and then more lines
 pub lines_then : (old mid new : SinkTell) (a b : List (List ℕ)) (result : Result (Unit {0}) SinkFault) → PutsLines a old mid (Ok tt) → PutsLines b mid new result → PutsLines (a ++ b) old new result
 lines_then old mid new a b (Ok tt) first second = record {
-  bytes = puts_same old new (text_of a ++ text_of b) (text_of (a ++ b)) (Ok tt) (sym (text_of-both a b)) (puts_then old mid new (text_of a) (text_of b) (Ok tt) first.bytes second.bytes);
+  bytes = puts_same old new (text_of a ++ text_of b) (text_of (a ++ b)) (Ok tt) (sym (text_of-append a b)) (puts_then old mid new (text_of a) (text_of b) (Ok tt) first.bytes second.bytes);
   each = record { ok = adds_then_adds old.pieces mid.pieces new.pieces a b first.each.ok second.each.ok; err = tt };
 }
 lines_then old mid new a b (Err fault) first second = record {
-  bytes = puts_same old new (text_of a ++ text_of b) (text_of (a ++ b)) (Err fault) (sym (text_of-both a b)) (puts_then old mid new (text_of a) (text_of b) (Err fault) first.bytes second.bytes);
+  bytes = puts_same old new (text_of a ++ text_of b) (text_of (a ++ b)) (Err fault) (sym (text_of-append a b)) (puts_then old mid new (text_of a) (text_of b) (Err fault) first.bytes second.bytes);
   each = record { ok = tt; err = adds_then_prefix old.pieces mid.pieces new.pieces a b first.each.ok second.each.err };
 }
 
 -- where lines were not put whole, the lines with more behind them were not either
 pub lines_more : (old new : SinkTell) (a b : List (List ℕ)) (fault : SinkFault) → PutsLines a old new (Err fault) → PutsLines (a ++ b) old new (Err fault)
 lines_more old new a b fault put = record {
-  bytes = puts_same old new (text_of a ++ text_of b) (text_of (a ++ b)) (Err fault) (sym (text_of-both a b)) (puts_more old new (text_of a) (text_of b) fault put.bytes);
+  bytes = puts_same old new (text_of a ++ text_of b) (text_of (a ++ b)) (Err fault) (sym (text_of-append a b)) (puts_more old new (text_of a) (text_of b) fault put.bytes);
   each = record { ok = tt; err = prefix_of_more old.pieces new.pieces a b put.each.err };
 }
 
 -- memory was wanting after whole lines were put
 pub lines_stop : (old new : SinkTell) (a b : List (List ℕ)) → PutsLines a old new (Ok tt) → PutsLines (a ++ b) old new (Err Sinks.NoMemory)
 lines_stop old new a b put = record {
-  bytes = puts_same old new (text_of a ++ text_of b) (text_of (a ++ b)) (Err Sinks.NoMemory) (sym (text_of-both a b)) (puts_stop old new (text_of a) (text_of b) put.bytes);
+  bytes = puts_same old new (text_of a ++ text_of b) (text_of (a ++ b)) (Err Sinks.NoMemory) (sym (text_of-append a b)) (puts_stop old new (text_of a) (text_of b) put.bytes);
   each = record { ok = tt; err = prefix_of_adds old.pieces new.pieces a b put.each.ok };
 }
 
