@@ -4,6 +4,7 @@ use Rattle.std.specs.List.{list_any}
 use Rattle.std.proofs.lemmas.List.{append_assoc, append-nil}
 use Rattle.std.proofs.lemmas.List.Folds.{list_any-append}
 use Rattle.std.proofs.lemmas.Slice.Eq.{bytes_eq-Decides}
+use Rattle.std.proofs.lemmas.Bool.{not-false}
 use Rattle.ct_props.specs.Values.{distinct}
 use Rattle.ct_props.specs.Labels.{with_label, with_labels}
 
@@ -34,10 +35,6 @@ neither true true = refl
 neither true false = refl
 neither false true = refl
 neither false false = refl
-
-not-false : (b : Bool) → not b ≡ false → b ≡ true
-not-false true is = refl
-not-false false is = sym is
 
 -- labels gathered behind others, with one name in front
 gathered-by : (labels : List (List ℕ)) (name : List ℕ) (names : List (List ℕ)) (has : Bool) → ((others : List (List ℕ)) → with_labels others names ≡ others ++ filter (is_new others) (distinct names)) → list_any (bytes_eq name) labels ≡ has → with_labels (cond has labels (labels ++ name ∷ [])) names ≡ labels ++ cond (not has) (name ∷ filter (is_new labels) (filter (λ x. not (bytes_eq x name)) (distinct names))) (filter (is_new labels) (filter (λ x. not (bytes_eq x name)) (distinct names)))
