@@ -14,37 +14,14 @@ use Rattle.std.proofs.lemmas.Bool.{true≢false}
 use Rattle.std.proofs.lemmas.Map.Lookups.{exact_bytes}
 use Rattle.std.proofs.lemmas.Slice.Eq.{bytes_eq-Decides}
 use Rattle.ct_base.specs.declared.defs.Pair.{Pair}
+use Rattle.ct_base.proofs.TruthLemmas.{same_truth}
+use Rattle.ct_base.proofs.NameLemmas.{by_bytes, same_name}
 use Rattle.ct_props.specs.Values.{value_of_key}
 use Rattle.ct_env.specs.Environment.{IsAscending}
 use Rattle.ct_env.specs.Variables.{pair_of}
 
--- the order of names
-abbrev by_bytes : List ℕ → List ℕ → Ordering
-by_bytes = slice_cmp nat_cmp
-
 abbrev by_name : {Y : Type 0} → Vec ℕ Y → Vec ℕ Y → Ordering
 by_name one other = by_bytes one.items other.items
-
--- a name equals itself
-is_itself : (name : List ℕ) → bytes_eq name name ≡ true
-is_itself name = (bytes_eq-Decides name name).1 refl
-
-same_truth : (b c : Bool) → (b ≡ true → c ≡ true) → (c ≡ true → b ≡ true) → b ≡ c
-same_truth true c to from = sym (to refl)
-same_truth false true to from = from refl
-same_truth false false to from = refl
-
-is_eq-true : (order : Ordering) → is_eq order ≡ true → order ≡ Equal
-is_eq-true Less is = absurd (true≢false (sym is))
-is_eq-true Equal is = refl
-is_eq-true Greater is = absurd (true≢false (sym is))
-
--- names are compared as equal where they are the same
-same_name : (name other : List ℕ) → is_eq (by_bytes name other) ≡ bytes_eq other name
-same_name name other =
-    same_truth (is_eq (by_bytes name other)) (bytes_eq other name)
-    (λ is. (bytes_eq-Decides other name).1 (sym (exact_bytes name other (is_eq-true (by_bytes name other) is))))
-    (λ is. ap (λ n. is_eq (by_bytes name n)) ((bytes_eq-Decides other name).0 is) ∙ ap is_eq (tied_itself nat_list_cmp_total name))
 
 -- the value of a name is that of the first pair, if that has the name, else that of the others
 value_of_key-cons : (pair : Pair) (pairs : List Pair) (name : List ℕ) → value_of_key (pair ∷ pairs) name ≡ cond (bytes_eq pair.name name) (Some pair.value) (value_of_key pairs name)
