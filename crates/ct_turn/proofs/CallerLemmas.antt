@@ -1,22 +1,19 @@
 -- What a caller may conclude from the start that a pass holds, and what it may add to a history.
-use Rattle.std.proofs.Common.{◌≡◌, ◌∙◌, sym, ap, subst, refl, Bool, true, false, ℕ, List, [], ◌∷◌, ◌++◌, inl, inr, arith}
-use Rattle.std.specs.Prelude.{Some, None, find, filter, not, ◌==◌, ◌&&◌, ◌||◌, cond}
+use Rattle.std.proofs.Common.{◌≡◌, ◌∙◌, sym, ap, subst, refl, Bool, true, false, ℕ, List, [], ◌∷◌, ◌++◌, inl, inr, arith, append_assoc}
+use Rattle.std.specs.Prelude.{Some, None, find, filter, not, ◌==◌, ◌&&◌, ◌||◌, cond, if◌then◌else◌}
 use Rattle.std.specs.List.{list_any}
-use Rattle.std.proofs.lemmas.Bool.{cases_Bool}
+use Rattle.std.proofs.lemmas.Bool.{cases_Bool, true≢false, or_right}
 use Rattle.std.proofs.lemmas.Bool.Decides.{nat_tests}
 use Rattle.std.proofs.lemmas.List.{append-nil}
 use Rattle.ct_history.specs.declared.plan.PlanParts.{PlanParts}
 use Rattle.ct_history.specs.declared.history.Entry.{Entry}
-use Rattle.ct_history.specs.declared.history.Entry.TheVariants.{Start}
+use Rattle.ct_history.specs.declared.history.Entry.TheVariants.{Start, Stop}
 use Rattle.ct_history.specs.History.{Running, holds_start, is_busy_in, open_starts}
-use Rattle.ct_history.specs.Legal.{is_legal}
+use Rattle.ct_history.specs.Legal.{is_legal, is_stop_due}
 use Rattle.ct_history.proofs.ApartLemmas.{Differ, differ-head, differ-tail, starts_apart}
 use Rattle.ct_history.proofs.LegalLemmas.{legal_allowed}
 use Rattle.ct_history.proofs.OpenLemmas.{is_of, open_starts-snoc}
 use Rattle.ct_turn.specs.Seen.{AddsOwn, is_own, open_start_of_worker}
-
-true_is_false : true ≡ false → ⊥
-true_is_false is = cc
 
 finds_none : (p : Running → Bool) (rs : List Running) → find p rs ≡ None → list_any p rs ≡ false
 finds_none p [] none = refl
@@ -42,12 +39,8 @@ found_holds w r (x ∷ xs) is = elim (cases_Bool (x.worker == w)) [
       )
   | inr other ↦
       let rest = found_holds w r xs (sym (ap (λ (b : Bool). cond b (Some x) (find (λ (q : Running). q.worker == w) xs)) other) ∙ is) in
-      (rest.0, or_true (x.test == r.test && x.attempt == r.attempt && x.worker == r.worker) _ rest.1)
+      (rest.0, or_right (x.test == r.test && x.attempt == r.attempt && x.worker == r.worker) _ rest.1)
 ]
-  where
-    or_true : (a b : Bool) → b ≡ true → (a || b) ≡ true
-    or_true true b is_true = refl
-    or_true false b is_true = is_true
 
 -- a worker may end the start that it holds
 pub holds_own : (w : ℕ) (r : Running) (es : List Entry) → open_start_of_worker w es ≡ Some r → (r.worker ≡ w) × (holds_start r.test r.attempt r.worker es ≡ true)
@@ -74,7 +67,7 @@ unfound p q (x ∷ xs) none = elim (cases_Bool (q x)) [
 ]
   where
     parts : (a b : Bool) → (a || b) ≡ false → (a ≡ false) × (b ≡ false)
-    parts true b is = absurd (true_is_false is)
+    parts true b is = absurd (true≢false is)
     parts false b is = (refl, is)
 
     here : p x ≡ false
@@ -122,3 +115,11 @@ adds_one w es e own = record { more = e ∷ []; is = refl; own = ap (λ (b : Boo
 
 pub adds_none : (w : ℕ) (es : List Entry) → AddsOwn w es es
 adds_none w es = record { more = []; is = sym (append-nil es); own = refl }
+
+-- an own entry, with the Stop that it makes due, adds only own entries
+pub adds_due : (w : ℕ) (plan : PlanParts) (es : List Entry) (e : Entry) → is_own w e ≡ true → AddsOwn w es (if is_stop_due plan (es ++ e ∷ []) then (es ++ e ∷ []) ++ Stop ∷ [] else es ++ e ∷ [])
+adds_due w plan es e own = elim (cases_Bool (is_stop_due plan (es ++ e ∷ []))) [
+  | inl due ↦ subst (λ (b : Bool). AddsOwn w es (if b then (es ++ e ∷ []) ++ Stop ∷ [] else es ++ e ∷ [])) (sym due)
+      (record { more = e ∷ Stop ∷ []; is = append_assoc es (e ∷ []) (Stop ∷ []); own = ap (λ (b : Bool). b && true) own })
+  | inr none ↦ subst (λ (b : Bool). AddsOwn w es (if b then (es ++ e ∷ []) ++ Stop ∷ [] else es ++ e ∷ [])) (sym none) (adds_one w es e own)
+]

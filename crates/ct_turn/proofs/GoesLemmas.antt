@@ -2,7 +2,7 @@
 use Rattle.std.proofs.Common.{◌≡◌, ◌≢◌, ◌∙◌, sym, ap, subst, refl, ℕ, ◌+◌, ◌<◌, ◌≤◌, Bool, true, false, List, [], ◌∷◌, ◌++◌, length, inl, inr, ⊎_elim, ◌⊎◌, append_assoc, length-append, arith}
 use Rattle.std.specs.Prelude.{Option, Some, None, ◌==◌, ◌||◌, All, nat_lt, cond, find, if◌then◌else◌}
 use Rattle.std.specs.List.{cons_option, list_all, list_any}
-use Rattle.std.proofs.lemmas.Bool.{and_parts, cases_Bool}
+use Rattle.std.proofs.lemmas.Bool.{and_parts, cases_Bool, or_parts, or_from}
 use Rattle.std.proofs.lemmas.Bool.Decides.{nat_tests}
 use Rattle.std.proofs.lemmas.List.{append-nil}
 use Rattle.std.proofs.lemmas.List.Elements.{All-head, All-tail}
@@ -12,7 +12,6 @@ use Rattle.ct_history.specs.declared.history.Entry.TheVariants.{Start, End, Sett
 use Rattle.ct_history.specs.History.{Running, is_end_of, open_starts, opened}
 use Rattle.ct_turn.specs.declared.view.Note.{Note}
 use Rattle.ct_turn.specs.Seen.{AddsOwn, HistoryGoesOn, is_by, is_noted, is_own, longer, open_start_of_worker}
-use Rattle.ct_turn.proofs.StartLemmas.{or_from, or_parts}
 
 other_number : (v w u : ℕ) → v ≢ w → (u == v) ≡ true → (u == w) ≡ false
 other_number v w u ne is = grind (arith, nat_tests, ne)

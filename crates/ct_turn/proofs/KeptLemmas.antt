@@ -5,6 +5,7 @@ use Rattle.std.specs.List.{list_any}
 use Rattle.std.proofs.lemmas.Bool.Decides.{nat_tests}
 use Rattle.std.proofs.lemmas.List.Folds.{list_any-append, list_any_at}
 use Rattle.std.proofs.lemmas.List.Sums.{sum_by-cons}
+use Rattle.std.proofs.lemmas.Bool.{or_parts, or_from}
 use mathlib.Core.Option.{some, some-injective, some-ne-none}
 use mathlib.Core.Logic.{dite}
 use native.Mathlib.Decide.{ℕ_discrete}
@@ -23,7 +24,7 @@ use Rattle.ct_turn.specs.Seen.{AddsOwn, Continues, HistoryGoesOn, IsTrueNote, Si
 use Rattle.ct_turn.specs.Rule.{Assures, AllAgree, IsOwned, SomeOut, passes_at}
 use Rattle.ct_turn.proofs.GoesLemmas.{goes_further, goes_nowhere, noted_is, own_none}
 use Rattle.ct_turn.proofs.SeatLemmas.{only_one, set_there}
-use Rattle.ct_turn.proofs.StartLemmas.{open_start-own, opened_by, or_from, or_parts, start_stays}
+use Rattle.ct_turn.proofs.StartLemmas.{open_start-own, opened_by, start_stays}
 
 -- what some seat that is out knows still has a property, where one seat that is out has changed and kept it
 pub some_set : (P : Known → Type 0) (seats : List Known) (id : ℕ) (k l : Known) → get_elem? seats id ≡ some k → l.is_out ≡ true → (P k → P l) → SomeOut P seats → SomeOut P (set seats id l)

@@ -2,7 +2,7 @@
 use Rattle.std.proofs.Common.{◌≡◌, ◌≢◌, ◌∙◌, sym, ap, subst, refl, ℕ, ◌+◌, ◌<◌, ◌≤◌, Bool, true, false, List, [], ◌∷◌, ◌++◌, set, length, inl, inr, ⊎_elim, ◌⊎◌, zero, suc, length-append, length-set, arith}
 use Rattle.std.specs.Prelude.{Some, None, All, Contains, sum_by, ◌==◌, ◌||◌, cond, slice_index_or}
 use Rattle.std.specs.List.{list_any}
-use Rattle.std.proofs.lemmas.Bool.{cases_Bool}
+use Rattle.std.proofs.lemmas.Bool.{cases_Bool, true≢false, or_parts, or_from}
 use Rattle.std.proofs.lemmas.Bool.Decides.{nat_tests}
 use Rattle.std.proofs.lemmas.List.Elements.{All-append, All-cons, All-contains, Contains-append_right}
 use Rattle.std.proofs.lemmas.List.Folds.{list_any-append}
@@ -25,10 +25,7 @@ use Rattle.ct_turn.specs.Rule.{Assures, AllAgree, IsOwned, SomeOut, passes_at}
 use Rattle.ct_turn.proofs.GoesLemmas.{goes_longer, longer_whole, none_open}
 use Rattle.ct_turn.proofs.KeptLemmas.{passes-set, some_set, starts_held, unmade_none}
 use Rattle.ct_turn.proofs.SeatLemmas.{at_behind, set_there}
-use Rattle.ct_turn.proofs.StartLemmas.{or_from, or_parts, start_stays}
-
-true_is_false : true ≡ false → ⊥
-true_is_false is = cc
+use Rattle.ct_turn.proofs.StartLemmas.{start_stays}
 
 -- what some seat that is out knows still has a property, with one more seat behind the others
 some_behind : (P : Known → Type 0) (seats : List Known) (l : Known) → SomeOut P seats → SomeOut P (seats ++ l ∷ [])
@@ -120,7 +117,7 @@ module _ (plan : PlanParts) (base : Base) (now : Moment) (seats : List Known) (i
 
     places : (j : ℕ) (u : Known) → get_elem? after j ≡ some u → u.is_out ≡ true → ((j ≡ id) × (k' ≡ u)) ⊎ ((j ≢ id) × (j ≢ o) × (get_elem? seats j ≡ some u))
     places j u at_j out_u =
-        ⊎_elim (λ gone. absurd (true_is_false (sym (ap (λ (y : Known). y.is_out) gone.1 ∙ out_u))))
+        ⊎_elim (λ gone. absurd (true≢false (sym (ap (λ (y : Known). y.is_out) gone.1 ∙ out_u))))
         (λ left. ⊎_elim (λ is_id. inl is_id) (λ else. inr (else.0, left.0, else.1)) (at_set seats id j k' u left.1)) (at_set (set seats id k') o j nobody u at_j)
 
     back : (P : Known → Type 0) → P k' → ((j : ℕ) (u : Known) → j ≢ id → j ≢ o → get_elem? seats j ≡ some u → u.is_out ≡ true → P u) → (j : ℕ) (u : Known) → get_elem? after j ≡ some u → u.is_out ≡ true → P u
@@ -186,7 +183,7 @@ module _ (plan : PlanParts) (base : Base) (now : Moment) (seats : List Known) (i
       | inl before ↦ (kept.numbered id k here out).1 w before
       | inr none ↦ dite (ℕ_discrete l.worker w)
           (λ e. subst (λ (v : ℕ). v < kept.made) e (kept.numbered o l there out_l).0)
-          (λ other. absurd (true_is_false (sym is ∙ unnoted_more w none other)))
+          (λ other. absurd (true≢false (sym is ∙ unnoted_more w none other)))
     ]
 
     pub kept-join : AllAgree plan base now (set (set seats id (with_joined k l)) o nobody)
@@ -201,7 +198,7 @@ module _ (plan : PlanParts) (base : Base) (now : Moment) (seats : List Known) (i
           | inr (inl (j, u, at_j, out_u, is)) ↦ dite (ℕ_discrete j o)
               (λ e. let same : u ≡ l = some-injective u l (sym at_j ∙ ap (λ (n : ℕ). get_elem? seats n) e ∙ there) in inr (inr (id, k', kept_at, out, subst (λ (v : ℕ). is_noted v k'.notes ≡ true) (ap (λ (y : Known). y.worker) (sym same) ∙ is) now_noted)))
               (λ not_o. inr (inl (lift_at (λ y. y.worker ≡ w) (λ e. e) j u at_j out_u is not_o)))
-          | inr (inr found) ↦ inr (inr (lift (λ y. is_noted w y.notes ≡ true) (still_noted w) (λ is. absurd (true_is_false (sym is ∙ ap (is_noted w) (kept.plain o l there out_l other_is)))) found))
+          | inr (inr found) ↦ inr (inr (lift (λ y. is_noted w y.notes ≡ true) (still_noted w) (λ is. absurd (true≢false (sym is ∙ ap (is_noted w) (kept.plain o l there out_l other_is)))) found))
         ] in
         let absent_from : (j : ℕ) (v : Known) → get_elem? after j ≡ some v → v.is_out ≡ true → is_noted v.worker k'.notes ≡ false =
         back (λ v. is_noted v.worker k'.notes ≡ false) (unnoted_more k.worker (kept.absent id k here out id k here out) (λ e. ne (kept.apart o id l there out_l k here out e)))
@@ -294,7 +291,7 @@ module _ (plan : PlanParts) (base : Base) (now : Moment) (seats : List Known) (i
       by_owner : (w : ℕ) → w ≢ k.worker → is_noted w k.notes ≡ false → IsOwned now.entries seats w → list_any (is_by w) now.entries ≡ false
       by_owner w other none (inl is_none) = is_none
       by_owner w other none (inr (inl (j, u, at_j, out_u, by))) = absurd (other (sym by ∙ ap (λ (y : Known). y.worker) (only_known j u at_j out_u)))
-      by_owner w other none (inr (inr (j, u, at_j, out_u, noted))) = absurd (true_is_false (sym noted ∙ ap (λ (y : Known). is_noted w y.notes) (only_known j u at_j out_u) ∙ none))
+      by_owner w other none (inr (inr (j, u, at_j, out_u, noted))) = absurd (true≢false (sym noted ∙ ap (λ (y : Known). is_noted w y.notes) (only_known j u at_j out_u) ∙ none))
 
       by_holder : (r : Running) → SomeOut (λ u. (u.worker ≡ r.worker) × (held_start u ≡ Some r)) seats → ⊥
       by_holder r (j, u, at_j, out_u, holds) = let never : None ≡ Some r = sym idle ∙ ap held_start (sym (only_known j u at_j out_u)) ∙ holds.1 in cc

@@ -2,7 +2,7 @@
 use Rattle.std.proofs.Common.{◌≡◌, ◌∙◌, sym, ap, subst, refl, Bool, true, false, ℕ, zero, suc, List, [], ◌∷◌, ◌++◌, inl, inr, arith, append_assoc}
 use Rattle.std.specs.Prelude.{Option, Some, None, find, filter, not, ◌==◌, ◌&&◌, ◌||◌, cond, Contains, if◌then◌else◌}
 use Rattle.std.specs.List.{list_any}
-use Rattle.std.proofs.lemmas.Bool.{and_parts, cases_Bool}
+use Rattle.std.proofs.lemmas.Bool.{and_parts, cases_Bool, true≢false, or_parts, or_from, eqb-true}
 use Rattle.std.proofs.lemmas.Bool.Decides.{nat_tests}
 use Rattle.std.proofs.lemmas.List.{append-nil}
 use Rattle.ct_history.specs.declared.plan.PlanParts.{PlanParts}
@@ -12,32 +12,9 @@ use Rattle.ct_history.specs.History.{Running, holds_start, open_starts}
 use Rattle.ct_history.specs.Legal.{are_allowed_behind, is_allowed, is_allowed_so_far, is_legal, is_stop_due}
 use Rattle.ct_history.proofs.ApartLemmas.{Differ, differ-head, differ-tail, starts_apart}
 use Rattle.ct_history.proofs.LegalLemmas.{allowed-snoc, legal_allowed}
-use Rattle.ct_history.proofs.OpenLemmas.{is_of, open_starts-end, open_starts-snoc}
+use Rattle.ct_history.proofs.OpenLemmas.{is_of, open_starts-end, open_starts-snoc, filter_none}
+use Rattle.ct_history.proofs.BoolLemmas.{flipped}
 use Rattle.ct_turn.specs.Seen.{HistoryGoesOn, is_by, open_start_of_worker}
-
-true_is_false : true ≡ false → ⊥
-true_is_false is = cc
-
--- where a disjunction is false, both parts are false
-pub or_parts : (a b : Bool) → (a || b) ≡ false → (a ≡ false) × (b ≡ false)
-or_parts true b is = absurd (true_is_false is)
-or_parts false b is = (refl, is)
-
-pub or_from : (a b : Bool) → a ≡ false → b ≡ false → (a || b) ≡ false
-or_from a b none no_other = ap (λ (x : Bool). x || b) none ∙ no_other
-
-flipped : (m n : ℕ) → (m == n) ≡ false → (n == m) ≡ false
-flipped m n is = grind (arith, nat_tests)
-
-same_number : (m n : ℕ) → (m == n) ≡ true → m ≡ n
-same_number m n is = grind (arith, nat_tests)
-
-filter_none : (t a : ℕ) (rs : List Running) → list_any (λ (q : Running). q.test == t) rs ≡ false → filter (λ r. not (is_of t a r)) rs ≡ rs
-filter_none t a [] none = refl
-filter_none t a (x ∷ xs) none =
-    let both = or_parts (x.test == t) (list_any (λ (q : Running). q.test == t) xs) none in
-    ap (λ (b : Bool). cond (not (b && x.attempt == a)) (x ∷ filter (λ r. not (is_of t a r)) xs) (filter (λ r. not (is_of t a r)) xs)) both.0
-    ∙ ap (λ (rs : List Running). x ∷ rs) (filter_none t a xs both.1)
 
 -- this attempt of the test, by this worker
 abbrev is_held : ℕ → ℕ → ℕ → Running → Bool
@@ -57,17 +34,17 @@ find-end t a v w (x ∷ xs) all held other =
     let first = λ (b : Bool). find (λ (r : Running). r.worker == w) (cond (not b) (x ∷ rest) rest) in
     elim (cases_Bool (is_of t a x)) [
       | inl same ↦
-          let test = same_number x.test t (and_parts (x.test == t) (x.attempt == a) same).0 in
+          let test = eqb-true x.test t (and_parts (x.test == t) (x.attempt == a) same).0 in
           let none = subst (λ (k : ℕ). list_any (λ (q : Running). q.test == k) xs ≡ false) test (differ-head (λ r. r.test) x xs all) in
           elim (cases_Bool (x.worker == v)) [
             | inl by ↦
-                let unlike : (x.worker == w) ≡ false = ap (λ (k : ℕ). k == w) (same_number x.worker v by) ∙ other in
+                let unlike : (x.worker == w) ≡ false = ap (λ (k : ℕ). k == w) (eqb-true x.worker v by) ∙ other in
                 ap first same
                 ∙ ap (λ (rs : List Running). find (λ (r : Running). r.worker == w) rs) (filter_none t a xs none)
                 ∙ sym (ap (λ (b : Bool). if b then Some x else find (λ (r : Running). r.worker == w) xs) unlike)
             | inr by_other ↦
                 let not_here : is_held t a v x ≡ false = ap (λ (b : Bool). b && x.worker == v) same ∙ by_other in
-                absurd (true_is_false (sym held ∙ or_from (is_held t a v x) (list_any (is_held t a v) xs) not_here (none_held t a v xs none)))
+                absurd (true≢false (sym held ∙ or_from (is_held t a v x) (list_any (is_held t a v) xs) not_here (none_held t a v xs none)))
           ]
       | inr unlike ↦
           let not_here : is_held t a v x ≡ false = ap (λ (b : Bool). b && x.worker == v) unlike in
