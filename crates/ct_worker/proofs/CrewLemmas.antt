@@ -5,13 +5,13 @@ use Rattle.std.specs.List.{list_any}
 use Rattle.std.proofs.Math.ListN.{get_or, set}
 use Rattle.std.proofs.lemmas.List.{map-append}
 use Rattle.std.proofs.lemmas.List.Folds.{list_any-append}
+use Rattle.std.proofs.lemmas.Bool.{or_from}
 use Rattle.ct_history.specs.declared.history.Entry.{Entry}
 use Rattle.ct_core.specs.Gate.{GateTell}
 use Rattle.ct_turn.specs.declared.view.Known.{Known}
 use Rattle.ct_turn.specs.Pass.{PassValue, idle_pass}
 use Rattle.ct_turn.specs.Seen.{HistoryGoesOn, is_by, one_more, split_off, with_joined}
 use Rattle.ct_turn.specs.Turn.{TurnValue}
-use Rattle.ct_turn.proofs.StartLemmas.{or_from}
 use Rattle.ct_worker.specs.declared.jobs.Jobs.{Jobs}
 use Rattle.ct_worker.specs.Crew.{AllTookPart, AreReady, AreSplit, HasSplit, all_joined, split_pass}
 

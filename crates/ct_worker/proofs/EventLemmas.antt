@@ -1,10 +1,10 @@
 -- What an event of a worker, between its take and its give, makes of the run.
-use Rattle.std.proofs.Common.{◌≡◌, ◌∙◌, sym, ap, subst, true, false, Bool, ℕ, List, [], ◌∷◌, ◌++◌, refl, arith, append_assoc}
-use Rattle.std.specs.Prelude.{Option, Some, None, IsSome, IsSomeAnd, is_some, ◌&&◌, ◌==◌}
+use Rattle.std.proofs.Common.{◌≡◌, ◌∙◌, sym, ap, subst, true, false, Bool, ℕ, List, [], ◌∷◌, ◌++◌, refl, append_assoc}
+use Rattle.std.specs.Prelude.{Option, Some, None, IsSome, IsSomeAnd, is_some, ◌&&◌}
 use Rattle.std.specs.List.{list_all, list_any}
 use Rattle.std.proofs.lemmas.List.{append-nil}
-use Rattle.std.proofs.lemmas.Bool.Decides.{nat_tests}
 use Rattle.std.proofs.lemmas.List.Folds.{list_all-append, list_any-append}
+use Rattle.std.proofs.lemmas.Bool.{or_from, eq-eqb}
 use Rattle.ct_verdict.specs.declared.attempt.Seen.{Seen}
 use Rattle.ct_alloc.specs.declared.placement.Placement.{Placement}
 use Rattle.ct_history.specs.declared.plan.PlanTest.{PlanTest}
@@ -12,11 +12,10 @@ use Rattle.ct_history.specs.declared.plan.PlanParts.{PlanParts}
 use Rattle.ct_history.specs.declared.history.Entry.{Entry}
 use Rattle.ct_history.specs.declared.history.Entry.TheVariants as Is
 use Rattle.ct_history.specs.History.{is_busy_in}
-use Rattle.ct_history.specs.Legal.{is_allowed, is_legal}
-use Rattle.ct_history.specs.Plan.{IsSound, test_at}
+use Rattle.ct_history.specs.Legal.{is_legal}
+use Rattle.ct_history.specs.Plan.{test_at}
 use Rattle.ct_history.specs.Rules.{may_start_at}
 use Rattle.ct_history.specs.Verdicts.{are_all_final}
-use Rattle.ct_history.proofs.LegalLemmas.{allowed-snoc, legal_allowed, legal_from, start_not_due}
 use Rattle.ct_history.proofs.OpenLemmas.{open_starts-end, open_starts-snoc}
 use Rattle.ct_core.specs.declared.scheduler.Next.{Next}
 use Rattle.ct_core.specs.declared.scheduler.Next.TheVariants as Nexts
@@ -25,13 +24,12 @@ use Rattle.ct_core.specs.Core.{SettlesLeast, StartsFirst, with_due_stop}
 use Rattle.ct_core.specs.CoreValue.{CoreValue}
 use Rattle.ct_core.specs.Gate.{is_no_memory}
 use Rattle.ct_core.specs.Ticket.{end_of, holds_ticket, start_of, test_of}
-use Rattle.ct_core.proofs.KeptLemmas.{end_allowed, final_step, settle_allowed, start_allowed}
 use Rattle.ct_turn.specs.declared.view.Known.{Known}
 use Rattle.ct_turn.specs.declared.view.Moment.{Moment}
 use Rattle.ct_turn.specs.Pass.{PassValue, idle_pass}
 use Rattle.ct_turn.specs.Seen.{AddsOwn, Continues, HistoryGoesOn, Sight, Suits, has_seen, held_start, is_by, is_own, moment, open_start_of_worker}
-use Rattle.ct_turn.proofs.CallerLemmas.{adds_none, adds_one, end_holds_none, holds_own, not_busy, settle_stays, start_holds}
-use Rattle.ct_turn.proofs.StartLemmas.{or_from, start_stays}
+use Rattle.ct_turn.proofs.CallerLemmas.{adds_none, adds_one, end_holds_none, holds_own, not_busy, settle_stays, start_holds, adds_due}
+use Rattle.ct_turn.proofs.StartLemmas.{start_stays}
 use Rattle.ct_worker.specs.declared.state.Halt.{Halt}
 use Rattle.ct_worker.specs.declared.state.Halt.TheVariants.{Memory}
 use Rattle.ct_worker.specs.Attempt.{run_of}
@@ -66,17 +64,6 @@ step_then w a b c one other = record {
   halted = λ halt. other.halted (one.halted halt);
 }
 
-same_worker : (v w : ℕ) → v ≡ w → (v == w) ≡ true
-same_worker v w is = grind (arith, nat_tests)
-
--- an own entry, with the Stop that it makes due, adds only own entries
-adds_due : (w : ℕ) (plan : PlanParts) (es : List Entry) (e : Entry) → is_own w e ≡ true → AddsOwn w es (with_due_stop plan (es ++ e ∷ []))
-adds_due w plan es e own = due_keeps plan (es ++ e ∷ []) (λ xs. AddsOwn w es xs) (adds_one w es e own) (record {
-  more = e ∷ Is.Stop ∷ [];
-  is = append_assoc es (e ∷ []) (Is.Stop ∷ []);
-  own = ap (λ (b : Bool). b && (true && true)) own;
-})
-
 -- entries that are not the worker's, behind a history, leave what the worker has seen of it
 goes_more : (w : ℕ) (seen now more : List Entry) → HistoryGoesOn w seen now → list_any (is_by w) more ≡ false → HistoryGoesOn w seen (now ++ more)
 goes_more w seen now more goes none = record {
@@ -105,9 +92,6 @@ plan_stays w Nexts.NoMemory old new of = ap (λ (s : StateValue). s.plan) of.fol
 
 -- the case that the turn was taken by a worker that holds no start
 module _ (w : ℕ) (known : Known) (old : StateValue) (is_worker : known.worker ≡ w) (suits : Suits known (sight_of old)) (idle : held_start known ≡ None) where
-  legal : is_legal old.plan old.entries ≡ true
-  legal = subst (λ (p : PlanParts). is_legal p old.entries ≡ true) (sym suits.plan) suits.legal
-
   none_open : open_start_of_worker w old.entries ≡ None
   none_open = subst (λ (v : ℕ). open_start_of_worker v old.entries ≡ None) is_worker (suits.start ∙ idle)
 
@@ -117,19 +101,13 @@ module _ (w : ℕ) (known : Known) (old : StateValue) (is_worker : known.worker 
   goes : HistoryGoesOn w known.seen.entries old.entries
   goes = subst (λ (v : ℕ). HistoryGoesOn v known.seen.entries old.entries) is_worker suits.history
 
-  module _ (sound : IsSound old.plan) where
+  module _ (new : StateValue) (legal : is_legal new.plan new.entries ≡ true) where
     module _ (ticket : Ticket) (core : CoreValue) (step : StartsFirst (core_of old) w ticket core) where
       started : core.entries ≡ old.entries ++ start_of ticket ∷ []
       started = ap (λ (c : CoreValue). c.entries) step.appended
 
-      start_legal : is_legal old.plan (old.entries ++ start_of ticket ∷ []) ≡ true
-      start_legal =
-          let free_ticket = subst (λ (v : ℕ). is_busy_in v old.entries ≡ false) (sym step.by) free in
-          let allowed = start_allowed old.plan old.entries legal ticket.test ticket.attempt ticket.worker ticket.placement free_ticket step.first.may step.attempt in
-          legal_from old.plan (old.entries ++ start_of ticket ∷ []) (allowed-snoc old.plan old.entries (start_of ticket) (legal_allowed old.plan old.entries legal) allowed) (start_not_due old.plan old.entries ticket.test ticket.attempt ticket.worker ticket.placement)
-
       start_own : AddsOwn w old.entries core.entries
-      start_own = subst (λ (es : List Entry). AddsOwn w old.entries es) (sym started) (adds_one w old.entries (start_of ticket) (same_worker ticket.worker w step.by))
+      start_own = subst (λ (es : List Entry). AddsOwn w old.entries es) (sym started) (adds_one w old.entries (start_of ticket) (eq-eqb ticket.worker w step.by))
 
       start_held : open_start_of_worker w core.entries ≡ Some (run_of ticket)
       start_held =
@@ -140,43 +118,47 @@ module _ (w : ℕ) (known : Known) (old : StateValue) (is_worker : known.worker 
       settled : core.entries ≡ with_due_stop old.plan (old.entries ++ Is.Settle test step.cause ∷ [])
       settled = ap (λ (c : CoreValue). c.entries) step.appended
 
-      settle_legal : is_legal old.plan core.entries ≡ true
-      settle_legal =
-          ap (λ (es : List Entry). is_legal old.plan es) settled
-          ∙ (final_step old.plan sound.numbers old.entries legal (Is.Settle test step.cause) refl (settle_allowed old.plan old.entries legal test step.cause step.least.may)).legal
-
       settle_own : AddsOwn w old.entries core.entries
       settle_own = subst (λ (es : List Entry). AddsOwn w old.entries es) (sym settled) (adds_due w old.plan old.entries (Is.Settle test step.cause) refl)
 
       settle_goes : HistoryGoesOn w known.seen.entries core.entries
       settle_goes = subst (λ (es : List Entry). HistoryGoesOn w known.seen.entries es) (sym settled) (goes_due w old.plan known.seen.entries old.entries (Is.Settle test step.cause) refl goes)
 
-    -- the case that the state stays the same
-    still : (new : StateValue) → new ≡ old → IsStep w old new
-    still new same = subst (λ (s : StateValue). IsStep w old s) (sym same) (record { plan = refl; base = refl; legal = legal; own = adds_none w old.entries; halted = λ halt. halt })
+    legal_still : (next : Next) → IsStateNext old w next new → is_legal old.plan new.entries ≡ true
+    legal_still next of = subst (λ (p : PlanParts). is_legal p new.entries ≡ true) (plan_stays w next old new of) legal
 
-    pub next_step : (next : Next) (new : StateValue) → IsStateNext old w next new → IsStep w old new
-    next_step (Nexts.Start ticket) new of = record {
+    -- the case that the state stays the same
+    still : new ≡ old → is_legal old.plan new.entries ≡ true → IsStep w old new
+    still same legal_now = record {
+      plan = ap (λ (s : StateValue). s.plan) same;
+      base = ap base_of same;
+      legal = legal_now;
+      own = subst (λ (s : StateValue). AddsOwn w old.entries s.entries) (sym same) (adds_none w old.entries);
+      halted = λ halt. ap (λ (s : StateValue). is_some s.halt) same ∙ halt;
+    }
+
+    pub next_step : (next : Next) → IsStateNext old w next new → IsStep w old new
+    next_step (Nexts.Start ticket) of = record {
       plan = ap (λ (s : StateValue). s.plan) of.follows;
       base = ap base_of of.follows;
-      legal = ap (λ (s : StateValue). is_legal old.plan s.entries) of.follows ∙ ap (λ (es : List Entry). is_legal old.plan es) (started ticket of.core of.step) ∙ start_legal ticket of.core of.step;
+      legal = legal_still (Nexts.Start ticket) of;
       own = subst (λ (s : StateValue). AddsOwn w old.entries s.entries) (sym of.follows) (start_own ticket of.core of.step);
       halted = λ halt. ap (λ (s : StateValue). is_some s.halt) of.follows ∙ halt;
     }
-    next_step (Nexts.Settled test) new of = record {
+    next_step (Nexts.Settled test) of = record {
       plan = ap (λ (s : StateValue). s.plan) of.follows.is;
       base = ap base_of of.follows.is;
-      legal = ap (λ (s : StateValue). is_legal old.plan s.entries) of.follows.is ∙ settle_legal test of.core of.step;
+      legal = legal_still (Nexts.Settled test) of;
       own = subst (λ (s : StateValue). AddsOwn w old.entries s.entries) (sym of.follows.is) (settle_own test of.core of.step);
       halted = λ halt. absurd (let no : true ≡ false = sym halt ∙ of.step.goes_on in cc);
     }
-    next_step Nexts.Wait new of = still new of.follows
-    next_step Nexts.Done new of = still new of.follows
-    next_step Nexts.Aborted new of = still new of.follows
-    next_step Nexts.NoMemory new of = record {
+    next_step Nexts.Wait of = still of.follows (legal_still Nexts.Wait of)
+    next_step Nexts.Done of = still of.follows (legal_still Nexts.Done of)
+    next_step Nexts.Aborted of = still of.follows (legal_still Nexts.Aborted of)
+    next_step Nexts.NoMemory of = record {
       plan = ap (λ (s : StateValue). s.plan) of.follows;
       base = ap base_of of.follows;
-      legal = ap (λ (s : StateValue). is_legal old.plan s.entries) of.follows ∙ legal;
+      legal = legal_still Nexts.NoMemory of;
       own = subst (λ (s : StateValue). AddsOwn w old.entries s.entries) (sym of.follows) (adds_none w old.entries);
       halted = λ halt. ap (λ (s : StateValue). is_some s.halt) of.follows ∙ first_is old.halt;
     }
@@ -186,7 +168,7 @@ module _ (w : ℕ) (known : Known) (old : StateValue) (is_worker : known.worker 
         first_is (Some h) = refl
 
     -- what the worker has seen after the step
-    module _ (pass : PassValue) (of_pass : pass.known ≡ known) (idle_before : pass.taken ≡ None) (new : StateValue) (after : PassValue) (gave : after ≡ idle_pass pass.turn (has_seen known (moment new.entries (is_some new.halt)))) where
+    module _ (pass : PassValue) (of_pass : pass.known ≡ known) (idle_before : pass.taken ≡ None) (after : PassValue) (gave : after ≡ idle_pass pass.turn (has_seen known (moment new.entries (is_some new.halt)))) where
       known_after : after.known ≡ has_seen known (moment new.entries (is_some new.halt))
       known_after = ap (λ (p : PassValue). p.known) gave
 
@@ -207,8 +189,8 @@ module _ (w : ℕ) (known : Known) (old : StateValue) (is_worker : known.worker 
         ap held_start known_after ∙ ap (λ (v : ℕ). open_start_of_worker v new.entries) is_worker ∙ start_stays old.plan w known.seen.entries new.entries is_so goes_on ∙ ap (λ (v : ℕ). open_start_of_worker v known.seen.entries) (sym is_worker) ∙ idle,
       )
 
-      stays_same : new.entries ≡ old.entries → Stays pass after
-      stays_same same = stays (subst (λ (es : List Entry). HistoryGoesOn w known.seen.entries es) (sym same) goes) (ap (λ (es : List Entry). is_legal old.plan es) same ∙ legal)
+      stays_same : new.entries ≡ old.entries → is_legal old.plan new.entries ≡ true → Stays pass after
+      stays_same same is_so = stays (subst (λ (es : List Entry). HistoryGoesOn w known.seen.entries es) (sym same) goes) is_so
 
       begins_with : (next : Next) → IsStateNext old w next new → SeesNext next pass after
       begins_with (Nexts.Start ticket) of =
@@ -223,19 +205,19 @@ module _ (w : ℕ) (known : Known) (old : StateValue) (is_worker : known.worker 
           }
       begins_with (Nexts.Settled test) of =
           let entries : new.entries ≡ of.core.entries = ap (λ (s : StateValue). s.entries) of.follows.is in
-          stays (subst (λ (es : List Entry). HistoryGoesOn w known.seen.entries es) (sym entries) (settle_goes test of.core of.step)) (ap (λ (es : List Entry). is_legal old.plan es) entries ∙ settle_legal test of.core of.step)
-      begins_with Nexts.Wait of = stays_same (ap (λ (s : StateValue). s.entries) of.follows)
+          stays (subst (λ (es : List Entry). HistoryGoesOn w known.seen.entries es) (sym entries) (settle_goes test of.core of.step)) (legal_still (Nexts.Settled test) of)
+      begins_with Nexts.Wait of = stays_same (ap (λ (s : StateValue). s.entries) of.follows) (legal_still Nexts.Wait of)
       begins_with Nexts.Done of =
           let entries : new.entries ≡ old.entries = ap (λ (s : StateValue). s.entries) of.follows in (
-            stays_same entries,
+            stays_same entries (legal_still Nexts.Done of),
             ap (λ (k : Known). are_all_final k.plan after.known.seen.entries) of_pass ∙ ap (λ (p : PlanParts). are_all_final p after.known.seen.entries) (sym suits.plan)
                 ∙ ap (λ (es : List Entry). are_all_final old.plan es) (seen_after ∙ entries) ∙ of.step.final,
           )
       begins_with Nexts.Aborted of = (
-        stays_same (ap (λ (s : StateValue). s.entries) of.follows),
+        stays_same (ap (λ (s : StateValue). s.entries) of.follows) (legal_still Nexts.Aborted of),
         ap (λ (k : Known). k.seen.halted) known_after ∙ ap (λ (s : StateValue). is_some s.halt) of.follows ∙ of.step.0,
       )
-      begins_with Nexts.NoMemory of = stays_same (ap (λ (s : StateValue). s.entries) of.follows)
+      begins_with Nexts.NoMemory of = stays_same (ap (λ (s : StateValue). s.entries) of.follows) (legal_still Nexts.NoMemory of)
 
       pub begins : (next : Next) → IsStateNext old w next new → AsksNext pass next after
       begins next of = record { pass = pass_after; follows = begins_with next of }
@@ -257,7 +239,7 @@ pub gave_back : (pass took after : PassValue) (taken now : Moment) → took ≡ 
 gave_back pass took after taken now is gave = gave ∙ ap (λ (p : PassValue). idle_pass p.turn (has_seen p.known now)) is
 
 -- the case that the turn was taken by a worker that holds the start of a ticket
-module _ (known : Known) (old : StateValue) (sound : IsSound known.plan) (suits : Suits known (sight_of old)) (ticket : Ticket) (holds : held_start known ≡ Some (run_of ticket)) (seen : Seen) where
+module _ (known : Known) (old : StateValue) (suits : Suits known (sight_of old)) (ticket : Ticket) (holds : held_start known ≡ Some (run_of ticket)) (seen : Seen) where
   end_legal : is_legal old.plan old.entries ≡ true
   end_legal = subst (λ (p : PlanParts). is_legal p old.entries ≡ true) (sym suits.plan) suits.legal
 
@@ -270,13 +252,7 @@ module _ (known : Known) (old : StateValue) (sound : IsSound known.plan) (suits 
   own_ticket : ticket.worker ≡ known.worker
   own_ticket = (holds_own known.worker (run_of ticket) old.entries held).0
 
-  end_allowed_here : is_allowed old.plan old.entries (end_of ticket seen) ≡ true
-  end_allowed_here = end_allowed old.plan old.entries end_legal ticket.test ticket.attempt ticket.worker seen may_finish
-
-  ended_legal : is_legal old.plan (with_due_stop old.plan (old.entries ++ end_of ticket seen ∷ [])) ≡ true
-  ended_legal = (final_step old.plan (subst (λ (p : PlanParts). IsSound p) (sym suits.plan) sound).numbers old.entries end_legal (end_of ticket seen) refl end_allowed_here).legal
-
-  module _ (new : StateValue) (finished : IsFinished old ticket seen new) where
+  module _ (new : StateValue) (finished : IsFinished old ticket seen new) (legal_now : is_legal new.plan new.entries ≡ true) where
     record Finished : Type 0 where
       plan : new.plan ≡ old.plan
       base : base_of new ≡ base_of old
@@ -310,8 +286,8 @@ module _ (known : Known) (old : StateValue) (sound : IsSound known.plan) (suits 
     end_step = record {
       plan = done.plan;
       base = done.base;
-      legal = ap (λ (es : List Entry). is_legal old.plan es) done.entries ∙ ended_legal;
-      own = subst (λ (es : List Entry). AddsOwn known.worker old.entries es) (sym done.entries) (adds_due known.worker old.plan old.entries (end_of ticket seen) (same_worker ticket.worker known.worker own_ticket));
+      legal = subst (λ (p : PlanParts). is_legal p new.entries ≡ true) done.plan legal_now;
+      own = subst (λ (es : List Entry). AddsOwn known.worker old.entries es) (sym done.entries) (adds_due known.worker old.plan old.entries (end_of ticket seen) (eq-eqb ticket.worker known.worker own_ticket));
       halted = done.halted;
     }
 

@@ -2,6 +2,7 @@
 use Rattle.std.proofs.Common.{◌≡◌, ◌∙◌, sym, ap, subst, Bool, true, false, ℕ, ◌+◌, ◌≤◌, List, [], ◌∷◌, ◌++◌, refl, arith, inl, inr, append_assoc}
 use Rattle.std.specs.Prelude.{◌⊎◌, Option, Some, None, IfSome, map, count_by, not, ◌==◌, ◌&&◌, ◌||◌, cond}
 use Rattle.std.specs.List.{list_any, cons_option}
+use Rattle.std.proofs.Math.Bool.{or-true}
 use Rattle.std.proofs.lemmas.List.{append-nil, map-append}
 use Rattle.std.proofs.lemmas.List.Elements.{filter_map-append}
 use Rattle.std.proofs.lemmas.List.Folds.{list_any-append}
@@ -37,16 +38,12 @@ may_miss-append may (run ∷ runs) more [] (other ∷ others) is rest = inr (is.
 may_miss-append may (run ∷ runs) more (first ∷ kept) others (inl (same, left)) rest = inl (same, may_miss-append may runs more kept others left rest)
 may_miss-append may (run ∷ runs) more (first ∷ kept) others (inr (lacks, left)) rest = inr (lacks, may_miss-append may runs more (first ∷ kept) others left rest)
 
-or_true : (b : Bool) → (b || true) ≡ true
-or_true true = refl
-or_true false = refl
-
 -- an attempt that lacked memory still did with more entries, behind or in front
 lacking_stays : (es more : List Entry) (run : Running) → ended_lacking es run ≡ true → ended_lacking (es ++ more) run ≡ true
 lacking_stays es more run is = list_any-append (lacks_for run) es more ∙ ap (λ (b : Bool). b || list_any (lacks_for run) more) is
 
 lacking_behind : (es more : List Entry) (run : Running) → ended_lacking more run ≡ true → ended_lacking (es ++ more) run ≡ true
-lacking_behind es more run is = list_any-append (lacks_for run) es more ∙ ap (λ (b : Bool). list_any (lacks_for run) es || b) is ∙ or_true (list_any (lacks_for run) es)
+lacking_behind es more run is = list_any-append (lacks_for run) es more ∙ ap (λ (b : Bool). list_any (lacks_for run) es || b) is ∙ or-true (list_any (lacks_for run) es)
 
 are_requests-append : (terms : Terms) (runs more : List Running) (requests others : List Request) → AreRequests terms runs requests → AreRequests terms more others → AreRequests terms (runs ++ more) (requests ++ others)
 are_requests-append terms [] more [] others are rest = rest

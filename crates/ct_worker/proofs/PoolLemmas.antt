@@ -4,7 +4,7 @@ use Rattle.std.proofs.Common.{◌≡◌, ◌∙◌, sym, ap, subst, refl, ℕ, s
 use Rattle.std.specs.Prelude.{⊤, Contains, IfErr, Option, Some, None, is_some, All, map, ◌==◌, ◌||◌, nat_lt}
 use Rattle.std.specs.List.{list_all, list_any}
 use Rattle.std.proofs.Math.ListN.{take}
-use Rattle.std.proofs.lemmas.Bool.{and_parts, and_from, cases_Bool}
+use Rattle.std.proofs.lemmas.Bool.{and_parts, and_from, cases_Bool, true≢false, or_from}
 use Rattle.std.proofs.lemmas.Bool.Decides.{nat_tests}
 use Rattle.std.proofs.lemmas.List.{append-nil, map-append}
 use Rattle.std.proofs.lemmas.List.Elements.{All-cons, All-head, All-nil, All-tail}
@@ -29,7 +29,6 @@ use Rattle.ct_turn.specs.declared.view.Note.{Note}
 use Rattle.ct_turn.specs.Pass.{PassValue}
 use Rattle.ct_turn.specs.Seen.{Closes, HistoryGoesOn, Sight, is_by, is_noted, moment, note_of, with_joined}
 use Rattle.ct_turn.specs.Turn.{TurnValue}
-use Rattle.ct_turn.proofs.StartLemmas.{or_from}
 use Rattle.ct_report.specs.PutLines.{PutsLines}
 use Rattle.ct_report.specs.Report.{test_lines}
 use Rattle.ct_worker.specs.declared.jobs.Jobs.{Jobs}
@@ -140,18 +139,15 @@ asked_all terms turn w (p ∷ ps) (before ∷ befores) (now ∷ nows) rest final
   asked_all terms turn (w + 1) ps befores nows rest final all.1 goes.1 (λ v behind. none v (omega (arith, behind))),
 )
 
-true_is_false : true ≡ false → ⊥
-true_is_false is = cc
-
 -- if no entry is by a worker behind the first ones, each entry is by one of the first
 below_one : (workers : ℕ) (e : Entry) → ((v : ℕ) → workers ≤ v → is_by v e ≡ false) → is_below workers e ≡ true
 below_one workers (Start t a w p) none = elim (cases_Bool (nat_lt w workers)) [
   | inl less ↦ less
-  | inr not_less ↦ let behind : workers ≤ w = grind (arith, nat_tests, not_less) in absurd (true_is_false (sym (eq_same w) ∙ none w behind))
+  | inr not_less ↦ let behind : workers ≤ w = grind (arith, nat_tests, not_less) in absurd (true≢false (sym (eq_same w) ∙ none w behind))
 ]
 below_one workers (End t a w s) none = elim (cases_Bool (nat_lt w workers)) [
   | inl less ↦ less
-  | inr not_less ↦ let behind : workers ≤ w = grind (arith, nat_tests, not_less) in absurd (true_is_false (sym (eq_same w) ∙ none w behind))
+  | inr not_less ↦ let behind : workers ≤ w = grind (arith, nat_tests, not_less) in absurd (true≢false (sym (eq_same w) ∙ none w behind))
 ]
 below_one workers (Settle t cause) none = refl
 below_one workers Stop none = refl
@@ -265,7 +261,7 @@ module _ (jobs : Jobs) (turn : TurnValue) (plan : PlanParts) (base : Base) (coun
 
       not_halted : new.halt ≡ None → keeper.seen.halted ≡ false
       not_halted none = elim (cases_Bool keeper.seen.halted) [
-        | inl halted ↦ absurd (true_is_false (sym (closed.halted halted) ∙ ap is_some none))
+        | inl halted ↦ absurd (true≢false (sym (closed.halted halted) ∙ ap is_some none))
         | inr going ↦ going
       ]
 

@@ -3,6 +3,7 @@ use Rattle.std.proofs.Common.{◌≡◌, ◌∙◌, sym, ap, subst, true, false,
 use Rattle.std.specs.Prelude.{Option, Some, None, is_some, Result, Ok, Err, IfErr, ◌||◌, not, ◌&&◌}
 use Rattle.std.proofs.lemmas.List.{append-nil}
 use Rattle.std.proofs.lemmas.List.Folds.{list_all-append}
+use Rattle.std.proofs.Math.Bool.{or-false, or-true}
 use Rattle.ct_base.specs.declared.sink.SinkFault.{SinkFault}
 use Rattle.ct_base.specs.declared.sink.SinkFault.TheVariants as Sinks
 use Rattle.ct_base.specs.Outside.{SinkTell}
@@ -147,16 +148,12 @@ module _ {S : Type 0} (tells : S → SinkTell) (core now : CoreValue) (halt : Op
       by (Some h) put stops = record { aborted = refl; put = put; knows = knows_aborted old.known kept.knows; goes_on = λ none. cc; stops = stops }
 
   module _ (new : Lines S) (put : Result (Unit {0}) SinkFault) (after : CoreValue) (halted : Option Halt) (heeded : after ≡ record now { aborted = now.aborted || is_some (halt_of put) }) (is : halted ≡ first_halt halt (halt_of put)) where
-    or_false : (b : Bool) → (b || false) ≡ b
-    or_false true = refl
-    or_false false = refl
-
     or_none : (o : Option Halt) → first_halt o None ≡ o
     or_none None = refl
     or_none (Some h) = refl
 
     after_well : put ≡ Ok tt → after ≡ now
-    after_well well = heeded ∙ ap (λ (r : Result (Unit {0}) SinkFault). record now { aborted = now.aborted || is_some (halt_of r) }) well ∙ ap (λ (b : Bool). record now { aborted = b }) (or_false now.aborted)
+    after_well well = heeded ∙ ap (λ (r : Result (Unit {0}) SinkFault). record now { aborted = now.aborted || is_some (halt_of r) }) well ∙ ap (λ (b : Bool). record now { aborted = b }) (or-false now.aborted)
 
     halted_well : put ≡ Ok tt → halted ≡ halt
     halted_well well = is ∙ ap (λ (r : Result (Unit {0}) SinkFault). first_halt halt (halt_of r)) well ∙ or_none halt
@@ -175,10 +172,6 @@ module _ {S : Type 0} (tells : S → SinkTell) (core now : CoreValue) (halt : Op
     after_short : now ≡ core → put ≡ Err Sinks.NoMemory → (after ≡ record core { aborted = core.aborted || true }) × (halted ≡ first_halt halt (Some Halts.Memory))
     after_short same failed = (heeded ∙ ap (λ (c : CoreValue). record c { aborted = c.aborted || is_some (halt_of put) }) same ∙ ap (λ (r : Result (Unit {0}) SinkFault). record core { aborted = core.aborted || is_some (halt_of r) }) failed, is ∙ ap (λ (r : Result (Unit {0}) SinkFault). first_halt halt (halt_of r)) failed)
 
-    or_true : (b : Bool) → (b || true) ≡ true
-    or_true true = refl
-    or_true false = refl
-
     pub next_kept : (next : Next) → IsNext core worker next now → PutsFor tells next now old new put → IsKeptState after halted new.known new.count opened (tells new.sink)
     next_kept (Nexts.Start ticket) step says = kept_well says.0 says.1 (kept_started ticket step)
     next_kept (Nexts.Settled test) step says =
@@ -189,7 +182,7 @@ module _ {S : Type 0} (tells : S → SinkTell) (core now : CoreValue) (halt : Op
     next_kept Nexts.NoMemory step says =
         let short = after_short step.kept says.1 in
         subst (λ (l : Lines S). IsKeptState after halted l.known l.count opened (tells l.sink)) (sym says.0)
-        (subst (λ (c : CoreValue). IsKeptState c halted old.known old.count opened (tells old.sink)) (sym (short.0 ∙ ap (λ (b : Bool). record core { aborted = b }) (or_true core.aborted)))
+        (subst (λ (c : CoreValue). IsKeptState c halted old.known old.count opened (tells old.sink)) (sym (short.0 ∙ ap (λ (b : Bool). record core { aborted = b }) (or-true core.aborted)))
         (subst (λ (h : Option Halt). IsKeptState (record core { aborted = true }) h old.known old.count opened (tells old.sink)) (sym short.1) kept_short))
 
     abbrev old_state : StateValue

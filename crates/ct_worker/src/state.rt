@@ -52,6 +52,7 @@ impl<S: Sink> Model for State<S> {
 impl<S: Sink> State<S> {
     ghost use Rattle.ct_core.specs.Ticket.{holds_ticket};
     ghost use Rattle.ct_history.specs.History.{is_busy_in};
+    ghost use Rattle.ct_history.specs.Legal.{StaysWithin, is_legal};
     ghost use Rattle.ct_report.specs.PutLines.{PutsLines};
     ghost use Rattle.ct_report.specs.Report.{test_lines};
     ghost use Rattle.ct_worker.specs.declared.state.Halt.TheVariants.{Memory};
@@ -80,7 +81,9 @@ impl<S: Sink> State<S> {
     /// If memory is wanting, or the line cannot be put, the run is given up.
     pub fn next(&mut self, worker: u32) -> Next
         requires { is_busy_in worker self.old.entries ≡ false }
-        ensures { IsStateNext self.old worker result self.new }
+        ensures step { IsStateNext self.old worker result self.new }
+        ensures legal { is_legal self.new.plan self.new.entries ≡ true }
+        ensures within { StaysWithin self.new.plan self.new.entries }
     {
         let next = self.core.next(worker);
         let put = self.lines.put_for(&self.core, &next);
@@ -94,7 +97,9 @@ impl<S: Sink> State<S> {
     /// be put, the run is given up. From then on no line is put.
     pub fn finish(&mut self, ticket: Ticket, seen: Seen)
         requires { holds_ticket ticket self.old.entries ≡ true }
-        ensures { IsFinished self.old ticket seen self.new }
+        ensures finished { IsFinished self.old ticket seen self.new }
+        ensures legal { is_legal self.new.plan self.new.entries ≡ true }
+        ensures within { StaysWithin self.new.plan self.new.entries }
     {
         let test = ticket.test();
         let verdict = self.core.finish(ticket, seen);

@@ -1,6 +1,6 @@
-ghost use Rattle.std.specs.Prelude.{◌≡◌, None, Some, false, is_some};
+ghost use Rattle.std.specs.Prelude.{◌≡◌, None, Some, false, is_some, true};
 ghost use Rattle.ct_history.specs.History.{is_busy_in};
-ghost use Rattle.ct_history.specs.Plan.{IsSound};
+ghost use Rattle.ct_history.specs.Legal.{is_legal};
 ghost use Rattle.ct_turn.specs.Seen.{held_start};
 ghost use Rattle.ct_worker.specs.Attempt.{run_of};
 ghost use Rattle.ct_worker.specs.State.{IsStateNext};
@@ -96,7 +96,6 @@ fn begin<R: Wait, S: Sink>(rt: &R, turn: &Turn<State<S>>, pass: &mut Pass, worke
     requires worker { pass.old.known.worker ≡ worker }
     ensures begins { AsksNext pass.old result.next pass.new }
     ensures lends { result.lends ≡ is_some pass.old.known.plan.resources }
-    ensures sound { IsSound pass.old.known.plan }
 {
     let mut state = turn.take(rt, pass);
     let answer = next_of(&mut state, worker);
@@ -118,7 +117,6 @@ fn end<R: Wait, S: Sink>(
     requires idle { pass.old.taken ≡ None }
     requires worker { pass.old.known.worker ≡ worker }
     requires holds { held_start pass.old.known ≡ Some (run_of ticket) }
-    requires sound { IsSound pass.old.known.plan }
     ensures ends { EndsAndAsks pass.old ticket seen result.next pass.new }
     ensures lends { result.lends ≡ is_some pass.old.known.plan.resources }
 {
@@ -133,8 +131,8 @@ fn end<R: Wait, S: Sink>(
 fn next_of<S: Sink>(state: &mut State<S>, worker: u32) -> Answer
     requires { is_busy_in worker state.old.entries ≡ false }
     ensures next { IsStateNext state.old worker result.next state.new }
+    ensures legal { is_legal state.new.plan state.new.entries ≡ true }
     ensures lends { result.lends ≡ is_some state.new.plan.resources }
-    ensures sound { IsSound state.new.plan }
 {
     let next = state.next(worker);
     let lends = state.core().plan().parts().resources.is_some();

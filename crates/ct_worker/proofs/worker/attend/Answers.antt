@@ -15,7 +15,6 @@ loop-init g c = (
     asked = c.begin-answer.ensures.begins;
   },
   c.begin-answer.ensures.lends,
-  c.begin-answer.ensures.sound,
 )
 
 pub returns-in-Done-clause-along : goal.returns-in-Done-clause-along
@@ -32,7 +31,6 @@ loop-preserved-in-Start g c =
     let runs = subst (λ (b : Bool). RunsAttempt (terms_of c.args.jobs.now b) (run_of c.in-Start.ticket) c.ask-seen.result (g.G.Gate.tells c.loop.gate) (g.G.Gate.tells c.ask-seen.new.gate)) c.loop.invariant.1 c.ask-seen.ensures in (
       way_attempt terms c.args.pass.now c.loop.pass c.end.new.pass (g.G.Gate.tells c.args.gate.now) (g.G.Gate.tells c.loop.gate) (g.G.Gate.tells c.ask-seen.new.gate) c.loop.answer.next c.end.result.next c.in-Start.ticket c.ask-seen.result way starts runs c.end.ensures.ends,
       way_lends terms c.args.pass.now c.loop.pass (g.G.Gate.tells c.args.gate.now) (g.G.Gate.tells c.loop.gate) c.loop.answer.next c.end.result.lends way c.end.ensures.lends,
-      c.loop.invariant.2,
     )
 
 pub loop-preserved-in-Wait : goal.loop-preserved-in-Wait
@@ -48,7 +46,6 @@ loop-preserved-in-Wait g c =
       },
       way_lends terms c.args.pass.now c.loop.pass (g.G.Gate.tells c.args.gate.now) (g.G.Gate.tells c.loop.gate) c.loop.answer.next c.begin.result.lends way
           (c.begin.ensures.lends ∙ ap (λ (p : PassValue). is_some p.known.plan.resources) c.pause.ensures),
-      c.loop.invariant.2,
     )
 
 pub loop-preserved : goal.loop-preserved
@@ -62,5 +59,4 @@ loop-preserved g c =
         asked = c.begin-in-Settled.ensures.begins;
       },
       way_lends terms c.args.pass.now c.loop.pass (g.G.Gate.tells c.args.gate.now) (g.G.Gate.tells c.loop.gate) c.loop.answer.next c.begin-in-Settled.result.lends way c.begin-in-Settled.ensures.lends,
-      c.loop.invariant.2,
     )

@@ -1,6 +1,7 @@
 use Rattle.std.proofs.Common.{ℕ, ◌≡◌, ◌∙◌, ap, sym, refl, subst}
 use Rattle.ct_history.specs.declared.plan.PlanParts.{PlanParts}
 use Rattle.ct_history.specs.Verdicts.{verdict_of_test}
+use Rattle.ct_history.specs.Legal.{is_legal, StaysWithin}
 use Rattle.ct_core.specs.CoreValue.{CoreValue}
 use Rattle.ct_core.specs.Gate.{is_no_memory}
 use Rattle.ct_core.specs.Ticket.{test_of}
@@ -28,10 +29,16 @@ pub invariant_of-self-else-is_none : goal.invariant_of-self-else-is_none
 invariant_of-self-else-is_none g c =
     given_up_kept g.S.Sink.tells c.self.inside.core c.finish-verdict.new.self c.self.inside.halt c.self.inside.lines (g.S.Sink.tells c.self.inside.opened.value) c.self.invariant c.args.ticket c.args.seen c.finish-verdict.ensures.appended c.if-is_none.ensures
 
-pub returns-then-is_none : goal.returns-then-is_none
-returns-then-is_none g c =
+pub returns-then-is_none-clause-finished : goal.returns-then-is_none-clause-finished
+returns-then-is_none-clause-finished g c =
     let says : PutsEnd g.S.Sink.tells (is_no_memory c.args.seen.how) (test_of c.args.ticket) c.finish-verdict.new.self c.self.inside.lines c.put_end-put.new.self c.put_end-put.result =
     subst (λ (n : ℕ). PutsEnd g.S.Sink.tells (is_no_memory c.args.seen.how) n c.finish-verdict.new.self c.self.inside.lines c.put_end-put.new.self c.put_end-put.result) c.test-test.ensures c.put_end-put.ensures in
     subst (λ (s : StateValue). IsFinished s c.args.ticket c.args.seen (seen_as c.heed.new.core c.heed.new.halt (g.S.Sink.tells c.self.inside.opened.value) (g.S.Sink.tells c.put_end-put.new.self.sink))) c.self.view_is
     (end_finished g.S.Sink.tells c.self.inside.core c.finish-verdict.new.self c.self.inside.halt c.self.inside.lines (g.S.Sink.tells c.self.inside.opened.value) c.self.invariant c.args.ticket c.args.seen c.finish-verdict.ensures.appended
     c.if-is_none.ensures c.put_end-put.new.self c.put_end-put.result c.heed.new.core c.heed.new.halt c.heed.ensures.core c.heed.ensures.halt says)
+
+pub returns-then-is_none-clause-legal : goal.returns-then-is_none-clause-legal
+returns-then-is_none-clause-legal g c = ap (λ (k : CoreValue). is_legal k.plan k.entries) c.heed.ensures.core ∙ c.finish-verdict.ensures.legal
+
+pub returns-then-is_none-clause-within : goal.returns-then-is_none-clause-within
+returns-then-is_none-clause-within g c = subst (λ (k : CoreValue). StaysWithin k.plan k.entries) (sym c.heed.ensures.core) c.finish-verdict.ensures.within
