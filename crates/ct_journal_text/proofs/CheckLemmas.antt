@@ -1,9 +1,8 @@
 -- What a line of a journal does behind the entries in front of it.
 use Rattle.std.proofs.Common.{◌≡◌, ◌∙◌, sym, ap, subst, ℕ, ◌<◌, ◌^◌, arith, Bool, true, false, not, ◌&&◌, List, [], ◌∷◌, length, refl, Option, Some, None}
 use Rattle.std.specs.Prelude.{◌==◌, if◌then◌else◌}
-use Rattle.std.proofs.lemmas.Bool.{and_parts}
+use Rattle.std.proofs.lemmas.Bool.{and_parts, eq-eqb}
 use Rattle.std.proofs.lemmas.Bool.Decides.{nat_tests}
-use Rattle.ct_history.proofs.BoolLemmas.{eq_is}
 use Rattle.ct_base.specs.declared.defs.Need.{Need}
 use Rattle.ct_base.specs.declared.defs.Resource.{Resource}
 use Rattle.ct_alloc.specs.declared.placement.Placement.{Placement}
@@ -106,6 +105,6 @@ done_by plan front n count ends same is true both =
     let here : n ≡ count = grind (arith, nat_tests) in
     (here ∙ same, sym is ∙ parts.1)
 done_by plan front n count ends same is false both = λ here ended. (
-    let one : (n == count) ≡ true = eq_is n count (here ∙ sym same) in
+    let one : (n == count) ≡ true = eq-eqb n count (here ∙ sym same) in
     let no : false ≡ true = both ∙ ap (λ (b : Bool). b && ends) one ∙ is ∙ ended in
     cc)

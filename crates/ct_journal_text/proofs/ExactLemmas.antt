@@ -1,8 +1,7 @@
 -- A text is found to be one thing: it is accepted, or one of its lines is the first that is not good.
-use Rattle.std.proofs.Common.{ℕ, ◌+◌, ◌<◌, ◌≤◌, ◌^◌, ◌≡◌, ◌==◌, ◌⊎◌, inl, inr, not, ◌&&◌, Bool, true, false, List, [], ◌∷◌, ◌++◌, length, Option, Some, None, refl, sym, ap, subst, ◌∙◌, arith, codes, decimal, append_assoc, append-nil, length-append}
-use Rattle.std.specs.Prelude.{◌||◌}
+use Rattle.std.proofs.Common.{ℕ, ◌+◌, ◌<◌, ◌≤◌, ◌^◌, ◌≡◌, ◌==◌, ◌⊎◌, inl, inr, not, ◌&&◌, true, false, List, [], ◌∷◌, ◌++◌, length, Option, Some, None, refl, sym, ap, subst, ◌∙◌, arith, codes, decimal, append_assoc, append-nil, length-append}
 use Rattle.std.specs.List.{list_all, list_any}
-use Rattle.std.proofs.lemmas.Bool.{and_parts, eq-eqb}
+use Rattle.std.proofs.lemmas.Bool.{and_parts, eq-eqb, or_parts, and_from}
 use Rattle.std.proofs.lemmas.List.{append_cancel_left}
 use Rattle.std.proofs.lemmas.List.Folds.{list_all-append}
 use Rattle.ct_base.specs.declared.defs.Resource.{Resource}
@@ -28,14 +27,14 @@ use Rattle.ct_journal_text.specs.Guess.{guess_in}
 use Rattle.ct_journal_text.specs.Checked.{HasPlacement, IsPlacementFor}
 use Rattle.ct_journal_text.specs.Found.{Finds, IsAccepted, IsBadLine, IsOneLine, IsRefusedAt, IsRefusedBehind, LacksFirst}
 use Rattle.ct_journal_text.proofs.NumberLemmas.{is_free, decimal_free}
-use Rattle.ct_journal_text.proofs.WordLemmas.{both, cause_free, hits_free, how_free, listed_free}
+use Rattle.ct_journal_text.proofs.WordLemmas.{cause_free, hits_free, how_free, listed_free}
 use Rattle.ct_journal_text.proofs.LineLemmas.{line_again}
 use Rattle.ct_journal_text.proofs.PlacementLemmas.{completes}
 use Rattle.ct_journal_text.proofs.CheckLemmas.{allowed_placed}
 
 -- no line feed stands in a line
 free_behind : (one other : List ℕ) → is_free 10 one ≡ true → is_free 10 other ≡ true → is_free 10 (one ++ other) ≡ true
-free_behind one other first second = list_all-append (λ byte. not (byte == 10)) one other ∙ both (is_free 10 one) (is_free 10 other) first second
+free_behind one other first second = list_all-append (λ byte. not (byte == 10)) one other ∙ and_from (is_free 10 one) (is_free 10 other) first second
 
 short_free : (n : ℕ) → IsOf32Bits n → is_free 10 (decimal n) ≡ true
 short_free n small = decimal_free 10 n (omega arith) (omega (arith, small))
@@ -69,14 +68,10 @@ entry_free Stop fit = refl
 done_free : (count : ℕ) → count < 2 ^ 64 → is_free 10 (journal_line_text (Line.Done count)) ≡ true
 done_free count small = free_behind (codes "done ") (decimal count) refl (decimal_free 10 count (omega arith) small)
 
-none_of : (one other : Bool) → (one || other) ≡ false → (one ≡ false) × (other ≡ false)
-none_of true other is = absurd cc
-none_of false other is = (refl, is)
-
 one_free : (line : List ℕ) → IsOneLine line → is_free 10 line ≡ true
 one_free [] one = refl
 one_free (byte ∷ line) one =
-    let parts = none_of (byte == 10) (list_any (λ (b : ℕ). b == 10) line) one in
+    let parts = or_parts (byte == 10) (list_any (λ (b : ℕ). b == 10) line) one in
     ap (λ b. not b && is_free 10 line) parts.0 ∙ one_free line parts.1
 
 -- a text is cut at its first line feed in one way
@@ -203,7 +198,7 @@ module _ (plan : PlanParts) where
   at_end entries legal complete =
       let due = (and_parts (is_allowed_so_far plan entries) (not (is_stop_due plan entries)) legal).1 in
       let idle : is_idle entries ≡ true = ap (λ (rs : List Running). not (list_any (λ (r : Running). true) rs)) complete.closed in
-      both (are_all_final plan entries && is_idle entries) (not (is_stop_due plan entries)) (both (are_all_final plan entries) (is_idle entries) complete.final idle) due
+      and_from (are_all_final plan entries && is_idle entries) (not (is_stop_due plan entries)) (and_from (are_all_final plan entries) (is_idle entries) complete.final idle) due
 
   last_good : (entries : List Entry) (line rest : List ℕ) → length entries < 2 ^ 64 → is_at_end plan entries ≡ true → IsOneLine line → IsBadLine plan entries line rest → full_line (Line.Done (length entries)) ≡ line ++ rest → ⊥
   last_good entries line [] small ended one bad is =

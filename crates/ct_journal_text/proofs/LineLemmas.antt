@@ -2,6 +2,7 @@
 use Rattle.std.proofs.Common.{ℕ, ◌^◌, ◌<◌, ◌≡◌, ◌&&◌, Bool, true, false, cond, List, [], ◌∷◌, ◌++◌, flat_map, Option, Some, None, refl, sym, ap, ◌∙◌, arith, codes, decimal, append_assoc, append-nil, bytes_eq, subst, nat_lt, length}
 use Rattle.std.specs.List.{list_all}
 use Rattle.std.proofs.lemmas.Slice.Eq.{bytes_eq-Decides}
+use Rattle.std.proofs.lemmas.Bool.{and_from}
 use Rattle.ct_verdict.specs.declared.attempt.Seen.{Seen}
 use Rattle.ct_verdict.specs.declared.verdict.Cause.{Cause}
 use Rattle.ct_journal_text.specs.declared.lines.EntryLine.{EntryLine}
@@ -11,7 +12,7 @@ use Rattle.ct_journal_text.specs.declared.lines.JournalLine.TheVariants as Line
 use Rattle.ct_journal_text.specs.Journal.{how_text, not_run_word, hits_text, listed, seen_text, entry_text, journal_line_text, IsOf32Bits, HowFits, CauseFits, PlacesFit, EntryFits, Fits, Says}
 use Rattle.ct_journal_text.specs.Guess.{pieces, word_at, number_written, short_in, places_in_word, start_in, end_in, settle_in, guess_by, guess_in, said_in}
 use Rattle.ct_journal_text.proofs.NumberLemmas.{is_free, decimal_free, short_again, number_again, number_fits, short_fits}
-use Rattle.ct_journal_text.proofs.WordLemmas.{both, cut_again, how_again, how_free, how_fits, cause_again, cause_free, cause_fits, hit_again, hits_free, places_again, places_fit, listed_free}
+use Rattle.ct_journal_text.proofs.WordLemmas.{cut_again, how_again, how_free, how_fits, cause_again, cause_free, cause_fits, hit_again, hits_free, places_again, places_fit, listed_free}
 
 -- three words and what stands behind them
 regroup : (one two three rest : List ℕ) → one ++ codes " " ++ two ++ codes " " ++ three ++ rest ≡ one ++ (32 ∷ (two ++ (32 ∷ (three ++ rest))))
@@ -30,8 +31,8 @@ short_free n small = decimal_free 32 n (omega arith) (omega (arith, small))
 
 three_free : (one two three : List ℕ) (rest : List (List ℕ)) → is_free 32 one ≡ true → is_free 32 two ≡ true → is_free 32 three ≡ true → list_all (is_free 32) rest ≡ true → list_all (is_free 32) (one ∷ two ∷ three ∷ rest) ≡ true
 three_free one two three rest a b c d =
-    both (is_free 32 one) (list_all (is_free 32) (two ∷ three ∷ rest)) a
-    (both (is_free 32 two) (list_all (is_free 32) (three ∷ rest)) b (both (is_free 32 three) (list_all (is_free 32) rest) c d))
+    and_from (is_free 32 one) (list_all (is_free 32) (two ∷ three ∷ rest)) a
+    (and_from (is_free 32 two) (list_all (is_free 32) (three ∷ rest)) b (and_from (is_free 32 three) (list_all (is_free 32) rest) c d))
 
 start_again : (test attempt worker : ℕ) (places : Option (List ℕ)) → IsOf32Bits test → IsOf32Bits attempt → IsOf32Bits worker → PlacesFit places → guess_in (entry_text (Start test attempt worker places)) ≡ Line.Entry (Start test attempt worker places)
 start_again test attempt worker None t a w fit =
@@ -47,7 +48,7 @@ start_again test attempt worker (Some places) t a w fit =
     ∙ ap (λ last. codes "start " ++ (decimal test ++ (32 ∷ (decimal attempt ++ (32 ∷ (decimal worker ++ (codes " at " ++ last))))))) (sym (append-nil (listed places))) in
     let cut : pieces 32 (entry_text (Start test attempt worker (Some places))) ≡ codes "start" ∷ words =
     ap (pieces 32) spelt
-    ∙ cut_again 32 (codes "start") words refl (three_free (decimal test) (decimal attempt) (decimal worker) (codes "at" ∷ listed places ∷ []) (short_free test t) (short_free attempt a) (short_free worker w) (both (is_free 32 (listed places)) true (listed_free 32 (omega arith) places fit) refl)) in
+    ∙ cut_again 32 (codes "start") words refl (three_free (decimal test) (decimal attempt) (decimal worker) (codes "at" ∷ listed places ∷ []) (short_free test t) (short_free attempt a) (short_free worker w) (and_from (is_free 32 (listed places)) true (listed_free 32 (omega arith) places fit) refl)) in
     ap guess_by cut ∙ (λ i. Line.Entry (Start (short_again test t i) (short_again attempt a i) (short_again worker w i) (Some (places_again places fit i))))
 
 end_again : (test attempt worker : ℕ) (seen : Seen) → IsOf32Bits test → IsOf32Bits attempt → IsOf32Bits worker → HowFits seen.how → seen.micros < 2 ^ 64 → guess_in (entry_text (End test attempt worker seen)) ≡ Line.Entry (End test attempt worker seen)
@@ -72,14 +73,14 @@ settle_again test cause t fit =
     ap (λ text. codes "settle " ++ text) (append_assoc (decimal test) (codes " ") (not_run_word cause))
     ∙ ap (λ last. codes "settle " ++ (decimal test ++ (32 ∷ last))) (sym (append-nil (not_run_word cause))) in
     let cut : pieces 32 (entry_text (Settle test cause)) ≡ codes "settle" ∷ words =
-    ap (pieces 32) spelt ∙ cut_again 32 (codes "settle") words refl (both (is_free 32 (decimal test)) (is_free 32 (not_run_word cause) && true) (short_free test t) (both (is_free 32 (not_run_word cause)) true (cause_free 32 (omega arith) cause fit) refl)) in
+    ap (pieces 32) spelt ∙ cut_again 32 (codes "settle") words refl (and_from (is_free 32 (decimal test)) (is_free 32 (not_run_word cause) && true) (short_free test t) (and_from (is_free 32 (not_run_word cause)) true (cause_free 32 (omega arith) cause fit) refl)) in
     ap guess_by cut ∙ (λ i. Line.Entry (Settle (short_again test t i) (cause_again cause fit i)))
 
 done_again : (count : ℕ) → count < 2 ^ 64 → guess_in (journal_line_text (Line.Done count)) ≡ Line.Done count
 done_again count small =
     let spelt : journal_line_text (Line.Done count) ≡ codes "done" ++ spaced (decimal count ∷ []) = ap (λ last. codes "done " ++ last) (sym (append-nil (decimal count))) in
     let cut : pieces 32 (journal_line_text (Line.Done count)) ≡ codes "done" ∷ decimal count ∷ [] =
-    ap (pieces 32) spelt ∙ cut_again 32 (codes "done") (decimal count ∷ []) refl (both (is_free 32 (decimal count)) true (decimal_free 32 count (omega arith) small) refl) in
+    ap (pieces 32) spelt ∙ cut_again 32 (codes "done") (decimal count ∷ []) refl (and_from (is_free 32 (decimal count)) true (decimal_free 32 count (omega arith) small) refl) in
     ap guess_by cut ∙ ap Line.Done (number_again count small)
 
 entry_again : (entry : EntryLine) → EntryFits entry → guess_in (entry_text entry) ≡ Line.Entry entry

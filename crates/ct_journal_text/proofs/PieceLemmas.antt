@@ -1,28 +1,15 @@
 -- What the pieces of a text are when its first byte is read.
-use Rattle.std.proofs.Common.{ℕ, ◌+◌, ◌<◌, ◌≤◌, ◌≡◌, List, [], ◌∷◌, ◌++◌, Bool, true, false, cond, drop, length, slice_index, refl, sym, ap, ◌∙◌, ◌==◌}
+use Rattle.std.proofs.Common.{ℕ, ◌+◌, ◌<◌, ◌≤◌, ◌≡◌, List, [], ◌∷◌, ◌++◌, drop, length, slice_index, refl, sym, ap, ◌∙◌, ◌==◌}
 use Rattle.std.specs.List.{onto_first}
 use Rattle.std.proofs.lemmas.Bool.{ne_eqb, eq-eqb}
 use Rattle.std.proofs.lemmas.List.{append_assoc, append-nil, drop_more, drop_all}
 use Rattle.std.proofs.lemmas.List.Splits.{slice_split-cons_yes, slice_split-cons_no}
+use Rattle.ct_base.proofs.PieceLemmas.{with_piece, no_piece-by, piece-more}
 use Rattle.ct_journal_text.specs.Guess.{pieces}
-
--- the piece so far in front of the first of some pieces
-abbrev pub with_piece : List ℕ → List (List ℕ) → List (List ℕ)
-with_piece piece [] = piece ∷ []
-with_piece piece (first ∷ rest) = (piece ++ first) ∷ rest
-
-no_piece-by : (cut : Bool) (byte : ℕ) (rest : List (List ℕ)) → with_piece [] (cond cut ([] ∷ rest) (onto_first byte rest)) ≡ cond cut ([] ∷ rest) (onto_first byte rest)
-no_piece-by true byte rest = refl
-no_piece-by false byte [] = refl
-no_piece-by false byte (first ∷ rest) = refl
 
 no_piece : (separator : ℕ) (text : List ℕ) → with_piece [] (pieces separator text) ≡ pieces separator text
 no_piece separator [] = refl
 no_piece separator (byte ∷ text) = no_piece-by (byte == separator) byte (pieces separator text)
-
-piece-more : (piece : List ℕ) (byte : ℕ) (rest : List (List ℕ)) → with_piece piece (onto_first byte rest) ≡ with_piece (piece ++ byte ∷ []) rest
-piece-more piece byte [] = refl
-piece-more piece byte (first ∷ rest) = ap (λ p. p ∷ rest) (sym (append_assoc piece (byte ∷ []) first))
 
 -- the byte that separates ends the piece
 pub cuts_at_separator : (separator : ℕ) (front all : List (List ℕ)) (piece text : List ℕ) (at : ℕ) → at < length text → slice_index text at ≡ separator → front ++ with_piece piece (pieces separator (drop at text)) ≡ all

@@ -1,16 +1,16 @@
 -- The picks for needs at places are the one placement for these needs whose resources have these places.
 use Rattle.std.proofs.Common.{ℕ, ◌+◌, ◌<◌, ◌≡◌, ◌==◌, ◌&&◌, Bool, true, false, cond, List, [], ◌∷◌, ◌++◌, length, drop, map, Option, Some, None, option_map, slice_get, get_or, bytes_eq, refl, sym, ap, subst, ◌∙◌, arith}
-use Rattle.std.proofs.lemmas.Bool.{eq-eqb, and_parts}
+use Rattle.std.proofs.lemmas.Bool.{eq-eqb, and_parts, and_from}
 use Rattle.std.proofs.lemmas.Bool.Decides.{Decides-eqb}
 use Rattle.std.proofs.lemmas.List.{append_assoc, drop_more}
 use Rattle.std.proofs.lemmas.Slice.Eq.{bytes_eq-Decides}
 use Rattle.ct_base.specs.declared.defs.Need.{Need}
 use Rattle.ct_base.specs.declared.defs.Resource.{Resource}
+use Rattle.ct_base.proofs.NameLemmas.{bytes_eq-refl}
 use Rattle.ct_alloc.specs.declared.placement.Pick.{Pick}
 use Rattle.ct_alloc.specs.declared.placement.Placement.{Placement}
 use Rattle.ct_alloc.specs.Placement.{is_placement, meets, names_resource}
 use Rattle.ct_journal_text.specs.Completed.{IsPlacementAt, pick_by, with_pick, picks_by, of_picks}
-use Rattle.ct_journal_text.proofs.WordLemmas.{both}
 
 -- the pick is right for the need on this resource
 abbrev is_right : Need → Pick → Option Resource → Bool
@@ -20,16 +20,13 @@ is_right need pick resource = need.group == pick.group && bytes_eq need.kind pic
 abbrev made : Need → ℕ → Resource → Pick
 made need place resource = record { group = need.group; kind = need.kind; id = resource.id; slots = need.slots; resource = place }
 
-same : (text : List ℕ) → bytes_eq text text ≡ true
-same text = (bytes_eq-Decides text text).1 refl
-
 made_right : (need : Need) (place : ℕ) (resource : Resource) → bytes_eq need.kind resource.kind ≡ true → is_right need (made need place resource) (Some resource) ≡ true
 made_right need place resource kind =
-    let one = both (need.group == need.group) (bytes_eq need.kind need.kind) (eq-eqb need.group need.group refl) (same need.kind) in
-    let two = both (need.group == need.group && bytes_eq need.kind need.kind) (need.slots == need.slots) one (eq-eqb need.slots need.slots refl) in
+    let one = and_from (need.group == need.group) (bytes_eq need.kind need.kind) (eq-eqb need.group need.group refl) (bytes_eq-refl need.kind) in
+    let two = and_from (need.group == need.group && bytes_eq need.kind need.kind) (need.slots == need.slots) one (eq-eqb need.slots need.slots refl) in
     let back : bytes_eq resource.kind need.kind ≡ true = (bytes_eq-Decides resource.kind need.kind).1 (sym ((bytes_eq-Decides need.kind resource.kind).0 kind)) in
-    let named = both (bytes_eq resource.kind need.kind) (bytes_eq resource.id resource.id) back (same resource.id) in
-    both (need.group == need.group && bytes_eq need.kind need.kind && need.slots == need.slots) (bytes_eq resource.kind need.kind && bytes_eq resource.id resource.id) two named
+    let named = and_from (bytes_eq resource.kind need.kind) (bytes_eq resource.id resource.id) back (bytes_eq-refl resource.id) in
+    and_from (need.group == need.group && bytes_eq need.kind need.kind && need.slots == need.slots) (bytes_eq resource.kind need.kind && bytes_eq resource.id resource.id) two named
 
 found_by : (b : Bool) (need : Need) (place : ℕ) (resource : Resource) (pick : Pick) → bytes_eq need.kind resource.kind ≡ b → cond b (Some (made need place resource)) None ≡ Some pick → (is_right need pick (Some resource) ≡ true) × (place ≡ pick.resource)
 found_by true need place resource pick kind is =
@@ -80,7 +77,7 @@ picks_found resources (need ∷ needs) (place ∷ places) (pick ∷ picks) is =
     let one = pick_found need place (slice_get resources place) pick parts.0 in
     let rest = picks_found resources needs places picks parts.1 in
     let right : meets resources need pick ≡ true = ap (λ at. is_right need pick (slice_get resources at)) (sym one.1) ∙ one.0 in (
-      both (meets resources need pick) (is_placement resources needs picks) right rest.0,
+      and_from (meets resources need pick) (is_placement resources needs picks) right rest.0,
       λ i. one.1 i ∷ rest.1 i,
     )
 

@@ -1,8 +1,8 @@
 -- The words of a line: the text with one space between them is cut into them again, and each is read as what it was written for.
-use Rattle.std.proofs.Common.{ℕ, ◌+◌, ◌<◌, ◌≤◌, ◌≡◌, ◌==◌, not, ◌&&◌, Bool, true, false, cond, List, [], ◌∷◌, ◌++◌, length, map, flat_map, refl, ap, ◌∙◌, arith, codes, decimal, bytes_eq, take, drop, All, length-append, append-nil}
+use Rattle.std.proofs.Common.{ℕ, ◌+◌, ◌<◌, ◌≤◌, ◌≡◌, ◌==◌, Bool, true, false, cond, List, [], ◌∷◌, ◌++◌, length, map, flat_map, refl, ap, ◌∙◌, arith, codes, decimal, bytes_eq, take, drop, All, length-append, append-nil}
 use Rattle.std.specs.List.{list_all, AllByRecursion}
 use Rattle.std.proofs.lemmas.List.Elements.{All-nil, All-cons}
-use Rattle.std.proofs.lemmas.Bool.{ne_eqb, eq-eqb, and_parts}
+use Rattle.std.proofs.lemmas.Bool.{ne_eqb, eq-eqb, and_parts, not-true, and_from}
 use Rattle.std.proofs.lemmas.Fmt.{decimal_nonempty}
 use Rattle.std.proofs.lemmas.List.Folds.{list_all-append}
 use Rattle.std.proofs.lemmas.List.Splits.{slice_split_at, slice_split_none}
@@ -15,19 +15,11 @@ use Rattle.ct_journal_text.specs.Guess.{pieces, short_in, code_written, how_in, 
 use Rattle.std.proofs.Math.Dec.{ltb}
 use Rattle.ct_journal_text.proofs.NumberLemmas.{is_free, is_spaceless, decimal_free, decimal_spaceless, code_spaceless, spaceless_free, short_again, code_again, short_fits, code_fits}
 
-not_true : (b : Bool) → not b ≡ true → b ≡ false
-not_true true is = cc
-not_true false is = refl
-
--- both tests pass
-pub both : (one other : Bool) → one ≡ true → other ≡ true → (one && other) ≡ true
-both one other is also = ap (λ b. b && other) is ∙ also
-
 free_all : (separator : ℕ) (text : List ℕ) → is_free separator text ≡ true → All (λ byte. (byte == separator) ≡ false) text
 free_all separator [] free = All-nil (λ byte. (byte == separator) ≡ false)
 free_all separator (byte ∷ text) free =
     let parts = and_parts _ _ free in
-    All-cons (λ other. (other == separator) ≡ false) byte text (not_true (byte == separator) parts.0) (free_all separator text parts.1)
+    All-cons (λ other. (other == separator) ≡ false) byte text (not-true (byte == separator) parts.0) (free_all separator text parts.1)
 
 -- words with one byte between them are cut at it
 pub cut_again : (separator : ℕ) (word : List ℕ) (words : List (List ℕ)) → is_free separator word ≡ true → list_all (is_free separator) words ≡ true → pieces separator (word ++ flat_map (λ other. separator ∷ other) words) ≡ word ∷ words
@@ -94,8 +86,8 @@ hit_spaceless false = refl
 pub hits_free : (separator : ℕ) → separator ≤ 32 → (one two three : Bool) → is_free separator (hit_digit one ∷ hit_digit two ∷ hit_digit three ∷ []) ≡ true
 hits_free separator least one two three =
     spaceless_free separator (hit_digit one ∷ hit_digit two ∷ hit_digit three ∷ []) least
-    (both (ltb 32 (hit_digit one)) (is_spaceless (hit_digit two ∷ hit_digit three ∷ [])) (hit_spaceless one)
-    (both (ltb 32 (hit_digit two)) (is_spaceless (hit_digit three ∷ [])) (hit_spaceless two) (both (ltb 32 (hit_digit three)) true (hit_spaceless three) refl)))
+    (and_from (ltb 32 (hit_digit one)) (is_spaceless (hit_digit two ∷ hit_digit three ∷ [])) (hit_spaceless one)
+    (and_from (ltb 32 (hit_digit two)) (is_spaceless (hit_digit three ∷ [])) (hit_spaceless two) (and_from (ltb 32 (hit_digit three)) true (hit_spaceless three) refl)))
 
 -- places as words with a comma between them
 in_words : (places : List ℕ) → flat_map (λ other. codes "," ++ decimal other) places ≡ flat_map (λ word. 44 ∷ word) (map decimal places)
@@ -108,7 +100,7 @@ shorts_again (place ∷ places) fit = λ i. short_again place fit.0 i ∷ shorts
 
 decimals_free : (places : List ℕ) → AllByRecursion IsOf32Bits places → list_all (is_free 44) (map decimal places) ≡ true
 decimals_free [] fit = refl
-decimals_free (place ∷ places) fit = both (is_free 44 (decimal place)) (list_all (is_free 44) (map decimal places)) (decimal_free 44 place (omega arith) (omega (arith, fit.0))) (decimals_free places fit.1)
+decimals_free (place ∷ places) fit = and_from (is_free 44 (decimal place)) (list_all (is_free 44) (map decimal places)) (decimal_free 44 place (omega arith) (omega (arith, fit.0))) (decimals_free places fit.1)
 
 -- the places of resources
 pub places_again : (places : List ℕ) → AllByRecursion IsOf32Bits places → places_in_word (listed places) ≡ places
@@ -126,13 +118,13 @@ others_spaceless : (places : List ℕ) → AllByRecursion IsOf32Bits places → 
 others_spaceless [] fit = refl
 others_spaceless (place ∷ places) fit =
     let rest = flat_map (λ other. codes "," ++ decimal other) places in
-    list_all-append (λ byte. ltb 32 byte) (decimal place) rest ∙ both (is_spaceless (decimal place)) (is_spaceless rest) (decimal_spaceless place (omega (arith, fit.0))) (others_spaceless places fit.1)
+    list_all-append (λ byte. ltb 32 byte) (decimal place) rest ∙ and_from (is_spaceless (decimal place)) (is_spaceless rest) (decimal_spaceless place (omega (arith, fit.0))) (others_spaceless places fit.1)
 
 listed_spaceless : (places : List ℕ) → AllByRecursion IsOf32Bits places → is_spaceless (listed places) ≡ true
 listed_spaceless [] fit = refl
 listed_spaceless (place ∷ places) fit =
     let rest = flat_map (λ other. codes "," ++ decimal other) places in
-    list_all-append (λ byte. ltb 32 byte) (decimal place) rest ∙ both (is_spaceless (decimal place)) (is_spaceless rest) (decimal_spaceless place (omega (arith, fit.0))) (others_spaceless places fit.1)
+    list_all-append (λ byte. ltb 32 byte) (decimal place) rest ∙ and_from (is_spaceless (decimal place)) (is_spaceless rest) (decimal_spaceless place (omega (arith, fit.0))) (others_spaceless places fit.1)
 
 pub listed_free : (separator : ℕ) → separator ≤ 32 → (places : List ℕ) → AllByRecursion IsOf32Bits places → is_free separator (listed places) ≡ true
 listed_free separator least places fit = spaceless_free separator (listed places) least (listed_spaceless places fit)
