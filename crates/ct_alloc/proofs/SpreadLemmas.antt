@@ -146,7 +146,6 @@ spread-interleaved kind free needs here rest mine others = record {
         let none : load place (sizes_of (filter (asks_other kind) needs)) rest ≡ 0 =
         none-here (asks_other kind) place free.resources needs rest (λ need other. kind-differs kind need.kind (slice_get free.resources place) t (not-true (asks_kind kind need) other)) others.kinds in
         omega (arith, interleaved-load kind place free.resources needs here rest mine.kinds others.kinds, none, mine.room place)
-
     by_test place false t =
         let none : load place (sizes_of (filter (asks_kind kind) needs)) here ≡ 0 =
         none-here (asks_kind kind) place free.resources needs here (λ need same. kind-same kind need.kind (slice_get free.resources place) t same) mine.kinds in

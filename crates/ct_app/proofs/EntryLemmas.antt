@@ -2,7 +2,8 @@
 use Rattle.std.proofs.Common.{◌≡◌, ◌∙◌, sym, ap, Bool, true, false, ℕ, List, [], ◌∷◌, ◌++◌, length, refl, arith, inl, inr}
 use Rattle.std.specs.Prelude.{Option, Some, None, filter, filter_map, find, is_some, not, ◌&&◌, ◌||◌, ◌==◌, ◌⊎◌, cond, if◌then◌else◌}
 use Rattle.std.specs.List.{list_any, list_all, cons_option}
-use Rattle.std.proofs.lemmas.Bool.{and_parts, and_from, cases_Bool, not-true}
+use Rattle.std.proofs.Math.Bool.{or-false}
+use Rattle.std.proofs.lemmas.Bool.{and_parts, and_from, cases_Bool, not-true, true≢false, or_right}
 use Rattle.std.proofs.lemmas.Bool.Decides.{nat_tests}
 use Rattle.std.proofs.lemmas.List.{append-nil}
 use Rattle.std.proofs.lemmas.List.Elements.{filter_map-append}
@@ -18,7 +19,7 @@ use Rattle.ct_verdict.specs.declared.verdict.Verdict.TheVariants.{Disabled}
 use Rattle.ct_verdict.specs.Verdict.{is_repeated, verdict_of}
 use Rattle.ct_history.specs.declared.plan.PlanTest.{PlanTest}
 use Rattle.ct_history.specs.declared.history.Entry.{Entry}
-use Rattle.ct_history.specs.declared.history.Entry.TheVariants.{Start, End, Settle, Stop}
+use Rattle.ct_history.specs.declared.history.Entry.TheVariants.{Start, End}
 use Rattle.ct_history.specs.History.{Running, attempt_by, attempts_of, has_stop, is_open_in, is_stop, open_starts, settled_by}
 use Rattle.ct_history.specs.Verdicts.{first_of_list, is_over, is_passed_verdict, last_of_list, settled_cause, settled_or, verdict_in}
 use Rattle.ct_history.specs.Legal.{same_cause}
@@ -26,15 +27,8 @@ use Rattle.ct_history.proofs.BoolLemmas.{eq_same}
 use Rattle.ct_history.proofs.LegalLemmas.{stop-snoc}
 use Rattle.ct_history.proofs.OpenLemmas.{is_of, open_starts-end, open_starts-snoc}
 use Rattle.ct_history.specs.Endings.{last_seen, seen_at_end}
-use Rattle.ct_app.proofs.MeantLemmas.{last_behind-snoc}
-
-true_is_false : true ≡ false → ⊥
-true_is_false is = cc
-
--- an entry that settles other tests leaves the cause as it is
-pub settled-snoc : (n : ℕ) (es : List Entry) (e : Entry) → settled_by n e ≡ None → settled_cause n (es ++ e ∷ []) ≡ settled_cause n es
-settled-snoc n es e none =
-    ap first_of_list (filter_map-append (settled_by n) es (e ∷ []) ∙ ap (λ (o : Option Cause). filter_map (settled_by n) es ++ cons_option o []) none ∙ append-nil (filter_map (settled_by n) es))
+use Rattle.ct_history.proofs.FinalLemmas.{attempts-snoc}
+use Rattle.ct_history.proofs.AttemptLemmas.{last_behind-snoc}
 
 pub first-append : {A : Type 0} (xs ys : List A) → first_of_list xs ≡ None → first_of_list (xs ++ ys) ≡ first_of_list ys
 first-append [] ys none = refl
@@ -44,10 +38,6 @@ first-append (x ∷ xs) ys none = cc
 pub settled-first : (n : ℕ) (es : List Entry) (e : Entry) (c : Cause) → settled_cause n es ≡ None → settled_by n e ≡ Some c → settled_cause n (es ++ e ∷ []) ≡ Some c
 settled-first n es e c none is =
     ap first_of_list (filter_map-append (settled_by n) es (e ∷ []) ∙ ap (λ (o : Option Cause). filter_map (settled_by n) es ++ cons_option o []) is) ∙ first-append (filter_map (settled_by n) es) (c ∷ []) none
-
-pub attempts-snoc : (n : ℕ) (rules : Rules) (es : List Entry) (e : Entry) → attempt_by n rules e ≡ None → attempts_of n rules (es ++ e ∷ []) ≡ attempts_of n rules es
-attempts-snoc n rules es e none =
-    filter_map-append (attempt_by n rules) es (e ∷ []) ∙ ap (λ (o : Option Verdict). filter_map (attempt_by n rules) es ++ cons_option o []) none ∙ append-nil (filter_map (attempt_by n rules) es)
 
 -- an End adds the verdict of its attempt
 pub attempts-end : (n : ℕ) (rules : Rules) (es : List Entry) (a w : ℕ) (s : Seen) → attempts_of n rules (es ++ End n a w s ∷ []) ≡ attempts_of n rules es ++ verdict_of rules s ∷ []
@@ -92,14 +82,6 @@ none_passes p [] all = refl
 none_passes p (x ∷ xs) all =
     let both = and_parts (not (p x)) (list_all (λ y. not (p y)) xs) all in
     ap (λ (b : Bool). b || list_any p xs) (not-true (p x) both.0) ∙ none_passes p xs both.1
-
-pub or_false : (b : Bool) → (b || (false || false)) ≡ b
-or_false true = refl
-or_false false = refl
-
-pub or_true : (a b : Bool) → b ≡ true → (a || b) ≡ true
-or_true true b is = refl
-or_true false b is = is
 
 -- the open start is of another test, or has this attempt
 abbrev pub is_numbered : ℕ → ℕ → Running → Bool
@@ -173,7 +155,7 @@ keeps-start t es n a w p unlike =
           ap (λ (rs : List Running). list_any (λ (r : Running). r.test == t.number) rs) more
           ∙ list_any-append (λ (r : Running). r.test == t.number) (open_starts es) (run ∷ [])
           ∙ ap (λ (b : Bool). is_open_in t.number es || (b || false)) unlike
-          ∙ or_false (is_open_in t.number es);
+          ∙ or-false (is_open_in t.number es);
       numbered = λ attempt all.
           ap (λ (rs : List Running). list_all (is_numbered t.number attempt) rs) more
           ∙ list_all-append (is_numbered t.number attempt) (open_starts es) (run ∷ [])
@@ -187,7 +169,7 @@ other_test m n k b unlike dropped = elim (cases_Bool (k == n)) [
   | inl same ↦
       let here : k ≡ n = grind (arith, nat_tests) in
       ap (λ (i : ℕ). i == m) here ∙ unlike
-  | inr other ↦ absurd (true_is_false (sym (ap (λ (c : Bool). not (c && b)) other) ∙ dropped))
+  | inr other ↦ absurd (true≢false (sym (ap (λ (c : Bool). not (c && b)) other) ∙ dropped))
 ]
 
 pub keeps-end : (t : PlanTest) (es : List Entry) (n a w : ℕ) (s : Seen) → (n == t.number) ≡ false → Keeps t es (es ++ End n a w s ∷ [])
@@ -214,22 +196,6 @@ keeps-quiet t es e none unended same = record {
   numbered = λ attempt all. ap (λ (rs : List Running). list_all (is_numbered t.number attempt) rs) same ∙ all;
   stops = stops es e;
 }
-
-pub quiet-settle : (es : List Entry) (n : ℕ) (c : Cause) → open_starts (es ++ Settle n c ∷ []) ≡ open_starts es
-quiet-settle es n c = open_starts-snoc es (Settle n c) refl ∙ append-nil (open_starts es)
-
-pub quiet-stop : (es : List Entry) → open_starts (es ++ Stop ∷ []) ≡ open_starts es
-quiet-stop es = open_starts-snoc es Stop refl ∙ append-nil (open_starts es)
-
--- a test with a held start has an open start
-pub open_by_hold : (n a w : ℕ) (rs : List Running) → list_any (λ (r : Running). r.test == n && r.attempt == a && r.worker == w) rs ≡ true → list_any (λ (r : Running). r.test == n) rs ≡ true
-open_by_hold n a w [] is = is
-open_by_hold n a w (r ∷ rs) is =
-    by_test (r.test == n) (r.attempt == a) (r.worker == w) (list_any (λ (q : Running). q.test == n && q.attempt == a && q.worker == w) rs) (list_any (λ (q : Running). q.test == n) rs) (open_by_hold n a w rs) is
-  where
-    by_test : (x y z rest more : Bool) → (rest ≡ true → more ≡ true) → (x && y && z || rest) ≡ true → (x || more) ≡ true
-    by_test true y z rest more later has = refl
-    by_test false y z rest more later has = later has
 
 -- a held start has the attempt that all open starts of its test have
 pub held_attempt : (n a w k : ℕ) (rs : List Running) → list_any (λ (r : Running). r.test == n && r.attempt == a && r.worker == w) rs ≡ true → list_all (is_numbered n k) rs ≡ true → a ≡ k
@@ -277,10 +243,5 @@ any_from p q [] found any = cc
 any_from p q (x ∷ xs) found any = elim (cases_Bool (p x)) [
   | inl here ↦ ap (λ (b : Bool). b || list_any q xs) (found x (ap (λ (b : Bool). cond b (Some x) (find p xs)) here))
   | inr not_here ↦
-      or_true (q x) (list_any q xs) (any_from p q xs (λ y is. found y (ap (λ (b : Bool). cond b (Some x) (find p xs)) not_here ∙ is)) (sym (ap (λ (b : Bool). b || list_any p xs) not_here) ∙ any))
+      or_right (q x) (list_any q xs) (any_from p q xs (λ y is. found y (ap (λ (b : Bool). cond b (Some x) (find p xs)) not_here ∙ is)) (sym (ap (λ (b : Bool). b || list_any p xs) not_here) ∙ any))
 ]
-
-pub both_ways : (a b : Bool) → (a ≡ true → b ≡ true) → (b ≡ true → a ≡ true) → a ≡ b
-both_ways true b one other = sym (one refl)
-both_ways false true one other = other refl
-both_ways false false one other = refl

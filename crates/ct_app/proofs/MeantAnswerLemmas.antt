@@ -1,7 +1,7 @@
 -- A completed run has the verdicts, the status and the texts that it is meant to have,
 -- where all its gates tell one world.
-use Rattle.std.proofs.Common.{◌≡◌, ◌∙◌, sym, ap, subst, Bool, true, false, ℕ, zero, suc, ◌+◌, ◌≤◌, ◌<◌, min, List, [], ◌∷◌, length, map, refl, arith, inl, inr}
-use Rattle.std.specs.Prelude.{Option, Some, None, IfSome, IsSomeAnd, filter, not, ◌||◌, ◌==◌, cond, if◌then◌else◌}
+use Rattle.std.proofs.Common.{◌≡◌, ◌∙◌, sym, ap, subst, Bool, true, ℕ, zero, suc, ◌+◌, ◌≤◌, ◌<◌, min, List, [], ◌∷◌, length, refl, arith, inl, inr}
+use Rattle.std.specs.Prelude.{Option, Some, None, IfSome, IsSomeAnd, not, ◌||◌, ◌==◌, if◌then◌else◌}
 use Rattle.std.specs.List.{range_with_len}
 use Rattle.std.proofs.lemmas.Bool.{and_parts, cases_Bool, ltb-true, not-true}
 use Rattle.std.proofs.lemmas.Bool.Decides.{nat_tests}
@@ -13,17 +13,17 @@ use Rattle.ct_props.specs.Numbered.{at_number, is_in}
 use Rattle.ct_select.specs.Chosen.{chosen_tests, is_chosen_at}
 use Rattle.ct_fixture.specs.Drawing.{after_rounds, fixtures_required, is_drawn, members_of}
 use Rattle.ct_verdict.specs.declared.repeat.Repeat.{Repeat}
-use Rattle.ct_history.specs.declared.plan.PlanTest.{PlanTest}
 use Rattle.ct_history.specs.declared.plan.PlanParts.{PlanParts}
 use Rattle.ct_history.specs.declared.history.Entry.{Entry}
 use Rattle.ct_history.specs.declared.history.Entry.TheVariants.{Start, End, Settle, Stop}
 use Rattle.ct_history.specs.Plan.{IsAscendingFrom}
+use Rattle.ct_history.proofs.AscendLemmas.{range_ascends, ascends-filter}
 use Rattle.ct_core.specs.declared.gate.Told.{Told}
 use Rattle.ct_core.specs.Gate.{GateTell, is_no_memory, told}
 use Rattle.ct_args.specs.declared.invocation.Invocation.{Invocation}
 use Rattle.ct_args.proofs.BoundLemmas.{bounded}
 use Rattle.ct_plan.specs.Source.{Source, run_members}
-use Rattle.ct_plan.specs.Planned.{ArePlannedTests}
+use Rattle.ct_plan.proofs.PlannedTreeLemmas.{planned_numbers}
 use Rattle.ct_app.specs.declared.outcome.Outcome.{Outcome}
 use Rattle.ct_app.specs.declared.outcome.Outcome.TheVariants.{Completed}
 use Rattle.ct_app.specs.Answers.{Answers}
@@ -39,40 +39,15 @@ use Rattle.ct_app.proofs.MeantLemmas.{IsRanked}
 use Rattle.ct_app.proofs.MeantRunLemmas.{are_meant}
 use Rattle.ct_app.proofs.MeantTextLemmas.{has_meant_texts}
 
-row_ascends : (first count : ℕ) → IsAscendingFrom first (range_with_len first count)
-row_ascends first zero = tt
-row_ascends first (suc count) = (omega arith, row_ascends (first + 1) count)
-
-ascends_sooner : (least first : ℕ) (numbers : List ℕ) → least ≤ first → IsAscendingFrom first numbers → IsAscendingFrom least numbers
-ascends_sooner least first [] sooner ascends = tt
-ascends_sooner least first (n ∷ ns) sooner ascends = (omega (arith, sooner, ascends.0), ascends.1)
-
-ascends_with : (least first : ℕ) (numbers : List ℕ) → least ≤ first → IsAscendingFrom (first + 1) numbers → (b : Bool) → IsAscendingFrom least (cond b (first ∷ numbers) numbers)
-ascends_with least first numbers low rest true = (low, rest)
-ascends_with least first numbers low rest false = ascends_sooner least (first + 1) numbers (omega (arith, low)) rest
-
--- a filter of numbers that ascend ascends
-ascends-filter : (p : ℕ → Bool) (least : ℕ) (numbers : List ℕ) → IsAscendingFrom least numbers → IsAscendingFrom least (filter p numbers)
-ascends-filter p least [] ascends = tt
-ascends-filter p least (n ∷ ns) ascends = ascends_with least n (filter p ns) ascends.0 (ascends-filter p (n + 1) ns ascends.1) (p n)
-
 -- the numbers of the members ascend
 members_ascend : (choice : Choice) (defs : List TestDef) (props : List Props) → IsAscendingFrom 1 (members_of choice props (chosen_tests defs props choice))
 members_ascend choice defs props = by_rounds (length props)
   where
     by_rounds : (rounds : ℕ) → IsAscendingFrom 1 (after_rounds choice props (chosen_tests defs props choice) rounds)
-    by_rounds zero = ascends-filter (is_chosen_at defs props choice) 1 (range_with_len 1 (length defs)) (row_ascends 1 (length defs))
+    by_rounds zero = ascends-filter (is_chosen_at defs props choice) 1 (range_with_len 1 (length defs)) (range_ascends 1 (length defs))
     by_rounds (suc rounds) =
         let tests = after_rounds choice props (chosen_tests defs props choice) rounds in
-        ascends-filter (λ number. is_in tests number || is_drawn choice (fixtures_required props tests) (at_number props number)) 1 (range_with_len 1 (length props)) (row_ascends 1 (length props))
-
--- the planned tests have the numbers that they are planned for
-planned_numbers : (s : Source) (numbers : List ℕ) (tests : List PlanTest) → ArePlannedTests s numbers tests → map (λ (t : PlanTest). t.number) tests ≡ numbers
-planned_numbers s [] [] planned = refl
-planned_numbers s [] (t ∷ ts) planned = absurd planned
-planned_numbers s (n ∷ ns) [] planned = absurd planned
-planned_numbers s (n ∷ ns) (t ∷ ts) planned =
-    ap (λ (m : ℕ). m ∷ map (λ (u : PlanTest). u.number) ts) (ap (λ (u : PlanTest). u.number) planned.0.is) ∙ ap (λ (ms : List ℕ). n ∷ ms) (planned_numbers s ns ts planned.1)
+        ascends-filter (λ number. is_in tests number || is_drawn choice (fixtures_required props tests) (at_number props number)) 1 (range_with_len 1 (length props)) (range_ascends 1 (length props))
 
 -- the plan of a run has numbers that ascend, predecessors with lesser ranks, and at least one attempt
 ranked : (s : Sides) (invocation : Invocation) (source : Source) (plan : PlanParts) (entries : List Entry) → IsRun s invocation source plan entries → IsRanked plan

@@ -14,21 +14,11 @@ use Rattle.ct_verdict.specs.Verdict.{asks_again, is_repeated, verdict_of}
 use Rattle.ct_history.specs.declared.plan.PlanTest.{PlanTest}
 use Rattle.ct_history.specs.declared.plan.PlanParts.{PlanParts}
 use Rattle.ct_history.specs.Plan.{IsAscendingFrom, has_sound_links, is_before_rank, test_at}
-use Rattle.ct_history.specs.Verdicts.{is_over, is_passed_verdict, last_behind, last_of_list, settled_or}
+use Rattle.ct_history.specs.Verdicts.{is_over, is_passed_verdict, last_of_list, settled_or}
 use Rattle.ct_history.specs.Rules.{cause_behind}
-use Rattle.ct_history.proofs.AttemptLemmas.{empty_of_no_last}
+use Rattle.ct_history.proofs.AttemptLemmas.{empty_of_no_last, last_behind-snoc}
+use Rattle.ct_history.proofs.ProgressLemmas.{all_found}
 use Rattle.ct_app.specs.Meant.{first_verdicts, last_attempt, meant_by_setups, meant_of_attempts, meant_verdict, meant_within}
-
--- an element that is found passes a test that all elements pass
-pub all_found : {A : Type 0} (p q : A → Bool) (xs : List A) (x : A) → list_all p xs ≡ true → find q xs ≡ Some x → p x ≡ true
-all_found p q [] x all is = cc
-all_found p q (y ∷ ys) x all is = elim (cases_Bool (q y)) [
-  | inl here ↦
-      let found : Some y ≡ Some x = sym (ap (λ (b : Bool). cond b (Some y) (find q ys)) here) ∙ is in
-      let same : y ≡ x = cc in
-      ap p (sym same) ∙ (and_parts (p y) (list_all p ys) all).0
-  | inr not_here ↦ all_found p q ys x (and_parts (p y) (list_all p ys) all).1 (sym (ap (λ (b : Bool). cond b (Some y) (find q ys)) not_here) ∙ is)
-]
 
 -- two tests that agree on the elements find the same one
 pub find_same : {A : Type 0} (p q ok : A → Bool) (xs : List A) → list_all ok xs ≡ true → ((x : A) → ok x ≡ true → p x ≡ q x) → find p xs ≡ find q xs
@@ -194,10 +184,6 @@ module _ (plan : PlanParts) (ranked : IsRanked plan) where
 -- one more attempt adds its verdict at the end
 pub first_verdicts-more : (rules : Rules) (seen : ℕ → Seen) (count : ℕ) → first_verdicts rules seen (count + 1) ≡ first_verdicts rules seen count ++ verdict_of rules (seen (count + 1)) ∷ []
 first_verdicts-more rules seen count = map-range_with_len_more (λ k. verdict_of rules (seen k)) 1 count (count + 1) (omega arith)
-
-pub last_behind-snoc : {A : Type 0} (found : Option A) (xs : List A) (x : A) → last_behind found (xs ++ x ∷ []) ≡ Some x
-last_behind-snoc found [] x = refl
-last_behind-snoc found (y ∷ ys) x = last_behind-snoc (Some y) ys x
 
 -- the last of the first attempts has the verdict of what was seen of it
 pub last_of_first : (rules : Rules) (seen : ℕ → Seen) (count : ℕ) → last_of_list (first_verdicts rules seen (count + 1)) ≡ Some (verdict_of rules (seen (count + 1)))

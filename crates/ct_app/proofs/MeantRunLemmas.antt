@@ -2,11 +2,12 @@
 use Rattle.std.proofs.Common.{◌≡◌, ◌∙◌, sym, ap, subst, Bool, true, false, ℕ, ◌+◌, ◌≤◌, ◌<◌, List, [], ◌∷◌, ◌++◌, length, refl, arith, append_assoc, inl, inr}
 use Rattle.std.specs.Prelude.{Option, Some, None, find, is_none, is_some, not, option_map, ◌&&◌, ◌||◌, ◌==◌, ◌⊎◌, if◌then◌else◌}
 use Rattle.std.specs.List.{list_all}
-use Rattle.std.proofs.lemmas.Bool.{and_parts, and_from, cases_Bool}
+use Rattle.std.proofs.lemmas.Bool.{and_parts, and_from, cases_Bool, true≢false, or_right}
 use Rattle.std.proofs.lemmas.Bool.Decides.{nat_tests}
 use Rattle.std.proofs.lemmas.List.{append-nil}
 use Rattle.std.proofs.lemmas.List.Folds.{list_all-append}
 use Rattle.std.proofs.lemmas.List.FromFn.{length-map-range_with_len}
+use Rattle.ct_base.proofs.TruthLemmas.{same_truth}
 use Rattle.ct_alloc.specs.declared.placement.Placement.{Placement}
 use Rattle.ct_verdict.specs.declared.attempt.Seen.{Seen}
 use Rattle.ct_verdict.specs.declared.verdict.Cause.{Cause}
@@ -24,18 +25,16 @@ use Rattle.ct_history.specs.Verdicts.{are_all_final, is_final_in, is_failing_in,
 use Rattle.ct_history.specs.Rules.{cause_behind, first_unpassed, follows_finals, is_pending, is_ready, may_start, settle_cause}
 use Rattle.ct_history.specs.Legal.{are_allowed_behind, has_failing, is_allowed, is_allowed_so_far, is_legal, is_next_attempt, is_stop_due, ends_in_first_failure, settles, starts}
 use Rattle.ct_history.proofs.BoolLemmas.{eq_same}
-use Rattle.ct_history.proofs.FinalLemmas.{start_ends_none}
+use Rattle.ct_history.proofs.FinalLemmas.{start_ends_none, settled-snoc, attempts-snoc, open_by_hold}
 use Rattle.ct_history.proofs.LegalLemmas.{legal_allowed, stop_failed}
 use Rattle.ct_history.proofs.MayLemmas.{may_start-parts, pending-parts}
-use Rattle.ct_history.proofs.OpenLemmas.{is_of, open_starts-end, open_starts-snoc}
+use Rattle.ct_history.proofs.OpenLemmas.{is_of, open_starts-end, open_starts-snoc, opens_settle, opens_stop}
 use Rattle.ct_history.proofs.PlanLemmas.{find_passes, found_at}
 use Rattle.ct_history.specs.Endings.{last_seen}
 use Rattle.ct_app.specs.Meant.{AreMeant, AreSeen, IsMeant, IsSeen, first_unpassed_setup, first_verdicts, is_meant_to_fail, last_attempt, meant_by_setups, meant_cause, meant_of_attempts, meant_verdict}
-use Rattle.ct_app.proofs.MeantLemmas.{IsRanked, all_found, attempts_meant, find_same, first_verdicts-more, last_attempt-is, last_of_first, meant_verdict-is, setups_before, some_attempt}
-use Rattle.ct_app.proofs.EntryLemmas.{Keeps, all_filter, any_from, apart, attempts-end, attempts-snoc, both_ways, cause-is, held_attempt, is_numbered, keeps-end, keeps-quiet, keeps-start, last-end, last-snoc, none_passes, open_by_hold, or_true, over_last, passed_over, quiet-settle, quiet-stop, settled-first, settled-snoc, settled_so, stops, unfinished, verdict_from, verdict_kept}
-
-true_is_false : true ≡ false → ⊥
-true_is_false is = cc
+use Rattle.ct_app.proofs.MeantLemmas.{IsRanked, attempts_meant, find_same, first_verdicts-more, last_attempt-is, last_of_first, meant_verdict-is, setups_before, some_attempt}
+use Rattle.ct_app.proofs.EntryLemmas.{Keeps, all_filter, any_from, apart, attempts-end, cause-is, held_attempt, is_numbered, keeps-end, keeps-quiet, keeps-start, last-end, last-snoc, none_passes, over_last, passed_over, settled-first, settled_so, stops, unfinished, verdict_from, verdict_kept}
+use Rattle.ct_history.proofs.ProgressLemmas.{all_found}
 
 -- the test is meant to run: it is not disabled, and has no meant cause
 record IsFree (plan : PlanParts) (seen : ℕ → ℕ → Seen) (t : PlanTest) : Type 0 where
@@ -127,7 +126,7 @@ module _ (plan : PlanParts) (ranked : IsRanked plan) (seen : ℕ → ℕ → See
         by_verdict None is some = cc
         by_verdict (Some v) is some = elim (right_at number (test_at plan.tests number) refl v is) [
           | inl meant ↦ meant
-          | inr stopped ↦ absurd (true_is_false (sym stopped.0 ∙ on))
+          | inr stopped ↦ absurd (true≢false (sym stopped.0 ∙ on))
         ]
 
     -- after all predecessors are final, the first setup that did not pass is the first that is not meant
@@ -180,7 +179,7 @@ module _ (plan : PlanParts) (ranked : IsRanked plan) (seen : ℕ → ℕ → See
                 ap (λ (rs : List Running). list_all (is_numbered t.number (g.count + 1)) rs) (open_starts-snoc es (Start t.number a w p) refl)
                 ∙ list_all-append (is_numbered t.number (g.count + 1)) (open_starts es) (run ∷ [])
                 ∙ and_from (list_all (is_numbered t.number (g.count + 1)) (open_starts es)) (is_numbered t.number (g.count + 1) run && true) g.numbered
-                (and_from (is_numbered t.number (g.count + 1) run) true (or_true (not (t.number == t.number)) (a == g.count + 1) next) refl);
+                (and_from (is_numbered t.number (g.count + 1) run) true (or_right (not (t.number == t.number)) (a == g.count + 1) next) refl);
             goes = λ is. sym (ap (λ (vs : List Verdict). is_over plan.repeat vs) g.attempts) ∙ left.goes;
             free = λ is. ready_free t own left.enabled may.goes_on may.ready;
             verdict = λ v is. right_stays plan seen t.number es (es ++ Start t.number a w p ∷ []) v (stops es (Start t.number a w p)) (g.verdict v (start_ends_none plan.repeat t es t.number a w p v is));
@@ -247,8 +246,8 @@ module _ (plan : PlanParts) (ranked : IsRanked plan) (seen : ℕ → ℕ → See
         last = λ some. last-end t.number es a w s ∙ ap (λ (x : Seen). Some x) (told ∙ ap (λ (n : ℕ). seen t.number n) attempt);
         before = below_more opens;
         numbered = weaker (open_starts more) ((all t own).count + 1 + 1) others;
-        goes = λ is. absurd (true_is_false (sym is ∙ closed));
-        free = λ is. absurd (true_is_false (sym is ∙ closed));
+        goes = λ is. absurd (true≢false (sym is ∙ closed));
+        free = λ is. absurd (true≢false (sym is ∙ closed));
         verdict = λ v is. right-end more (stops es (End t.number a w s)) opens v (sym same ∙ is);
       }
         where
@@ -290,7 +289,7 @@ module _ (plan : PlanParts) (ranked : IsRanked plan) (seen : ℕ → ℕ → See
           let pending = pending-parts plan t es so.0 in
           let left = unfinished plan.repeat t.disabled (settled_cause t.number es) (is_open_in t.number es) (attempts_of t.number t.rules es) pending.closed pending.unfinished in
           let caused : settled_cause t.number more ≡ Some c = settled-first t.number es (Settle t.number c) c left.unsettled (ap (λ (b : Bool). if b then Some c else None) (eq_same t.number)) in
-          goes_kept plan seen t es more (keeps-quiet t es (Settle t.number c) refl refl (quiet-settle es t.number c)) (λ v is. settled_right v left.enabled so.1 (sym (comes left.enabled caused) ∙ is)) (all t own)
+          goes_kept plan seen t es more (keeps-quiet t es (Settle t.number c) refl refl (opens_settle es t.number c)) (λ v is. settled_right v left.enabled so.1 (sym (comes left.enabled caused) ∙ is)) (all t own)
         where
           comes : t.disabled ≡ false → settled_cause t.number (es ++ Settle t.number c ∷ []) ≡ Some c → verdict_in plan.repeat t (es ++ Settle t.number c ∷ []) ≡ Some (NotRun c)
           comes enabled caused =
@@ -330,10 +329,10 @@ module _ (plan : PlanParts) (ranked : IsRanked plan) (seen : ℕ → ℕ → See
           subst (λ (m : ℕ). Goes plan seen (es ++ Settle m c ∷ []) t) (sym here)
           (settle_own t own c (cause-is c (settle_cause plan t es) (sym (ap (λ (m : ℕ). settles plan es c (test_at plan.tests m)) here ∙ ap (λ (o : Option PlanTest). settles plan es c o) own) ∙ both.1)))
       | inr unlike ↦
-          goes_same plan seen t es (es ++ Settle n c ∷ []) (keeps-quiet t es (Settle n c) refl refl (quiet-settle es n c))
+          goes_same plan seen t es (es ++ Settle n c ∷ []) (keeps-quiet t es (Settle n c) refl refl (opens_settle es n c))
           (settled-snoc t.number es (Settle n c) (ap (λ (b : Bool). if b then Some c else None) unlike)) (all t own)
     ]
-    goes_on Stop allowed is t own = goes_same plan seen t es (es ++ Stop ∷ []) (keeps-quiet t es Stop refl refl (quiet-stop es)) (settled-snoc t.number es Stop refl) (all t own)
+    goes_on Stop allowed is t own = goes_same plan seen t es (es ++ Stop ∷ []) (keeps-quiet t es Stop refl refl (opens_stop es)) (settled-snoc t.number es Stop refl) (all t own)
 
   goes_behind : (front es : List Entry) → are_allowed_behind plan front es ≡ true → AreSeen seen es → AllGo plan seen front → AllGo plan seen (front ++ es)
   goes_behind front [] allowed are all = subst (λ (xs : List Entry). AllGo plan seen xs) (sym (append-nil front)) all
@@ -349,8 +348,8 @@ module _ (plan : PlanParts) (ranked : IsRanked plan) (seen : ℕ → ℕ → See
     last = λ some. absurd (omega (arith, some));
     before = λ j less. absurd (omega (arith, less));
     numbered = refl;
-    goes = λ is. absurd (true_is_false (sym is));
-    free = λ is. absurd (true_is_false (sym is));
+    goes = λ is. absurd (true≢false (sym is));
+    free = λ is. absurd (true≢false (sym is));
     verdict = λ v is. by_disabled t.disabled refl v is;
   }
     where
@@ -369,7 +368,7 @@ module _ (plan : PlanParts) (ranked : IsRanked plan) (seen : ℕ → ℕ → See
       by_entry (Start n a w p) may = refl
       by_entry (End n a w s) may = refl
       by_entry (Settle n c) may = refl
-      by_entry Stop due = absurd (true_is_false (sym due ∙ ap (λ (b : Bool). b && ends_in_first_failure plan front) off))
+      by_entry Stop due = absurd (true≢false (sym due ∙ ap (λ (b : Bool). b && ends_in_first_failure plan front) off))
 
   module _ (es : List Entry) (legal : is_legal plan es ≡ true) (final : are_all_final plan es ≡ true) (are : AreSeen seen es) where
     so_far : is_allowed_so_far plan es ≡ true
@@ -398,7 +397,7 @@ module _ (plan : PlanParts) (ranked : IsRanked plan) (seen : ℕ → ℕ → See
     verdict_unstopped : plan.stop_on_failure ≡ false → (number : ℕ) → verdict_of_test plan es number ≡ meant_verdict plan seen number
     verdict_unstopped off number = elim (verdict_meant number) [
       | inl meant ↦ meant
-      | inr stopped ↦ absurd (true_is_false (sym stopped.0 ∙ no_stop-behind [] es off so_far))
+      | inr stopped ↦ absurd (true≢false (sym stopped.0 ∙ no_stop-behind [] es off so_far))
     ]
 
     -- a test that passed ended in its last attempt
@@ -424,7 +423,7 @@ module _ (plan : PlanParts) (ranked : IsRanked plan) (seen : ℕ → ℕ → See
         by_meant : (t : PlanTest) → test_at plan.tests t.number ≡ Some t → is_failing_in (verdict_in plan.repeat t es) ≡ true → is_failing_in (meant_verdict plan seen t.number) ≡ true
         by_meant t own fails = elim (verdict_meant t.number) [
           | inl meant ↦ ap is_failing_in (sym meant ∙ verdict_here t own) ∙ fails
-          | inr stopped ↦ absurd (true_is_false (sym fails ∙ ap is_failing_in (sym (verdict_here t own) ∙ stopped.1)))
+          | inr stopped ↦ absurd (true≢false (sym fails ∙ ap is_failing_in (sym (verdict_here t own) ∙ stopped.1)))
         ]
 
     meant_failing : is_meant_to_fail plan seen ≡ true → has_failing plan es ≡ true
@@ -438,7 +437,7 @@ module _ (plan : PlanParts) (ranked : IsRanked plan) (seen : ℕ → ℕ → See
         by_verdict : has_stop es ≡ false → (t : PlanTest) → test_at plan.tests t.number ≡ Some t → is_failing_in (meant_verdict plan seen t.number) ≡ true → is_failing_in (verdict_in plan.repeat t es) ≡ true
         by_verdict on t own fails = elim (verdict_meant t.number) [
           | inl meant ↦ ap is_failing_in (sym (verdict_here t own) ∙ meant) ∙ fails
-          | inr stopped ↦ absurd (true_is_false (sym stopped.0 ∙ on))
+          | inr stopped ↦ absurd (true≢false (sym stopped.0 ∙ on))
         ]
 
     -- a complete legal history has the meant verdicts
@@ -446,5 +445,5 @@ module _ (plan : PlanParts) (ranked : IsRanked plan) (seen : ℕ → ℕ → See
     are_meant = record {
       verdicts = verdict_meant;
       unstopped = verdict_unstopped;
-      failing = both_ways (has_failing plan es) (is_meant_to_fail plan seen) failing_meant meant_failing;
+      failing = same_truth (has_failing plan es) (is_meant_to_fail plan seen) failing_meant meant_failing;
     }

@@ -3,9 +3,11 @@ use Rattle.std.proofs.Common.{ℕ, ◌≡◌, Bool, true, false, cond, not, ◌&
 use Rattle.std.specs.Prelude.{Option, Result, is_some, option_map, option_to_list, slice_get}
 use Rattle.std.specs.List.{cons_option}
 use Rattle.std.specs.Result.{result_ok, result_err}
+use Rattle.std.proofs.Math.Bool.{or-false, or-true, or_comm}
 use Rattle.std.proofs.lemmas.List.{append-nil, append_assoc}
 use Rattle.std.proofs.lemmas.List.Elements.{filter_map-append}
 use Rattle.std.proofs.lemmas.List.Folds.{list_any-append}
+use Rattle.ct_base.proofs.OptionLemmas.{not_some}
 use denote.Enum.Bare.{same_true}
 use Rattle.ct_args.specs.contracts.option.CommandOption.{the_type}
 use Rattle.ct_args.specs.declared.option.CommandOption.{CommandOption}
@@ -25,20 +27,6 @@ not-itself : (b : Bool) → b ≡ not b → ⊥
 not-itself true e = cc
 not-itself false e = cc
 
-or-false : (b : Bool) → (b || false) ≡ b
-or-false true = refl
-or-false false = refl
-
-or-true : (b : Bool) → (b || true) ≡ true
-or-true true = refl
-or-true false = refl
-
-or-comm : (a b : Bool) → (a || b) ≡ (b || a)
-or-comm true true = refl
-or-comm true false = refl
-or-comm false true = refl
-or-comm false false = refl
-
 one_option : {X : Type 0} (o : Option X) → cons_option o [] ≡ option_to_list o
 one_option None = refl
 one_option (Some x) = refl
@@ -46,10 +34,6 @@ one_option (Some x) = refl
 first_option : {X : Type 0} (o : Option X) → slice_get (option_to_list o) 0 ≡ o
 first_option None = refl
 first_option (Some x) = refl
-
-none_there : {X : Type 0} (o : Option X) → is_some o ≡ false → o ≡ None
-none_there None e = refl
-none_there (Some x) e = cc
 
 good_there : {X : Type 0} (r : Result X UsageKind) → result_err r ≡ None → is_some (result_ok r) ≡ true
 good_there (Ok x) e = refl
@@ -88,7 +72,7 @@ other-slot rule own before slot given kept other = record {
 text_slot-if : {X : Type 0} (rule : List ℕ → Result X UsageKind) (own : CommandOption) (before : List Given) (slot : Option X) (word : ℕ) (option : CommandOption) (value : Value) → IsSlot rule own before slot → (is_same own option ≡ true → is_some slot ≡ false) → (is_same own option ≡ true → result_err (rule value.text) ≡ None) → (same : Bool) → is_same own option ≡ same → IsSlot rule own (before ++ taken word option (Some value) ∷ []) (cond same (result_ok (rule value.text)) slot)
 text_slot-if rule own before slot word option value kept empty good false e = other-slot rule own before slot (taken word option (Some value)) kept e
 text_slot-if rule own before slot word option value kept empty good true e =
-    let none : slot ≡ None = none_there slot (empty e) in
+    let none : slot ≡ None = not_some slot (empty e) in
     let nothing : option_values rule own before ≡ [] = kept.values ∙ ap option_to_list none in
     let here : given_value rule own (taken word option (Some value)) ≡ result_ok (rule value.text) = ap (λ b. cond b (result_ok (rule value.text)) None) e in
     record {
@@ -131,7 +115,7 @@ other_mark own before mark word option value asks kept own_asks other_asks =
 -- the mark of an option behind any option
 more_mark : (own : CommandOption) (before : List Given) (mark : Bool) (word : ℕ) (option : CommandOption) (value : Option Value) → is_given own before ≡ mark → is_given own (before ++ taken word option value ∷ []) ≡ (is_same own option || mark)
 more_mark own before mark word option value kept =
-    given-more own before (taken word option value) ∙ or-comm (is_given own before) (is_same own option) ∙ ap (λ b. is_same own option || b) kept
+    given-more own before (taken word option value) ∙ or_comm (is_given own before) (is_same own option) ∙ ap (λ b. is_same own option || b) kept
 
 -- the slots hold what was given before
 record Keeps (before : List Given) (slots : Slots) : Type 0 where

@@ -115,7 +115,6 @@ due_is plan sound es legal e n t only found =
     by_tests : (s now then' fails stop : Bool) → (s ≡ true → then' ≡ stop) → (then' ≡ false → now ≡ fails) → (s && (now && not then')) ≡ (s && fails && not stop)
     by_tests false now then' fails stop same one = refl
     by_tests true now then' fails true same one = ap (λ (b : Bool). now && not b) (same refl) ∙ and-false now ∙ sym (and-false fails)
-
     by_tests true now then' fails false same one = ap (λ (b : Bool). now && not b) (same refl) ∙ ap (λ (b : Bool). b && true) (one (same refl))
 
 -- behind an entry that gives its test no verdict no Stop is due

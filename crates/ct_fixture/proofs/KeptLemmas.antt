@@ -6,6 +6,7 @@ use Rattle.std.proofs.lemmas.List.Folds.{list_any_at, list_any_more}
 use Rattle.std.proofs.lemmas.Slice.Eq.{bytes_eq-Decides}
 use Rattle.indexmap.specs.IndexMap.{IndexMap}
 use Rattle.std.specs.declared.vec.Vec.{Vec}
+use Rattle.std.proofs.Math.Bool.{or-false, or_assoc, and-false}
 use Rattle.ct_props.specs.declared.props.Props.{Props}
 use Rattle.ct_props.specs.declared.wanted.Choice.{Choice}
 use Rattle.ct_fixture.specs.declared.fixtures.Fixtures.{Fixtures}
@@ -13,7 +14,7 @@ use Rattle.ct_fixture.specs.declared.members.Members.{Members}
 use Rattle.ct_props.specs.Numbered.{at_number, is_in}
 use Rattle.ct_fixture.specs.Drawing.{is_drawn, draws, required_by, keeps_cleanups, keeps_setups}
 use Rattle.ct_fixture.specs.Kept.{AddsTests, AreLeft, AreNamed, Draws, Extends, HaveMarks, IsLeft, given, is_drawn_in, names_fixture, fixture_tests}
-use Rattle.ct_fixture.proofs.MemberLemmas.{adds_same, extends_on, or_behind, or_none}
+use Rattle.ct_fixture.proofs.MemberLemmas.{adds_same, extends_on}
 use Rattle.ct_props.proofs.NumberedLemmas.{at_number_here, number_within}
 use Rattle.ct_base.specs.Names.{is_among}
 
@@ -38,10 +39,6 @@ names_there property props fixture number (Some own) is named = number_within pr
 pub named_number : (property : Props → List (List ℕ)) (props : List Props) (fixture : List ℕ) (number : ℕ) → names_fixture property fixture (at_number props number) ≡ true → (1 ≤ number) × (number ≤ length props)
 named_number property props fixture number named = names_there property props fixture number (at_number props number) refl named
 
-and_none : (a : Bool) → (a && false) ≡ false
-and_none true = refl
-and_none false = refl
-
 same_low : (at number : ℕ) → (number ≡ at + 1 → ⊥) → leb number at ≡ leb number (at + 1)
 same_low at number other =
     elim (cases_lt at number) [
@@ -59,7 +56,7 @@ step_by at number names_now among here =
           ∙ sym (ap (λ low. low && names_now) (le-leb number (at + 1) (omega (arith, same))))
       | inr other ↦
           ap (λ is. (leb number at && names_now) || (is && among)) (ne_eqb (at + 1) number (λ same. other (sym same)))
-          ∙ or_none (leb number at && names_now)
+          ∙ or-false (leb number at && names_now)
           ∙ ap (λ low. low && names_now) (same_low at number other)
     ]
 
@@ -68,7 +65,7 @@ names_here property fixture own disabled is = ap (λ d. not d && is_among fixtur
 
 low_within : (count number : ℕ) (named : Bool) → (named ≡ true → number ≤ count) → (leb number count && named) ≡ named
 low_within count number true within = ap (λ low. low && true) (le-leb number count (within refl))
-low_within count number false within = and_none (leb number count)
+low_within count number false within = and-false (leb number count)
 
 drawn_by_side : (there named member keeps : Bool) (tests : List ℕ) (number : ℕ) → is_in tests number ≡ there → (there ≡ true → named ≡ true) → (named ≡ true → keeps ≡ false → (there || member) ≡ true) → (member || is_in (given keeps tests) number) ≡ (member || (named && not keeps))
 drawn_by_side there named true keeps tests number is sound left = refl
@@ -102,8 +99,8 @@ module _ {Y Z S : Type 0} where
   pub named_still : (property : Props → List (List ℕ)) (props : List Props) (at : ℕ) (own : Props) (tests : IndexMap (Vec ℕ Y) (Vec ℕ Z) S) → at < length props → own ≡ get_or props at own → own.disabled ≡ true → AreNamedTo at property props tests → AreNamedTo (at + 1) property props tests
   named_still property props at own tests within is disabled named = λ fixture number.
       named fixture number
-      ∙ sym (or_none (leb number at && names_fixture property fixture (at_number props number)))
-      ∙ ap (λ none. (leb number at && names_fixture property fixture (at_number props number)) || none) (sym (and_none (eqb (at + 1) number)))
+      ∙ sym (or-false (leb number at && names_fixture property fixture (at_number props number)))
+      ∙ ap (λ none. (leb number at && names_fixture property fixture (at_number props number)) || none) (sym (and-false (eqb (at + 1) number)))
       ∙ step_by at number (names_fixture property fixture (at_number props number)) false (λ same. ap (λ n. names_fixture property fixture (at_number props n)) same ∙ ap (names_fixture property fixture) (at_number_here props at own within is) ∙ names_here property fixture own true disabled)
 
   -- what holds of a map of tests holds of an equal one
@@ -177,17 +174,13 @@ have_marks choice props fixtures members left = record {
   cleanups = left_marks (λ own. own.cleanup) (keeps_cleanups choice) props fixtures.cleanups members (length members.marks.items) left.long left.cleanups;
 }
 
-none_joined : (member : Bool) → member ≡ (member || false)
-none_joined true = refl
-none_joined false = refl
-
 joined : (member disabled up kept clean kept_clean : Bool) → ((member || ((not disabled && up) && not kept)) || ((not disabled && clean) && not kept_clean)) ≡ (member || ((not disabled && ((up && not kept) || (clean && not kept_clean))) || false))
 joined true disabled up kept clean kept_clean = refl
 joined false true up kept clean kept_clean = refl
-joined false false up kept clean kept_clean = none_joined ((up && not kept) || (clean && not kept_clean))
+joined false false up kept clean kept_clean = sym (or-false ((up && not kept) || (clean && not kept_clean)))
 
 both_sides : (choice : Choice) (fixture : List ℕ) (member : Bool) (own : Option Props) → ((member || (names_fixture (λ p. p.setup) fixture own && not (keeps_setups choice fixture))) || (names_fixture (λ p. p.cleanup) fixture own && not (keeps_cleanups choice fixture))) ≡ (member || is_drawn choice (fixture ∷ []) own)
-both_sides choice fixture member None = sym (none_joined (member || false))
+both_sides choice fixture member None = or-false (member || false)
 both_sides choice fixture member (Some own) = joined member own.disabled (is_among fixture own.setup) (keeps_setups choice fixture) (is_among fixture own.cleanup) (keeps_cleanups choice fixture)
 
 -- where the setups and then the cleanups of a fixture are taken out and
@@ -223,7 +216,7 @@ requires_own own enabled = ap (λ d. cond d [] own.required) enabled
 drawn_by_more : (choice : Choice) (fixtures : List (List ℕ)) (at : ℕ) (fixture : List ℕ) (own : Option Props) → at < length fixtures → fixture ≡ get_or fixtures at fixture → (is_drawn choice (take at fixtures) own || is_drawn choice (fixture ∷ []) own) ≡ is_drawn choice (take (at + 1) fixtures) own
 drawn_by_more choice fixtures at fixture None within is = refl
 drawn_by_more choice fixtures at fixture (Some own) within is =
-    ap (λ here. is_drawn choice (take at fixtures) (Some own) || here) (or_none (draws choice own fixture))
+    ap (λ here. is_drawn choice (take at fixtures) (Some own) || here) (or-false (draws choice own fixture))
     ∙ ap (λ f. is_drawn choice (take at fixtures) (Some own) || draws choice own f) is
     ∙ sym (list_any_more (draws choice own) fixtures at fixture within)
 
@@ -234,7 +227,7 @@ drawn_more choice props fixtures at fixture first second third within is one two
   is = λ number.
       two.is number
       ∙ ap (λ m. m || is_drawn choice (fixture ∷ []) (at_number props number)) (one.is number)
-      ∙ or_behind (is_drawn_in first number) (is_drawn choice (take at fixtures) (at_number props number)) (is_drawn choice (fixture ∷ []) (at_number props number))
+      ∙ or_assoc (is_drawn_in first number) (is_drawn choice (take at fixtures) (at_number props number)) (is_drawn choice (fixture ∷ []) (at_number props number))
       ∙ ap (λ drawn. is_drawn_in first number || drawn) (drawn_by_more choice fixtures at fixture (at_number props number) within is);
 }
 

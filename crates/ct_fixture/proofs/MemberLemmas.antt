@@ -1,6 +1,7 @@
 -- Tests that are added to those that are in, and the list of all that are in.
-use Rattle.std.proofs.Common.{◌≡◌, ℕ, ◌+◌, ◌-◌, ◌<◌, ◌≤◌, Bool, true, false, cond, eqb, ◌||◌, List, [], ◌∷◌, ◌++◌, length, get_or, take, filter, inl, inr, refl, sym, ap, ◌∙◌, subst, arith, append-nil}
+use Rattle.std.proofs.Common.{◌≡◌, ℕ, ◌+◌, ◌-◌, ◌<◌, ◌≤◌, Bool, true, false, cond, eqb, ◌||◌, List, [], ◌∷◌, ◌++◌, length, get_or, take, filter, inl, inr, sym, ap, ◌∙◌, subst, arith, append-nil}
 use Rattle.std.specs.List.{range_with_len}
+use Rattle.std.proofs.Math.Bool.{or-false, or_assoc}
 use Rattle.std.proofs.lemmas.Bool.{cases_Bool}
 use Rattle.std.proofs.lemmas.List.{map-id}
 use Rattle.std.proofs.lemmas.List.Folds.{list_any-append, list_any_more}
@@ -8,16 +9,6 @@ use Rattle.std.proofs.lemmas.List.FromFn.{filter_of_map_range_with_len_more}
 use Rattle.ct_fixture.specs.declared.members.Members.{Members}
 use Rattle.ct_props.specs.Numbered.{is_in}
 use Rattle.ct_fixture.specs.Kept.{AddsTests, Extends, is_drawn_in}
-
--- a disjunction with false is its other part
-pub or_none : (a : Bool) → (a || false) ≡ a
-or_none true = refl
-or_none false = refl
-
--- a disjunction may be grouped from either end
-pub or_behind : (a b c : Bool) → ((a || b) || c) ≡ (a || (b || c))
-or_behind true b c = refl
-or_behind false b c = refl
 
 -- which tests wait, with one more test
 pub waits_more : (waiting : List ℕ) (number : ℕ) (test : ℕ) → is_in (waiting ++ number ∷ []) test ≡ (is_in waiting test || (eqb number test || false))
@@ -44,8 +35,8 @@ adds_more tests at first second third within one two = record {
   is = λ number.
       two.is number
       ∙ ap (λ m. m || (eqb (get_or tests at 0) number || false)) (one.is number)
-      ∙ or_behind (is_drawn_in first number) (is_in (take at tests) number) (eqb (get_or tests at 0) number || false)
-      ∙ ap (λ later. is_drawn_in first number || (is_in (take at tests) number || later)) (or_none (eqb (get_or tests at 0) number))
+      ∙ or_assoc (is_drawn_in first number) (is_in (take at tests) number) (eqb (get_or tests at 0) number || false)
+      ∙ ap (λ later. is_drawn_in first number || (is_in (take at tests) number || later)) (or-false (eqb (get_or tests at 0) number))
       ∙ ap (λ later. is_drawn_in first number || later) (sym (list_any_more (λ n. eqb n number) tests at 0 within));
 }
 

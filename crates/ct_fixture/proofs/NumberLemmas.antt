@@ -6,13 +6,6 @@ use Rattle.std.proofs.lemmas.List.Folds.{list_any-append}
 use Rattle.std.proofs.lemmas.List.Sums.{sum_by-cons}
 use Rattle.ct_props.specs.Numbered.{is_in}
 
--- two truth values that follow from each other are equal
-pub same_bool : (a b : Bool) → (a ≡ true → b ≡ true) → (b ≡ true → a ≡ true) → a ≡ b
-same_bool true true there back = refl
-same_bool true false there back = sym (there refl)
-same_bool false true there back = back refl
-same_bool false false there back = refl
-
 -- where a number of the list passes, some number does
 pub any_at : (test : ℕ → Bool) (number : ℕ) (numbers : List ℕ) → is_in numbers number ≡ true → test number ≡ true → list_any test numbers ≡ true
 any_at test number [] there passes = absurd (false≢true there)

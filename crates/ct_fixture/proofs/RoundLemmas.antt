@@ -4,12 +4,13 @@ use Rattle.std.proofs.Common.{◌≡◌, ℕ, zero, suc, ◌≤◌, Bool, true, 
 use Rattle.std.specs.List.{list_any, range_with_len}
 use Rattle.std.proofs.lemmas.Bool.{false≢true, eq-eqb, or_cases, or_left, or_right}
 use Rattle.std.proofs.lemmas.List.FromFn.{length-range_with_len}
+use Rattle.ct_base.proofs.TruthLemmas.{same_truth}
 use Rattle.ct_props.proofs.NumberedLemmas.{number_within}
 use Rattle.ct_props.specs.declared.props.Props.{Props}
 use Rattle.ct_props.specs.declared.wanted.Choice.{Choice}
 use Rattle.ct_props.specs.Numbered.{at_number, is_in}
 use Rattle.ct_fixture.specs.Drawing.{draws, required_by, fixtures_required, is_drawn, next_round, after_rounds, members_of}
-use Rattle.ct_fixture.proofs.NumberLemmas.{Grows, all_pass, any_at, any-flat_map, grows, in_row, from_row, kept_passes, never_any, passes_kept, same_bool, same_kept, some_passes}
+use Rattle.ct_fixture.proofs.NumberLemmas.{Grows, all_pass, any_at, any-flat_map, grows, in_row, from_row, kept_passes, never_any, passes_kept, same_kept, some_passes}
 
 -- the fixtures that one test requires draw in another
 abbrev pub draws_test : Choice → List Props → ℕ → ℕ → Bool
@@ -146,7 +147,7 @@ module _ (choice : Choice) (props : List Props) where
     listed_by set numbers start closed (suc rounds) count sound =
         let tests = after_rounds choice props chosen rounds in
         let test = λ (n : ℕ). is_in tests n || is_drawn choice (fixtures_required props tests) (at_number props n) in
-        same_kept set test 1 (length props) (λ number from below. same_bool (set number) (test number)
+        same_kept set test 1 (length props) (λ number from below. same_truth (set number) (test number)
         (λ there. (kept_passes test number 1 (length props) (sound number there)).0)
         (λ passes. within_closed set start closed (suc rounds) number (passes_kept test number 1 (length props) (passes, from, below))))
 

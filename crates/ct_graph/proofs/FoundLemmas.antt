@@ -5,22 +5,16 @@ use Rattle.std.specs.BTreeMap.{BTreeMap, UpdatesBy}
 use Rattle.std.specs.Ordering.{ordering_then}
 use Rattle.std.specs.Cmp.Lexicographic.{slice_cmp}
 use Rattle.std.specs.declared.vec.Vec.{Vec}
+use Rattle.std.proofs.Math.Bool.{or-false}
 use Rattle.std.proofs.lemmas.Bool.{false≢true, cases_eq, cases_lt, or_cases, or_left, or_right, eq-eqb, eqb-true}
-use Rattle.std.proofs.lemmas.List.{get_or-set_same, get_or-set_other, get_or_append_left, get_or-append_right, get_or-replicate, get_or_past, length-set, length-replicate, drop_more, drop_all}
+use Rattle.std.proofs.lemmas.List.{get_or-set_same, get_or-set_other, get_or_append_left, get_or-append_right, get_or_past, length-set, drop_more, drop_all}
 use Rattle.std.proofs.lemmas.List.Elements.{All-head, All-tail, All-push, All-weaker, All-nil}
 use Rattle.std.proofs.lemmas.List.Folds.{list_any-append}
 use Rattle.std.proofs.lemmas.Map.Text.{is_eq-slice_cmp}
 use Rattle.std.proofs.lemmas.Slice.Eq.{bytes_eq-Decides}
+use Rattle.ct_base.proofs.ListLemmas.{none_new}
 use Rattle.ct_props.specs.Numbered.{is_in}
 use Rattle.ct_graph.specs.Found.{AreMarked, AreFound, bytes_of, names_cmp, KnowsIn}
-use Rattle.ct_graph.proofs.NameLemmas.{or_same}
-
--- new marks are false
-none_new : (count at : ℕ) → get_or (replicate count false) at false ≡ false
-none_new count at =
-    ⊎_elim (λ within. get_or-replicate count at false false within)
-    (λ past. get_or_past (replicate count false) at false (let long : length (replicate count false) ≡ count = length-replicate count false in omega arith))
-    (cases_lt at count)
 
 -- marks that reach farther mark the same tests
 pub marks_reach : (marks : List Bool) (count at : ℕ) → get_or (marks ++ replicate count false) at false ≡ get_or marks at false
@@ -43,11 +37,11 @@ found_before marks tests test are is n = by (eqb test n) refl
     by true same =
         let here : is_in tests n ≡ true = ap (λ m. is_in tests m) (sym (eqb-true test n same)) ∙ are.marked test is in
         here ∙ sym (or_right (is_in tests n) true refl)
-    by false other = or_same (is_in tests n)
+    by false other = sym (or-false (is_in tests n))
 
 -- what is in a list with one more test
 pub is_in-push : (tests : List ℕ) (test n : ℕ) → is_in (tests ++ test ∷ []) n ≡ (is_in tests n || eqb test n)
-is_in-push tests test n = list_any-append (λ m. eqb m n) tests (test ∷ []) ∙ ap (λ b. is_in tests n || b) (sym (or_same (eqb test n)))
+is_in-push tests test n = list_any-append (λ m. eqb m n) tests (test ∷ []) ∙ ap (λ b. is_in tests n || b) (or-false (eqb test n))
 
 pub marks_more : (marks : List Bool) (tests : List ℕ) (test : ℕ) → test < length marks → AreMarked marks tests → AreMarked (set marks test true) (tests ++ test ∷ [])
 marks_more marks tests test inside are = record {

@@ -17,8 +17,8 @@ use Rattle.ct_graph.specs.Found.{AreFound}
 use Rattle.ct_graph.specs.Index.{has_own_name, has_setup, has_required, cleans_some, has_cleanup, IsIndex, IsIndexAt, Indexed, AddsTest, AreMembers, FindsBefore}
 use Rattle.ct_graph.specs.declared.index.Index.{Index}
 use Rattle.ct_graph.proofs.TestLemmas.{is_in-filter, same_increasing, all_in}
-use Rattle.ct_graph.proofs.NameLemmas.{bytes_eq_comm}
 use Rattle.ct_base.specs.Names.{is_among, shares_name}
+use Rattle.ct_base.proofs.NameLemmas.{bytes_eq_comm}
 
 -- whether the number that was just added has what is asked
 more_here : (a o : Bool) → ((a && o) || (o && true)) ≡ ((a || true) && o)

@@ -4,18 +4,12 @@ use Rattle.std.proofs.Common.{ℕ, ◌≡◌, Bool, true, false, cond, ◌&&◌,
 use Rattle.std.specs.List.{list_any, dedup, dedup_from}
 use Rattle.std.specs.Borrow.{Bor}
 use Rattle.std.specs.declared.vec.Vec.{Vec}
+use Rattle.std.proofs.Math.Bool.{or-false}
 use Rattle.indexmap.specs.IndexMap.{IndexMap, UpdatesBy, get_by}
 use Rattle.std.proofs.lemmas.Slice.Eq.{bytes_eq-Decides}
+use Rattle.ct_base.proofs.NameLemmas.{bytes_eq_comm}
 use Rattle.ct_props.specs.Numbered.{is_in}
 use Rattle.ct_graph.specs.ByName.{or_none, tests_at}
-use Rattle.ct_graph.proofs.TestLemmas.{same_truth}
-
--- the comparison of two names is symmetric
-pub bytes_eq_comm : (name other : List ℕ) → bytes_eq name other ≡ bytes_eq other name
-bytes_eq_comm name other =
-    same_truth (bytes_eq name other) (bytes_eq other name)
-    (λ is. (bytes_eq-Decides other name).1 (sym ((bytes_eq-Decides name other).0 is)))
-    (λ is. (bytes_eq-Decides name other).1 (sym ((bytes_eq-Decides other name).0 is)))
 
 or_none-cond : {Y : Type 0} (b : Bool) (tests : Vec ℕ Y) (found : Option (Vec ℕ Y)) → or_none (cond b (Some tests) found) ≡ cond b tests.items (or_none found)
 or_none-cond true tests found = refl
@@ -32,17 +26,13 @@ tests_at-updated name before now tests updates other =
     ∙ or_none-cond (bytes_eq name.now other) tests (get_by (λ (k : Bor (List ℕ)). bytes_eq other k.now) before)
     ∙ ap (λ b. cond b tests.items (tests_at before other)) (bytes_eq_comm name.now other)
 
-pub or_same : (b : Bool) → b ≡ (b || false)
-or_same true = refl
-or_same false = refl
-
 -- the tests of each name, where one name has one test more
 pub is_in-updated : (name other : List ℕ) (tests here there : List ℕ) (test n : ℕ) → (name ≡ other → here ≡ there) → is_in tests n ≡ (is_in here n || eqb test n) → is_in (cond (bytes_eq other name) tests there) n ≡ (is_in there n || (bytes_eq other name && eqb test n))
 is_in-updated name other tests here there test n same more = by (bytes_eq other name) refl
   where
     by : (b : Bool) → bytes_eq other name ≡ b → is_in (cond b tests there) n ≡ (is_in there n || (b && eqb test n))
     by true is = more ∙ ap (λ ts. is_in ts n || eqb test n) (same (sym ((bytes_eq-Decides other name).0 is)))
-    by false is = or_same (is_in there n)
+    by false is = sym (or-false (is_in there n))
 
 once_more : (b c : Bool) → (b || c) ≡ (b || (b || c))
 once_more true c = refl

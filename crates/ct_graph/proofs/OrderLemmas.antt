@@ -1,5 +1,5 @@
 -- The links of the members are an order, and where there is an order there is no cycle.
-use Rattle.std.proofs.Common.{ℕ, ◌≡◌, ◌+◌, ◌<◌, Bool, true, false, cond, ◌&&◌, nat_lt, List, [], ◌∷◌, length, take, get_or, set, map, Option, Some, None, Result, Ok, Err, OnOk, ◌≤◌, refl, sym, ap, ◌∙◌, subst, ⊎_elim, arith, eqb}
+use Rattle.std.proofs.Common.{ℕ, ◌≡◌, ◌+◌, ◌<◌, Bool, true, false, cond, nat_lt, List, [], ◌∷◌, length, take, get_or, set, map, Option, Some, None, Result, Ok, Err, OnOk, ◌≤◌, refl, sym, ap, ◌∙◌, subst, ⊎_elim, arith, eqb}
 use Rattle.std.specs.List.{list_all}
 use Rattle.std.proofs.lemmas.Bool.{true≢false, false≢true, eqb-true, and_parts, and_from, or_cases, or_parts, or_right, eqb-false, ltb-true}
 use Rattle.std.proofs.lemmas.List.{length-set, get_or-set_other}
@@ -43,9 +43,6 @@ lesser : (rank : ℕ) (mark : Mark) → is_taken_below rank mark ≡ true → na
 lesser rank Unseen is = absurd (false≢true is)
 lesser rank Open is = absurd (false≢true is)
 lesser rank (Taken other) is = is
-
-and_second : (a b : Bool) → (a && b) ≡ true → b ≡ true
-and_second a b is = (and_parts a b is).1
 
 map_numbers : (setups : ℕ → List ℕ) (rows : List (List ℕ)) (marks : List Mark) (members : List ℕ) → map (λ (l : Links). l.number) (map (links_of setups rows marks) members) ≡ members
 map_numbers setups rows marks [] = refl
@@ -98,7 +95,7 @@ orders defs props tests members rows marks links are ranked taken made =
         let lower : are_taken_below marks (rank_of (mark_of marks i)) (row_of rows i) ≡ true = ranked i (rank_of (mark_of marks i)) here in
         list_all-from (λ j. ranks_below (rank_of (mark_of marks i)) (links_at (map (links_of (setups_of props members) rows marks) members) j)) (row_of rows i)
         (λ j in_row_i.
-        let member : is_in members j ≡ true = and_second _ (is_in members j) (sym (is_in-filter _ members j) ∙ ap (λ row. is_in row j) (sym (row_of-member (before_of defs props members) tests members rows are i is)) ∙ in_row_i) in
+        let member : is_in members j ≡ true = (and_parts _ (is_in members j) (sym (is_in-filter _ members j) ∙ ap (λ row. is_in row j) (sym (row_of-member (before_of defs props members) tests members rows are i is)) ∙ in_row_i)).1 in
         ap (ranks_below (rank_of (mark_of marks i))) (links_at-member (links_of (setups_of props members) rows marks) (λ n. refl) members j member)
         ∙ lesser (rank_of (mark_of marks i)) (mark_of marks j) (list_all-at (λ k. is_taken_below (rank_of (mark_of marks i)) (mark_of marks k)) (row_of rows i) j lower in_row_i))
 
@@ -141,7 +138,7 @@ module _ (defs : List TestDef) (props : List Props) (members : List ℕ) (links 
 
   -- what comes before a test is a member
   member : (i j : ℕ) → is_in (before_of defs props members i) j ≡ true → is_in members j ≡ true
-  member i j is = and_second _ (is_in members j) (sym (is_in-filter _ members j) ∙ is)
+  member i j is = (and_parts _ (is_in members j) (sym (is_in-filter _ members j) ∙ is)).1
 
   -- what comes before a member has a lesser rank
   rises : (i j : ℕ) → is_in members i ≡ true → is_in (before_of defs props members i) j ≡ true → rank_or_zero (links_at links j) < rank_or_zero (links_at links i)

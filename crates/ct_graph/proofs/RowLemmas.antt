@@ -1,5 +1,6 @@
 -- The rows of a graph: each member that is looked at gets its row, and all are within the graph.
-use Rattle.std.proofs.Common.{ℕ, ◌≡◌, ◌+◌, ◌<◌, ◌≤◌, Bool, true, false, cond, ◌||◌, List, [], length, take, get_or, set, replicate, filter, All, refl, sym, ap, ◌∙◌, subst, ⊎_elim, arith, eqb}
+use Rattle.std.proofs.Common.{ℕ, ◌≡◌, ◌+◌, ◌<◌, ◌≤◌, Bool, true, false, cond, ◌||◌, List, [], length, take, get_or, set, replicate, filter, All, sym, ap, ◌∙◌, subst, ⊎_elim, arith, eqb}
+use Rattle.std.proofs.Math.Bool.{or-false}
 use Rattle.std.proofs.lemmas.Bool.{false≢true, cases_eq, cases_lt, eq-eqb, ne_eqb, or_right}
 use Rattle.std.proofs.lemmas.List.{get_or-set_same, get_or-set_other, length-set, length-replicate, get_or-replicate, get_or_past}
 use Rattle.std.proofs.lemmas.List.Folds.{list_any_more}
@@ -22,10 +23,6 @@ starts_rows before tests rows are = record {
   rows_are = λ number. ap (λ rs. row_of rs number) are ∙ no_row (tests + 1) number;
 }
 
-or_false : (b : Bool) → b ≡ (b || false)
-or_false true = refl
-or_false false = refl
-
 -- one more member gets its row
 pub puts_row : (before : ℕ → List ℕ) (tests : ℕ) (members : List ℕ) (at d : ℕ) (rows : List (List ℕ)) → at < length members → get_or members at d < length rows → AreRows before tests (take at members) rows → AreRows before tests (take (at + 1) members) (set rows (get_or members at d) (before (get_or members at d)))
 puts_row before tests members at d rows within inside are = record {
@@ -41,7 +38,7 @@ puts_row before tests members at d rows within inside are = record {
       get_or-set_other rows (get_or members at d) number (before (get_or members at d)) [] other
       ∙ are.rows_are number
       ∙ ap (λ b. cond b (before number) [])
-      (or_false (is_in (take at members) number)
+      (sym (or-false (is_in (take at members) number))
       ∙ ap (λ b. is_in (take at members) number || b) (sym (ne_eqb (get_or members at d) number (λ same. other (sym same))))
       ∙ sym (list_any_more (λ m. eqb m number) members at d within)))
       (cases_eq number (get_or members at d));

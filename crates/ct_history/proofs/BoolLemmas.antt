@@ -3,7 +3,7 @@
 use Rattle.std.proofs.Common.{◌≡◌, ◌<◌, Bool, true, false, ℕ, refl, sym, ◌∙◌, arith, List, length, get_or, inl, inr}
 use Rattle.std.specs.Prelude.{◌&&◌, ◌||◌, ◌==◌}
 use Rattle.std.specs.List.{list_all}
-use Rattle.std.proofs.lemmas.Bool.{cases_Bool}
+use Rattle.std.proofs.lemmas.Bool.{cases_Bool, eq-eqb}
 use Rattle.std.proofs.lemmas.Bool.Decides.{nat_tests}
 use Rattle.std.proofs.lemmas.List.Folds.{list_all_at}
 
@@ -15,10 +15,6 @@ pub and_right : (a b : Bool) → (a && b) ≡ true → b ≡ true
 and_right true b both = both
 and_right false b both = cc
 
-pub and_both : (a b : Bool) → a ≡ true → b ≡ true → (a && b) ≡ true
-and_both true b one other = other
-and_both false b one other = one
-
 pub or_left : (a b : Bool) → (a || b) ≡ false → a ≡ false
 or_left true b none = none
 or_left false b none = refl
@@ -27,10 +23,6 @@ pub or_right : (a b : Bool) → (a || b) ≡ false → b ≡ false
 or_right true b none = cc
 or_right false b none = none
 
-pub and_false : (b : Bool) → (b && false) ≡ false
-and_false true = refl
-and_false false = refl
-
 -- where each element passes a test, the element at each place passes it
 pub all_at : {A : Type 0} (p : A → Bool) (xs : List A) (at : ℕ) (d : A) → list_all p xs ≡ true → at < length xs → p (get_or xs at d) ≡ true
 all_at p xs at d all within = elim (cases_Bool (p (get_or xs at d))) [
@@ -38,11 +30,8 @@ all_at p xs at d all within = elim (cases_Bool (p (get_or xs at d))) [
   | inr fails ↦ let none = sym all ∙ list_all_at p xs at d within fails in (cc)
 ]
 
-pub eq_is : (m n : ℕ) → m ≡ n → (m == n) ≡ true
-eq_is m n is = grind (arith, nat_tests)
-
 pub eq_same : (n : ℕ) → (n == n) ≡ true
-eq_same n = eq_is n n refl
+eq_same n = eq-eqb n n refl
 
 pub eq_less : (m n : ℕ) → m < n → (m == n) ≡ false
 eq_less m n less = grind (arith, nat_tests)

@@ -1,8 +1,9 @@
 -- Values of texts and whole numbers hold no float. Their text, with a line feed behind it,
 -- reads back to them.
-use Rattle.std.proofs.Common.{◌≡◌, ℕ, zero, suc, ◌≤◌, List, [], ◌∷◌, ◌++◌, Bool, true, false, ◌||◌, codes, Option, Some, option_and_then, refl, sym, ap, ap₂, ◌∙◌, append_assoc, append-nil, arith}
+use Rattle.std.proofs.Common.{◌≡◌, ℕ, zero, suc, ◌≤◌, List, [], ◌∷◌, ◌++◌, Bool, true, false, codes, Option, Some, option_and_then, refl, sym, ap, ap₂, ◌∙◌, append_assoc, append-nil, arith}
 use Rattle.std.specs.Prelude.{⊤}
 use Rattle.std.proofs.Math.Nat.{max-le}
+use Rattle.std.proofs.lemmas.Bool.{or_from}
 use Rattle.json.specs.Token.{Token}
 use Rattle.json.specs.Word.{ends_word}
 use Rattle.json.specs.Lex.{token, comma, colon, string_token, lex, between, fresh, punctuate, tokens}
@@ -42,10 +43,6 @@ abbrev mutual
 
 -- ---- no float, and numbers and depth of the tree
 
-or_false : (a b : Bool) → a ≡ false → b ≡ false → (a || b) ≡ false
-or_false true b one other = one
-or_false false b one other = other
-
 mutual
   pub plain_floats : (d : Data) (k : ℕ) → IsPlain d k → has_float d ≡ false
   plain_floats null k plain = absurd plain
@@ -59,11 +56,11 @@ mutual
 
   items_floats : (ds : Items) (k : ℕ) → ArePlain ds k → items_have_float ds ≡ false
   items_floats no_items k plain = refl
-  items_floats (item d ds) k plain = or_false (has_float d) (items_have_float ds) (plain_floats d k plain.0) (items_floats ds k plain.1)
+  items_floats (item d ds) k plain = or_from (has_float d) (items_have_float ds) (plain_floats d k plain.0) (items_floats ds k plain.1)
 
   members_floats : (ms : Members) (k : ℕ) → MembersArePlain ms k → members_have_float ms ≡ false
   members_floats no_members k plain = refl
-  members_floats (member key d ms) k plain = or_false (has_float d) (members_have_float ms) (plain_floats d k plain.0) (members_floats ms k plain.1)
+  members_floats (member key d ms) k plain = or_from (has_float d) (members_have_float ms) (plain_floats d k plain.0) (members_floats ms k plain.1)
 
 at_least_none : (k : ℕ) → 0 ≤ k
 at_least_none k = omega arith

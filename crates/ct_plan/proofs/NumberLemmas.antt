@@ -1,12 +1,11 @@
 -- The numbers of the members ascend, and each is of a test. The properties of
 -- tests are found at the same places.
 use Rattle.std.proofs.Common.{ℕ, ◌≡◌, ◌<◌, ◌≤◌, ◌+◌, Bool, true, false, cond, not, zero, suc, List, [], ◌∷◌, length, get_or, map, filter, All, refl, sym, subst, arith}
-use Rattle.std.specs.Prelude.{AllPairs, Some, None, slice_get}
+use Rattle.std.specs.Prelude.{Some, None, slice_get}
 use Rattle.std.specs.List.{range_with_len}
 use Rattle.std.specs.List.Sorted.{IsStrictlyIncreasing}
 use Rattle.std.proofs.lemmas.List.FromFn.{length-range_with_len, get_or-range_with_len}
-use Rattle.std.proofs.lemmas.List.Elements.{All-nil, All-cons, All-head, All-tail, All-filter, All-from_get_or, All-weaker}
-use Rattle.std.proofs.lemmas.List.Kept.{AllPairs-cons}
+use Rattle.std.proofs.lemmas.List.Elements.{All-nil, All-cons, All-head, All-tail, All-filter, All-from_get_or}
 use Rattle.ct_base.specs.declared.defs.TestDef.{TestDef}
 use Rattle.ct_props.specs.declared.props.Props.{Props}
 use Rattle.ct_props.specs.declared.wanted.Choice.{Choice}
@@ -15,42 +14,11 @@ use Rattle.ct_select.specs.Chosen.{chosen_tests}
 use Rattle.ct_fixture.specs.Drawing.{after_rounds, members_of}
 use Rattle.ct_history.specs.Plan.{IsAscendingFrom, enabled}
 use Rattle.ct_history.specs.declared.plan.PlanTest.{PlanTest}
+use Rattle.ct_history.proofs.AscendLemmas.{range_ascends, ascends_with, ascends-filter, pairs_ascend}
 
 -- each number is that of one of `count` tests
 abbrev pub AreOfTests : ℕ → List ℕ → Type 0
 AreOfTests count numbers = All (λ number. (0 < number) × (number ≤ count)) numbers
-
-range_ascends : (first count : ℕ) → IsAscendingFrom first (range_with_len first count)
-range_ascends first zero = tt
-range_ascends first (suc count) = (omega arith, range_ascends (first + 1) count)
-
-ascends_sooner : (least first : ℕ) (numbers : List ℕ) → least ≤ first → IsAscendingFrom first numbers → IsAscendingFrom least numbers
-ascends_sooner least first [] sooner ascends = tt
-ascends_sooner least first (n ∷ ns) sooner ascends = (omega (arith, ascends.0), ascends.1)
-
--- numbers that ascend, with one in front or without it
-ascends_with : (least first : ℕ) (numbers : List ℕ) → least ≤ first → IsAscendingFrom (first + 1) numbers → (b : Bool) → IsAscendingFrom least (cond b (first ∷ numbers) numbers)
-ascends_with least first numbers low rest true = (low, rest)
-ascends_with least first numbers low rest false = ascends_sooner least (first + 1) numbers (omega (arith, low)) rest
-
--- a part of ascending numbers ascends
-pub ascends-filter : (p : ℕ → Bool) (least : ℕ) (numbers : List ℕ) → IsAscendingFrom least numbers → IsAscendingFrom least (filter p numbers)
-ascends-filter p least [] ascends = tt
-ascends-filter p least (n ∷ ns) ascends = ascends_with least n (filter p ns) ascends.0 (ascends-filter p (n + 1) ns ascends.1) (p n)
-
-all_behind : (least : ℕ) (numbers : List ℕ) → IsAscendingFrom least numbers → All (λ number. least ≤ number) numbers
-all_behind least [] ascends = All-nil (λ number. least ≤ number)
-all_behind least (n ∷ ns) ascends =
-    All-cons (λ number. least ≤ number) n ns ascends.0
-    (All-weaker (λ number. n + 1 ≤ number) (λ number. least ≤ number) (λ number more. omega (arith, more, ascends.0)) ns (all_behind (n + 1) ns ascends.1))
-
--- of numbers that ascend, each is below those behind it
-pub pairs_ascend : (least : ℕ) (numbers : List ℕ) → IsAscendingFrom least numbers → AllPairs (λ one other. one < other) numbers
-pairs_ascend least [] ascends = λ i j d before within. absurd (omega (arith, before, within))
-pairs_ascend least (n ∷ ns) ascends =
-    AllPairs-cons (λ one other. one < other) n ns
-    (All-weaker (λ number. n + 1 ≤ number) (λ number. n < number) (λ number more. omega (arith, more)) ns (all_behind (n + 1) ns ascends.1))
-    (pairs_ascend (n + 1) ns ascends.1)
 
 pub increase : (numbers : List ℕ) → IsAscendingFrom 1 numbers → IsStrictlyIncreasing numbers
 increase numbers ascends = λ k within. pairs_ascend 1 numbers ascends k (k + 1) 0 (omega arith) within

@@ -12,7 +12,7 @@ use Rattle.ct_plan.proofs.CallerLemmas.{length-have_props}
 use Rattle.ct_plan.proofs.NumberLemmas.{AreOfTests, some-members}
 
 -- planned tests have the numbers that they were planned for
-planned_numbers : (s : Source) (numbers : List ℕ) (tests : List PlanTest) → ArePlannedTests s numbers tests → map (λ (t : PlanTest). t.number) tests ≡ numbers
+pub planned_numbers : (s : Source) (numbers : List ℕ) (tests : List PlanTest) → ArePlannedTests s numbers tests → map (λ (t : PlanTest). t.number) tests ≡ numbers
 planned_numbers s [] [] planned = refl
 planned_numbers s [] (t ∷ ts) planned = absurd planned
 planned_numbers s (n ∷ ns) [] planned = absurd planned

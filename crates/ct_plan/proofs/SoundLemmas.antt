@@ -22,13 +22,14 @@ use Rattle.ct_verdict.specs.declared.verdict.Cause.TheVariants.{Unstarted, Lacks
 use Rattle.ct_history.specs.declared.plan.PlanTest.{PlanTest}
 use Rattle.ct_history.specs.declared.plan.PlanParts.{PlanParts}
 use Rattle.ct_history.specs.Plan.{IsPlaceable, IsSound, IsAscendingFrom, AllAscend, has_sound_processors, is_fixed_cause}
+use Rattle.ct_history.proofs.AscendLemmas.{ascends-filter}
 use Rattle.ct_cost.specs.declared.cost_data.CostData.{CostData}
 use Rattle.ct_plan.specs.Source.{members_before, setup_members, run_members, source}
 use Rattle.ct_plan.specs.Planned.{ArePlaceable, IsFixedBy, is_not_available, own_cause}
 use Rattle.ct_plan.specs.Queue.{IsQueue}
 use Rattle.ct_plan.specs.PlanOf.{IsPlanOf}
 use Rattle.ct_plan.specs.Linked.{AreLinked, standing_in}
-use Rattle.ct_plan.proofs.NumberLemmas.{AreOfTests, AreSome, ascends-filter, some-members}
+use Rattle.ct_plan.proofs.NumberLemmas.{AreOfTests, AreSome, some-members}
 use Rattle.ct_plan.proofs.LinkLemmas.{AreOrdered, are_ordered, are_planned, numbers_are}
 use Rattle.ct_plan.proofs.RankLemmas.{links_sound}
 

@@ -21,8 +21,8 @@ use Rattle.ct_plan.specs.declared.standing.Standing.{Standing}
 use Rattle.ct_plan.specs.Queue.{costs_more, cost_in, is_more_urgent, goes_first_there, standing_there}
 use Rattle.ct_plan.specs.Linked.{standing_in}
 use Rattle.ct_props.proofs.NumberedLemmas.{at_number_within}
-use Rattle.ct_plan.proofs.NumberLemmas.{pairs_ascend}
 use Rattle.ct_base.specs.Names.{is_among}
+use Rattle.ct_history.proofs.AscendLemmas.{pairs_ascend}
 
 -- what costs less does not go in front
 costs_one_way : (x y : Standing) → costs_more x y ≡ true → costs_more y x ≡ false

@@ -18,6 +18,7 @@ use Rattle.ct_history.proofs.BoolLemmas.{all_at}
 use Rattle.ct_history.proofs.PlanLemmas.{find_passes}
 use Rattle.ct_history.proofs.PartListLemmas.{among_all, found_all}
 use Rattle.ct_history.proofs.PartLemmas.{found_in, test_at-part}
+use Rattle.ct_history.proofs.AscendLemmas.{ascends_sooner}
 use Rattle.ct_plan.specs.declared.standing.Standing.{Standing}
 use Rattle.ct_plan.specs.declared.whole.Tree.{Tree}
 use Rattle.ct_plan.specs.Queue.{IsQueue}
@@ -31,10 +32,6 @@ numbers_in tests = map (λ (t : PlanTest). t.number) tests
 -- each of these trees has a sound plan
 abbrev pub AreSound : List Tree → Type 0
 AreSound trees = All (λ (tree : Tree). IsSound tree.plan) trees
-
-ascends_sooner : (least first : ℕ) (numbers : List ℕ) → least ≤ first → IsAscendingFrom first numbers → IsAscendingFrom least numbers
-ascends_sooner least first [] sooner ascends = tt
-ascends_sooner least first (n ∷ ns) sooner ascends = (omega (arith, ascends.0), ascends.1)
 
 -- numbers that ascend, raised, with greater ones behind them
 joined : (o most least : ℕ) (ts later : List PlanTest) → least ≤ most + 1 → IsAscendingFrom least (numbers_in ts) → AreOfTests most (numbers_in ts) → IsAscendingFrom (o + most + 1) (numbers_in later) → IsAscendingFrom (o + least) (numbers_in (map (renumbered o) ts ++ later))

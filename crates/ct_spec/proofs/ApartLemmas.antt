@@ -10,6 +10,7 @@ use Rattle.std.proofs.lemmas.Slice.Eq.{bytes_eq-Decides}
 use Rattle.std.proofs.lemmas.List.Kept.{AllPairs-cons}
 use Rattle.std.proofs.lemmas.List.Folds.{list_any-append}
 use Rattle.std.proofs.lemmas.List.Elements.{All-append, All-cons, All-nil}
+use Rattle.std.proofs.lemmas.Bool.{or_right, and_right}
 use Rattle.serde_json.specs.Data.{Data, Items, no_items, item}
 use Rattle.serde_json.specs.Find.{as_array}
 use Rattle.serde_json.specs.View.{view, members_view}
@@ -42,13 +43,9 @@ neither true b none = cc
 neither false true none = cc
 neither false false none = (refl, refl)
 
-second : (a b : Bool) → b ≡ false → (a && b) ≡ false
-second true b is = is
-second false b is = refl
-
 -- resources with different ids, or of different kinds, are different resources
 other_id : (one other : Resource) → bytes_eq one.id other.id ≡ false → is_one_resource one other ≡ false
-other_id one other differ = second (bytes_eq one.kind other.kind) (bytes_eq one.id other.id) differ
+other_id one other differ = and_right (bytes_eq one.kind other.kind) (bytes_eq one.id other.id) differ
 
 other_kind : (one other : Resource) → bytes_eq one.kind other.kind ≡ false → is_one_resource one other ≡ false
 other_kind one other differ = ap (λ b. b && bytes_eq one.id other.id) differ
@@ -168,16 +165,12 @@ below_other name [] below other is = cc
 below_other name (kind ∷ kinds) below other is =
     below_by name other (string_bytes kind.0) (is_of kinds other) below.0 (λ found. below_other name kinds below.1 other found) (bytes_eq other (string_bytes kind.0)) refl is
 
-or_true : (a b : Bool) → b ≡ true → (a || b) ≡ true
-or_true true b is = refl
-or_true false b is = is
-
 kind_added : (kind : Kind) (kinds : List Kind) (these others : List Resource) → AllByRecursion (λ (k : String Global). string_cmp kind.0 k ≡ Less) (keys_of kinds) → AreDeclared (string_bytes kind.0) [] these → AreOf kinds others → AreOf (kind ∷ kinds) (these ++ others)
 kind_added kind kinds these others below declared rest =
     let here : All (λ (r : Resource). is_of (kind ∷ kinds) r.kind ≡ true) these =
     λ k d within. ap (λ b. b || is_of kinds (get_or these k d).kind) ((bytes_eq-Decides (get_or these k d).kind (string_bytes kind.0)).1 (declared.kinds k d within)) in
     let later : All (λ (r : Resource). is_of (kind ∷ kinds) r.kind ≡ true) others =
-    λ k d within. or_true (bytes_eq (get_or others k d).kind (string_bytes kind.0)) (is_of kinds (get_or others k d).kind) (rest.among k d within) in
+    λ k d within. or_right (bytes_eq (get_or others k d).kind (string_bytes kind.0)) (is_of kinds (get_or others k d).kind) (rest.among k d within) in
     let across : All (λ (one : Resource). All (λ (other : Resource). is_one_resource one other ≡ false) others) these =
     λ k d within. λ j e inside. other_kind (get_or these k d) (get_or others j e)
     (ap (λ name. bytes_eq name (get_or others j e).kind) (declared.kinds k d within)

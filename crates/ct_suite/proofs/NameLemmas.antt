@@ -1,10 +1,12 @@
 -- The distinct names of a list stand for the whole list: a test has one of them, or none.
 use Rattle.std.proofs.Common.{◌≡◌, ℕ, ◌+◌, ◌<◌, min, Bool, true, false, cond, ◌||◌, bytes_eq, List, [], ◌∷◌, ◌++◌, length, take, get_or, fold, sum_by, count_by, refl, sym, ap, ◌∙◌, arith}
 use Rattle.std.specs.List.{list_any}
+use Rattle.std.proofs.Math.Bool.{or_assoc, or-false}
 use Rattle.std.proofs.lemmas.Bool.{false≢true}
 use Rattle.std.proofs.lemmas.List.Sums.{fold_more, sum_by-cons, sum_by_more}
 use Rattle.std.proofs.lemmas.Slice.Eq.{bytes_eq-Decides}
 use Rattle.ct_base.specs.declared.defs.TestDef.{TestDef}
+use Rattle.ct_base.proofs.NameLemmas.{bytes_eq_comm}
 use Rattle.ct_suite.specs.Tests.{is_one_of_names, each_where, has_name_of}
 use Rattle.ct_suite.specs.Entries.{with_new, of_name, name_count}
 
@@ -17,19 +19,10 @@ or-true : (a b : Bool) → a || b ≡ true → (a ≡ true → ⊥) → b ≡ tr
 or-true true b is not_a = absurd (not_a refl)
 or-true false b is not_a = is
 
-bytes_eq-sym : (xs ys : List ℕ) → bytes_eq xs ys ≡ bytes_eq ys xs
-bytes_eq-sym xs ys = both (bytes_eq xs ys) (bytes_eq ys xs) (λ e. (bytes_eq-Decides ys xs).1 (sym ((bytes_eq-Decides xs ys).0 e))) (λ e. (bytes_eq-Decides xs ys).1 (sym ((bytes_eq-Decides ys xs).0 e)))
-  where
-    both : (a b : Bool) → (a ≡ true → b ≡ true) → (b ≡ true → a ≡ true) → a ≡ b
-    both true true f g = refl
-    both false false f g = refl
-    both true false f g = sym (f refl)
-    both false true f g = g refl
-
 -- whether a name is among others does not depend on which side it is compared from
 known-among : (names : List (List ℕ)) (name : List ℕ) → list_any (bytes_eq name) names ≡ is_one_of_names names name
 known-among [] name = refl
-known-among (other ∷ names) name = λ i. bytes_eq-sym name other i || known-among names name i
+known-among (other ∷ names) name = λ i. bytes_eq_comm name other i || known-among names name i
 
 among-append : (names more : List (List ℕ)) (asked : List ℕ) → is_one_of_names (names ++ more) asked ≡ (is_one_of_names names asked || is_one_of_names more asked)
 among-append [] more asked = refl
@@ -53,17 +46,9 @@ among-with_new names name asked = by (list_any (bytes_eq name) names) refl
     found true false f = f refl
     found false false f = refl
 
-    or-false : (a : Bool) → (a || false) ≡ a
-    or-false true = refl
-    or-false false = refl
-
     by : (is : Bool) → list_any (bytes_eq name) names ≡ is → is_one_of_names (cond is names (names ++ name ∷ [])) asked ≡ (is_one_of_names names asked || bytes_eq name asked)
     by true is = found (bytes_eq name asked) (is_one_of_names names asked) (λ e. sym (among-same names name asked e) ∙ sym (known-among names name) ∙ is)
     by false is = among-append names (name ∷ []) asked ∙ ap (λ rest. is_one_of_names names asked || rest) (or-false (bytes_eq name asked))
-
-or-assoc' : (a b c : Bool) → ((a || b) || c) ≡ (a || (b || c))
-or-assoc' true b c = refl
-or-assoc' false b c = refl
 
 among-fold : (known names : List (List ℕ)) (asked : List ℕ) → is_one_of_names (fold with_new known names) asked ≡ (is_one_of_names known asked || is_one_of_names names asked)
 among-fold known [] asked = or-false (is_one_of_names known asked)
@@ -74,7 +59,7 @@ among-fold known [] asked = or-false (is_one_of_names known asked)
 among-fold known (name ∷ names) asked =
     among-fold (with_new known name) names asked
     ∙ ap (λ a. a || is_one_of_names names asked) (among-with_new known name asked)
-    ∙ or-assoc' (is_one_of_names known asked) (bytes_eq name asked) (is_one_of_names names asked)
+    ∙ or_assoc (is_one_of_names known asked) (bytes_eq name asked) (is_one_of_names names asked)
 
 -- the distinct names of a list are the names of the list
 pub among-distinct : (names : List (List ℕ)) (asked : List ℕ) → is_one_of_names (fold with_new [] names) asked ≡ is_one_of_names names asked
@@ -83,7 +68,7 @@ among-distinct names asked = among-fold [] names asked
 Distinct-push : (names : List (List ℕ)) (name : List ℕ) → Distinct names → is_one_of_names names name ≡ false → Distinct (names ++ name ∷ [])
 Distinct-push [] name distinct absent = (refl, tt)
 Distinct-push (first ∷ names) name distinct absent =
-    (among-append names (name ∷ []) first ∙ none (is_one_of_names names first) (bytes_eq name first) distinct.0 (bytes_eq-sym name first ∙ left (bytes_eq first name) (is_one_of_names names name) absent), Distinct-push names name distinct.1 (right (bytes_eq first name) (is_one_of_names names name) absent))
+    (among-append names (name ∷ []) first ∙ none (is_one_of_names names first) (bytes_eq name first) distinct.0 (bytes_eq_comm name first ∙ left (bytes_eq first name) (is_one_of_names names name) absent), Distinct-push names name distinct.1 (right (bytes_eq first name) (is_one_of_names names name) absent))
   where
     none : (a b : Bool) → a ≡ false → b ≡ false → (a || (b || false)) ≡ false
     none true b e f = e

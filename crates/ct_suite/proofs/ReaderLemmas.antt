@@ -5,7 +5,10 @@ use Rattle.std.proofs.lemmas.List.{map-append}
 use Rattle.std.proofs.lemmas.List.Folds.{list_any-append}
 use Rattle.std.proofs.lemmas.List.Sums.{sum_by-append}
 use Rattle.std.specs.List.{list_any}
+use Rattle.std.proofs.Math.Bool.{or-true}
+use Rattle.std.proofs.lemmas.Bool.{lt-ltb}
 use Rattle.ct_base.specs.Entries.{backslash, entries_of, is_entry, parts_of, parts_with, semicolon, with_front}
+use Rattle.ct_base.proofs.EntryLemmas.{with_front-append, no_front, front_ends}
 use Rattle.ct_suite.specs.Values.{bare, is_too_long, size}
 use Rattle.ct_suite.specs.Readers.{StopsIf, are_too_long, is_ended}
 use Rattle.ct_suite.specs.declared.fault.ValueFault.{ValueFault}
@@ -26,13 +29,6 @@ either_more false b false d is more = more is
 above_more : (most one other : ℕ) → one ≤ other → nat_lt most one ≡ true → nat_lt most other ≡ true
 above_more most one other up is = grind (arith, nat_tests)
 
-above : (most n : ℕ) → most < n → nat_lt most n ≡ true
-above most n is = grind (arith, nat_tests)
-
-or-true : (a : Bool) → (a || true) ≡ true
-or-true true = refl
-or-true false = refl
-
 module _ (limits : ValueLimits) where
   -- values that are too long stay too long with more values behind them
   pub too_long-more : (values more : List Value) → are_too_long limits values ≡ true → are_too_long limits (values ++ more) ≡ true
@@ -44,9 +40,9 @@ module _ (limits : ValueLimits) where
 
   any_front : (piece : List ℕ) (parts : List (List ℕ)) → limits.value_bytes < length piece → list_any (is_too_long limits.value_bytes) (map bare (filter is_entry (with_front piece parts))) ≡ true
   any_front [] parts long = absurd (omega (arith, long))
-  any_front (byte ∷ piece) [] long = ap (λ a. a || false) (above limits.value_bytes (length (byte ∷ piece)) long)
+  any_front (byte ∷ piece) [] long = ap (λ a. a || false) (lt-ltb limits.value_bytes (length (byte ∷ piece)) long)
   any_front (byte ∷ piece) (part ∷ parts) long =
-      ap (λ a. a || list_any (is_too_long limits.value_bytes) (map bare (filter is_entry parts))) (above limits.value_bytes (length (byte ∷ (piece ++ part))) (omega (arith, long, length-append piece part)))
+      ap (λ a. a || list_any (is_too_long limits.value_bytes) (map bare (filter is_entry parts))) (lt-ltb limits.value_bytes (length (byte ∷ (piece ++ part))) (omega (arith, long, length-append piece part)))
 
   -- a value whose first part is too long already is too long
   pub too_long-front : (values : List Value) (piece : List ℕ) (parts : List (List ℕ)) → limits.value_bytes < length piece → are_too_long limits (values ++ map bare (filter is_entry (with_front piece parts))) ≡ true
@@ -57,29 +53,17 @@ module _ (limits : ValueLimits) where
   -- a whole value that is too long makes the values too long
   pub too_long-value : (values : List Value) (value : Value) → limits.value_bytes < length value.text → are_too_long limits (values ++ value ∷ []) ≡ true
   too_long-value values value long =
-      ap (λ a. a || nat_lt limits.all_value_bytes (size (values ++ value ∷ []))) (list_any-append (is_too_long limits.value_bytes) values (value ∷ []) ∙ ap (λ a. list_any (is_too_long limits.value_bytes) values || (a || false)) (above limits.value_bytes (length value.text) long) ∙ or-true (list_any (is_too_long limits.value_bytes) values))
+      ap (λ a. a || nat_lt limits.all_value_bytes (size (values ++ value ∷ []))) (list_any-append (is_too_long limits.value_bytes) values (value ∷ []) ∙ ap (λ a. list_any (is_too_long limits.value_bytes) values || (a || false)) (lt-ltb limits.value_bytes (length value.text) long) ∙ or-true (list_any (is_too_long limits.value_bytes) values))
 
   -- values that are too long together are too long
   pub too_long-all : (values : List Value) (value : Value) → limits.all_value_bytes < size values + length value.text → are_too_long limits (values ++ value ∷ []) ≡ true
   too_long-all values value long =
       let sum = sum_by-append (λ (v : Value). length v.text) values (value ∷ []) in
-      ap (λ a. list_any (is_too_long limits.value_bytes) (values ++ value ∷ []) || a) (above limits.all_value_bytes (size (values ++ value ∷ [])) (omega (arith, sum, long))) ∙ or-true (list_any (is_too_long limits.value_bytes) (values ++ value ∷ []))
+      ap (λ a. list_any (is_too_long limits.value_bytes) (values ++ value ∷ []) || a) (lt-ltb limits.all_value_bytes (size (values ++ value ∷ [])) (omega (arith, sum, long))) ∙ or-true (list_any (is_too_long limits.value_bytes) (values ++ value ∷ []))
 
 -- the size of the values with one more
 pub size-more : (values : List Value) (value : Value) → size (values ++ value ∷ []) ≡ size values + length value.text
 size-more values value = omega (arith, sum_by-append (λ (v : Value). length v.text) values (value ∷ []))
-
-pub front-append : (one other : List ℕ) (parts : List (List ℕ)) → with_front one (with_front other parts) ≡ with_front (one ++ other) parts
-front-append one other [] = refl
-front-append one other (part ∷ parts) = ap (λ p. p ∷ parts) (sym (append_assoc one other part))
-
-no_front : (parts : List (List ℕ)) → filter is_entry (with_front [] parts) ≡ filter is_entry parts
-no_front [] = refl
-no_front (part ∷ parts) = refl
-
-front_ends : (piece : List ℕ) (parts : List (List ℕ)) → filter is_entry (with_front piece ([] ∷ parts)) ≡ filter is_entry (piece ∷ []) ++ filter is_entry parts
-front_ends [] parts = refl
-front_ends (byte ∷ bytes) parts = ap (λ p. p ∷ filter is_entry parts) (append-nil (byte ∷ bytes))
 
 -- a semicolon ends a part
 pub parts-ended : (rest : List ℕ) → parts_of (semicolon ∷ rest) ≡ [] ∷ parts_of rest
@@ -104,7 +88,7 @@ with_parts values text parts = values ++ map bare (filter is_entry (with_front t
 
 -- a piece is read of the entry
 pub with_parts-joined : (values : List Value) (text piece : List ℕ) (parts : List (List ℕ)) → with_parts values (text ++ piece) parts ≡ with_parts values text (with_front piece parts)
-with_parts-joined values text piece parts = ap (λ ps. values ++ map bare (filter is_entry ps)) (sym (front-append text piece parts))
+with_parts-joined values text piece parts = ap (λ ps. values ++ map bare (filter is_entry ps)) (sym (with_front-append text piece parts))
 
 -- the entry is ended
 pub with_parts-ended : (values : List Value) (text : List ℕ) (parts : List (List ℕ)) → with_parts (values ++ map bare (filter is_entry (text ∷ []))) [] parts ≡ with_parts values text ([] ∷ parts)

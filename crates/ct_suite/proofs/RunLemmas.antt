@@ -1,20 +1,17 @@
 -- A run of bytes of an entry, of which none is a semicolon or a backslash.
-use Rattle.std.proofs.Common.{◌≡◌, ℕ, suc, ◌+◌, ◌<◌, Bool, true, false, not, ◌||◌, ◌==◌, List, [], ◌∷◌, ◌++◌, length, take, drop, Result, Err, OnOk, IfErr, refl, sym, ap, ◌∙◌, subst, arith}
+use Rattle.std.proofs.Common.{◌≡◌, ℕ, suc, ◌+◌, ◌<◌, Bool, true, false, ◌||◌, ◌==◌, List, [], ◌∷◌, ◌++◌, length, take, drop, Result, Err, OnOk, IfErr, refl, sym, ap, ◌∙◌, subst, arith}
 use Rattle.std.proofs.lemmas.List.{drop-drop, take-append-drop}
-use Rattle.std.proofs.lemmas.Bool.{true≢false, and_from, and_parts, or_parts}
+use Rattle.std.proofs.lemmas.Bool.{and_from, and_parts, or_parts, not-true}
 use Rattle.std.proofs.lemmas.Result.{IfErr-weaker, on_ok_weaker}
 use Rattle.std.specs.List.{list_all, prefix_len}
 use Rattle.ct_base.specs.Entries.{backslash, parts_of, semicolon, with_front}
+use Rattle.ct_base.proofs.EntryLemmas.{with_front-append}
 use Rattle.ct_suite.specs.Readers.{IsCounted, StopsFor, StopsIf, TakesEntries, entries_with, held_bytes, is_ended, is_inner}
 use Rattle.ct_suite.specs.declared.fault.ValueFault.{ValueFault}
 use Rattle.ct_suite.specs.declared.limits.ValueLimits.{ValueLimits}
 use Rattle.ct_suite.specs.declared.reader.Reader.{Reader}
-use Rattle.ct_suite.proofs.ReaderLemmas.{front-append, parts-other}
+use Rattle.ct_suite.proofs.ReaderLemmas.{parts-other}
 use Rattle.ct_suite.proofs.TakesLemmas.{Long, takes-joined}
-
-not-true : (x : Bool) → not x ≡ true → x ≡ false
-not-true true e = absurd (true≢false (sym e))
-not-true false e = refl
 
 inner-apart : (byte : ℕ) → is_inner byte ≡ true → ((byte == semicolon) ≡ false) × ((byte == backslash) ≡ false)
 inner-apart byte is = or_parts (byte == semicolon) (byte == backslash) (not-true (byte == semicolon || byte == backslash) is)
@@ -44,7 +41,7 @@ run-parts (byte ∷ next ∷ run) rest some all =
     let apart = inner-apart byte both.0 in
     parts-other byte ((next ∷ run) ++ rest) apart.0 apart.1
     ∙ ap (λ ps. with_front (byte ∷ []) ps) (run-parts (next ∷ run) rest (omega arith) both.1)
-    ∙ front-append (byte ∷ []) (next ∷ run) (parts_of rest)
+    ∙ with_front-append (byte ∷ []) (next ∷ run) (parts_of rest)
 
 pub run-apart : (run rest : List ℕ) → 0 < length run → list_all is_inner run ≡ true → is_ended (run ++ rest) ≡ false
 run-apart [] rest some all = absurd (omega (arith, some))

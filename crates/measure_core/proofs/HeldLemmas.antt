@@ -1,8 +1,8 @@
 -- The tickets that a run holds stay those of the open starts, whatever the core appends.
 use Rattle.std.proofs.Common.{◌≡◌, ◌∙◌, sym, ap, subst, refl, Bool, true, false, ℕ, ◌<◌, List, [], ◌∷◌, ◌++◌, length, get_or, inl, inr, arith}
-use Rattle.std.specs.Prelude.{Option, Some, None, filter, map, not, ◌==◌, ◌&&◌, ◌||◌, cond, if◌then◌else◌}
+use Rattle.std.specs.Prelude.{Option, Some, None, filter, map, not, ◌==◌, ◌||◌, cond, if◌then◌else◌}
 use Rattle.std.specs.List.{list_any, remove}
-use Rattle.std.proofs.lemmas.Bool.{cases_Bool}
+use Rattle.std.proofs.lemmas.Bool.{cases_Bool, true≢false, or_parts, or_from, eqb-true}
 use Rattle.std.proofs.lemmas.Bool.Decides.{nat_tests}
 use Rattle.std.proofs.lemmas.List.{append-nil, map-append}
 use Rattle.std.proofs.lemmas.List.Folds.{list_any-append}
@@ -16,29 +16,14 @@ use Rattle.ct_history.specs.History.{Running, is_busy_in, is_open_in, open_start
 use Rattle.ct_history.specs.Legal.{is_stop_due}
 use Rattle.ct_history.specs.Rules.{CanStart, may_start_at}
 use Rattle.ct_history.proofs.MayLemmas.{may_start-parts, pending-parts}
-use Rattle.ct_history.proofs.OpenLemmas.{is_of, open_starts-end, open_starts-snoc}
+use Rattle.ct_history.proofs.OpenLemmas.{is_of, open_starts-end, open_starts-snoc, opens_stop, filter_none}
 use Rattle.ct_history.proofs.PlanLemmas.{find_passes}
+use Rattle.ct_history.proofs.BoolLemmas.{flipped}
 use Rattle.ct_core.specs.declared.ticket.Ticket.{Ticket}
 use Rattle.ct_core.specs.Core.{SettlesLeast, StartsFirst, with_due_stop, with_final}
 use Rattle.ct_core.specs.CoreValue.{CoreValue}
 use Rattle.ct_core.specs.Ticket.{end_of, start_of, worker_of}
 use Rattle.measure_core.specs.Held.{HaveDistinctTests, AreTicketsOf, is_held_by, start_of_ticket}
-
-true_is_false : true ≡ false → ⊥
-true_is_false is = cc
-
-or_parts : (a b : Bool) → (a || b) ≡ false → (a ≡ false) × (b ≡ false)
-or_parts true b is = absurd (true_is_false is)
-or_parts false b is = (refl, is)
-
-or_from : (a b : Bool) → a ≡ false → b ≡ false → (a || b) ≡ false
-or_from a b none no_other = ap (λ (x : Bool). x || b) none ∙ no_other
-
-flipped : (m n : ℕ) → (m == n) ≡ false → (n == m) ≡ false
-flipped m n is = grind (arith, nat_tests)
-
-same_number : (m n : ℕ) → (m == n) ≡ true → m ≡ n
-same_number m n is = grind (arith, nat_tests)
 
 apart-snoc : (rs : List Running) (r : Running) → HaveDistinctTests rs → list_any (λ (q : Running). q.test == r.test) rs ≡ false → HaveDistinctTests (rs ++ r ∷ [])
 apart-snoc [] r all none = (refl, tt)
@@ -47,13 +32,6 @@ apart-snoc (x ∷ xs) r all none =
       list_any-append (λ (q : Running). q.test == x.test) xs (r ∷ []) ∙ or_from _ _ all.0 (or_from (r.test == x.test) false (flipped x.test r.test both.0) refl),
       apart-snoc xs r all.1 both.1,
     )
-
-filter_none : (t a : ℕ) (rs : List Running) → list_any (λ (q : Running). q.test == t) rs ≡ false → filter (λ r. not (is_of t a r)) rs ≡ rs
-filter_none t a [] none = refl
-filter_none t a (x ∷ xs) none =
-    let both = or_parts (x.test == t) (list_any (λ (q : Running). q.test == t) xs) none in
-    ap (λ (b : Bool). cond (not (b && x.attempt == a)) (x ∷ filter (λ r. not (is_of t a r)) xs) (filter (λ r. not (is_of t a r)) xs)) both.0
-    ∙ ap (λ (rs : List Running). x ∷ rs) (filter_none t a xs both.1)
 
 -- the End of the first of these starts leaves the others
 first_ends : (r : Running) (rs : List Running) → list_any (λ (q : Running). q.test == r.test) rs ≡ false → filter (λ q. not (is_of r.test r.attempt q)) (r ∷ rs) ≡ rs
@@ -64,20 +42,17 @@ first_ends r rs none =
 
 -- a test that may start is not open
 closed_before : (plan : PlanParts) (es : List Entry) (n : ℕ) (can : CanStart plan es n) (o : Option PlanTest) → test_at plan.tests n ≡ o → is_open_in n es ≡ false
-closed_before plan es n can None is = absurd (true_is_false (sym can.may ∙ ap (λ (o : Option PlanTest). may_start_at plan es can.placement o) is))
+closed_before plan es n can None is = absurd (true≢false (sym can.may ∙ ap (λ (o : Option PlanTest). may_start_at plan es can.placement o) is))
 closed_before plan es n can (Some t) is =
     let may = sym (ap (λ (o : Option PlanTest). may_start_at plan es can.placement o) is) ∙ can.may in
     let closed = (pending-parts plan t es (may_start-parts plan t can.placement es may).pending).closed in
-    subst (λ (k : ℕ). is_open_in k es ≡ false) (same_number t.number n (find_passes (λ (x : PlanTest). x.number == n) plan.tests t is)) closed
-
-stop_opens_none : (es : List Entry) → open_starts (es ++ Stop ∷ []) ≡ open_starts es
-stop_opens_none es = open_starts-snoc es Stop refl ∙ append-nil (open_starts es)
+    subst (λ (k : ℕ). is_open_in k es ≡ false) (eqb-true t.number n (find_passes (λ (x : PlanTest). x.number == n) plan.tests t is)) closed
 
 due_opens_none : (plan : PlanParts) (es : List Entry) → open_starts (with_due_stop plan es) ≡ open_starts es
 due_opens_none plan es = by (is_stop_due plan es)
   where
     by : (b : Bool) → open_starts (if b then es ++ Stop ∷ [] else es) ≡ open_starts es
-    by true = stop_opens_none es
+    by true = opens_stop es
     by false = refl
 
 -- at first, nothing is open and no ticket is held

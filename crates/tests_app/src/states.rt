@@ -1,7 +1,6 @@
 //! The state that workers share, step by step: held by one owner, and lent by a turn.
 
 ghost use Rattle.std.specs.Prelude.{◌≡◌, IfOk, [], None, Some, false};
-ghost use Rattle.ct_history.specs.Plan.{IsSound};
 ghost use Rattle.ct_turn.specs.Seen.{held_start};
 ghost use Rattle.ct_worker.specs.Attempt.{run_of};
 ghost use Rattle.ct_worker.specs.Work.{AsksNext, EndsOwn};
@@ -156,12 +155,10 @@ fn begin<R: Wait>(rt: &R, turn: &Turn<State<MemSink>>, pass: &mut Pass, worker: 
     requires turn { pass.old.turn ≡ turn.now.id }
     requires idle { (pass.old.taken ≡ None) × (held_start pass.old.known ≡ None) }
     requires worker { pass.old.known.worker ≡ worker }
-    ensures begins { AsksNext pass.old result pass.new }
-    ensures sound { IsSound pass.old.known.plan }
+    ensures { AsksNext pass.old result pass.new }
 {
     let mut state = turn.take(rt, pass);
     let next = state.next(worker);
-    let _ = state.core().plan().parts();
     turn.give(pass, state);
     next
 }
@@ -171,7 +168,6 @@ fn end<R: Wait>(rt: &R, turn: &Turn<State<MemSink>>, pass: &mut Pass, ticket: Ti
     requires turn { pass.old.turn ≡ turn.now.id }
     requires idle { pass.old.taken ≡ None }
     requires holds { held_start pass.old.known ≡ Some (run_of ticket) }
-    requires sound { IsSound pass.old.known.plan }
     ensures { EndsOwn pass.old ticket seen pass.new }
 {
     let mut state = turn.take(rt, pass);

@@ -1,6 +1,6 @@
 -- What the core's calls do to the start that a worker holds.
-use Rattle.std.proofs.Common.{◌≡◌, ◌∙◌, sym, ap, subst, refl, Bool, true, ℕ, List, [], ◌∷◌, ◌++◌, inl, inr, append_assoc, arith}
-use Rattle.std.specs.Prelude.{Some, None, ◌&&◌, if◌then◌else◌}
+use Rattle.std.proofs.Common.{◌≡◌, ◌∙◌, sym, ap, subst, refl, Bool, true, ℕ, List, [], ◌∷◌, ◌++◌, inl, inr, arith}
+use Rattle.std.specs.Prelude.{Some, None, if◌then◌else◌}
 use Rattle.std.proofs.lemmas.Bool.{cases_Bool}
 use Rattle.std.proofs.lemmas.Bool.Decides.{nat_tests}
 use Rattle.ct_verdict.specs.declared.attempt.Seen.{Seen}
@@ -17,7 +17,7 @@ use Rattle.ct_core.specs.CoreValue.{CoreValue}
 use Rattle.ct_core.specs.Ticket.{end_of, start_of}
 use Rattle.ct_turn.specs.declared.view.Known.{Known}
 use Rattle.ct_turn.specs.Seen.{AddsOwn, Continues, is_own, moment, open_start_of_worker}
-use Rattle.ct_turn.proofs.CallerLemmas.{adds_none, adds_one, end_holds_none, settle_stays, start_holds}
+use Rattle.ct_turn.proofs.CallerLemmas.{adds_none, adds_one, end_holds_none, settle_stays, start_holds, adds_due}
 use Rattle.tests_turn.specs.Held.{held_behind, open_start_of_ticket}
 
 -- what one call of a worker does to the core
@@ -25,13 +25,6 @@ pub record Works (worker : ℕ) (old new : CoreValue) : Type 0 where
   pub plan : new.plan ≡ old.plan
   pub history : AddsOwn worker old.entries new.entries
   pub halted : new.aborted ≡ old.aborted
-
-final_adds : (w : ℕ) (plan : PlanParts) (es : List Entry) (e : Entry) → is_own w e ≡ true → AddsOwn w es (with_due_stop plan (es ++ e ∷ []))
-final_adds w plan es e own = elim (cases_Bool (is_stop_due plan (es ++ e ∷ []))) [
-  | inl due ↦ subst (λ (b : Bool). AddsOwn w es (if b then (es ++ e ∷ []) ++ Stop ∷ [] else es ++ e ∷ [])) (sym due)
-      (record { more = e ∷ Stop ∷ []; is = append_assoc es (e ∷ []) (Stop ∷ []); own = ap (λ (b : Bool). b && true) own })
-  | inr none ↦ subst (λ (b : Bool). AddsOwn w es (if b then (es ++ e ∷ []) ++ Stop ∷ [] else es ++ e ∷ [])) (sym none) (adds_one w es e own)
-]
 
 final_holds : (w : ℕ) (plan : PlanParts) (es : List Entry) → open_start_of_worker w (with_due_stop plan es) ≡ open_start_of_worker w es
 final_holds w plan es = elim (cases_Bool (is_stop_due plan es)) [
@@ -43,7 +36,7 @@ entry_works : (w : ℕ) (old new : CoreValue) (e : Entry) → is_own w e ≡ tru
 entry_works w old new e own is = subst (λ (c : CoreValue). Works w old c) (sym is) (record { plan = refl; history = adds_one w old.entries e own; halted = refl })
 
 final_works : (w : ℕ) (old new : CoreValue) (e : Entry) → is_own w e ≡ true → new ≡ with_final old e → Works w old new
-final_works w old new e own is = subst (λ (c : CoreValue). Works w old c) (sym is) (record { plan = refl; history = final_adds w old.plan old.entries e own; halted = refl })
+final_works w old new e own is = subst (λ (c : CoreValue). Works w old c) (sym is) (record { plan = refl; history = adds_due w old.plan old.entries e own; halted = refl })
 
 kept_works : (w : ℕ) (old new : CoreValue) → new ≡ old → Works w old new
 kept_works w old new is = subst (λ (c : CoreValue). Works w old c) (sym is) (record { plan = refl; history = adds_none w old.entries; halted = refl })

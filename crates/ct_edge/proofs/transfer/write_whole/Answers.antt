@@ -1,5 +1,6 @@
 use Rattle.std.proofs.Common.{take, ◌++◌}
-use Rattle.ct_edge.proofs.TransferLemmas.{adds-more, parts-more}
+use Rattle.ct_base.proofs.ListLemmas.{parts-more}
+use Rattle.ct_edge.proofs.TransferLemmas.{adds-more}
 use Rattle.ct_edge.proofs.transfer.write_whole.Goals as goal
 
 pub loop-preserved : goal.loop-preserved

@@ -1,10 +1,7 @@
-use Rattle.std.proofs.Common.{◌∙◌, sym, ap, subst, ℕ, refl}
+use Rattle.std.proofs.Common.{sym, subst, ℕ, refl}
 use Rattle.std.specs.Prelude.{is_some}
-use Rattle.ct_history.specs.declared.plan.PlanParts.{PlanParts}
-use Rattle.ct_history.specs.Plan.{IsSound}
-use Rattle.ct_core.specs.CoreValue.{CoreValue}
 use Rattle.ct_turn.specs.Seen.{moment}
-use Rattle.ct_worker.proofs.EventLemmas.{IsStep, begins, free, gave_back, may_give, next_step, plan_stays}
+use Rattle.ct_worker.proofs.EventLemmas.{IsStep, begins, free, gave_back, may_give, next_step}
 use Rattle.tests_app.proofs.states.begin.Goals as goal
 
 pub next-next-requires : goal.next-next-requires
@@ -13,20 +10,11 @@ next-next-requires g c = free c.args.worker c.args.pass.now.known c.take-state.r
 pub give-requires-clause-continues : goal.give-requires-clause-continues
 give-requires-clause-continues g c =
     let new = c.next-next.new.self in
-    let same = plan_stays c.args.worker c.next-next.result c.take-state.result new c.next-next.ensures in
-    let sound : IsSound c.take-state.result.plan = subst (λ (p : PlanParts). IsSound p) (c.plan.ensures ∙ ap (λ (k : CoreValue). k.plan) c.core.ensures ∙ same) c.parts.ensures.sound in
-    let step = next_step c.args.worker c.args.pass.now.known c.take-state.result c.requires.worker c.take-state.ensures.suits c.requires.idle.1 sound c.next-next.result new c.next-next.ensures in
+    let step = next_step c.args.worker c.args.pass.now.known c.take-state.result c.requires.worker c.take-state.ensures.suits c.requires.idle.1 new c.next-next.ensures.legal c.next-next.result c.next-next.ensures.step in
     may_give c.args.pass.now c.take-state.new.pass c.take-state.result new c.take-state.ensures.pass c.take-state.ensures.suits (subst (λ (w : ℕ). IsStep w c.take-state.result new) (sym c.requires.worker) step)
 
-pub returns-clause-begins : goal.returns-clause-begins
-returns-clause-begins g c =
+pub returns : goal.returns
+returns g c =
     let new = c.next-next.new.self in
-    let same = plan_stays c.args.worker c.next-next.result c.take-state.result new c.next-next.ensures in
-    let sound : IsSound c.take-state.result.plan = subst (λ (p : PlanParts). IsSound p) (c.plan.ensures ∙ ap (λ (k : CoreValue). k.plan) c.core.ensures ∙ same) c.parts.ensures.sound in
     let gave = gave_back c.args.pass.now c.take-state.new.pass c.give.new.pass (moment c.take-state.result.entries (is_some c.take-state.result.halt)) (moment new.entries (is_some new.halt)) c.take-state.ensures.pass c.give.ensures in
-    begins c.args.worker c.args.pass.now.known c.take-state.result c.requires.worker c.take-state.ensures.suits c.requires.idle.1 sound c.args.pass.now refl c.requires.idle.0 new c.give.new.pass gave c.next-next.result c.next-next.ensures
-
-pub returns-clause-sound : goal.returns-clause-sound
-returns-clause-sound g c =
-    let same = plan_stays c.args.worker c.next-next.result c.take-state.result c.next-next.new.self c.next-next.ensures in
-    subst (λ (p : PlanParts). IsSound p) (c.plan.ensures ∙ ap (λ (k : CoreValue). k.plan) c.core.ensures ∙ same ∙ c.take-state.ensures.suits.plan) c.parts.ensures.sound
+    begins c.args.worker c.args.pass.now.known c.take-state.result c.requires.worker c.take-state.ensures.suits c.requires.idle.1 new c.next-next.ensures.legal c.args.pass.now refl c.requires.idle.0 c.give.new.pass gave c.next-next.result c.next-next.ensures.step

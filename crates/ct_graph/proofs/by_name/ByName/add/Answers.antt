@@ -1,7 +1,8 @@
 use Rattle.std.proofs.Common.{◌≡◌, ◌∙◌, ◌||◌, ◌&&◌, bytes_eq, [], ◌∷◌, ◌++◌, is_some, eqb, sym, ap}
+use Rattle.std.proofs.Math.Bool.{or-false}
 use Rattle.ct_props.specs.Numbered.{is_in}
 use Rattle.ct_graph.specs.ByName.{or_none, tests_at}
-use Rattle.ct_graph.proofs.NameLemmas.{tests_at-updated, is_in-updated, or_same}
+use Rattle.ct_graph.proofs.NameLemmas.{tests_at-updated, is_in-updated}
 use Rattle.ct_graph.proofs.by_name.ByName.add.Goals as goal
 
 pub returns-in-Some : goal.returns-in-Some
@@ -25,5 +26,5 @@ returns c = λ other n.
     ap (λ ts. is_in ts n) (tests_at-updated name c.get_mut.follows.lender-at-none c.insert.new.self c.push.new.self c.in_ok-insert.ensures.updates other)
     ∙ is_in-updated name.now other c.push.new.self.items (tests_at old name.now) (tests_at c.get_mut.follows.lender-at-none other) c.args.test n
     (λ same. ap (tests_at old) same ∙ ap (λ m. tests_at m other) (sym c.get_mut.follows.holds-at-none))
-    (ap (λ ts. is_in ts n) pushed ∙ sym (or_same (eqb c.args.test n)) ∙ ap (λ ts. is_in ts n || eqb c.args.test n) none)
+    (ap (λ ts. is_in ts n) pushed ∙ or-false (eqb c.args.test n) ∙ ap (λ ts. is_in ts n || eqb c.args.test n) none)
     ∙ ap (λ m. is_in (tests_at m other) n || (bytes_eq other name.now && eqb c.args.test n)) c.get_mut.follows.holds-at-none
