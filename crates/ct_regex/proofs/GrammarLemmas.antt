@@ -1,5 +1,6 @@
 -- What the reader reads is what the grammar writes: the signs.
 use Rattle.std.proofs.Common.{◌≡◌, ◌<◌, ◌≤◌, ◌⊎◌, ◌&&◌, ◌==◌, ℕ, zero, suc, ◌+◌, Bool, true, false, not, List, [], ◌∷◌, ◌++◌, length, cond, inl, inr, ⊎_elim, refl, sym, ◌∙◌, ap, subst, append-nil, append_assoc, nat_lt, arith}
+use Rattle.std.proofs.lemmas.Bool.{and_parts, eqb-true, ltb-false, not-true}
 use Rattle.std.proofs.lemmas.Bool.Decides.{nat_tests}
 use Rattle.ct_regex.specs.declared.tree.Span.{Span}
 use Rattle.ct_regex.specs.declared.tree.Quantifier.{Quantifier}
@@ -12,7 +13,7 @@ use Rattle.ct_regex.specs.Grammar as grammar
 use Rattle.ct_regex.specs.Grammar.{MayBegin, IsItems, IsOne, byte_of}
 use Rattle.ct_regex.specs.Faulty as faulty
 use Rattle.ct_regex.specs.Faulty.{PartEnd, IsBegun, IsOpenSet, IsBrokenSet, HasFault}
-use Rattle.ct_regex.proofs.SignsLemmas.{skip_two, set_item}
+use Rattle.ct_regex.proofs.SignsLemmas.{skip_two, set_item, is_none-push}
 
 -- a set was read: its items and its `]`, and what stands behind it
 pub record SetRead (opened : ℕ) (negated : Bool) (at : ℕ) (items : List Span) (rest : List ℕ) : Type 0 where
@@ -48,28 +49,10 @@ pub record SetFault (opened : ℕ) (negated : Bool) (at : ℕ) (items : List Spa
   pub reads : set_signs opened negated 0 at items rest ≡ fault why ∷ []
   pub is : SetSays (is_none items) opened at rest why
 
-same_byte : (a b : ℕ) → (a == b) ≡ true → a ≡ b
-same_byte a b h = grind (arith, nat_tests)
-
-not_below : (a b : ℕ) → nat_lt a b ≡ false → b ≤ a
-not_below a b h = grind (arith, nat_tests)
-
-and_both : (a b : Bool) → (a && b) ≡ true → (a ≡ true) × (b ≡ true)
-and_both true b h = (refl, h)
-and_both false b h = absurd (let no : false ≡ true = h in cc)
-
-not_true : (b : Bool) → not b ≡ true → b ≡ false
-not_true true h = absurd (let no : false ≡ true = h in cc)
-not_true false h = refl
-
 and_false : (a b : Bool) → (a && not b) ≡ false → (b ≡ true) ⊎ (a ≡ false)
 and_false true true h = inl refl
 and_false true false h = absurd (let no : true ≡ false = h in cc)
 and_false false b h = inr refl
-
-is_none-push : (items : List Span) (item : Span) → is_none (items ++ item ∷ []) ≡ false
-is_none-push [] item = refl
-is_none-push (x ∷ items) item = refl
 
 is_range_front : (xs ys : List ℕ) → is_range (xs ++ ys) ≡ false → is_range xs ≡ false
 is_range_front [] ys h = refl
@@ -87,8 +70,8 @@ range_read : (rest : List ℕ) → is_range rest ≡ true → RangeRead rest
 range_read [] h = absurd (let no : false ≡ true = h in cc)
 range_read (dash ∷ []) h = absurd (let no : false ≡ true = h in cc)
 range_read (dash ∷ high ∷ back) h =
-    let both = and_both (dash == 45) (not (high == 93)) h in
-    record { high = high; back = back; split = ap (λ d. d ∷ high ∷ back) (same_byte dash 45 both.0); other = not_true (high == 93) both.1 }
+    let both = and_parts (dash == 45) (not (high == 93)) h in
+    record { high = high; back = back; split = ap (λ d. d ∷ high ∷ back) (eqb-true dash 45 both.0); other = not-true (high == 93) both.1 }
 
 -- a range that ends below its begin
 bad_says : (first : Bool) (opened at byte : ℕ) (rest : List ℕ) (b : Bool) → is_range rest ≡ b → MayBegin first byte → nat_lt (item_high byte rest) byte ≡ true → SetSays first opened at (byte ∷ rest) (BadRange at)
@@ -138,7 +121,7 @@ set_view (suc n) opened negated at items (byte ∷ rest) h =
           split = ap (λ xs. byte ∷ xs) (range.split ∙ ap (λ xs. 45 ∷ range.high ∷ xs) s.split);
           written = subst (λ (v : ℕ). IsItems (is_none items) (byte ∷ 45 ∷ range.high ∷ s.text) (record { low = byte; high = v } ∷ s.more)) (sym high)
               (grammar.range byte range.high (and_false (byte == 93) (is_none items) unclosed) range.other
-              (subst (λ (v : ℕ). byte ≤ v) high (not_below (item_high byte rest) byte good))
+              (subst (λ (v : ℕ). byte ≤ v) high (ltb-false (item_high byte rest) byte good))
               (subst (λ (b : Bool). IsItems b s.text s.more) (is_none-push items item) s.written));
           reads = start_of ∙ s.reads ∙ ap (λ (xs : List Span). atom (one (set_of negated xs)) ∷ signs s.behind s.back) (append_assoc items (item ∷ []) s.more);
           size = omega (arith, s.size);
@@ -148,7 +131,7 @@ set_view (suc n) opened negated at items (byte ∷ rest) h =
           reads = start_of ∙ f.reads;
           is = subst (λ (xs : List ℕ). SetSays (is_none items) opened at (byte ∷ xs) f.why) (sym range.split)
               (range_says (is_none items) opened at byte range.high range.back f.why (and_false (byte == 93) (is_none items) unclosed) range.other
-              (subst (λ (v : ℕ). byte ≤ v) high (not_below (item_high byte rest) byte good))
+              (subst (λ (v : ℕ). byte ≤ v) high (ltb-false (item_high byte rest) byte good))
               (subst (λ (b : Bool). SetSays b opened (at + 1 + 1 + 1) range.back f.why) (is_none-push items item) f.is));
         }))
         (again range.back (items ++ item ∷ []) (at + 1 + 1 + 1) (omega (arith, ap length range.split)))
@@ -195,14 +178,14 @@ set_view (suc n) opened negated at items (byte ∷ rest) h =
         ((back : List ℕ) (more_items : List Span) (where_at : ℕ) → length back ≤ n → SetRead opened negated where_at more_items back ⊎ SetFault opened negated where_at more_items back) →
         SetRead opened negated at items (byte ∷ rest) ⊎ SetFault opened negated at items (byte ∷ rest)
     by_close true closed again =
-        let both = and_both (byte == 93) (not (is_none items)) closed in
+        let both = and_parts (byte == 93) (not (is_none items)) closed in
         inl (record {
           text = 93 ∷ [];
           more = [];
           back = rest;
           behind = at + 1;
-          split = ap (λ b. b ∷ rest) (same_byte byte 93 both.0);
-          written = subst (λ (b : Bool). IsItems b (93 ∷ []) []) (sym (not_true (is_none items) both.1)) grammar.closes;
+          split = ap (λ b. b ∷ rest) (eqb-true byte 93 both.0);
+          written = subst (λ (b : Bool). IsItems b (93 ∷ []) []) (sym (not-true (is_none items) both.1)) grammar.closes;
           reads = rw closed (ap (λ (xs : List Span). atom (one (set_of negated xs)) ∷ signs (at + 1) rest) (sym (append-nil items)));
           size = omega arith;
         })
@@ -279,40 +262,40 @@ plain_view at byte no91 no92 = by94 (byte == 94) refl
     along b sign other e f s = subst (λ (v : Sign). IsSign (byte ∷ []) v) (sym f) (subst (λ (v : ℕ). IsSign (v ∷ []) other) (sym e) s)
 
     by63 : (b : Bool) → (byte == 63) ≡ b → (byte == 94) ≡ false → (byte == 36) ≡ false → (byte == 46) ≡ false → (byte == 40) ≡ false → (byte == 41) ≡ false → (byte == 124) ≡ false → (byte == 42) ≡ false → (byte == 43) ≡ false → IsSign (byte ∷ []) (plain_sign at byte)
-    by63 true h a1 a2 a3 a4 a5 a6 a7 a8 = along 63 (plain_sign at byte) (often ZeroOrOne at) (same_byte byte 63 h) (rw (a1, a2, a3, a4, a5, a6, a7, a8, h) refl) (of_often ZeroOrOne at)
+    by63 true h a1 a2 a3 a4 a5 a6 a7 a8 = along 63 (plain_sign at byte) (often ZeroOrOne at) (eqb-true byte 63 h) (rw (a1, a2, a3, a4, a5, a6, a7, a8, h) refl) (of_often ZeroOrOne at)
     by63 false h a1 a2 a3 a4 a5 a6 a7 a8 = along byte (plain_sign at byte) (atom (one (same byte))) refl (rw (a1, a2, a3, a4, a5, a6, a7, a8, h) refl)
         (of_one (grammar.plain byte (rw (no91, no92, a1, a2, a3, a4, a5, a6, a7, a8, h) refl)))
 
     by43 : (b : Bool) → (byte == 43) ≡ b → (byte == 94) ≡ false → (byte == 36) ≡ false → (byte == 46) ≡ false → (byte == 40) ≡ false → (byte == 41) ≡ false → (byte == 124) ≡ false → (byte == 42) ≡ false → IsSign (byte ∷ []) (plain_sign at byte)
-    by43 true h a1 a2 a3 a4 a5 a6 a7 = along 43 (plain_sign at byte) (often OneOrMore at) (same_byte byte 43 h) (rw (a1, a2, a3, a4, a5, a6, a7, h) refl) (of_often OneOrMore at)
+    by43 true h a1 a2 a3 a4 a5 a6 a7 = along 43 (plain_sign at byte) (often OneOrMore at) (eqb-true byte 43 h) (rw (a1, a2, a3, a4, a5, a6, a7, h) refl) (of_often OneOrMore at)
     by43 false h a1 a2 a3 a4 a5 a6 a7 = by63 (byte == 63) refl a1 a2 a3 a4 a5 a6 a7 h
 
     by42 : (b : Bool) → (byte == 42) ≡ b → (byte == 94) ≡ false → (byte == 36) ≡ false → (byte == 46) ≡ false → (byte == 40) ≡ false → (byte == 41) ≡ false → (byte == 124) ≡ false → IsSign (byte ∷ []) (plain_sign at byte)
-    by42 true h a1 a2 a3 a4 a5 a6 = along 42 (plain_sign at byte) (often ZeroOrMore at) (same_byte byte 42 h) (rw (a1, a2, a3, a4, a5, a6, h) refl) (of_often ZeroOrMore at)
+    by42 true h a1 a2 a3 a4 a5 a6 = along 42 (plain_sign at byte) (often ZeroOrMore at) (eqb-true byte 42 h) (rw (a1, a2, a3, a4, a5, a6, h) refl) (of_often ZeroOrMore at)
     by42 false h a1 a2 a3 a4 a5 a6 = by43 (byte == 43) refl a1 a2 a3 a4 a5 a6 h
 
     by124 : (b : Bool) → (byte == 124) ≡ b → (byte == 94) ≡ false → (byte == 36) ≡ false → (byte == 46) ≡ false → (byte == 40) ≡ false → (byte == 41) ≡ false → IsSign (byte ∷ []) (plain_sign at byte)
-    by124 true h a1 a2 a3 a4 a5 = along 124 (plain_sign at byte) bar (same_byte byte 124 h) (rw (a1, a2, a3, a4, a5, h) refl) of_bar
+    by124 true h a1 a2 a3 a4 a5 = along 124 (plain_sign at byte) bar (eqb-true byte 124 h) (rw (a1, a2, a3, a4, a5, h) refl) of_bar
     by124 false h a1 a2 a3 a4 a5 = by42 (byte == 42) refl a1 a2 a3 a4 a5 h
 
     by41 : (b : Bool) → (byte == 41) ≡ b → (byte == 94) ≡ false → (byte == 36) ≡ false → (byte == 46) ≡ false → (byte == 40) ≡ false → IsSign (byte ∷ []) (plain_sign at byte)
-    by41 true h a1 a2 a3 a4 = along 41 (plain_sign at byte) (closes at) (same_byte byte 41 h) (rw (a1, a2, a3, a4, h) refl) (of_close at)
+    by41 true h a1 a2 a3 a4 = along 41 (plain_sign at byte) (closes at) (eqb-true byte 41 h) (rw (a1, a2, a3, a4, h) refl) (of_close at)
     by41 false h a1 a2 a3 a4 = by124 (byte == 124) refl a1 a2 a3 a4 h
 
     by40 : (b : Bool) → (byte == 40) ≡ b → (byte == 94) ≡ false → (byte == 36) ≡ false → (byte == 46) ≡ false → IsSign (byte ∷ []) (plain_sign at byte)
-    by40 true h a1 a2 a3 = along 40 (plain_sign at byte) (opens at) (same_byte byte 40 h) (rw (a1, a2, a3, h) refl) (of_open at)
+    by40 true h a1 a2 a3 = along 40 (plain_sign at byte) (opens at) (eqb-true byte 40 h) (rw (a1, a2, a3, h) refl) (of_open at)
     by40 false h a1 a2 a3 = by41 (byte == 41) refl a1 a2 a3 h
 
     by46 : (b : Bool) → (byte == 46) ≡ b → (byte == 94) ≡ false → (byte == 36) ≡ false → IsSign (byte ∷ []) (plain_sign at byte)
-    by46 true h a1 a2 = along 46 (plain_sign at byte) (atom (one any)) (same_byte byte 46 h) (rw (a1, a2, h) refl) (of_one grammar.any_byte)
+    by46 true h a1 a2 = along 46 (plain_sign at byte) (atom (one any)) (eqb-true byte 46 h) (rw (a1, a2, h) refl) (of_one grammar.any_byte)
     by46 false h a1 a2 = by40 (byte == 40) refl a1 a2 h
 
     by36 : (b : Bool) → (byte == 36) ≡ b → (byte == 94) ≡ false → IsSign (byte ∷ []) (plain_sign at byte)
-    by36 true h a1 = along 36 (plain_sign at byte) (atom end) (same_byte byte 36 h) (rw (a1, h) refl) (of_one grammar.at_end)
+    by36 true h a1 = along 36 (plain_sign at byte) (atom end) (eqb-true byte 36 h) (rw (a1, h) refl) (of_one grammar.at_end)
     by36 false h a1 = by46 (byte == 46) refl a1 h
 
     by94 : (b : Bool) → (byte == 94) ≡ b → IsSign (byte ∷ []) (plain_sign at byte)
-    by94 true h = along 94 (plain_sign at byte) (atom start) (same_byte byte 94 h) (rw h refl) (of_one grammar.at_start)
+    by94 true h = along 94 (plain_sign at byte) (atom start) (eqb-true byte 94 h) (rw h refl) (of_one grammar.at_start)
     by94 false h = by36 (byte == 36) refl h
 
 negated_front : (xs ys : List ℕ) → begins_negated (xs ++ ys) ≡ false → begins_negated xs ≡ false
@@ -324,7 +307,7 @@ escaped_view at byte [] no91 is92 = inr (record {
   why = EndsInBackslash at;
   reads = rw (no91, is92) refl;
   is = λ front opened last e b.
-      subst (λ (c : ℕ). HasFault (front ++ c ∷ []) (EndsInBackslash at)) (sym (same_byte byte 92 is92))
+      subst (λ (c : ℕ). HasFault (front ++ c ∷ []) (EndsInBackslash at)) (sym (eqb-true byte 92 is92))
       (subst (λ (n : ℕ). HasFault (front ++ 92 ∷ []) (EndsInBackslash n)) (sym e) (faulty.ends_in_backslash b));
 })
 escaped_view at byte (next ∷ rest) no91 is92 = inl (record {
@@ -332,7 +315,7 @@ escaped_view at byte (next ∷ rest) no91 is92 = inl (record {
   sign = atom (one (same next));
   back = rest;
   behind = at + 2;
-  split = ap (λ b. b ∷ next ∷ rest) (same_byte byte 92 is92);
+  split = ap (λ b. b ∷ next ∷ rest) (eqb-true byte 92 is92);
   written = of_one (grammar.escaped next);
   reads = rw (no91, is92) refl;
   size = omega arith;
@@ -348,7 +331,7 @@ negated_view at byte (next ∷ rest) is91 neg =
       sign = atom (one (outside s.more));
       back = s.back;
       behind = s.behind;
-      split = ap (λ b. b ∷ next ∷ rest) (same_byte byte 91 is91) ∙ ap (λ b. 91 ∷ b ∷ rest) (same_byte next 94 neg) ∙ ap (λ xs. 91 ∷ 94 ∷ xs) s.split;
+      split = ap (λ b. b ∷ next ∷ rest) (eqb-true byte 91 is91) ∙ ap (λ b. 91 ∷ b ∷ rest) (eqb-true next 94 neg) ∙ ap (λ xs. 91 ∷ 94 ∷ xs) s.split;
       written = of_one (grammar.of_negated s.written);
       reads = begins ∙ s.reads;
       size = omega (arith, s.size);
@@ -358,7 +341,7 @@ negated_view at byte (next ∷ rest) is91 neg =
       why = f.why;
       reads = begins ∙ f.reads;
       is = λ front opened last e b.
-          subst (λ (xs : List ℕ). HasFault (front ++ xs) f.why) (sym (ap (λ c. c ∷ next ∷ rest) (same_byte byte 91 is91) ∙ ap (λ c. 91 ∷ c ∷ rest) (same_byte next 94 neg)))
+          subst (λ (xs : List ℕ). HasFault (front ++ xs) f.why) (sym (ap (λ c. c ∷ next ∷ rest) (eqb-true byte 91 is91) ∙ ap (λ c. 91 ∷ c ∷ rest) (eqb-true next 94 neg)))
           (negated_is at rest f.why f.is front opened last e b);
     }))
     (set_view (length rest) at true (at + 1 + 1) [] rest (omega arith))
@@ -374,7 +357,7 @@ set_sign_view at byte rest is91 neg =
       sign = atom (one (inside s.more));
       back = s.back;
       behind = s.behind;
-      split = ap (λ b. b ∷ rest) (same_byte byte 91 is91) ∙ ap (λ xs. 91 ∷ xs) s.split;
+      split = ap (λ b. b ∷ rest) (eqb-true byte 91 is91) ∙ ap (λ xs. 91 ∷ xs) s.split;
       written = of_one (grammar.of_set (negated_front s.text s.back (ap begins_negated (sym s.split) ∙ neg)) s.written);
       reads = begins ∙ s.reads;
       size = omega (arith, s.size);
@@ -384,7 +367,7 @@ set_sign_view at byte rest is91 neg =
       why = f.why;
       reads = begins ∙ f.reads;
       is = λ front opened last e b.
-          subst (λ (c : ℕ). HasFault (front ++ c ∷ rest) f.why) (sym (same_byte byte 91 is91)) (set_is at rest f.why neg f.is front opened last e b);
+          subst (λ (c : ℕ). HasFault (front ++ c ∷ rest) f.why) (sym (eqb-true byte 91 is91)) (set_is at rest f.why neg f.is front opened last e b);
     }))
     (set_view (length rest) at false (at + 1) [] rest (omega arith))
   where

@@ -1,5 +1,7 @@
 -- Laws of matching over trees and over patterns of plain bytes.
-use Rattle.std.proofs.Common.{◌≡◌, ◌≤◌, ◌<◌, ◌⊎◌, ◌||◌, ◌&&◌, ◌==◌, ℕ, zero, suc, ◌+◌, Bool, true, false, not, List, [], ◌∷◌, ◌++◌, length, map, drop, take, get_or, inl, inr, ⊎_elim, refl, sym, ◌∙◌, ap, subst, append-nil, append_assoc, Ok, nat_lt, arith}
+use Rattle.std.proofs.Common.{◌≡◌, ◌≤◌, ◌<◌, ◌⊎◌, ◌||◌, ◌==◌, ℕ, zero, suc, ◌+◌, Bool, true, false, List, [], ◌∷◌, ◌++◌, length, map, drop, take, get_or, inl, inr, ⊎_elim, refl, sym, ◌∙◌, ap, subst, append-nil, append_assoc, Ok, nat_lt, arith}
+use Rattle.std.proofs.lemmas.Bool.{and_parts, eqb-true, not-true, or_parts}
+use Rattle.std.proofs.Math.Bool.{or-false}
 use Rattle.std.specs.List.{flat_map, list_all}
 use Rattle.std.proofs.lemmas.List.{drop_more, take-append-drop, length-append, length-drop}
 use Rattle.std.proofs.lemmas.Option.{slice_get-get_or, slice_get_past}
@@ -10,11 +12,7 @@ use Rattle.ct_regex.specs.Signs.{atom, signs}
 use Rattle.ct_regex.specs.Reading.{Group, read, reading, all_parts, opened_at, with_atom}
 use Rattle.ct_regex.specs.Laws.{stands_for_itself, are_plain, HasPart}
 use Rattle.ct_regex.proofs.AmongLemmas.{Among, among_flat, among_from}
-use Rattle.ct_regex.proofs.HitLemmas.{hits_from, hits_to}
-
-pub has_place-append : (xs ys : List ℕ) → has_place (xs ++ ys) ≡ (has_place xs || has_place ys)
-has_place-append [] ys = refl
-has_place-append (x ∷ xs) ys = refl
+use Rattle.ct_regex.proofs.HitLemmas.{hits_from, hits_to, has_place-append}
 
 single : (xs : List ℕ) → flat_map (λ place. place ∷ []) xs ≡ xs
 single [] = refl
@@ -53,31 +51,19 @@ choice_hits left right text = choice_hits_to (length text) text left right
 abbrev pub parts_of : List ℕ → List Tree
 parts_of bytes = map (λ byte. one (same byte)) bytes
 
-and_both : (a b : Bool) → (a && b) ≡ true → (a ≡ true) × (b ≡ true)
-and_both true b h = (refl, h)
-and_both false b h = absurd (let no : false ≡ true = h in cc)
-
-or_none : (a b : Bool) → (a || b) ≡ false → (a ≡ false) × (b ≡ false)
-or_none true b h = absurd (let no : true ≡ false = h in cc)
-or_none false b h = (refl, h)
-
-not_false : (b : Bool) → not b ≡ true → b ≡ false
-not_false true h = absurd (let no : false ≡ true = h in cc)
-not_false false h = refl
-
 pub plain_is : (place byte : ℕ) (rest : List ℕ) → stands_for_itself byte ≡ true → signs place (byte ∷ rest) ≡ atom (one (same byte)) ∷ signs (place + 1) rest
 plain_is place byte rest h =
-    let a = or_none (byte == 91) _ (not_false _ h) in
-    let b = or_none (byte == 92) _ a.1 in
-    let c = or_none (byte == 94) _ b.1 in
-    let d = or_none (byte == 36) _ c.1 in
-    let e = or_none (byte == 46) _ d.1 in
-    let f = or_none (byte == 40) _ e.1 in
-    let g = or_none (byte == 41) _ f.1 in
-    let i = or_none (byte == 124) _ g.1 in
-    let j = or_none (byte == 42) _ i.1 in
-    let k = or_none (byte == 43) _ j.1 in
-    let l = or_none (byte == 63) _ k.1 in
+    let a = or_parts (byte == 91) _ (not-true _ h) in
+    let b = or_parts (byte == 92) _ a.1 in
+    let c = or_parts (byte == 94) _ b.1 in
+    let d = or_parts (byte == 36) _ c.1 in
+    let e = or_parts (byte == 46) _ d.1 in
+    let f = or_parts (byte == 40) _ e.1 in
+    let g = or_parts (byte == 41) _ f.1 in
+    let i = or_parts (byte == 124) _ g.1 in
+    let j = or_parts (byte == 42) _ i.1 in
+    let k = or_parts (byte == 43) _ j.1 in
+    let l = or_parts (byte == 63) _ k.1 in
     rw (a.0, b.0, c.0, d.0, e.0, f.0, g.0, i.0, j.0, k.0, l.0) refl
 
 plain_read : (bytes : List ℕ) (place : ℕ) (group : Group) → group.branches ≡ [] → are_plain bytes ≡ true →
@@ -86,7 +72,7 @@ plain_read [] place group e h =
     ap (λ bs. Ok (branch_of (bs ++ sequence_of (all_parts group) ∷ []))) e
     ∙ ap (λ ps. Ok (choice (sequence_of ps) never)) (sym (append-nil (all_parts group)))
 plain_read (byte ∷ bytes) place group e h =
-    let both = and_both (stands_for_itself byte) (list_all stands_for_itself bytes) h in
+    let both = and_parts (stands_for_itself byte) (list_all stands_for_itself bytes) h in
     ap (read (record { inner = group; outer = [] })) (plain_is place byte bytes both.0)
     ∙ plain_read bytes (place + 1) (with_atom (one (same byte)) group) e both.1
     ∙ ap (λ ps. Ok (choice (sequence_of ps) never)) (append_assoc (all_parts group) (one (same byte) ∷ []) (parts_of bytes))
@@ -112,9 +98,6 @@ plain_ends (byte ∷ bytes) text place to within a =
     through true at mid m = ⊎_elim (λ e. (refl, e)) (λ no. absurd no) m
     through false at mid m = absurd m
 
-    same_byte : (a b : ℕ) → (a == b) ≡ true → a ≡ b
-    same_byte a b h = grind (arith, nat_tests)
-
     step : ((mid : ℕ) → mid ≤ length text → Among to (ends text (sequence_of (parts_of bytes)) mid) → (back : List ℕ) × (drop mid text ≡ bytes ++ back)) →
         (mid : ℕ) → Among mid (ends text (one (same byte)) place) → Among to (ends text (sequence_of (parts_of bytes)) mid) →
         (place < length text) ⊎ (length text ≤ place) → (back : List ℕ) × (drop place text ≡ byte ∷ bytes ++ back)
@@ -124,7 +107,7 @@ plain_ends (byte ∷ bytes) text place to within a =
         let next = again mid (omega (arith, got.1)) rest in (
           next.0,
           drop_more text place 0 inside
-              ∙ ap (λ b. b ∷ drop (place + 1) text) (same_byte (get_or text place 0) byte got.0)
+              ∙ ap (λ b. b ∷ drop (place + 1) text) (eqb-true (get_or text place 0) byte got.0)
               ∙ ap (λ n. byte ∷ drop n text) got.1
               ∙ ap (λ bs. byte ∷ bs) next.1,
         )
@@ -161,15 +144,11 @@ drop_front [] back = refl
 drop_front (x ∷ front) back = drop_front front back
 
 choice_left : (left : Tree) (text : List ℕ) → hits (choice left never) text ≡ hits left text
-choice_left left text = choice_hits left never text ∙ ap (λ b. hits left text || b) (never_hits (length text)) ∙ or_none (hits left text)
+choice_left left text = choice_hits left never text ∙ ap (λ b. hits left text || b) (never_hits (length text)) ∙ or-false (hits left text)
   where
     never_hits : (last : ℕ) → hits_up_to last text never ≡ false
     never_hits zero = refl
     never_hits (suc last) = never_hits last
-
-    or_none : (b : Bool) → (b || false) ≡ b
-    or_none true = refl
-    or_none false = refl
 
 pub plain_hits : (bytes text : List ℕ) → hits (choice (sequence_of (parts_of bytes)) never) text ≡ true → HasPart bytes text
 plain_hits bytes text h =

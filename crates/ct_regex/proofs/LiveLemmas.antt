@@ -1,5 +1,6 @@
 -- The marks say which point of the pattern a match has come to.
 use Rattle.std.proofs.Common.{◌≡◌, ◌≤◌, ◌<◌, ◌⊎◌, ◌||◌, ◌&&◌, ◌==◌, ℕ, zero, suc, ◌+◌, Bool, true, false, not, List, [], ◌++◌, length, get_or, inl, inr, ⊎_elim, refl, sym, ◌∙◌, ap, subst, append_assoc, slice_get, arith}
+use Rattle.std.proofs.lemmas.Bool.{and_cases, and_from, and_parts, not-true, or_cases, or_left, or_parts, or_right}
 use Rattle.std.proofs.lemmas.Option.{slice_get-get_or, slice_get_past}
 use Rattle.ct_regex.specs.Tree.{Test, takes, Tree, empty, never, start, end, one, sequence, choice, repeat}
 use Rattle.ct_regex.specs.declared.tree.Quantifier.TheVariants.{ZeroOrOne, ZeroOrMore, OneOrMore}
@@ -31,38 +32,6 @@ Right text (repeat ZeroOrOne tree) from place marks = Right text tree from place
 Right text (repeat ZeroOrMore tree) from place marks = Right text tree (Within text tree from) place marks
 Right text (repeat OneOrMore tree) from place marks = Right text tree (Within text tree from) place marks
 
-pub or_from : (a b : Bool) → (a || b) ≡ true → (a ≡ true) ⊎ (b ≡ true)
-or_from true b h = inl refl
-or_from false b h = inr h
-
-pub or_one : (a b : Bool) → a ≡ true → (a || b) ≡ true
-or_one true b h = refl
-or_one false b h = absurd (let no : false ≡ true = h in cc)
-
-pub or_other : (a b : Bool) → b ≡ true → (a || b) ≡ true
-or_other true b h = refl
-or_other false b h = h
-
-pub and_both : (a b : Bool) → (a && b) ≡ true → (a ≡ true) × (b ≡ true)
-and_both true b h = (refl, h)
-and_both false b h = absurd (let no : false ≡ true = h in cc)
-
-and_make : (a b : Bool) → a ≡ true → b ≡ true → (a && b) ≡ true
-and_make true b h k = k
-and_make false b h k = absurd (let no : false ≡ true = h in cc)
-
-and_either : (a b : Bool) → (a && b) ≡ false → (a ≡ false) ⊎ (b ≡ false)
-and_either true b h = inr h
-and_either false b h = inl refl
-
-pub or_none : (a b : Bool) → (a || b) ≡ false → (a ≡ false) × (b ≡ false)
-or_none true b h = absurd (let no : true ≡ false = h in cc)
-or_none false b h = (refl, h)
-
-pub not_true : (b : Bool) → not b ≡ true → b ≡ false
-not_true true h = absurd (let no : false ≡ true = h in cc)
-not_true false h = refl
-
 among_if : (b : Bool) (place : ℕ) → b ≡ true → Among place (place_if b place)
 among_if true place h = inl refl
 among_if false place h = absurd (let no : false ≡ true = h in cc)
@@ -80,21 +49,21 @@ leaves_apart start a b spot marks s h = absurd (let no : true ≡ false = h in c
 leaves_apart end a b spot marks s h = absurd (let no : true ≡ false = h in cc)
 leaves_apart (one test) a b spot marks s h = refl
 leaves_apart (sequence first others) a b spot marks s h =
-    let both = and_both (is_sound first) (is_sound others) s in
+    let both = and_parts (is_sound first) (is_sound others) s in
     ⊎_elim
     (λ f. ap (λ e. leaves others e spot (marks_behind first marks)) (leaves_apart first a b spot marks both.0 f))
     (λ o. leaves_apart others (leaves first a spot marks) (leaves first b spot marks) spot (marks_behind first marks) both.1 o)
-    (and_either (can_be_empty first) (can_be_empty others) h)
+    (and_cases (can_be_empty first) (can_be_empty others) h)
 leaves_apart (choice left right) a b spot marks s h =
-    let both = and_both (is_sound left) (is_sound right) s in
-    let none = or_none (can_be_empty left) (can_be_empty right) h in
+    let both = and_parts (is_sound left) (is_sound right) s in
+    let none = or_parts (can_be_empty left) (can_be_empty right) h in
     ap (λ e. e || leaves right a spot (marks_behind left marks)) (leaves_apart left a b spot marks both.0 none.0)
     ∙ ap (λ e. leaves left b spot marks || e) (leaves_apart right a b spot (marks_behind left marks) both.1 none.1)
 leaves_apart (repeat ZeroOrOne tree) a b spot marks s h = absurd (let no : true ≡ false = h in cc)
 leaves_apart (repeat ZeroOrMore tree) a b spot marks s h = absurd (let no : true ≡ false = h in cc)
 leaves_apart (repeat OneOrMore tree) a b spot marks s h =
-    let both = and_both (not (can_be_empty tree)) (is_sound tree) s in
-    leaves_apart tree a b spot marks both.1 (not_true (can_be_empty tree) both.0)
+    let both = and_parts (not (can_be_empty tree)) (is_sound tree) s in
+    leaves_apart tree a b spot marks both.1 (not-true (can_be_empty tree) both.0)
 
 -- a match ends at or behind its begin
 path_ge : (step : ℕ → List ℕ) → ((i j : ℕ) → Among j (step i) → i ≤ j) → (count i j : ℕ) → Path step count i j → i ≤ j
@@ -174,22 +143,22 @@ ends_gt text end i j s h a = absurd (let no : true ≡ false = h in cc)
 ends_gt text (one test) i j s h a = omega (arith, (behind_at text test i j a).2)
 ends_gt text (sequence first others) i j s h a =
     let f = among_from (ends text others) (ends text first i) j a in
-    let both = and_both (is_sound first) (is_sound others) s in
+    let both = and_parts (is_sound first) (is_sound others) s in
     ⊎_elim
     (λ e. omega (arith, ends_gt text first i f.0 both.0 e f.1, ends_ge text others f.0 j f.2))
     (λ e. omega (arith, ends_ge text first i f.0 f.1, ends_gt text others f.0 j both.1 e f.2))
-    (and_either (can_be_empty first) (can_be_empty others) h)
+    (and_cases (can_be_empty first) (can_be_empty others) h)
 ends_gt text (choice left right) i j s h a =
-    let both = and_both (is_sound left) (is_sound right) s in
-    let none = or_none (can_be_empty left) (can_be_empty right) h in
+    let both = and_parts (is_sound left) (is_sound right) s in
+    let none = or_parts (can_be_empty left) (can_be_empty right) h in
     ⊎_elim (λ l. ends_gt text left i j both.0 none.0 l) (λ r. ends_gt text right i j both.1 none.1 r) (among_split j (ends text left i) (ends text right i) a)
 ends_gt text (repeat ZeroOrOne tree) i j s h a = absurd (let no : true ≡ false = h in cc)
 ends_gt text (repeat ZeroOrMore tree) i j s h a = absurd (let no : true ≡ false = h in cc)
 ends_gt text (repeat OneOrMore tree) i j s h a =
     let f = among_from (rounds (length text) (ends text tree)) (ends text tree i) j a in
     let p = rounds_path (ends text tree) (length text) f.0 j f.2 in
-    let both = and_both (not (can_be_empty tree)) (is_sound tree) s in
-    omega (arith, ends_gt text tree i f.0 both.1 (not_true (can_be_empty tree) both.0) f.1, path_ge (ends text tree) (λ k l b. ends_ge text tree k l b) p.0 f.0 j p.2)
+    let both = and_parts (not (can_be_empty tree)) (is_sound tree) s in
+    omega (arith, ends_gt text tree i f.0 both.1 (not-true (can_be_empty tree) both.0) f.1, path_ge (ends text tree) (λ k l b. ends_ge text tree k l b) p.0 f.0 j p.2)
 
 -- a set of places in the text
 abbrev pub IsBounded : List ℕ → (ℕ → Type 0) → Type 0
@@ -242,34 +211,34 @@ pub leaves_sound : (text : List ℕ) (tree : Tree) (from : ℕ → Type 0) (plac
     Right text tree from place marks → (enters ≡ true → from place) → leaves tree enters (spot_at text place) marks ≡ true → Out text tree from place
 leaves_sound text empty from place enters marks b s r f h = (place, f h, inl refl)
 leaves_sound text never from place enters marks b s r f h = absurd (let no : false ≡ true = h in cc)
-leaves_sound text start from place enters marks b s r f h = let both = and_both enters (place == 0) h in (place, f both.0, among_if (place == 0) place both.1)
-leaves_sound text end from place enters marks b s r f h = let both = and_both enters (place == length text) h in (place, f both.0, among_if (place == length text) place both.1)
+leaves_sound text start from place enters marks b s r f h = let both = and_parts enters (place == 0) h in (place, f both.0, among_if (place == 0) place both.1)
+leaves_sound text end from place enters marks b s r f h = let both = and_parts enters (place == length text) h in (place, f both.0, among_if (place == length text) place both.1)
 leaves_sound text (one test) from place enters marks b s r f h = r.0 h
 leaves_sound text (sequence first others) from place enters marks b s r f h =
-    let both = and_both (is_sound first) (is_sound others) s in
+    let both = and_parts (is_sound first) (is_sound others) s in
     let out = leaves_sound text others (Out text first from) place (leaves first enters (spot_at text place) marks) (marks_behind first marks) (out_bounded text first from b) both.1 r.1
     (λ e. leaves_sound text first from place enters marks b both.0 r.0 f e) h in
     (out.1.0, out.1.1, among_flat (ends text others) (ends text first out.1.0) out.0 place out.1.2 out.2)
 leaves_sound text (choice left right) from place enters marks b s r f h =
-    let both = and_both (is_sound left) (is_sound right) s in
+    let both = and_parts (is_sound left) (is_sound right) s in
     ⊎_elim
     (λ l. let out = leaves_sound text left from place enters marks b both.0 r.0 f l in (out.0, out.1, among_left place (ends text left out.0) (ends text right out.0) out.2))
     (λ g. let out = leaves_sound text right from place enters (marks_behind left marks) b both.1 r.1 f g in (out.0, out.1, among_right place (ends text left out.0) (ends text right out.0) out.2))
-    (or_from (leaves left enters (spot_at text place) marks) (leaves right enters (spot_at text place) (marks_behind left marks)) h)
+    (or_cases (leaves left enters (spot_at text place) marks) (leaves right enters (spot_at text place) (marks_behind left marks)) h)
 leaves_sound text (repeat ZeroOrOne tree) from place enters marks b s r f h =
     ⊎_elim (λ e. (place, f e, inl refl)) (λ l. let out = leaves_sound text tree from place enters marks b s r f l in (out.0, out.1, inr out.2))
-    (or_from enters (leaves tree enters (spot_at text place) marks) h)
+    (or_cases enters (leaves tree enters (spot_at text place) marks) h)
 leaves_sound text (repeat ZeroOrMore tree) from place enters marks b s r f h =
-    let both = and_both (not (can_be_empty tree)) (is_sound tree) s in
+    let both = and_parts (not (can_be_empty tree)) (is_sound tree) s in
     ⊎_elim (λ e. (place, f e, inl refl))
     (λ l.
-    let out = within_more text tree from place b both.1 (not_true (can_be_empty tree) both.0)
+    let out = within_more text tree from place b both.1 (not-true (can_be_empty tree) both.0)
     (leaves_sound text tree (Within text tree from) place enters marks (within_bounded text tree from b) both.1 r (λ e. inl (f e)) l) in
     (out.0, out.1, inr out.2))
-    (or_from enters (leaves tree enters (spot_at text place) marks) h)
+    (or_cases enters (leaves tree enters (spot_at text place) marks) h)
 leaves_sound text (repeat OneOrMore tree) from place enters marks b s r f h =
-    let both = and_both (not (can_be_empty tree)) (is_sound tree) s in
-    within_more text tree from place b both.1 (not_true (can_be_empty tree) both.0)
+    let both = and_parts (not (can_be_empty tree)) (is_sound tree) s in
+    within_more text tree from place b both.1 (not-true (can_be_empty tree) both.0)
     (leaves_sound text tree (Within text tree from) place enters marks (within_bounded text tree from b) both.1 r (λ e. inl (f e)) h)
 
 -- if a match comes to its end, the marks let it leave the tree
@@ -279,35 +248,35 @@ leaves_whole text empty from place enters marks b s r g (o, f, a) = ⊎_elim (λ
 leaves_whole text never from place enters marks b s r g (o, f, a) = absurd a
 leaves_whole text start from place enters marks b s r g (o, f, a) =
     let got = if_among (o == 0) o place a in
-    and_make enters (place == 0) (g (subst from got.1 f)) (subst (λ (v : ℕ). (v == 0) ≡ true) got.1 got.0)
+    and_from enters (place == 0) (g (subst from got.1 f)) (subst (λ (v : ℕ). (v == 0) ≡ true) got.1 got.0)
 leaves_whole text end from place enters marks b s r g (o, f, a) =
     let got = if_among (o == length text) o place a in
-    and_make enters (place == length text) (g (subst from got.1 f)) (subst (λ (v : ℕ). (v == length text) ≡ true) got.1 got.0)
+    and_from enters (place == length text) (g (subst from got.1 f)) (subst (λ (v : ℕ). (v == length text) ≡ true) got.1 got.0)
 leaves_whole text (one test) from place enters marks b s r g out = r.1 out
 leaves_whole text (sequence first others) from place enters marks b s r g (o, f, a) =
-    let both = and_both (is_sound first) (is_sound others) s in
+    let both = and_parts (is_sound first) (is_sound others) s in
     let mid = among_from (ends text others) (ends text first o) place a in
     leaves_whole text others (Out text first from) place (leaves first enters (spot_at text place) marks) (marks_behind first marks) (out_bounded text first from b) both.1 r.1
     (λ out. leaves_whole text first from place enters marks b both.0 r.0 g out) (mid.0, (o, f, mid.1), mid.2)
 leaves_whole text (choice left right) from place enters marks b s r g (o, f, a) =
-    let both = and_both (is_sound left) (is_sound right) s in
+    let both = and_parts (is_sound left) (is_sound right) s in
     ⊎_elim
-    (λ l. or_one (leaves left enters (spot_at text place) marks) (leaves right enters (spot_at text place) (marks_behind left marks)) (leaves_whole text left from place enters marks b both.0 r.0 g (o, f, l)))
-    (λ h. or_other (leaves left enters (spot_at text place) marks) (leaves right enters (spot_at text place) (marks_behind left marks)) (leaves_whole text right from place enters (marks_behind left marks) b both.1 r.1 g (o, f, h)))
+    (λ l. or_left (leaves left enters (spot_at text place) marks) (leaves right enters (spot_at text place) (marks_behind left marks)) (leaves_whole text left from place enters marks b both.0 r.0 g (o, f, l)))
+    (λ h. or_right (leaves left enters (spot_at text place) marks) (leaves right enters (spot_at text place) (marks_behind left marks)) (leaves_whole text right from place enters (marks_behind left marks) b both.1 r.1 g (o, f, h)))
     (among_split place (ends text left o) (ends text right o) a)
 leaves_whole text (repeat ZeroOrOne tree) from place enters marks b s r g (o, f, a) =
-    ⊎_elim (λ e. or_one enters (leaves tree enters (spot_at text place) marks) (g (subst from e f)))
-    (λ l. or_other enters (leaves tree enters (spot_at text place) marks) (leaves_whole text tree from place enters marks b s r g (o, f, l))) a
+    ⊎_elim (λ e. or_left enters (leaves tree enters (spot_at text place) marks) (g (subst from e f)))
+    (λ l. or_right enters (leaves tree enters (spot_at text place) marks) (leaves_whole text tree from place enters marks b s r g (o, f, l))) a
 leaves_whole text (repeat ZeroOrMore tree) from place enters marks b s r g (o, f, a) =
-    let both = and_both (not (can_be_empty tree)) (is_sound tree) s in
-    let none = not_true (can_be_empty tree) both.0 in
-    ⊎_elim (λ e. or_one enters (leaves tree enters (spot_at text place) marks) (g (subst from e f)))
-    (λ l. or_other enters (leaves tree enters (spot_at text place) marks)
+    let both = and_parts (not (can_be_empty tree)) (is_sound tree) s in
+    let none = not-true (can_be_empty tree) both.0 in
+    ⊎_elim (λ e. or_left enters (leaves tree enters (spot_at text place) marks) (g (subst from e f)))
+    (λ l. or_right enters (leaves tree enters (spot_at text place) marks)
     (leaves_apart tree enters true (spot_at text place) marks both.1 none
     ∙ leaves_whole text tree (Within text tree from) place true marks (within_bounded text tree from b) both.1 r (λ w. refl) (within_last text tree from place b both.1 none (o, f, l)))) a
 leaves_whole text (repeat OneOrMore tree) from place enters marks b s r g out =
-    let both = and_both (not (can_be_empty tree)) (is_sound tree) s in
-    let none = not_true (can_be_empty tree) both.0 in
+    let both = and_parts (not (can_be_empty tree)) (is_sound tree) s in
+    let none = not-true (can_be_empty tree) both.0 in
     leaves_apart tree enters true (spot_at text place) marks both.1 none
     ∙ leaves_whole text tree (Within text tree from) place true marks (within_bounded text tree from b) both.1 r (λ w. refl) (within_last text tree from place b both.1 none out)
 
@@ -343,7 +312,7 @@ next_right text never from place byte enters marks rest b s inside e r f g = tt
 next_right text start from place byte enters marks rest b s inside e r f g = tt
 next_right text end from place byte enters marks rest b s inside e r f g = tt
 next_right text (one test) from place byte enters marks rest b s inside e r f g = (
-  λ h. let both = and_both enters (takes test byte) h in
+  λ h. let both = and_parts enters (takes test byte) h in
       (place, f both.0, at_behind text test place inside (subst (λ (v : ℕ). takes test v ≡ true) e both.1)),
   back,
 )
@@ -352,10 +321,10 @@ next_right text (one test) from place byte enters marks rest b s inside e r f g 
     back (o, h, a) =
         let got = behind_at text test o (place + 1) a in
         let same : o ≡ place = omega (arith, got.2) in
-        and_make enters (takes test byte) (g (subst from same h))
+        and_from enters (takes test byte) (g (subst from same h))
         (subst (λ (v : ℕ). takes test v ≡ true) (sym e) (subst (λ (v : ℕ). takes test (get_or text v 0) ≡ true) same got.1))
 next_right text (sequence first others) from place byte enters marks rest b s inside e r f g =
-    let both = and_both (is_sound first) (is_sound others) s in
+    let both = and_parts (is_sound first) (is_sound others) s in
     let front : List Bool = next_marks first enters (spot_at text place) byte marks in
     let back : List Bool = next_marks others (leaves first enters (spot_at text place) marks) (spot_at text place) byte (marks_behind first marks) in
     subst (λ (ms : List Bool). Right text (sequence first others) from (place + 1) ms) (sym (append_assoc front back rest)) (
@@ -366,7 +335,7 @@ next_right text (sequence first others) from place byte enters marks rest b s in
           (λ h. leaves_whole text first from place enters marks b both.0 r.0 g h)),
     )
 next_right text (choice left right) from place byte enters marks rest b s inside e r f g =
-    let both = and_both (is_sound left) (is_sound right) s in
+    let both = and_parts (is_sound left) (is_sound right) s in
     let front : List Bool = next_marks left enters (spot_at text place) byte marks in
     let back : List Bool = next_marks right enters (spot_at text place) byte (marks_behind left marks) in
     subst (λ (ms : List Bool). Right text (choice left right) from (place + 1) ms) (sym (append_assoc front back rest)) (
@@ -377,15 +346,15 @@ next_right text (choice left right) from place byte enters marks rest b s inside
 next_right text (repeat ZeroOrOne tree) from place byte enters marks rest b s inside e r f g =
     next_right text tree from place byte enters marks rest b s inside e r f g
 next_right text (repeat ZeroOrMore tree) from place byte enters marks rest b s inside e r f g =
-    let both = and_both (not (can_be_empty tree)) (is_sound tree) s in
+    let both = and_parts (not (can_be_empty tree)) (is_sound tree) s in
     next_right text tree (Within text tree from) place byte (enters || leaves tree enters (spot_at text place) marks) marks rest (within_bounded text tree from b) both.1 inside e r
-    (λ h. ⊎_elim (λ n. inl (f n)) (λ l. inr (leaves_sound text (repeat OneOrMore tree) from place enters marks b s r f l)) (or_from enters (leaves tree enters (spot_at text place) marks) h))
-    (λ w. ⊎_elim (λ n. or_one enters (leaves tree enters (spot_at text place) marks) (g n)) (λ p. or_other enters (leaves tree enters (spot_at text place) marks) (leaves_whole text (repeat OneOrMore tree) from place enters marks b s r g p)) w)
+    (λ h. ⊎_elim (λ n. inl (f n)) (λ l. inr (leaves_sound text (repeat OneOrMore tree) from place enters marks b s r f l)) (or_cases enters (leaves tree enters (spot_at text place) marks) h))
+    (λ w. ⊎_elim (λ n. or_left enters (leaves tree enters (spot_at text place) marks) (g n)) (λ p. or_right enters (leaves tree enters (spot_at text place) marks) (leaves_whole text (repeat OneOrMore tree) from place enters marks b s r g p)) w)
 next_right text (repeat OneOrMore tree) from place byte enters marks rest b s inside e r f g =
-    let both = and_both (not (can_be_empty tree)) (is_sound tree) s in
+    let both = and_parts (not (can_be_empty tree)) (is_sound tree) s in
     next_right text tree (Within text tree from) place byte (enters || leaves tree enters (spot_at text place) marks) marks rest (within_bounded text tree from b) both.1 inside e r
-    (λ h. ⊎_elim (λ n. inl (f n)) (λ l. inr (leaves_sound text (repeat OneOrMore tree) from place enters marks b s r f l)) (or_from enters (leaves tree enters (spot_at text place) marks) h))
-    (λ w. ⊎_elim (λ n. or_one enters (leaves tree enters (spot_at text place) marks) (g n)) (λ p. or_other enters (leaves tree enters (spot_at text place) marks) (leaves_whole text (repeat OneOrMore tree) from place enters marks b s r g p)) w)
+    (λ h. ⊎_elim (λ n. inl (f n)) (λ l. inr (leaves_sound text (repeat OneOrMore tree) from place enters marks b s r f l)) (or_cases enters (leaves tree enters (spot_at text place) marks) h))
+    (λ w. ⊎_elim (λ n. or_left enters (leaves tree enters (spot_at text place) marks) (g n)) (λ p. or_right enters (leaves tree enters (spot_at text place) marks) (leaves_whole text (repeat OneOrMore tree) from place enters marks b s r g p)) w)
 
 pub marks_behind-none : (tree : Tree) → marks_behind tree [] ≡ []
 marks_behind-none empty = refl

@@ -1,5 +1,6 @@
 -- An entry written into a memory of steps is read from it, and nothing else changes.
-use Rattle.std.proofs.Common.{◌≡◌, ◌<◌, ◌⊎◌, ◌&&◌, Bool, true, false, ℕ, zero, suc, ◌+◌, ◌*◌, List, [], ◌∷◌, ◌++◌, length, drop, get_or, set, Option, Some, None, slice_get, unwrap_or, inl, inr, ⊎_elim, refl, sym, ◌∙◌, ap, subst, arith}
+use Rattle.std.proofs.Common.{◌≡◌, ◌<◌, ◌⊎◌, Bool, true, false, ℕ, zero, suc, ◌+◌, ◌*◌, List, [], ◌∷◌, ◌++◌, length, drop, get_or, set, Option, Some, None, slice_get, unwrap_or, inl, inr, ⊎_elim, refl, sym, ◌∙◌, ap, subst, arith}
+use Rattle.std.proofs.lemmas.Bool.{and_parts}
 use Rattle.std.proofs.Math.Bool.{beq}
 use Rattle.std.specs.Cmp.Lexicographic.{pointwise}
 use Rattle.ct_regex.specs.Walk.{Step}
@@ -71,16 +72,12 @@ read_back Holds next a b c small new old at byte to k e =
     subst (λ (v : ℕ). Holds v byte to) (sym same.0) (subst (λ (v : ℕ). Holds a v to) (sym same.1) (subst (λ (v : ℕ). Holds a b v) (sym value) new)))
     (set_get next (a * 256 + b) (at * 256 + byte) (Some c) None (Some to) e)
 
-both_true : (a b : Bool) → (a && b) ≡ true → (a ≡ true) × (b ≡ true)
-both_true true b h = (refl, h)
-both_true false b h = absurd (let none : false ≡ true = h in cc)
-
 -- two lists of marks that a test finds equal are equal
 pub same_marks : (xs ys : List Bool) → pointwise beq xs ys ≡ true → xs ≡ ys
 same_marks [] [] h = refl
 same_marks [] (y ∷ ys) h = absurd (let none : false ≡ true = h in cc)
 same_marks (x ∷ xs) [] h = absurd (let none : false ≡ true = h in cc)
-same_marks (x ∷ xs) (y ∷ ys) h = let both = both_true (beq x y) (pointwise beq xs ys) h in ap (λ (b : Bool). b ∷ xs) (same_mark x y both.0) ∙ ap (λ (l : List Bool). y ∷ l) (same_marks xs ys both.1)
+same_marks (x ∷ xs) (y ∷ ys) h = let both = and_parts (beq x y) (pointwise beq xs ys) h in ap (λ (b : Bool). b ∷ xs) (same_mark x y both.0) ∙ ap (λ (l : List Bool). y ∷ l) (same_marks xs ys both.1)
   where
     same_mark : (a b : Bool) → beq a b ≡ true → a ≡ b
     same_mark true true e = refl

@@ -18,7 +18,8 @@ use Rattle.ct_regex.specs.OneAnswer.{IsLimit, HasOneAnswer}
 use Rattle.ct_regex.proofs.WrittenLemmas.{opened_read, closed_read, reading_written}
 use Rattle.ct_regex.proofs.BegunLemmas.{end_of, places_of, places_len, places_as, HasBegun, one_begun, bar_begun, open_begun, close_begun, may_behind, with_often, often_begun}
 use Rattle.ct_regex.proofs.FaultLemmas.{same_why, reading_faulty}
-use Rattle.ct_regex.proofs.ReadBackLemmas.{unclosed, is_none-push, range_item, byte_item, one_read, often_sign, one_tree, written_read}
+use Rattle.ct_regex.proofs.ReadBackLemmas.{unclosed, range_item, byte_item, one_read, often_sign, one_tree, written_read}
+use Rattle.ct_regex.proofs.SignsLemmas.{is_none-push}
 
 -- a set that has no `]`
 open_set_says : {first : Bool} {text : List ℕ} → IsOpenSet first text → (opened : ℕ) (negated : Bool) (at : ℕ) (items : List Span) → is_none items ≡ first →

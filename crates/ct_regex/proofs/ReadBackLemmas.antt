@@ -1,5 +1,7 @@
 -- A text that the grammar writes is read as its tree, unless it is too large.
 use Rattle.std.proofs.Common.{◌≡◌, ◌≤◌, ◌⊎◌, ◌&&◌, ◌==◌, ℕ, ◌+◌, Bool, true, false, not, List, [], ◌∷◌, ◌++◌, length, cond, inl, inr, refl, sym, ◌∙◌, ap, subst, append-nil, append_assoc, nat_lt, Result, Ok, Err, arith}
+use Rattle.std.proofs.lemmas.Bool.{le-ltb}
+use Rattle.std.proofs.Math.Bool.{and-false}
 use Rattle.std.proofs.lemmas.Bool.Decides.{nat_tests}
 use Rattle.ct_regex.specs.declared.tree.Span.{Span}
 use Rattle.ct_regex.specs.declared.tree.Quantifier.{Quantifier}
@@ -13,7 +15,7 @@ use Rattle.ct_regex.specs.Grammar as grammar
 use Rattle.ct_regex.specs.Grammar.{IsItems, IsOne, IsPattern, IsBranches, IsBranch, IsPart, IsAtom, byte_of}
 use Rattle.ct_regex.proofs.EmptyLemmas.{may_as}
 use Rattle.ct_regex.proofs.SoundLemmas.{atom_sound}
-use Rattle.ct_regex.proofs.SignsLemmas.{set_item}
+use Rattle.ct_regex.proofs.SignsLemmas.{set_item, is_none-push}
 use Rattle.ct_regex.specs.Laws.{HitsAlike}
 use Rattle.ct_regex.specs.Gives.{Gives, IsReadAs}
 use Rattle.ct_regex.proofs.LawLemmas.{plain_is, bracketed_hits}
@@ -34,22 +36,11 @@ items_range (grammar.byte low c r (grammar.range a b d e f g)) back h = h
 items_range (grammar.byte low c r (grammar.byte a d e f)) back h = h
 
 pub unclosed : (first : Bool) (low : ℕ) (items : List Span) → is_none items ≡ first → (first ≡ true) ⊎ ((low == 93) ≡ false) → ((low == 93) && not (is_none items)) ≡ false
-unclosed first low items e (inl h) = rw (e, h) (and_no (low == 93))
-  where
-    and_no : (b : Bool) → (b && false) ≡ false
-    and_no true = refl
-    and_no false = refl
+unclosed first low items e (inl h) = rw (e, h) (and-false (low == 93))
 unclosed first low items e (inr h) = rw h refl
-
-not_less : (high low : ℕ) → low ≤ high → nat_lt high low ≡ false
-not_less high low h = grind (arith, nat_tests)
 
 not_below_self : (low : ℕ) → nat_lt low low ≡ false
 not_below_self low = grind (arith, nat_tests)
-
-pub is_none-push : (items : List Span) (item : Span) → is_none (items ++ item ∷ []) ≡ false
-is_none-push [] item = refl
-is_none-push (x ∷ items) item = refl
 
 -- a range of a set is read
 pub range_item : (first : Bool) (low high : ℕ) (rest : List ℕ) → (first ≡ true) ⊎ ((low == 93) ≡ false) → (high == 93) ≡ false → low ≤ high → (opened : ℕ) (negated : Bool) (at : ℕ) (items : List Span) → is_none items ≡ first →
@@ -57,7 +48,7 @@ pub range_item : (first : Bool) (low high : ℕ) (rest : List ℕ) → (first �
 range_item first low high rest c other le opened negated at items e =
     let range : is_range (45 ∷ high ∷ rest) ≡ true = ap (λ (b : Bool). (45 == 45) && not b) other in
     let top : item_high low (45 ∷ high ∷ rest) ≡ high = ap (λ (b : Bool). cond b high low) range in
-    set_item opened negated at items low (45 ∷ high ∷ rest) (unclosed first low items e c) (ap (λ (h : ℕ). nat_lt h low) top ∙ not_less high low le)
+    set_item opened negated at items low (45 ∷ high ∷ rest) (unclosed first low items e c) (ap (λ (h : ℕ). nat_lt h low) top ∙ le-ltb high low le)
     ∙ ap (λ (b : Bool). set_signs opened negated (cond b 2 0) (at + 1) (items ++ record { low = low; high = item_high low (45 ∷ high ∷ rest) } ∷ []) (45 ∷ high ∷ rest)) range
     ∙ ap (λ (h : ℕ). set_signs opened negated 0 (at + 1 + 1 + 1) (items ++ record { low = low; high = h } ∷ []) rest) top
 

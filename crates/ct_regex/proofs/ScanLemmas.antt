@@ -1,7 +1,7 @@
 -- What a scan answers behind a text is whether the pattern hits it.
 use Rattle.std.proofs.Common.{◌≡◌, ◌≤◌, ◌<◌, ◌⊎◌, ◌||◌, ◌==◌, ℕ, ◌+◌, Bool, true, false, List, [], ◌∷◌, ◌++◌, length, map, drop, get_or, ⊎_elim, refl, sym, ◌∙◌, ap, subst, append-nil, append_assoc, arith}
 use Rattle.std.proofs.lemmas.List.{length-append, get_or_at, drop_more}
-use Rattle.std.proofs.lemmas.Bool.{eq-eqb, ne_eqb}
+use Rattle.std.proofs.lemmas.Bool.{eq-eqb, ne_eqb, or_cases, or_left, or_parts}
 use Rattle.ct_regex.specs.Tree.{Tree}
 use Rattle.ct_regex.specs.Ends.{hits}
 use Rattle.ct_regex.specs.Reading.{can_be_empty}
@@ -13,7 +13,7 @@ use Rattle.ct_regex.specs.declared.walk.Flow.{Flow}
 use Rattle.ct_regex.specs.declared.scan.Scan.{Scan}
 use Rattle.ct_regex.proofs.HitLemmas.{hits_from, hits_to}
 use Rattle.ct_regex.proofs.Live.{Spot, spot_at, leaves, next_marks}
-use Rattle.ct_regex.proofs.LiveLemmas.{Out, Right, Places, bounded, ends_le, or_from, or_one, or_none, leaves_sound, leaves_whole, next_right, first_right}
+use Rattle.ct_regex.proofs.LiveLemmas.{Out, Right, Places, bounded, ends_le, leaves_sound, leaves_whole, next_right, first_right}
 use Rattle.ct_regex.proofs.WalkLemmas.{slots, slots_first, flow_of, before_byte, a_walk, over, leaves_empty}
 
 -- the steps of a whole pattern
@@ -70,9 +70,9 @@ follows_more text tree place byte stand s inside e h = subst (Follows text tree 
   right = subst (λ (ms : List Bool). Right text tree (Places text) (place + 1) ms)
       (append-nil (next_marks tree true (spot_at text place) byte h.marks) ∙ ap (λ (p : Spot). next_marks tree true p byte h.marks) here)
       (next_right text tree (Places text) place byte true h.marks [] (bounded text) s inside e h.right (λ t. omega arith) (λ w. refl));
-  some = λ f. ⊎_elim (λ was. h.some was) (λ goes. some_now (ap (λ (p : Spot). leaves tree true p h.marks) here ∙ goes)) (or_from stand.found flow.now f);
+  some = λ f. ⊎_elim (λ was. h.some was) (λ goes. some_now (ap (λ (p : Spot). leaves tree true p h.marks) here ∙ goes)) (or_cases stand.found flow.now f);
   none = λ f before below out.
-      let none = or_none stand.found flow.now f in
+      let none = or_parts stand.found flow.now f in
       ⊎_elim (λ earlier. h.none none.0 before earlier out)
       (λ same. none_now (ap (λ (p : Spot). leaves tree true p h.marks) here ∙ none.1) (subst (Out text tree (Places text)) same out))
       (before_or before below);
@@ -166,8 +166,8 @@ behind-append steps stand (byte ∷ front) rest = behind-append steps (behind_by
 
 -- a match that is found stays found
 pub found_stays : (steps : List Step) (stand : Stand) (bytes : List ℕ) → stand.found ≡ true → answer (behind_bytes steps stand bytes) ≡ true
-found_stays steps stand [] h = or_one stand.found stand.last h
-found_stays steps stand (byte ∷ bytes) h = found_stays steps (behind_byte steps stand byte) bytes (or_one stand.found _ h)
+found_stays steps stand [] h = or_left stand.found stand.last h
+found_stays steps stand (byte ∷ bytes) h = found_stays steps (behind_byte steps stand byte) bytes (or_left stand.found _ h)
 
 -- two scans that come to the same stand answer alike from there on
 pub alike_behind : (steps : List Step) (here there : Stand) (rest piece more : List ℕ) → behind_bytes steps here rest ≡ behind_bytes steps there piece →

@@ -4,6 +4,10 @@ use Rattle.std.proofs.lemmas.List.{drop_more, drop-drop, length-drop}
 use Rattle.ct_regex.specs.declared.tree.Span.{Span}
 use Rattle.ct_regex.specs.Signs.{signs, set_signs, begins_negated, is_range, item_high, is_none}
 
+pub is_none-push : (items : List Span) (item : Span) → is_none (items ++ item ∷ []) ≡ false
+is_none-push [] item = refl
+is_none-push (x ∷ items) item = refl
+
 pub range_len : (rest : List ℕ) → is_range rest ≡ true → 2 ≤ length rest
 range_len [] h = absurd (let no : false ≡ true = h in cc)
 range_len (dash ∷ []) h = absurd (let no : false ≡ true = h in cc)

@@ -1,5 +1,6 @@
 -- What is written by the grammar repeats only what cannot be empty.
-use Rattle.std.proofs.Common.{◌≡◌, ◌&&◌, Bool, true, false, ℕ, List, [], ◌∷◌, ◌++◌, refl, sym, ◌∙◌}
+use Rattle.std.proofs.Common.{◌≡◌, true, ℕ, List, [], ◌∷◌, ◌++◌, refl, sym, ◌∙◌}
+use Rattle.std.proofs.lemmas.Bool.{and_from, and_parts}
 use Rattle.ct_regex.specs.declared.tree.Quantifier.{Quantifier}
 use Rattle.ct_regex.specs.declared.tree.Quantifier.TheVariants.{ZeroOrOne, ZeroOrMore, OneOrMore}
 use Rattle.ct_regex.specs.Tree.{Tree, repeat, sequence_of, branch_of}
@@ -9,25 +10,17 @@ use Rattle.ct_regex.specs.Grammar as grammar
 use Rattle.ct_regex.specs.Grammar.{IsOne, IsPattern, IsBranches, IsBranch, IsPart, IsAtom}
 use Rattle.ct_regex.proofs.EmptyLemmas.{may_as}
 
-and_both : (a b : Bool) → (a && b) ≡ true → (a ≡ true) × (b ≡ true)
-and_both true b h = (refl, h)
-and_both false b h = absurd (let clash : false ≡ true = h in cc)
-
-and_make : (a b : Bool) → a ≡ true → b ≡ true → (a && b) ≡ true
-and_make true b h k = k
-and_make false b h k = absurd (let clash : false ≡ true = h in cc)
-
 choice_sound : (trees : List Tree) (tree : Tree) → is_sound (branch_of trees) ≡ true → is_sound tree ≡ true → is_sound (branch_of (trees ++ tree ∷ [])) ≡ true
-choice_sound [] tree h k = and_make (is_sound tree) true k refl
+choice_sound [] tree h k = and_from (is_sound tree) true k refl
 choice_sound (first ∷ trees) tree h k =
-    let both = and_both (is_sound first) (is_sound (branch_of trees)) h in
-    and_make (is_sound first) (is_sound (branch_of (trees ++ tree ∷ []))) both.0 (choice_sound trees tree both.1 k)
+    let both = and_parts (is_sound first) (is_sound (branch_of trees)) h in
+    and_from (is_sound first) (is_sound (branch_of (trees ++ tree ∷ []))) both.0 (choice_sound trees tree both.1 k)
 
 sequence_sound : (trees : List Tree) (tree : Tree) → is_sound (sequence_of trees) ≡ true → is_sound tree ≡ true → is_sound (sequence_of (trees ++ tree ∷ [])) ≡ true
-sequence_sound [] tree h k = and_make (is_sound tree) true k refl
+sequence_sound [] tree h k = and_from (is_sound tree) true k refl
 sequence_sound (first ∷ trees) tree h k =
-    let both = and_both (is_sound first) (is_sound (sequence_of trees)) h in
-    and_make (is_sound first) (is_sound (sequence_of (trees ++ tree ∷ []))) both.0 (sequence_sound trees tree both.1 k)
+    let both = and_parts (is_sound first) (is_sound (sequence_of trees)) h in
+    and_from (is_sound first) (is_sound (sequence_of (trees ++ tree ∷ []))) both.0 (sequence_sound trees tree both.1 k)
 
 one_sound : {text : List ℕ} {tree : Tree} → IsOne text tree → is_sound tree ≡ true
 one_sound grammar.at_start = refl
@@ -40,8 +33,8 @@ one_sound (grammar.of_negated i) = refl
 
 repeat_sound : (quantifier : Quantifier) (tree : Tree) → may_repeat quantifier tree ≡ true → is_sound tree ≡ true → is_sound (repeat quantifier tree) ≡ true
 repeat_sound ZeroOrOne tree h k = k
-repeat_sound ZeroOrMore tree h k = and_make _ _ h k
-repeat_sound OneOrMore tree h k = and_make _ _ h k
+repeat_sound ZeroOrMore tree h k = and_from _ _ h k
+repeat_sound OneOrMore tree h k = and_from _ _ h k
 
 mutual
   pub pattern_sound : {text : List ℕ} {tree : Tree} → IsPattern text tree → is_sound tree ≡ true

@@ -1,5 +1,7 @@
 -- A walk over the steps of a pattern changes the marks as a byte changes the live positions of the tree.
 use Rattle.std.proofs.Common.{◌≡◌, ℕ, suc, not, ◌+◌, Bool, true, false, ◌&&◌, ◌||◌, List, [], ◌∷◌, ◌++◌, length, slice_set, map, refl, sym, ◌∙◌, ap, subst, append-nil, append_assoc}
+use Rattle.std.proofs.lemmas.Bool.{and_parts, not-true}
+use Rattle.std.proofs.Math.Bool.{and-false, and-true, or-false, or_assoc}
 use Rattle.std.proofs.lemmas.List.{length-append, set_at, get_or_at}
 use Rattle.ct_regex.specs.Tree.{Test, Tree, empty, never, start, end, one, sequence, choice, repeat, takes, branch_of}
 use Rattle.ct_regex.specs.declared.tree.Quantifier.TheVariants.{ZeroOrOne, ZeroOrMore, OneOrMore}
@@ -11,7 +13,7 @@ use Rattle.ct_regex.specs.Reading.{can_be_empty}
 use Rattle.ct_regex.specs.Sound.{is_sound}
 use Rattle.ct_regex.specs.Walk.{Step, fork, maybe, or_else, join, back, Walk, walked, behind_step, merged, no_flow, no_marks, is_never, branch, behind_one, choice_steps, rounds_of, steps_of}
 use Rattle.ct_regex.proofs.Live.{Spot, leaves, next_marks, marks_behind, first_mark}
-use Rattle.ct_regex.proofs.LiveLemmas.{leaves_apart, marks_behind-next, marks_behind-none, and_both, not_true}
+use Rattle.ct_regex.proofs.LiveLemmas.{leaves_apart, marks_behind-next, marks_behind-none}
 
 -- the marks of a walk over the tree, given the live positions
 abbrev pub slots : Tree → Bool → List Bool → List Bool
@@ -58,22 +60,6 @@ slots_length (repeat ZeroOrOne tree) first marks = slots_length tree first marks
 slots_length (repeat ZeroOrMore tree) first marks = ap (λ (n : ℕ). suc n) (slots_length tree first marks)
 slots_length (repeat OneOrMore tree) first marks = ap (λ (n : ℕ). suc n) (slots_length tree first marks)
 
-and_none : (b : Bool) → (b && false) ≡ false
-and_none true = refl
-and_none false = refl
-
-and_all : (b : Bool) → (b && true) ≡ b
-and_all true = refl
-and_all false = refl
-
-or_nothing : (b : Bool) → (b || false) ≡ b
-or_nothing true = refl
-or_nothing false = refl
-
-or_assoc : (a b c : Bool) → ((a || b) || c) ≡ (a || (b || c))
-or_assoc true b c = refl
-or_assoc false b c = refl
-
 -- without marks a match leaves a tree only if it enters it
 no_leaves : (tree : Tree) (spot : Spot) → leaves tree false spot [] ≡ false
 no_leaves empty spot = refl
@@ -117,13 +103,13 @@ slots_first (repeat OneOrMore tree) =
 -- in an empty text and without marks, a tree is left exactly if it is entered and can be empty
 pub leaves_empty : (tree : Tree) (enters : Bool) → is_sound tree ≡ true →
     leaves tree enters (record { is_first = true; is_last = true }) [] ≡ (enters && can_be_empty tree)
-leaves_empty empty enters s = sym (and_all enters)
-leaves_empty never enters s = sym (and_none enters)
+leaves_empty empty enters s = sym (and-true enters)
+leaves_empty never enters s = sym (and-false enters)
 leaves_empty start enters s = refl
 leaves_empty end enters s = refl
-leaves_empty (one test) enters s = sym (and_none enters)
+leaves_empty (one test) enters s = sym (and-false enters)
 leaves_empty (sequence left right) enters s =
-    let both = and_both (is_sound left) (is_sound right) s in
+    let both = and_parts (is_sound left) (is_sound right) s in
     ap (λ (b : Bool). leaves right b (record { is_first = true; is_last = true }) (marks_behind left [])) (leaves_empty left enters both.0)
     ∙ ap (leaves right (enters && can_be_empty left) (record { is_first = true; is_last = true })) (marks_behind-none left)
     ∙ leaves_empty right (enters && can_be_empty left) both.1
@@ -133,7 +119,7 @@ leaves_empty (sequence left right) enters s =
     and_assoc true b c = refl
     and_assoc false b c = refl
 leaves_empty (choice left right) enters s =
-    let both = and_both (is_sound left) (is_sound right) s in
+    let both = and_parts (is_sound left) (is_sound right) s in
     ap (λ (b : Bool). b || leaves right enters (record { is_first = true; is_last = true }) (marks_behind left [])) (leaves_empty left enters both.0)
     ∙ ap (λ (ms : List Bool). (enters && can_be_empty left) || leaves right enters (record { is_first = true; is_last = true }) ms) (marks_behind-none left)
     ∙ ap (λ (b : Bool). (enters && can_be_empty left) || b) (leaves_empty right enters both.1)
@@ -148,15 +134,15 @@ leaves_empty (repeat ZeroOrOne tree) enters s = ap (λ (b : Bool). enters || b) 
     absorbed true b = refl
     absorbed false b = refl
 leaves_empty (repeat ZeroOrMore tree) enters s =
-    let both = and_both (not (can_be_empty tree)) (is_sound tree) s in
+    let both = and_parts (not (can_be_empty tree)) (is_sound tree) s in
     ap (λ (b : Bool). enters || b) (leaves_empty tree enters both.1) ∙ absorbed enters (can_be_empty tree)
   where
     absorbed : (a b : Bool) → (a || (a && b)) ≡ (a && true)
     absorbed true b = refl
     absorbed false b = refl
 leaves_empty (repeat OneOrMore tree) enters s =
-    let both = and_both (not (can_be_empty tree)) (is_sound tree) s in
-    leaves_empty tree enters both.1 ∙ ap (λ (b : Bool). enters && b) (not_true (can_be_empty tree) both.0)
+    let both = and_parts (not (can_be_empty tree)) (is_sound tree) s in
+    leaves_empty tree enters both.1 ∙ ap (λ (b : Bool). enters && b) (not-true (can_be_empty tree) both.0)
 
 -- the steps of a choice with no branch or with several
 pub many_steps : (at : ℕ) (nodes : List Node) → (length nodes ≡ 1 → ⊥) →
@@ -194,7 +180,7 @@ flow_eq : (a b c x y z : Bool) → a ≡ x → b ≡ y → c ≡ z → a_flow a 
 flow_eq a b c x y z e f g = ap (λ (v : Bool). a_flow v b c) e ∙ ap (λ (v : Bool). a_flow x v c) f ∙ ap (λ (v : Bool). a_flow x y v) g
 
 merged_none : (left : Flow) → merged left no_flow ≡ left
-merged_none left = flow_eq _ _ _ _ _ _ (or_nothing left.now) (or_nothing left.next) (or_nothing left.last)
+merged_none left = flow_eq _ _ _ _ _ _ (or-false left.now) (or-false left.next) (or-false left.last)
 
 merged_assoc : (a b c : Flow) → merged (merged a b) c ≡ merged a (merged b c)
 merged_assoc a b c = flow_eq _ _ _ _ _ _ (or_assoc a.now b.now c.now) (or_assoc a.next b.next c.next) (or_assoc a.last b.last c.last)
@@ -220,11 +206,11 @@ start_over at front behind opened flow first marks next more byte e n =
     let all : List Bool = front ++ (first ∷ behind) in
     ap (λ (came : Bool). a_walk (record { now = flow.now && came; next = false; last = false }) opened (slice_set all at false)) (get_or_at front first behind false at e)
     ∙ ap (a_walk (record { now = flow.now && first; next = false; last = false }) opened) (set_at front first behind false at e)
-    ∙ ap (λ (f : Flow). a_walk f opened (front ++ (false ∷ behind))) (flow_eq _ _ _ _ _ _ refl (sym (and_none flow.next)) (sym (and_none flow.last)))
+    ∙ ap (λ (f : Flow). a_walk f opened (front ++ (false ∷ behind))) (flow_eq _ _ _ _ _ _ refl (sym (and-false flow.next)) (sym (and-false flow.last)))
 
 end_over : Over end
 end_over at front behind opened flow first marks next more byte e n =
-    ap (λ (f : Flow). a_walk f opened (front ++ behind)) (flow_eq _ _ _ _ _ _ (sym (and_none flow.now)) (sym (and_none flow.next)) (sym (and_all flow.last)))
+    ap (λ (f : Flow). a_walk f opened (front ++ behind)) (flow_eq _ _ _ _ _ _ (sym (and-false flow.now)) (sym (and-false flow.next)) (sym (and-true flow.last)))
 
 sequence_over : (left right : Tree) → Over left → Over right → Over (sequence left right)
 sequence_over left right over_left over_right at front behind opened flow first marks next more byte e n =
@@ -345,10 +331,10 @@ over start s = plain_over start (λ at. refl) start_over
 over end s = plain_over end (λ at. refl) end_over
 over (one test) s = plain_over (one test) (λ at. refl) (one_over test)
 over (sequence left right) s =
-    let both = and_both (is_sound left) (is_sound right) s in
+    let both = and_parts (is_sound left) (is_sound right) s in
     plain_over (sequence left right) (λ at. refl) (sequence_over left right (over left both.0).0 (over right both.1).0)
 over (choice left right) s =
-    let both = and_both (is_sound left) (is_sound right) s in (
+    let both = and_parts (is_sound left) (is_sound right) s in (
       by_never (is_never right) refl (over left both.0).0 (over right both.1).1,
       choice_last left right (over left both.0).0 (over right both.1).1,
     )
@@ -364,12 +350,12 @@ over (repeat ZeroOrOne tree) s = plain_over (repeat ZeroOrOne tree) (λ at. refl
     maybe_over (steps_of false at tree) byte flow (flow_of tree flow first marks next) opened (front ++ (slots tree first marks ++ behind)) (front ++ (slots tree false next ++ behind))
     (λ others. (over tree s).0 at front behind others flow first marks next more byte e n))
 over (repeat ZeroOrMore tree) s =
-    let both = and_both (not (can_be_empty tree)) (is_sound tree) s in
+    let both = and_parts (not (can_be_empty tree)) (is_sound tree) s in
     plain_over (repeat ZeroOrMore tree) (λ at. refl)
     (λ at front behind opened flow first marks next more byte e n.
     maybe_over (rounds_of at (steps_of false (at + 1) tree)) byte flow (flow_of (repeat OneOrMore tree) flow first marks next) opened
     (front ++ (slots (repeat OneOrMore tree) first marks ++ behind)) (front ++ (slots (repeat OneOrMore tree) false next ++ behind))
-    (λ others. rounds_over tree (over tree both.1).0 both.1 (not_true (can_be_empty tree) both.0) at front behind others flow first marks next more byte e n))
+    (λ others. rounds_over tree (over tree both.1).0 both.1 (not-true (can_be_empty tree) both.0) at front behind others flow first marks next more byte e n))
 over (repeat OneOrMore tree) s =
-    let both = and_both (not (can_be_empty tree)) (is_sound tree) s in
-    plain_over (repeat OneOrMore tree) (λ at. refl) (rounds_over tree (over tree both.1).0 both.1 (not_true (can_be_empty tree) both.0))
+    let both = and_parts (not (can_be_empty tree)) (is_sound tree) s in
+    plain_over (repeat OneOrMore tree) (λ at. refl) (rounds_over tree (over tree both.1).0 both.1 (not-true (can_be_empty tree) both.0))

@@ -1,6 +1,6 @@
 use Rattle.std.proofs.Common.{◌≡◌, ◌≤◌, ◌+◌, ◌==◌, ◌&&◌, ℕ, false, not, List, [], ◌∷◌, ◌++◌, drop, length, get_or, cond, nat_lt, refl, sym, ◌∙◌, ap, subst, arith}
+use Rattle.std.proofs.lemmas.Bool.{le-ltb}
 use Rattle.std.proofs.lemmas.List.{take_rest}
-use Rattle.std.proofs.lemmas.Bool.Decides.{nat_tests}
 use Rattle.ct_regex.specs.declared.tree.Span.{Span}
 use Rattle.ct_regex.specs.Signs.{set_signs, begins_negated, is_range, item_high, is_none}
 use Rattle.ct_regex.proofs.SignsLemmas.{set_first, set_next}
@@ -20,9 +20,6 @@ items-init c =
           ∙ ap (λ (items : List Span). set_signs c.args.opened c.is_negated-negated.result 0 (c.args.opened + c.first_item.result) items (drop (c.args.opened + c.first_item.result) c.args.text.now)) (sym c.new-items.ensures.items);
     }
 
-not_less : (high low : ℕ) → low ≤ high → nat_lt high low ≡ false
-not_less high low h = grind (arith, nat_tests)
-
 pub items-preserved : goal.items-preserved
 items-preserved c =
     let rest = take_rest c.args.text.now (c.items.at + 1) in
@@ -31,7 +28,7 @@ items-preserved c =
     let unclosed : ((low == 93) && not (is_none c.items.items.items)) ≡ false =
     ap (λ (items : List Span). (low == 93) && not (is_none items)) (sym c.deref.ensures.value) ∙ sym c.ends_set.ensures ∙ c.if-ends_set.false in
     let good : nat_lt (item_high low (drop (c.items.at + 1) c.args.text.now)) low ≡ false =
-    ap (λ (h : ℕ). nat_lt h low) (sym high) ∙ not_less c.high_of-high.result low c.if-high-low.false in
+    ap (λ (h : ℕ). nat_lt h low) (sym high) ∙ le-ltb c.high_of-high.result low c.if-high-low.false in
     let next = set_next c.args.text.now c.args.opened c.is_negated-negated.result c.items.at c.items.items.items low c.items-test.true refl unclosed good in
     let n : cond (is_range (drop (c.items.at + 1) c.args.text.now)) 3 1 ≡ c.item_len-at.result =
     ap (λ (xs : List ℕ). cond (is_range xs) 3 1) (sym rest) ∙ sym c.item_len-at.ensures.value in
