@@ -26,7 +26,7 @@ either_more true b c d is more = refl
 either_more false b true d is more = refl
 either_more false b false d is more = more is
 
-above_more : (most one other : ℕ) → one ≤ other → nat_lt most one ≡ true → nat_lt most other ≡ true
+pub above_more : (most one other : ℕ) → one ≤ other → nat_lt most one ≡ true → nat_lt most other ≡ true
 above_more most one other up is = grind (arith, nat_tests)
 
 module _ (limits : ValueLimits) where

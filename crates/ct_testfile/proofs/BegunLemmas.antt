@@ -1,6 +1,6 @@
 -- A command that begins keeps the variables, and its values are short. Values that are too long are refused.
 use Rattle.std.proofs.Common.{◌≡◌, ℕ, ◌+◌, ◌≤◌, Bool, true, false, cond, ◌||◌, nat_lt, List, [], ◌∷◌, length, Option, Some, None, Result, Ok, Err, IfOk, refl, sym, subst, ap, arith}
-use Rattle.std.proofs.lemmas.Bool.Decides.{nat_tests}
+use Rattle.std.proofs.lemmas.Bool.{ltb-false, or_parts}
 use Rattle.std.proofs.lemmas.List.Elements.{All-nil, All-cons}
 use Rattle.std.specs.List.{list_any}
 use Rattle.ct_lex.specs.declared.call.Arg.{Arg}
@@ -18,9 +18,7 @@ use Rattle.ct_testfile.specs.declared.fault.ReadKind.{ReadKind}
 use Rattle.ct_testfile.specs.declared.fault.ReadKind.TheVariants.{TooLong, TooManyCommands}
 use Rattle.ct_testfile.specs.declared.limits.Limits.{Limits}
 use Rattle.ct_testfile.specs.declared.state.State.{State}
-
-above_more : (most one other : ℕ) → one ≤ other → nat_lt most one ≡ true → nat_lt most other ≡ true
-above_more most one other up is = grind (arith, nat_tests)
+use Rattle.ct_suite.proofs.ReaderLemmas.{above_more}
 
 -- the variables of the state, or the given ones where it is refused; counting keeps the variables
 abbrev variables_or : Result State ReadKind → List Variable → List Variable
@@ -54,18 +52,11 @@ stops-evaluated limits values state Values.NoMemory is = tt
 abbrev Short : ℕ → List ℕ → Type 0
 Short most value = length value ≤ most
 
-not_above : (m n : ℕ) → nat_lt m n ≡ false → n ≤ m
-not_above m n not_lt = grind (arith, nat_tests)
-
-none-long : (a b : Bool) → (a || b) ≡ false → (a ≡ false) × (b ≡ false)
-none-long true b is = cc
-none-long false b is = (refl, is)
-
 texts-short : (limits : Limits) (most : ℕ) → limits.value_bytes ≤ most → (values : List Value) → list_any (is_too_long limits.value_bytes) values ≡ false → AreShort most (texts values)
 texts-short limits most few [] none = All-nil (Short most)
 texts-short limits most few (value ∷ values) none =
-    let parts = none-long (is_too_long limits.value_bytes value) (list_any (is_too_long limits.value_bytes) values) none in
-    let here = not_above limits.value_bytes (length value.text) parts.0 in
+    let parts = or_parts (is_too_long limits.value_bytes value) (list_any (is_too_long limits.value_bytes) values) none in
+    let here = ltb-false limits.value_bytes (length value.text) parts.0 in
     All-cons (Short most) value.text (texts values) (omega arith) (texts-short limits most few values parts.1)
 
 IfOk-then : {A B : Type 0} (P : B → Type 0) (first : Result A ReadKind) (next : A → Result B ReadKind) → ((x : A) → IfOk (next x) P) → IfOk (first >>= next) P
