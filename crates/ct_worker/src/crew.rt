@@ -130,23 +130,10 @@ fn crew<R: Threads + Wait + Sync, G: Gate + Send, S: Sink + Send>(
         return;
     }
     let half = passes.len() / 2;
-    let (low, high) = passes.split_at_mut(half);
-    let (near, far) = gates.split_at_mut(half);
-    both(
-        rt,
-        alloc,
-        turn,
-        jobs,
-        worker,
-        low,
-        near,
-        worker + half as u32,
-        high,
-        far,
-    );
+    both(rt, alloc, turn, jobs, worker, passes, gates, half);
 }
 
-/// Runs the workers of both halves.
+/// Runs the workers of both halves; the far half begins behind this many workers.
 #[cycle(crew)]
 fn both<R: Threads + Wait + Sync, G: Gate + Send, S: Sink + Send>(
     rt: &R,
@@ -154,22 +141,19 @@ fn both<R: Threads + Wait + Sync, G: Gate + Send, S: Sink + Send>(
     turn: &Turn<State<S>>,
     jobs: &Jobs<'_>,
     worker: u32,
-    low: &mut [Pass],
-    near: &mut [G],
-    next: u32,
-    high: &mut [Pass],
-    far: &mut [G],
+    passes: &mut [Pass],
+    gates: &mut [G],
+    half: usize,
 )
-    requires some { (0 < length low.old) × (0 < length high.old) }
-    requires low { AreReady jobs.now turn.now worker low.old }
-    requires near { length near.old ≡ length low.old }
-    requires few_low { worker + length low.old < 2 ^ 32 }
-    requires high { AreReady jobs.now turn.now next high.old }
-    requires far { length far.old ≡ length high.old }
-    requires few_high { next + length high.old < 2 ^ 32 }
-    ensures low { AllTookPart jobs.now low.old low.new (map G.tells near.old) (map G.tells near.new) }
-    ensures high { AllTookPart jobs.now high.old high.new (map G.tells far.old) (map G.tells far.new) }
+    requires ready { AreReady jobs.now turn.now worker passes.old }
+    requires gates { length gates.old ≡ length passes.old }
+    requires few { worker + length passes.old < 2 ^ 32 }
+    requires half { (0 < half) × (half < length passes.old) }
+    ensures { AllTookPart jobs.now passes.old passes.new (map G.tells gates.old) (map G.tells gates.new) }
 {
+    let next = worker + half as u32;
+    let (low, high) = passes.split_at_mut(half);
+    let (near, far) = gates.split_at_mut(half);
     let mut front = ||
         requires { IsSync R.row × IsSend G.row × IsSend S.row × AreReady jobs.now turn.now worker low.now × (length near.now ≡ length low.now) × (worker + length low.now < 2 ^ 32) }
         ensures { AllTookPart jobs.entry.now low.entry.now low.exit.now (map G.tells near.entry.now) (map G.tells near.exit.now) }

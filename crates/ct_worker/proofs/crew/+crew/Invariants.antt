@@ -5,7 +5,7 @@ abbrev pub decreases-crew : goal.decreases-crew
 decreases-crew g l = 4 * length l.passes.now
 
 abbrev pub decreases-both : goal.decreases-both
-decreases-both g l = 4 * (length l.low.now + length l.high.now) - 1
+decreases-both g l = 4 * length l.passes.now - 1
 
 abbrev pub decreases-both-front : goal.decreases-both-front
 decreases-both-front g l = 4 * length l.low.now + 1
