@@ -6,4 +6,5 @@ pub mod ConditionLemmas
 pub mod StepLemmas
 pub mod TreeLemmas
 pub mod AsksLemmas
+pub mod KeptLemmas
 pub mod IfLemmas
