@@ -79,10 +79,10 @@ lent_unrefused held (Some path) None why is refused = is
 lent_unrefused held (Some path) (Some resources) why is refused = not_both (declared_in (held path)) resources why is refused
 
 -- the same words ask for the same invocation
-same_asked : (words : List (List ℕ)) (one other : Invocation) → AskFor words one → AskFor words other → invocation_seen one ≡ invocation_seen other
+pub same_asked : (words : List (List ℕ)) (one other : Invocation) → AskFor words one → AskFor words other → invocation_seen one ≡ invocation_seen other
 same_asked words one other is also = same_ok (invocation_in words) (invocation_seen one) (invocation_seen other) is also
 
-same_choice : (one other : Invocation) (names others : Option (List (List ℕ))) → invocation_seen one ≡ invocation_seen other → names ≡ others → IsSameChoice (choice_for one names) (choice_for other others)
+pub same_choice : (one other : Invocation) (names others : Option (List (List ℕ))) → invocation_seen one ≡ invocation_seen other → names ≡ others → IsSameChoice (choice_for one names) (choice_for other others)
 same_choice one other names others same limited = record {
   name = ap (λ (v : InvocationValue). v.name) same;
   not_name = ap (λ (v : InvocationValue). v.not_name) same;

@@ -121,7 +121,7 @@ module _ (one other : Choice) (same : IsSameChoice one other) where
   choice_members defs props = rounds_same defs props (length props)
 
 -- the properties that choices and links use; each other property has one fixed value
-abbrev plain : Props → Props
+abbrev pub plain : Props → Props
 plain own =
     record own {
       processors = 0;
@@ -142,7 +142,7 @@ plain own =
       groups = no_groups;
     }
 
-plain_at : (props : List Props) (number : ℕ) → at_number (map plain props) number ≡ option_map plain (at_number props number)
+pub plain_at : (props : List Props) (number : ℕ) → at_number (map plain props) number ≡ option_map plain (at_number props number)
 plain_at props zero = refl
 plain_at props (suc place) = slice_get-map plain props place
 
@@ -208,7 +208,7 @@ plain_same : (def : TestDef) (one other : Props) → HasProps def one → HasPro
 plain_same def one other has own =
     rw (has.depends, own.depends, has.setup, own.setup, has.required, own.required, has.cleanup, own.cleanup, has.disabled, own.disabled, has.labels, own.labels) refl
 
-all_plain_same : (defs : List TestDef) (one other : List Props) → HaveProps defs one → HaveProps defs other → map plain one ≡ map plain other
+pub all_plain_same : (defs : List TestDef) (one other : List Props) → HaveProps defs one → HaveProps defs other → map plain one ≡ map plain other
 all_plain_same [] [] [] have own = refl
 all_plain_same [] [] (q ∷ qs) have own = absurd own
 all_plain_same [] (p ∷ ps) other have own = absurd have
@@ -219,7 +219,7 @@ all_plain_same (def ∷ defs) (p ∷ ps) (q ∷ qs) have own =
 
 -- two readings of the properties of the same tests, by choices with the same trees
 module _ (defs : List TestDef) (one other : List Props) (have : HaveProps defs one) (own : HaveProps defs other) (choice chosen : Choice) (same : IsSameChoice choice chosen) where
-  members_same : members_in choice defs one ≡ members_in chosen defs other
+  pub members_same : members_in choice defs one ≡ members_in chosen defs other
   members_same =
       sym (plain_members choice defs one) ∙ ap (members_in choice defs) (all_plain_same defs one other have own) ∙ plain_members choice defs other ∙ choice_members choice chosen same defs other
 

@@ -1,7 +1,7 @@
 -- Two plans of the same words differ in the order of their starts alone, where what is read for them reads
 -- alike, and so a journal is accepted for the one where it is accepted for the other.
-use Rattle.std.proofs.Common.{◌≡◌, ◌∙◌, sym, ap, subst, Bool, true, false, ℕ, zero, suc, List, [], ◌∷◌, length, map, refl, arith}
-use Rattle.std.specs.Prelude.{Option, Some, None, Result, Ok, Err, IfSome, IsSomeAnd, slice_get}
+use Rattle.std.proofs.Common.{◌≡◌, ◌∙◌, sym, ap, subst, Bool, true, false, ℕ, zero, suc, List, [], ◌∷◌, length, map, refl}
+use Rattle.std.specs.Prelude.{Option, Some, None, Ok, IfSome, slice_get}
 use Rattle.std.proofs.lemmas.List.{length-map}
 use Rattle.std.proofs.lemmas.Option.{same_Some}
 use Rattle.ct_base.specs.declared.defs.Resource.{Resource}
@@ -15,44 +15,25 @@ use Rattle.ct_props.specs.declared.wanted.Wanted.{Wanted}
 use Rattle.ct_props.specs.Numbered.{at_number}
 use Rattle.ct_props.specs.PropsOf.{HasProps}
 use Rattle.ct_testfile.specs.Tree.{tree_of}
-use Rattle.ct_verdict.specs.declared.repeat.Repeat.{Repeat}
 use Rattle.ct_verdict.specs.declared.verdict.Cause.{Cause}
 use Rattle.ct_verdict.specs.declared.verdict.Cause.TheVariants.{Unstarted, Lacks, Fixture, NotAvailable, BadOperation, Insufficient, Stopped, Memory}
 use Rattle.ct_history.specs.declared.plan.PlanTest.{PlanTest}
 use Rattle.ct_history.specs.declared.plan.PlanParts.{PlanParts}
 use Rattle.ct_args.specs.declared.invocation.Invocation.{Invocation}
-use Rattle.ct_args.specs.Invocation.{InvocationValue, invocation_seen}
+use Rattle.ct_args.specs.Invocation.{InvocationValue}
 use Rattle.ct_plan.specs.PlanOf.{IsPlanOf}
-use Rattle.ct_plan.specs.Planned.{ArePlaceable, ArePlannedTests, IsFixed, IsFixedBy, IsPlannedTest, own_cause, planned_test, rules_of}
+use Rattle.ct_plan.specs.Planned.{ArePlaceable, ArePlannedTests, IsFixed, IsFixedBy, IsPlannedTest, own_cause, planned_test}
 use Rattle.ct_plan.specs.Source.{HaveProps, Source, members_before, run_members, setup_members}
 use Rattle.ct_app.specs.Planning.{HasPlan}
 use Rattle.ct_app.specs.Reading.{AskFor, IsSource}
 use Rattle.ct_app.specs.Rerun.{AreOnly, choice_for, last_failed}
 use Rattle.ct_app.specs.SpecFile.{AreLent, declared_in}
-use Rattle.ct_args.specs.Invocation.{invocation_in}
 use Rattle.ct_groups.specs.declared.groups.Groups.{Groups}
-use Rattle.ct_app.proofs.SourceLemmas.{IsSameChoice, before_same, same_ok}
+use Rattle.ct_app.proofs.CompleteLemmas.{same_asked, same_choice}
+use Rattle.ct_app.proofs.SourceLemmas.{IsSameChoice, before_same, members_same, same_ok}
 use Rattle.ct_journal.specs.RecordPlan.{without_order, without_rank}
 use Rattle.ct_journal.specs.RecordReads.{ReadsAlike, ReadsAlikeFor}
-use Rattle.ct_journal.proofs.RecordMemberLemmas.{members_same, set_up_same}
-
--- the same words ask for the same
-same_asked : (words : List (List ℕ)) (one other : Invocation) → AskFor words one → AskFor words other → invocation_seen one ≡ invocation_seen other
-same_asked words one other is also = same_ok (invocation_in words) (invocation_seen one) (invocation_seen other) is also
-
-same_choice : (one other : Invocation) (names others : Option (List (List ℕ))) → invocation_seen one ≡ invocation_seen other → names ≡ others → IsSameChoice (choice_for one names) (choice_for other others)
-same_choice one other names others same limited = record {
-  name = ap (λ (v : InvocationValue). v.name) same;
-  not_name = ap (λ (v : InvocationValue). v.not_name) same;
-  labels = ap (λ (v : InvocationValue). v.labels) same;
-  not_labels = ap (λ (v : InvocationValue). v.not_labels) same;
-  numbers = ap (λ (v : InvocationValue). v.numbers) same;
-  union = ap (λ (v : InvocationValue). v.union) same;
-  keep_any = ap (λ (v : InvocationValue). v.keep_any) same;
-  keep_setup = ap (λ (v : InvocationValue). v.keep_setup) same;
-  keep_cleanup = ap (λ (v : InvocationValue). v.keep_cleanup) same;
-  only = limited;
-}
+use Rattle.ct_journal.proofs.RecordMemberLemmas.{set_up_same}
 
 own_at : (defs : List TestDef) (props : List Props) (place : ℕ) (def : TestDef) (own : Props) → HaveProps defs props → slice_get defs place ≡ Some def → slice_get props place ≡ Some own → HasProps def own
 own_at [] props place def own have there here = absurd (cc)
