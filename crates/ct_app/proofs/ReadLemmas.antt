@@ -82,7 +82,7 @@ same_refused None why before between same is = absurd is
 same_refused (Some path) why before between same is = same_declared path (Err why) before between same is
 
 -- files that stayed twice, one after the other, stayed
-then_stay : (before between now : FilesTell) → FilesStay before between → FilesStay between now → FilesStay before now
+pub then_stay : (before between now : FilesTell) → FilesStay before between → FilesStay between now → FilesStay before now
 then_stay before between now = serves_then SameHeld SameHeld SameHeld same_then_same before between now
 
 -- the tests of a folder were read

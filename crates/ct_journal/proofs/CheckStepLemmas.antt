@@ -19,17 +19,14 @@ use Rattle.ct_app.specs.Planning.{HasNoPlan, HasPlan}
 use Rattle.ct_app.specs.RunFiles.{FilesFail, FilesStay}
 use Rattle.ct_app.specs.Runs.{IsRefusal}
 use Rattle.ct_app.specs.declared.outcome.Refusal.{Refusal}
-use Rattle.ct_app.proofs.ChangeLemmas.{fails_then, same_then_same, serves_then, stays}
+use Rattle.ct_app.proofs.ChangeLemmas.{fails_then, same_then_same, stays}
 use Rattle.ct_journal.specs.declared.check_find.Finding.{Finding}
 use Rattle.ct_app.proofs.RunFilesLemmas.{look_failed, look_lacked, looked}
 use Rattle.ct_journal.specs.File.{most_journal_bytes}
 use Rattle.ct_journal.specs.CheckFound.{IsFinding, IsReadOf}
 use Rattle.ct_journal.specs.CheckSteps.{IsCutShortBehind, IsFoundAt, IsFoundFor, IsSaid, IsUnended, IsUnfound, IsUnfoundFor, IsUnsaid, LeadsTo, SaysFinding, finding_line}
 use Rattle.ct_journal.proofs.CheckFoundLemmas.{read_at, read_before}
-
--- files that stayed twice, one after the other, stayed
-stay_twice : (before between now : FilesTell) → FilesStay before between → FilesStay between now → FilesStay before now
-stay_twice before between now = serves_then SameHeld SameHeld SameHeld same_then_same before between now
+use Rattle.ct_app.proofs.ReadLemmas.{then_stay}
 
 -- the journal was read, and this was found of it
 pub found_at : (path named : List ℕ) (plan : PlanParts) (before now : FilesTell) (got : Option (List ℕ)) (finding : Finding) → named ≡ path → IfSome before.held (λ held. got ≡ option_map (take (most_journal_bytes + 1)) (held named)) → LooksAt named before now (Ok got) → IsFinding plan got finding → IsFoundAt path plan before now finding
@@ -65,7 +62,7 @@ module _ (path : List ℕ) (words : List (List ℕ)) (before middle now : FilesT
     few = planned.few;
     planned = planned.planned;
     sound = planned.sound;
-    files = stay_twice before middle now planned.files stay;
+    files = then_stay before middle now planned.files stay;
   }
 
   pub found_then : (finding : Finding) → IsFoundAt path plan middle now finding → IsFoundFor path words before now finding
@@ -78,7 +75,7 @@ module _ (path : List ℕ) (words : List (List ℕ)) (before middle now : FilesT
   }
 
   memory_then : FilesStay middle now → HasNoPlan words before now [] Ends.Memory
-  memory_then stay sink = (record { no_plan = refl; no_history = refl; unasked = refl }, stay_twice before middle now planned.files stay)
+  memory_then stay sink = (record { no_plan = refl; no_history = refl; unasked = refl }, then_stay before middle now planned.files stay)
 
   pub unfound_then : (why : Unplanned) (outcome : Outcome) → why ≡ record { outcome = outcome; names = [] } → IsUnfound path middle now outcome → IsUnfoundFor path words before now why
   unfound_then why outcome is (inl (fault, fails)) =
