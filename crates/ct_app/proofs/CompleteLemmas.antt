@@ -42,11 +42,11 @@ use Rattle.ct_app.proofs.RerunLemmas.{only_same}
 use Rattle.ct_app.proofs.SourceLemmas.{IsSameChoice, before_same, edges_same, same_ok}
 
 -- where the files tell what they hold, a fact of what is told is a fact of what they hold
-of_told : (told : Option Held) (held : Held) (P : Held → Type 0) → told ≡ Some held → IfSome told P → P held
+pub of_told : (told : Option Held) (held : Held) (P : Held → Type 0) → told ≡ Some held → IfSome told P → P held
 of_told told held P is holds = subst (λ (t : Option Held). IfSome t P) is holds
 
 -- a result is not both Ok and Err
-not_both : {T E : Type 0} (result : Result T E) (value : T) (fault : E) → result ≡ Ok value → result ≡ Err fault → ⊥
+pub not_both : {T E : Type 0} (result : Result T E) (value : T) (fault : E) → result ≡ Ok value → result ≡ Err fault → ⊥
 not_both result value fault is but = absurd (cc)
 
 -- each of the tests that have properties has properties of its own
@@ -57,14 +57,14 @@ props_there (d ∷ ds) (own ∷ owns) zero def have there = (own, subst (λ (x :
 props_there (d ∷ ds) (own ∷ owns) (suc place) def have there = props_there ds owns place def have.1 there
 
 -- no key of a test that has its properties is refused
-own_unrefused : (def : TestDef) (own : Props) → HasProps def own → (key : List ℕ) → refused_as def.props key ≡ None
+pub own_unrefused : (def : TestDef) (own : Props) → HasProps def own → (key : List ℕ) → refused_as def.props key ≡ None
 own_unrefused def own has =
     none_refused def.props
     (record { processors = own.processors; fail = own.fail; pass = own.pass; skip = own.skip; skip_code = own.skip_code; timeout = own.timeout; cost = own.cost; groups = own.groups })
     (record { processors = has.processors; fail = has.fail; pass = has.pass; skip = has.skip; skip_code = has.skip_code; timeout = has.timeout; cost = has.cost; groups = has.groups })
 
 -- no test is refused where all tests have properties
-none_refused_first : (defs : List TestDef) (props : List Props) (test : ℕ) (key : List ℕ) (kind : PropKind) → HaveProps defs props → RefusesFirst defs test key kind → ⊥
+pub none_refused_first : (defs : List TestDef) (props : List Props) (test : ℕ) (key : List ℕ) (kind : PropKind) → HaveProps defs props → RefusesFirst defs test key kind → ⊥
 none_refused_first defs props zero key kind have refused = let there = refused.there in absurd (cc)
 none_refused_first defs props (suc place) key kind have refused =
     let own = props_there defs props place refused.def have refused.there in
@@ -73,7 +73,7 @@ none_refused_first defs props (suc place) key kind have refused =
     absurd (cc)
 
 -- a specification that lends resources is not refused
-lent_unrefused : (held : Held) (file : Option (List ℕ)) (lent : Option (List Resource)) (why : SpecRefusal) → AreLent (Some held) file lent → RefusesFile (Some held) file why → ⊥
+pub lent_unrefused : (held : Held) (file : Option (List ℕ)) (lent : Option (List Resource)) (why : SpecRefusal) → AreLent (Some held) file lent → RefusesFile (Some held) file why → ⊥
 lent_unrefused held None lent why is refused = refused
 lent_unrefused held (Some path) None why is refused = is
 lent_unrefused held (Some path) (Some resources) why is refused = not_both (declared_in (held path)) resources why is refused

@@ -62,7 +62,7 @@ ranked s invocation source plan entries run = record {
 }
 
 -- each worker saw what the one world tells
-told_by : (terms : Terms) (world : List Told) (entries : List Entry) (first : ℕ) (befores nows : List GateTell) → AreAsked terms first befores nows entries → AllTell world befores → (worker : ℕ) → first ≤ worker → worker < first + length befores → SawAllTold terms.props world worker entries
+pub told_by : (terms : Terms) (world : List Told) (entries : List Entry) (first : ℕ) (befores nows : List GateTell) → AreAsked terms first befores nows entries → AllTell world befores → (worker : ℕ) → first ≤ worker → worker < first + length befores → SawAllTold terms.props world worker entries
 told_by terms world entries first [] nows asked all worker low high = absurd (omega (arith, low, high))
 told_by terms world entries first (before ∷ befores) [] asked all worker low high = absurd asked
 told_by terms world entries first (before ∷ befores) (now ∷ nows) asked all worker low high = elim (cases_Bool (first == worker)) [
@@ -75,7 +75,7 @@ told_by terms world entries first (before ∷ befores) (now ∷ nows) asked all 
       told_by terms world entries (first + 1) befores nows asked.1 all.1 worker (omega (arith, less)) (omega (arith, high))
 ]
 
-seen_entry : (props : List Props) (world : List Told) (workers : ℕ) (e : Entry) → is_below workers e ≡ true → not (lacks_memory e) ≡ true → ((worker : ℕ) → worker < workers → SawTold props world worker e) → IsSeen (seen_in_world props world) e
+pub seen_entry : (props : List Props) (world : List Told) (workers : ℕ) (e : Entry) → is_below workers e ≡ true → not (lacks_memory e) ≡ true → ((worker : ℕ) → worker < workers → SawTold props world worker e) → IsSeen (seen_in_world props world) e
 seen_entry props world workers (Start t a w p) below had saw = tt
 seen_entry props world workers (End t a w seen) below had saw = by_props (at_number props t) (saw w (ltb-true w workers below) refl (not-true (is_no_memory seen.how) had))
   where
@@ -86,7 +86,7 @@ seen_entry props world workers (Settle t c) below had saw = tt
 seen_entry props world workers Stop below had saw = tt
 
 -- the workers saw what is seen in the world
-seen_entries : (props : List Props) (world : List Told) (workers : ℕ) (entries : List Entry) → are_below workers entries ≡ true → had_memory entries ≡ true → ((worker : ℕ) → worker < workers → SawAllTold props world worker entries) → AreSeen (seen_in_world props world) entries
+pub seen_entries : (props : List Props) (world : List Told) (workers : ℕ) (entries : List Entry) → are_below workers entries ≡ true → had_memory entries ≡ true → ((worker : ℕ) → worker < workers → SawAllTold props world worker entries) → AreSeen (seen_in_world props world) entries
 seen_entries props world workers [] below had saw = tt
 seen_entries props world workers (e ∷ es) below had saw =
     let few = and_parts (is_below workers e) (are_below workers es) below in
