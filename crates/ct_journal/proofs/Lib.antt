@@ -1,6 +1,7 @@
 pub mod RecordPlanLemmas
 pub mod RecordMemberLemmas
 pub mod RecordReadLemmas
+pub mod RecordPathLemmas
 pub mod RecordLemmas
 pub mod CheckFoundLemmas
 pub mod CheckStepLemmas

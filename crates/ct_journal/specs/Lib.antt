@@ -2,6 +2,7 @@
 pub mod File
 pub mod RecordPlan
 pub mod RecordReads
+pub mod RecordPaths
 pub mod Record
 pub mod CheckFound
 pub mod Check

@@ -8,6 +8,7 @@ use Rattle.ct_journal.specs.Record.{IsJournalEnd, run_end}
 use Rattle.ct_journal.specs.RecordReads.{RechecksWritten}
 use Rattle.ct_journal.specs.declared.record.JournalEnd.TheVariants.{Written}
 use Rattle.ct_journal.proofs.RecordLemmas.{accepts_run, rechecks_run}
+use Rattle.ct_journal.proofs.RecordPathLemmas.{rechecks_kept}
 use Rattle.ct_journal.proofs.record.record_main.Goals as goal
 
 pub returns-in-len1-up-clause-accepted : goal.returns-in-len1-up-clause-accepted
@@ -32,3 +33,8 @@ returns-in-len1-up-clause-rechecked g c =
     let told = sides _ c.args.env.now (files c.args.files) (files run.files) (map g.G.Gate.tells c.args.gates.items) (map g.G.Gate.tells run.gates.items) (sink c.args.sink) (sink run.sink) run.plan (option_map history_entries run.history) in
     let kept_for : RechecksWritten (take (length c.args.words.now - 1) (drop 1 c.args.words.now)) (files c.args.files).held (option_map history_entries run.history) kept.result = rechecks_run told run.outcome run.status c.path-item.result (files run.files) (files kept.new.files) (sink run.sink) (sink kept.new.sink) kept.result c.ctest_main-run.ensures.meant ends fit in
     rw c.end_call-in-len1-up.ensures (subst (λ (ws : List (List ℕ)). RechecksWritten ws (files c.args.files).held (option_map history_entries run.history) kept.result) (take_rest c.args.words.now 1) kept_for)
+
+pub returns-in-len1-up-clause-kept_paths : goal.returns-in-len1-up-clause-kept_paths
+returns-in-len1-up-clause-kept_paths g c =
+    let recorded = c.end_call-in-len1-up.result in
+    rechecks_kept (drop 1 c.args.words.now) (g.F.Files.tells c.args.files).held (option_map history_entries recorded.finished.history) recorded.journal (returns-in-len1-up-clause-rechecked g c)
