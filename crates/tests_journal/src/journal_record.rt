@@ -61,6 +61,63 @@ The following tests FAILED:
 Errors while running CTest
 journal ct-journal 1;start 1 1 0;end 1 1 0 exit:1 000 10000;settle 2 fixture:1;done 3;
 check 0
+=== the second test costs more, which a later run will know
+told 1 0 10000
+told 2 0 20000
+--- ./CTestTestfile.cmake
+add_test(a true)
+add_test(b true)
+>>> journal -j 2
+status 0 of 0, Written
+Test project .
+1/2 Test #1: a ... Passed 0.01 sec
+2/2 Test #2: b ... Passed 0.02 sec
+
+100% tests passed, 0 tests failed out of 2
+journal ct-journal 1;start 1 1 0;end 1 1 0 exit:0 000 10000;start 2 1 0;end 2 1 0 exit:0 000 20000;done 4;
+check 0
+=== with the costs that this run left, the second test starts first
+told 1 0 30000
+told 2 0 20000
+--- ./CTestTestfile.cmake
+add_test(a true)
+add_test(b true)
+--- ./Testing/Temporary/CTestCostData.txt
+version 2
+a 0.010000
+b 0.020000
+---
+>>> journal -j 2
+status 0 of 0, Written
+Test project .
+1/2 Test #2: b ... Passed 0.02 sec
+2/2 Test #1: a ... Passed 0.03 sec
+
+100% tests passed, 0 tests failed out of 2
+journal ct-journal 1;start 2 1 0;end 2 1 0 exit:0 000 20000;start 1 1 0;end 1 1 0 exit:0 000 30000;done 4;
+check 0
+=== a run by --rerun-failed changes the log, by which its journal is refused
+told 1 0 10000
+told 2 1 10000
+--- ./CTestTestfile.cmake
+add_test(a true)
+add_test(b true)
+--- ./Testing/Temporary/LastTestsFailed.log
+1:a
+2:b
+>>> journal --rerun-failed
+status 8 of 8, Written
+Test project .
+1/2 Test #1: a ... Passed 0.01 sec
+2/2 Test #2: b ... ***Failed 0.01 sec
+
+50% tests passed, 1 tests failed out of 2
+
+The following tests FAILED:
+\t2 - b (Failed)
+Errors while running CTest
+journal ct-journal 1;start 1 1 0;end 1 1 0 exit:0 000 10000;start 2 1 0;end 2 1 0 exit:1 000 10000;done 4;
+check 9
 === there is no word
 >>>
 status 1 of 1, NoRun
