@@ -7,7 +7,6 @@ ghost use Rattle.ct_check.specs.Start.{ChecksOnMachine, status_of_check};
 use ct_edge::{RealFiles, RealSink};
 use ct_journal::{Checked, check_main};
 use ct_start::{BeginFault, words_of};
-use std::env;
 use std::io::Stdout;
 use std::process::ExitCode;
 
@@ -17,13 +16,7 @@ pub type Check = Checked<RealFiles<HostRuntime>, RealSink<Stdout>>;
 /// Checks the journal that the first word of the process names, for the run that the other words ask for.
 ///
 /// Where it cannot begin, it writes nothing.
-pub fn begin(rt: HostRuntime) -> Result<Check, BeginFault> {
-    let args: Vec<String> = env::args(&rt)?.collect(rt.alloc())?;
-    run(rt, args.as_slice())
-}
-
-/// Passes the words and the machine to `check_main`.
-fn run(rt: HostRuntime, args: &[String]) -> Result<Check, BeginFault>
+pub fn run(rt: HostRuntime, args: &[String]) -> Result<Check, BeginFault>
     ensures run { IfOk result (λ checked. ChecksOnMachine (words_in args.now) checked) }
     ensures many { IsErrOf result BeginCause.Failed → 2 ^ 32 ≤ length args.now }
 {

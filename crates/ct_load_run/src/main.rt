@@ -7,8 +7,9 @@
 
 mod start;
 
+use ct_start::begin_by_words;
 use std::process::ExitCode;
 
 fn main(rt: HostRuntime) -> ExitCode {
-    start::exit_code(start::begin(&rt, rt))
+    start::exit_code(begin_by_words(rt, |args| start::run(&rt, rt, args)))
 }

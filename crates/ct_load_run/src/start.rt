@@ -7,7 +7,6 @@ ghost use Rattle.ct_load_run.specs.Start.{LoadsOnMachine, status_of_load};
 use ct_edge::RealSink;
 use ct_load::{Loaded, load_main};
 use ct_start::{BeginFault, words_of};
-use std::env;
 use std::io::Stdout;
 use std::process::ExitCode;
 use std::sync::Wait;
@@ -19,13 +18,7 @@ pub type Load = Loaded<RealSink<Stdout>>;
 /// Runs as many generated tests as the words of the process ask for.
 ///
 /// Where it cannot begin, it writes nothing.
-pub fn begin<R: Threads + Wait + Sync>(threads: &R, rt: HostRuntime) -> Result<Load, BeginFault> {
-    let args: Vec<String> = env::args(&rt)?.collect(rt.alloc())?;
-    run(threads, rt, args.as_slice())
-}
-
-/// Passes the words and the standard output to `load_main`.
-fn run<R: Threads + Wait + Sync>(
+pub fn run<R: Threads + Wait + Sync>(
     threads: &R,
     rt: HostRuntime,
     args: &[String],

@@ -7,12 +7,12 @@
 
 mod start;
 
-use ct_start::gates_of;
+use ct_start::{begin, gates_of};
 use std::process::ExitCode;
 
 fn main(rt: HostRuntime) -> ExitCode {
     start::exit_code(match gates_of(rt.alloc(), rt) {
-        Ok(gates) => start::begin(&rt, rt, gates),
+        Ok(gates) => begin(rt, |args, vars| start::run(&rt, rt, args, vars, gates)),
         Err(fault) => Err(fault.into()),
     })
 }

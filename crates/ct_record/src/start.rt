@@ -8,7 +8,6 @@ use ct_core::Gate;
 use ct_edge::{RealFiles, RealSink};
 use ct_journal::{Recorded, record_main};
 use ct_start::{BeginFault, pairs_of, words_of};
-use std::env;
 use std::io::Stdout;
 use std::process::ExitCode;
 use std::sync::Wait;
@@ -21,20 +20,7 @@ pub type Record<G> = Recorded<RealFiles<HostRuntime>, G, RealSink<Stdout>>;
 /// these gates, and writes the journal to the path that the first word names.
 ///
 /// Where it cannot begin, it writes nothing.
-pub fn begin<R: Threads + Wait + Sync, G: Gate + Send + Drop>(
-    threads: &R,
-    rt: HostRuntime,
-    gates: Vec<G>,
-) -> Result<Record<G>, BeginFault>
-    requires { map G.tells gates.items ≡ unused_gates }
-{
-    let args: Vec<String> = env::args(&rt)?.collect(rt.alloc())?;
-    let vars: Vec<(String, String)> = env::vars(&rt)?.collect(rt.alloc())?;
-    run(threads, rt, args.as_slice(), vars.as_slice(), gates)
-}
-
-/// Passes the words, the variables and the machine to `record_main`.
-fn run<R: Threads + Wait + Sync, G: Gate + Send + Drop>(
+pub fn run<R: Threads + Wait + Sync, G: Gate + Send + Drop>(
     threads: &R,
     rt: HostRuntime,
     args: &[String],

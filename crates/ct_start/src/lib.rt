@@ -1,14 +1,16 @@
 //! What programs over the machine share: their words, their environment, their gates, and the exit code of
 //! one that could not begin.
 //!
-//! Hands up: `BeginFault`, `words_of`, `pairs_of`, `gates_of`.
+//! Hands up: `begin`, `begin_by_words`, `words_of`, `pairs_of`, `gates_of`, `BeginFault`.
 //! Read first: `specs/Start.antt`.
 #![tactic(auto)]
 
+mod call;
 mod fault;
 mod gates;
 mod words;
 
+pub use call::{begin, begin_by_words};
 pub use fault::BeginFault;
 pub use gates::gates_of;
 pub use words::{pairs_of, words_of};

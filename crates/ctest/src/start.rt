@@ -8,7 +8,6 @@ use ct_app::{Finished, ctest_main};
 use ct_core::Gate;
 use ct_edge::{RealFiles, RealSink};
 use ct_start::{BeginFault, pairs_of, words_of};
-use std::env;
 use std::io::Stdout;
 use std::process::ExitCode;
 use std::sync::Wait;
@@ -21,20 +20,7 @@ pub type Run<G> = Finished<RealFiles<HostRuntime>, G, RealSink<Stdout>>;
 /// Where the words ask for a list, it puts the list instead.
 ///
 /// Where it cannot begin, it writes nothing.
-pub fn begin<R: Threads + Wait + Sync, G: Gate + Send + Drop>(
-    threads: &R,
-    rt: HostRuntime,
-    gates: Vec<G>,
-) -> Result<Run<G>, BeginFault>
-    requires { map G.tells gates.items ≡ unused_gates }
-{
-    let args: Vec<String> = env::args(&rt)?.collect(rt.alloc())?;
-    let vars: Vec<(String, String)> = env::vars(&rt)?.collect(rt.alloc())?;
-    run(threads, rt, args.as_slice(), vars.as_slice(), gates)
-}
-
-/// Passes the words, the variables and the machine to the top call.
-fn run<R: Threads + Wait + Sync, G: Gate + Send + Drop>(
+pub fn run<R: Threads + Wait + Sync, G: Gate + Send + Drop>(
     threads: &R,
     rt: HostRuntime,
     args: &[String],
