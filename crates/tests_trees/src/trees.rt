@@ -1,0 +1,260 @@
+//! Calls over several build trees: the status, the tree that a fault names, how many plans there are, the
+//! report, and the logs and the cost data that the trees have behind them.
+
+use crate::rows::{Machine, calls_of, held_in, run, written};
+use std::test::Fail;
+
+/// Calls, each with its status, the tree of its fault, the number of plans, its report, and what its trees
+/// hold.
+const ROWS: &str = "
+=== the second of two trees fails; it alone gets a log, with its own numbers
+told 2 1
+--- a/CTestTestfile.cmake
+add_test(t true)
+--- b/CTestTestfile.cmake
+add_test(t true)
+>>> --tree a --tree b
+status 8, tree none, plans 2
+Test project a
+Test project b
+1/2 Test #1: t ... Passed 0.00 sec
+2/2 Test #2: t ... ***Failed 0.00 sec
+
+Tree: a
+
+100% tests passed, 0 tests failed out of 1
+
+Tree: b
+
+0% tests passed, 1 tests failed out of 1
+
+The following tests FAILED:
+\t1 - t (Failed)
+Errors while running CTest
+a/Testing/Temporary/CTestCostData.txt version 2;t 0.000000;---;
+b/Testing/Temporary/CTestCostData.txt version 2;---;t;
+b/Testing/Temporary/LastTestsFailed.log 1:t;
+=== there is no tree
+>>> --tree none
+status 0, tree none, plans 1
+Test project none
+
+Tree: none
+No tests were found!!!
+>>> --tree none --no-tests=error
+status 8, tree none, plans 1
+Test project none
+
+Tree: none
+No tests were found!!!
+=== one of two trees has no test, and that is no error, unless it is asked for
+--- b/CTestTestfile.cmake
+add_test(t true)
+>>> --tree a --tree b --test-dir c
+status 0, tree none, plans 2
+Test project a
+Test project b
+1/1 Test #1: t ... Passed 0.00 sec
+
+Tree: a
+No tests were found!!!
+
+Tree: b
+
+100% tests passed, 0 tests failed out of 1
+b/Testing/Temporary/CTestCostData.txt version 2;t 0.000000;---;
+>>> --tree a --tree b --no-tests=error
+status 8, tree none, plans 2
+Test project a
+Test project b
+1/1 Test #1: t ... Passed 0.00 sec
+
+Tree: a
+No tests were found!!!
+
+Tree: b
+
+100% tests passed, 0 tests failed out of 1
+b/Testing/Temporary/CTestCostData.txt version 2;t 0.000000;---;
+=== a name in DEPENDS reaches no test of another tree, and the costs of all trees make one queue
+--- a/CTestTestfile.cmake
+add_test(first true)
+--- b/CTestTestfile.cmake
+add_test(second true)
+set_tests_properties(second PROPERTIES DEPENDS first COST 2)
+>>> --tree a --tree b -j 2
+status 0, tree none, plans 2
+Test project a
+Test project b
+1/2 Test #2: second ... Passed 0.00 sec
+2/2 Test #1: first ... Passed 0.00 sec
+
+Tree: a
+
+100% tests passed, 0 tests failed out of 1
+
+Tree: b
+
+100% tests passed, 0 tests failed out of 1
+a/Testing/Temporary/CTestCostData.txt version 2;first 0.000000;---;
+b/Testing/Temporary/CTestCostData.txt version 2;second 0.000000;---;
+=== the first failure stops all trees
+told 1 1
+--- a/CTestTestfile.cmake
+add_test(t true)
+--- b/CTestTestfile.cmake
+add_test(u true)
+>>> --tree a --tree b --stop-on-failure
+status 8, tree none, plans 2
+Test project a
+Test project b
+1/2 Test #1: t ... ***Failed 0.00 sec
+2/2 Test #2: u ... ***Not Run (Stopped) 0.00 sec
+
+Tree: a
+
+0% tests passed, 1 tests failed out of 1
+
+The following tests FAILED:
+\t1 - t (Failed)
+Errors while running CTest
+
+Tree: b
+
+0% tests passed, 0 tests failed out of 1
+
+The following tests did not run:
+\t1 - u (Stopped)
+a/Testing/Temporary/CTestCostData.txt version 2;---;t;
+a/Testing/Temporary/LastTestsFailed.log 1:t;
+b/Testing/Temporary/CTestCostData.txt version 2;---;
+=== a setup that fails is told with the new number, and the tree's own name
+told 2 1
+--- a/CTestTestfile.cmake
+add_test(t true)
+--- b/CTestTestfile.cmake
+add_test(s true)
+add_test(u true)
+set_tests_properties(s PROPERTIES FIXTURES_SETUP f)
+set_tests_properties(u PROPERTIES FIXTURES_REQUIRED f)
+>>> --tree a --tree b
+status 8, tree none, plans 2
+Test project a
+Test project b
+1/3 Test #1: t ... Passed 0.00 sec
+2/3 Test #2: s ... ***Failed 0.00 sec
+3/3 Test #3: u ... ***Not Run (Fixture s) 0.00 sec
+
+Tree: a
+
+100% tests passed, 0 tests failed out of 1
+
+Tree: b
+
+0% tests passed, 2 tests failed out of 2
+
+The following tests FAILED:
+\t1 - s (Failed)
+\t2 - u (Not Run)
+Errors while running CTest
+a/Testing/Temporary/CTestCostData.txt version 2;t 0.000000;---;
+b/Testing/Temporary/CTestCostData.txt version 2;---;s;u;
+b/Testing/Temporary/LastTestsFailed.log 1:s;2:u;
+=== the second tree is refused
+--- a/CTestTestfile.cmake
+add_test(t true)
+--- b/CTestTestfile.cmake
+odd()
+>>> --tree a --tree b
+status 2, tree 1, plans 1
+ctest: b/CTestTestfile.cmake:1: unknown command
+=== a cycle of the second tree has its own names
+--- a/CTestTestfile.cmake
+add_test(t true)
+--- b/CTestTestfile.cmake
+add_test(u true)
+set_tests_properties(u PROPERTIES DEPENDS u)
+>>> --tree a --tree b
+status 2, tree 1, plans 1
+ctest: cycle: u -> u
+=== a specification that is not there is a fault of no tree
+--- a/CTestTestfile.cmake
+add_test(t true)
+>>> --tree a --resource-spec-file r.json
+status 2, tree none, plans 0
+ctest: resource specification: absent
+=== the files of the first tree stay where those of the second cannot be written
+call 6 fails
+--- a/CTestTestfile.cmake
+add_test(t true)
+--- b/CTestTestfile.cmake
+add_test(t true)
+>>> --tree a --tree b
+status 3, tree 1, plans 2
+Test project a
+Test project b
+1/2 Test #1: t ... Passed 0.00 sec
+2/2 Test #2: t ... Passed 0.00 sec
+
+Tree: a
+
+100% tests passed, 0 tests failed out of 1
+
+Tree: b
+
+100% tests passed, 0 tests failed out of 1
+ctest: cannot use file b/Testing/Temporary/CTestCostData.txt
+a/Testing/Temporary/CTestCostData.txt version 2;t 0.000000;---;
+=== the line behind the first folder cannot be put
+put 5 fails
+--- a/CTestTestfile.cmake
+add_test(t true)
+>>> --tree a
+status 4, tree none, plans 1
+Test project a
+1/1 Test #1: t ... Passed 0.00 sec
+
+Tree: a
+";
+
+/// The paths that a row tells of.
+const PATHS: [&str; 4] = [
+    "a/Testing/Temporary/CTestCostData.txt",
+    "a/Testing/Temporary/LastTestsFailed.log",
+    "b/Testing/Temporary/CTestCostData.txt",
+    "b/Testing/Temporary/LastTestsFailed.log",
+];
+
+/// Compares the end of each call of a table with the wanted text.
+pub(crate) fn run_as_told(rt: &impl Machine, table: &str) -> Result<(), Fail> {
+    let alloc = rt.alloc();
+    for call in &calls_of(alloc, table)? {
+        let ran = run(rt, call, 1)?;
+        let tree = match ran.tree {
+            Some(tree) => tree.to_string(alloc)?,
+            None => format!(in alloc; "none")?,
+        };
+        let put = written(&ran.sink);
+        let plans = ran.plans.len();
+        let mut text = format!(in alloc;
+            "status {}, tree {tree}, plans {plans}\n{put}",
+            ran.status
+        )?;
+        for path in PATHS {
+            text = format!(in alloc; "{text}{}", held_in(alloc, &ran.files, path)?)?;
+        }
+        assert_eq!(rt;
+            text.trim_end(),
+            call.want,
+            "{} >>>{}",
+            call.facts,
+            call.words
+        );
+    }
+    Ok(())
+}
+
+#[test]
+fn runs_trees_over_one_pool(rt: HostRuntime) -> Result<(), Fail> {
+    run_as_told(&rt, ROWS)
+}
