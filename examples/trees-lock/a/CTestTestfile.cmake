@@ -1,0 +1,4 @@
+add_test(writes "../writes")
+set_tests_properties(writes PROPERTIES RESOURCE_LOCK "base")
+add_test(meets "../meets" "b")
+set_tests_properties(meets PROPERTIES RESOURCE_LOCK "left")

@@ -1,0 +1,2 @@
+add_test(good "/bin/true")
+add_test(bad "/bin/false")

@@ -1,0 +1,2 @@
+add_test(second "/bin/true")
+add_test(third "/bin/true")
