@@ -53,7 +53,7 @@ AreFinalParts offset (tree ∷ trees) entries =
 
 -- these trees can run by one whole plan, which is at hand with their tests, with what is left of each of
 -- them, and with room for their plans
-pub record AreReady (trees : List Tree) (ready : Prepared) : Type 0 where
+pub record AreReadyTrees (trees : List Tree) (ready : Prepared) : Type 0 where
   pub planned : All IsPlannedTree trees
   pub alike : RunAlike trees
   pub few : defined_in trees < 2 ^ 32 - 1
@@ -68,4 +68,4 @@ pub record AreReady (trees : List Tree) (ready : Prepared) : Type 0 where
 
 -- some trees are ready to run
 abbrev pub HasReadyTrees : Prepared → Type 0
-HasReadyTrees ready = (trees : List Tree) × AreReady trees ready
+HasReadyTrees ready = (trees : List Tree) × AreReadyTrees trees ready

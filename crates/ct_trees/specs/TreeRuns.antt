@@ -16,7 +16,7 @@ use Rattle.ct_app.specs.declared.outcome.Outcome.TheVariants.{Memory}
 use Rattle.ct_app.specs.Calls.{BeforeAfter}
 use Rattle.ct_trees.specs.declared.joining.Prepared.{Prepared}
 use Rattle.ct_trees.specs.declared.tree_run.RunTerms.{RunTerms}
-use Rattle.ct_trees.specs.Joining.{AreReady, defs_of_trees, props_of_trees}
+use Rattle.ct_trees.specs.Joining.{AreReadyTrees, defs_of_trees, props_of_trees}
 use Rattle.ct_trees.specs.TreeReports.{rest_of}
 use Rattle.ct_trees.specs.TreeStops.{TreesEnd}
 use Rattle.ct_trees.specs.TreeEnds.{EndsWithTrees}
@@ -99,4 +99,4 @@ abbrev pub RunsReadyTrees : RunSides
     → RunTerms → Prepared → List PlanParts → Option PlanParts → Option (List Entry) → Option ℕ
     → Result ℕ Outcome → Type 0
 RunsReadyTrees s run ready plans whole history place ended =
-    (trees : List Tree) → AreReady trees ready → RunsTrees s run trees plans whole history place ended
+    (trees : List Tree) → AreReadyTrees trees ready → RunsTrees s run trees plans whole history place ended
