@@ -1,6 +1,6 @@
 -- What the run of a plan by a pool of workers shows, and which lines it put.
 use Rattle.std.proofs.Common.{◌≡◌, ◌∙◌, sym, ap, subst, true, ℕ, min, List, [], ◌∷◌, drop, length, inl, inr}
-use Rattle.std.specs.Prelude.{Option, None, Result, Ok, Err, IfErr}
+use Rattle.std.specs.Prelude.{Option, None, Some, Result, Ok, Err, IfErr}
 use Rattle.ct_base.specs.declared.sink.SinkFault.{SinkFault}
 use Rattle.ct_base.specs.Outside.{SinkTell}
 use Rattle.ct_history.specs.declared.board.Base.{Base}
@@ -18,14 +18,21 @@ use Rattle.ct_worker.specs.Gates.{Terms, are_below, had_memory}
 use Rattle.ct_worker.specs.Halted.{IsHalted}
 use Rattle.ct_worker.specs.Pool.{IsPooled}
 use Rattle.ct_worker.specs.declared.state.Halt.{Halt}
+use Rattle.ct_worker.specs.declared.state.Halt.TheVariants as Halts
 use Rattle.ct_worker.specs.State.{StateValue, base_of, core_of, opened_with, put_of}
 use Rattle.ct_app.specs.Run.{HasRun, RestStays, RunEnds, lines_of_run}
-use Rattle.ct_app.specs.Stops.{StopsAt, StopsBehind}
+use Rattle.ct_app.specs.Stops.{PutsBehind, StopsAt, StopsBehind}
 use Rattle.ct_app.proofs.ReportLemmas.{lines_fail, summary_puts}
 
 -- what the sink of a state told when the state was opened
 abbrev told_at : Base → SinkTell
 told_at base = record { written = base.written; pieces = base.pieces; faults = base.faults }
+
+-- no halt is set where all lines were put
+no_halt : (halt : Option Halt) → put_of halt ≡ Ok tt → halt ≡ None
+no_halt None put = cc
+no_halt (Some Halts.Output) put = cc
+no_halt (Some Halts.Memory) put = cc
 
 -- a run whose header was put, and that stopped behind it, stopped at one of the places of `StopsAt`
 pub header_stops : (plan : PlanParts) (entries : List Entry) (old middle new : SinkTell) (ended : Result (Unit {0}) SinkFault) → PutsLines (header_line plan ∷ []) old middle (Ok tt) → IfErr ended (λ fault. StopsBehind fault plan entries middle new) → IfErr ended (λ fault. StopsAt fault plan entries old new)
@@ -51,63 +58,61 @@ module _ (terms : Terms) (count : ℕ) (start core : CoreValue) (sink : SinkTell
   opened_is : new.opened ≡ sink
   opened_is = ap told_at (pooled.base ∙ ap base_of opened)
 
-  -- the lines of the tests stand behind what the sink told at first
-  lines_put : (now : SinkTell) (result : Result (Unit {0}) SinkFault) → now ≡ new.sink → PutsLines (test_lines new.plan new.entries) new.opened new.sink result → PutsLines (test_lines core.plan core.entries) sink now result
-  lines_put now result same put =
-      subst (λ (c : CoreValue). PutsLines (test_lines c.plan c.entries) sink now result) (sym is)
-      (subst (λ (t : SinkTell). PutsLines (test_lines new.plan new.entries) sink t result) (sym same)
-      (subst (λ (t : SinkTell). PutsLines (test_lines new.plan new.entries) t new.sink result) opened_is put))
+  -- what the sink tells at the end, and the result of all puts
+  module _ (now : SinkTell) (same : now ≡ new.sink) (put : Result (Unit {0}) SinkFault) (gave : put ≡ put_of new.halt) where
+    -- the lines of the tests stand behind what the sink told at first
+    pub pool_puts : PutsLines (test_lines core.plan core.entries) sink now put
+    pool_puts =
+        subst (λ (c : CoreValue). PutsLines (test_lines c.plan c.entries) sink now put) (sym is)
+        (subst (λ (t : SinkTell). PutsLines (test_lines new.plan new.entries) sink t put) (sym same)
+        (subst (λ (t : SinkTell). PutsLines (test_lines new.plan new.entries) t new.sink put) opened_is
+        (subst (λ (r : Result (Unit {0}) SinkFault). PutsLines (test_lines new.plan new.entries) new.opened new.sink r) (sym gave) pooled.put)))
 
-  module _ (halt : Option Halt) (is_halt : halt ≡ new.halt) where
-    -- no halt is set: each test is final, and the lines of all tests were put
-    module _ (none : halt ≡ None) (mid after : SinkTell) (result : Result (Unit {0}) SinkFault) (same : mid ≡ new.sink) (summary : PutsLines (summary_lines core.plan core.entries) mid after result) where
-      going : new.halt ≡ None
-      going = sym is_halt ∙ none
+    -- the run was given up among its tests
+    pub pool_halted : IfErr put (λ fault. IsHalted fault core.plan core.entries sink now)
+    pool_halted =
+        subst (λ (c : CoreValue). IfErr put (λ fault. IsHalted fault c.plan c.entries sink now)) (sym is)
+        (subst (λ (t : SinkTell). IfErr put (λ fault. IsHalted fault new.plan new.entries sink t)) (sym same)
+        (subst (λ (t : SinkTell). IfErr put (λ fault. IsHalted fault new.plan new.entries t new.sink)) opened_is
+        (subst (λ (r : Result (Unit {0}) SinkFault). IfErr r (λ fault. IsHalted fault new.plan new.entries new.opened new.sink)) (sym gave) pooled.halted)))
 
-      final : are_all_final core.plan core.entries ≡ true
-      final = ap (λ (c : CoreValue). are_all_final c.plan c.entries) is ∙ pooled.ended going
+    -- the run is complete where all lines were put, and memory was not wanting
+    pub pool_ends : (new.halt ≡ None → had_memory new.entries ≡ true) → RunEnds core.plan core.entries put
+    pool_ends memory = by put gave
+      where
+        by : (r : Result (Unit {0}) SinkFault) → r ≡ put_of new.halt → RunEnds core.plan core.entries r
+        by (Ok done) ended = (
+          record {
+            final = ap (λ (c : CoreValue). are_all_final c.plan c.entries) is ∙ pooled.ended (no_halt new.halt (sym ended));
+            closed = ap (λ (c : CoreValue). open_starts c.entries) is ∙ pooled.closed;
+          },
+          ap (λ (c : CoreValue). had_memory c.entries) is ∙ memory (no_halt new.halt (sym ended)),
+        )
+        by (Err fault) ended = tt
 
-      whole : PutsLines (test_lines core.plan core.entries) sink mid (Ok tt)
-      whole = lines_put mid (Ok tt) same (subst (λ (h : Option Halt). PutsLines (test_lines new.plan new.entries) new.opened new.sink (put_of h)) going pooled.put)
+-- where the run ended well, each test is final
+pub ended_final : (plan : PlanParts) (es : List Entry) → RunEnds plan es (Ok tt) → are_all_final plan es ≡ true
+ended_final plan es ends = ends.0.final
 
-      -- the summary, or a beginning of it, stands behind the lines of the tests
-      pub summary_behind : PutsLines (lines_of_run core.plan core.entries) sink after result
-      summary_behind = summary_puts core.plan core.entries sink mid after result final whole summary
+-- where lines behind those of the tests were put too, the run is complete
+pub ends_behind : (plan : PlanParts) (es : List Entry) (lines : List (List ℕ)) (mid new : SinkTell) (put result : Result (Unit {0}) SinkFault) → RunEnds plan es put → PutsBehind put lines mid new result → RunEnds plan es result
+ends_behind plan es lines mid new (Ok done) (Ok all) ends behind = ends
+ends_behind plan es lines mid new (Ok done) (Err fault) ends behind = tt
+ends_behind plan es lines mid new (Err fault) result ends behind = subst (λ (r : Result (Unit {0}) SinkFault). RunEnds plan es r) (sym behind.0) tt
 
-      -- where the put of the summary failed, the run stopped at the summary
-      pub summary_stops : IfErr result (λ fault. StopsBehind fault core.plan core.entries sink after)
-      summary_stops = by result summary
-        where
-          by : (r : Result (Unit {0}) SinkFault) → PutsLines (summary_lines core.plan core.entries) mid after r → IfErr r (λ fault. StopsBehind fault core.plan core.entries sink after)
-          by (Ok done) put = tt
-          by (Err fault) put = inr (record { final = final; middle = mid; lines = whole; cut = put })
+-- the summary behind the lines of the tests
+module _ (plan : PlanParts) (es : List Entry) (old mid new : SinkTell) where
+  -- the lines of the run, or a beginning of them, were put
+  pub run_puts : (put result : Result (Unit {0}) SinkFault) → PutsLines (test_lines plan es) old mid put → RunEnds plan es put → PutsBehind put (summary_lines plan es) mid new result → PutsLines (lines_of_run plan es) old new result
+  run_puts (Ok done) result lines ends behind = summary_puts plan es old mid new result ends.0.final lines behind
+  run_puts (Err fault) result lines ends behind =
+      subst (λ (r : Result (Unit {0}) SinkFault). PutsLines (lines_of_run plan es) old new r) (sym behind.0)
+      (subst (λ (t : SinkTell). PutsLines (lines_of_run plan es) old t (Err fault)) (sym behind.1) (lines_fail plan es old mid fault lines))
 
-      -- the run is complete where its summary was put, and memory was not wanting
-      pub summary_ends : (new.halt ≡ None → had_memory new.entries ≡ true) → RunEnds core.plan core.entries result
-      summary_ends memory = by result
-        where
-          by : (r : Result (Unit {0}) SinkFault) → RunEnds core.plan core.entries r
-          by (Ok done) = (
-            record { final = final; closed = ap (λ (c : CoreValue). open_starts c.entries) is ∙ pooled.closed },
-            ap (λ (c : CoreValue). had_memory c.entries) is ∙ memory going,
-          )
-          by (Err fault) = tt
-
-    -- a halt is set
-    module _ (fault : SinkFault) (gave : put_of halt ≡ Err fault) (now : SinkTell) (same : now ≡ new.sink) where
-      ended_so : put_of new.halt ≡ Err fault
-      ended_so = ap (λ (h : Option Halt). put_of h) (sym is_halt) ∙ gave
-
-      -- a beginning of the lines was put
-      pub given_up_behind : PutsLines (lines_of_run core.plan core.entries) sink now (Err fault)
-      given_up_behind =
-          let cut = subst (λ (r : Result (Unit {0}) SinkFault). PutsLines (test_lines new.plan new.entries) new.opened new.sink r) ended_so pooled.put in
-          lines_fail core.plan core.entries sink now fault (lines_put now (Err fault) same cut)
-
-      -- the run stopped among its tests
-      pub given_up_stops : StopsBehind fault core.plan core.entries sink now
-      given_up_stops =
-          let was : IsHalted fault new.plan new.entries new.opened new.sink = subst (λ (r : Result (Unit {0}) SinkFault). IfErr r (λ f. IsHalted f new.plan new.entries new.opened new.sink)) ended_so pooled.halted in
-          inl (subst (λ (c : CoreValue). IsHalted fault c.plan c.entries sink now) (sym is)
-          (subst (λ (t : SinkTell). IsHalted fault new.plan new.entries sink t) (sym same)
-          (subst (λ (t : SinkTell). IsHalted fault new.plan new.entries t new.sink) opened_is was)))
+  -- where the run stopped
+  pub run_stops : (put result : Result (Unit {0}) SinkFault) → PutsLines (test_lines plan es) old mid put → RunEnds plan es put → IfErr put (λ fault. IsHalted fault plan es old mid) → PutsBehind put (summary_lines plan es) mid new result → IfErr result (λ fault. StopsBehind fault plan es old new)
+  run_stops (Ok done) (Ok all) lines ends halted behind = tt
+  run_stops (Ok done) (Err fault) lines ends halted behind = inr (record { final = ends.0.final; middle = mid; lines = lines; cut = behind })
+  run_stops (Err fault) result lines ends halted behind =
+      subst (λ (r : Result (Unit {0}) SinkFault). IfErr r (λ f. StopsBehind f plan es old new)) (sym behind.0)
+      (subst (λ (t : SinkTell). StopsBehind fault plan es old t) (sym behind.1) (inl halted))

@@ -1,5 +1,5 @@
 -- Where a run stopped before its end. This project's own.
-use Rattle.std.specs.Prelude.{◌≡◌, ◌⊎◌, true, List, [], ◌∷◌, Ok, Err}
+use Rattle.std.specs.Prelude.{◌≡◌, ◌⊎◌, true, ℕ, List, [], ◌∷◌, Result, Ok, Err}
 use Rattle.ct_base.specs.declared.sink.SinkFault.{SinkFault}
 use Rattle.ct_base.specs.Outside.{SinkTell}
 use Rattle.ct_history.specs.declared.plan.PlanParts.{PlanParts}
@@ -38,3 +38,9 @@ pub record StopsSo (fault : SinkFault) (plan : PlanParts) (entries : List Entry)
     : Type 0 where
   pub put : PutsLines (report_lines plan entries) before now (Err fault)
   pub at : StopsAt fault plan entries before now
+
+-- lines were put behind others that were put whole; behind a fault none were, and the sink stays
+abbrev pub PutsBehind : Result (Unit {0}) SinkFault
+    → List (List ℕ) → SinkTell → SinkTell → Result (Unit {0}) SinkFault → Type 0
+PutsBehind (Ok done) lines before now result = PutsLines lines before now result
+PutsBehind (Err fault) lines before now result = (result ≡ Err fault) × (now ≡ before)

@@ -3,7 +3,7 @@
 //!
 //! Hands up: `ctest_main`, which does all that the program does, `list_main`, which lists alone, and
 //! `plan_main`, which makes the plan of a run alone. For calls of other crates: the steps `read_tests`,
-//! `read_spec`, `read_costs`, `why_unplanned`, `write_files`, `tell` and `tell_outcome`.
+//! `read_spec`, `read_costs`, `why_unplanned`, `run_pool`, `write_files`, `tell` and `tell_outcome`.
 //! Read first: `specs/Reading.antt`, `specs/SpecFile.antt`, `specs/Run.antt`, `specs/Stops.antt`,
 //! `specs/RunFiles.antt`, `specs/Rerun.antt`, `specs/Answers.antt`, `specs/Lists.antt`,
 //! `specs/Complete.antt`, then `top.rt`, and the steps of a call: `words.rt`, `reading.rt`,
@@ -29,9 +29,10 @@ pub use ct_props::PropKind;
 pub use ct_spec::SpecFault;
 pub use fault::{tell, tell_outcome};
 pub use outcome::{Finished, Listed, Outcome, Refusal, SpecRefusal};
-pub use planning::{Unplanned, plan_main, plan_words, unread, why_unplanned};
+pub use planning::{Unplanned, hand_out_sound, plan_main, plan_words, unread, why_unplanned};
 pub use props::Tests;
 pub use reading::read_tests;
+pub use run::{PoolRun, run_pool};
 pub use run_files::{RunFileFault, read_costs, write_files};
 pub use spec_file::{SpecFileFault, read_spec};
 pub use top::{ctest_main, list_main};

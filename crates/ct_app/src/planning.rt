@@ -140,7 +140,7 @@ pub fn why_unplanned(alloc: Global, defs: &[TestDef], fault: PlanFault) -> Unpla
 }
 
 /// States in its contract that each plan is sound; it changes nothing.
-pub(crate) fn hand_out_sound(plan: &Plan)
+pub fn hand_out_sound(plan: &Plan)
     ensures { IsSound plan.now }
 {
     let _ = plan.parts();

@@ -1,9 +1,10 @@
-ghost use Rattle.std.specs.Prelude.{◌≡◌, ◌<◌, ◌≤◌, min, [], IfErr, Err, Some, false, true, map, vec_len};
+ghost use Rattle.std.specs.Prelude.{◌≡◌, ◌<◌, ◌≤◌, min, [], IfErr, false, true, map, vec_len};
 ghost use Rattle.ct_app.specs.Run.{BeginsReport, HasRun, RestStays, RunEnds, lines_of_run};
-ghost use Rattle.ct_app.specs.Stops.{StopsAt, StopsBehind};
+ghost use Rattle.ct_app.specs.Stops.{PutsBehind, StopsAt, StopsBehind};
 ghost use Rattle.ct_history.specs.Verdicts.{are_all_final};
 ghost use Rattle.ct_report.specs.PutLines.{PutsLines};
-ghost use Rattle.ct_report.specs.Report.{report_lines, summary_lines};
+ghost use Rattle.ct_report.specs.Report.{report_lines, summary_lines, test_lines};
+ghost use Rattle.ct_worker.specs.Halted.{IsHalted};
 ghost use Rattle.ct_worker.specs.State.{put_of};
 ghost use Rattle.ct_worker.specs.Work.{Reach, terms_in};
 
@@ -23,6 +24,16 @@ pub(crate) struct Reported<G, S> {
     pub(crate) sink: S,
     /// The fault of the sink, or `NoMemory`, which also tells that memory ran out for an attempt.
     pub(crate) ended: Result<(), SinkFault>,
+}
+
+/// How the tests of a plan ran, and the core, the gates and the sink of the run.
+#[derive(Drop)]
+pub struct PoolRun<G, S> {
+    pub core: Core,
+    pub gates: Vec<G>,
+    pub sink: S,
+    /// Whether the lines of the run were put; `NoMemory` also tells that memory ran out for an attempt.
+    pub put: Result<(), SinkFault>,
 }
 
 /// Runs the tests of a plan, and puts the report of the run.
@@ -78,6 +89,7 @@ fn begin<S: Sink>(alloc: Global, core: &Core, sink: &mut S) -> Result<bool, Sink
 }
 
 /// Runs the tests of a plan that has tests, and puts the summary behind their lines.
+#[tactic(auto, using(crate::proofs::PoolLemmas::ends_behind))]
 fn run_tests<R: Threads + Wait + Sync, G: Gate + Send, S: Sink + Send>(
     rt: &R,
     alloc: Global,
@@ -98,19 +110,53 @@ fn run_tests<R: Threads + Wait + Sync, G: Gate + Send, S: Sink + Send>(
     ensures stops { IfErr result.ended (λ fault. StopsBehind fault result.core.plan result.core.entries (S.tells sink) (S.tells result.sink)) }
     ensures others { RestStays result.core.plan gates.items result.gates.items }
 {
-    let workers = worker_count(&core, gates.len());
-    let Pooled { state, gates } = pool(rt, alloc, State::open(core, sink), gates, workers, jobs);
-    let halt = state.halt();
-    let (core, mut sink) = state.into_parts();
-    let ended = match halt {
-        None => put_summary(alloc, &core, &mut sink),
-        Some(halt) => Err(fault_of(halt)),
-    };
+    let PoolRun {
+        core,
+        gates,
+        mut sink,
+        put,
+    } = run_pool(rt, alloc, core, jobs, gates, sink);
+    let ended = put_behind(alloc, &core, &mut sink, put);
     Reported {
         core,
         gates,
         sink,
         ended,
+    }
+}
+
+/// Runs the tests of a plan, and puts their lines.
+///
+/// The workers are as many as the level of the plan, but at most as many as there are gates.
+pub fn run_pool<R: Threads + Wait + Sync, G: Gate + Send, S: Sink + Send>(
+    rt: &R,
+    alloc: Global,
+    core: Core,
+    jobs: &Jobs<'_>,
+    gates: Vec<G>,
+    sink: S,
+) -> PoolRun<G, S>
+    requires fresh { core ≡ record { plan = core.plan; entries = []; aborted = false } }
+    requires level { 1 ≤ core.plan.level }
+    requires some { 0 < vec_len gates }
+    requires reach { Reach jobs.now core.plan }
+    ensures plan { result.core.plan ≡ core.plan }
+    ensures ran { HasRun (terms_in jobs.now core.plan) (map G.tells gates.items) (map G.tells result.gates.items) result.core.plan result.core.entries }
+    ensures all { vec_len result.gates ≡ vec_len gates }
+    ensures puts { PutsLines (test_lines result.core.plan result.core.entries) (S.tells sink) (S.tells result.sink) result.put }
+    ensures ends { RunEnds result.core.plan result.core.entries result.put }
+    ensures halted { IfErr result.put (λ fault. IsHalted fault result.core.plan result.core.entries (S.tells sink) (S.tells result.sink)) }
+    ensures others { RestStays result.core.plan gates.items result.gates.items }
+{
+    let workers = worker_count(&core, gates.len());
+    let Pooled { state, gates } = pool(rt, alloc, State::open(core, sink), gates, workers, jobs);
+    let put = put_of(state.halt());
+    let (core, sink) = state.into_parts();
+    PoolRun {
+        core,
+        gates,
+        sink,
+        put,
     }
 }
 
@@ -121,13 +167,31 @@ fn worker_count(core: &Core, gates: usize) -> u32
     (core.plan().parts().level as usize).min(gates) as u32
 }
 
-/// Returns the fault for which a run was given up.
-fn fault_of(halt: Halt) -> SinkFault
-    ensures { put_of (Some halt) ≡ Err result }
+/// Returns the result of all puts so far, by why the run was given up.
+fn put_of(halt: Option<Halt>) -> Result<(), SinkFault>
+    ensures { result ≡ put_of halt }
 {
     match halt {
-        Halt::Output => SinkFault::Failed,
-        Halt::Memory => SinkFault::NoMemory,
+        None => Ok(()),
+        Some(Halt::Output) => Err(SinkFault::Failed),
+        Some(Halt::Memory) => Err(SinkFault::NoMemory),
+    }
+}
+
+/// Puts the summary, if the lines of all tests were put.
+#[tactic(auto, using(crate::proofs::PoolLemmas::ended_final))]
+fn put_behind<S: Sink>(
+    alloc: Global,
+    core: &Core,
+    sink: &mut S,
+    put: Result<(), SinkFault>,
+) -> Result<(), SinkFault>
+    requires ended { RunEnds core.now.plan core.now.entries put }
+    ensures { PutsBehind put (summary_lines core.now.plan core.now.entries) (S.tells sink.old) (S.tells sink.new) result }
+{
+    match put {
+        Ok(()) => put_summary(alloc, core, sink),
+        Err(fault) => Err(fault),
     }
 }
 

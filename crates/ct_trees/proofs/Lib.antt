@@ -4,7 +4,6 @@ pub mod TreeLemmas
 pub mod ForestLemmas
 pub mod JoinLemmas
 pub mod PutTreeLemmas
-pub mod PoolRunLemmas
 pub mod WholeTreeLemmas
 pub mod SpanLemmas
 pub mod TreeRunLemmas

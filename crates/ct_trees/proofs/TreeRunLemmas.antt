@@ -15,9 +15,10 @@ use Rattle.ct_worker.specs.Halted.{IsHalted}
 use Rattle.ct_app.specs.declared.outcome.Outcome.{Outcome}
 use Rattle.ct_app.specs.Ends.{ended_as}
 use Rattle.ct_app.specs.Run.{RunEnds}
+use Rattle.ct_app.specs.Stops.{PutsBehind}
 use Rattle.ct_trees.specs.declared.joining.TreeRest.{TreeRest}
 use Rattle.ct_trees.specs.TreeReports.{header_lines, lines_of_trees, summaries_behind, trees_report}
-use Rattle.ct_trees.specs.TreeStops.{AreStopped, PutsBehind, StopsInTrees, TreesEnd}
+use Rattle.ct_trees.specs.TreeStops.{AreStopped, StopsInTrees, TreesEnd}
 
 -- the put of the headers failed
 pub headers_cut : (trees : List TreeRest) (whole : PlanParts) (es : List Entry) (old new : SinkTell) (fault : SinkFault) → PutsLines (header_lines trees) old new (Err fault) → PutsLines (trees_report trees whole es) old new (Err fault)
@@ -37,12 +38,6 @@ module _ (trees : List TreeRest) (whole : PlanParts) (es : List Entry) (old head
       (subst (λ (t : SinkTell). PutsLines (trees_report trees whole es) old t (Err fault)) (sym behind.1)
       (lines_then old head mid (header_lines trees) (lines_of_trees trees whole es) (Err fault) headers
       (lines_more head mid (test_lines whole es) (if are_all_final whole es then summaries_behind 0 trees es else []) fault lines)))
-
-  -- where all was put, the run is complete
-  pub trees_end : (put result : Result (Unit {0}) SinkFault) → RunEnds whole es put → PutsBehind put (summaries_behind 0 trees es) mid new result → RunEnds whole es result
-  trees_end (Ok done) (Ok all) ends behind = ends
-  trees_end (Ok done) (Err fault) ends behind = tt
-  trees_end (Err fault) result ends behind = subst (λ (r : Result (Unit {0}) SinkFault). RunEnds whole es r) (sym behind.0) tt
 
   -- where the run stopped
   pub trees_stop : (put result : Result (Unit {0}) SinkFault) → PutsLines (test_lines whole es) head mid put → RunEnds whole es put → IfErr put (λ fault. IsHalted fault whole es head mid) → PutsBehind put (summaries_behind 0 trees es) mid new result → IfErr result (λ fault. StopsInTrees fault trees whole es old new)

@@ -1,5 +1,5 @@
 -- How the run of several trees ended: its whole report was put, or where it stopped. This project's own.
-use Rattle.std.specs.Prelude.{◌≡◌, ◌⊎◌, true, ℕ, List, [], Result, Ok, Err}
+use Rattle.std.specs.Prelude.{◌≡◌, ◌⊎◌, true, List, [], Result, Ok, Err}
 use Rattle.ct_base.specs.declared.sink.SinkFault.{SinkFault}
 use Rattle.ct_base.specs.declared.sink.SinkFault.TheVariants as Sinks
 use Rattle.ct_base.specs.Outside.{SinkTell}
@@ -52,12 +52,6 @@ pub record AreStopped
     (before now : SinkTell) : Type 0 where
   pub put : PutsLines (trees_report trees whole entries) before now (Err fault)
   pub at : StopsInTrees fault trees whole entries before now
-
--- lines were put behind others that were put whole; behind a fault none were, and the sink stays
-abbrev pub PutsBehind : Result (Unit {0}) SinkFault
-    → List (List ℕ) → SinkTell → SinkTell → Result (Unit {0}) SinkFault → Type 0
-PutsBehind (Ok done) lines before now result = PutsLines lines before now result
-PutsBehind (Err fault) lines before now result = (result ≡ Err fault) × (now ≡ before)
 
 -- how the run of trees ended: complete, with a fault of the sink, or out of memory
 abbrev pub TreesEnd : List TreeRest

@@ -2,18 +2,17 @@ ghost use Rattle.std.specs.Prelude.{◌≡◌, ◌+◌, ◌^◌, ◌<◌, ◌≤
 ghost use Rattle.std.specs.Option.{option_copied};
 ghost use Rattle.ct_args.specs.Invocation.{IsBounded};
 ghost use Rattle.ct_app.specs.RunFiles.{FilesStay};
-ghost use Rattle.ct_history.specs.Plan.{IsSound};
 ghost use Rattle.ct_trees.specs.Planning.{AddsTree, LackPlans, HasNoTree, HasTree, IsTreeFolder, IsUnreadTree, LackTree, RefusesNumber};
 ghost use Rattle.ct_plan.specs.Whole.{defined_in};
 ghost use Rattle.ct_trees.specs.Trees.{AreTrees, HaveTrees, most_tree_tests, plans_of};
 
 use ct_app::{
-    Outcome, Refusal, Tests, Unplanned, read_costs, read_spec, read_tests, unread, why_unplanned,
+    Outcome, Refusal, Tests, Unplanned, hand_out_sound, read_costs, read_spec, read_tests, unread,
+    why_unplanned,
 };
 use ct_args::Invocation;
 use ct_base::{Files, List, Name, NoMemory, join_path};
 use ct_cost::CostData;
-use ct_history::Plan;
 use ct_plan::{Tree, plan};
 use ct_spec::Spec;
 use ct_testfile::ReadKind;
@@ -160,13 +159,6 @@ fn plan_tree<F: Files>(
         }
         Err(fault) => Err(why_unplanned(alloc, defs.as_slice(), fault)),
     }
-}
-
-/// States in its contract that each plan is sound; it changes nothing.
-fn hand_out_sound(plan: &Plan)
-    ensures { IsSound plan.now }
-{
-    let _ = plan.parts();
 }
 
 /// Reads the tests of the tree that an invocation names, their properties and the cost data.

@@ -1,15 +1,13 @@
 use Rattle.std.proofs.Common.{◌≡◌, ◌∙◌, sym, ap, subst, ℕ, min, length, map, arith}
-use Rattle.std.specs.Prelude.{vec_len}
+use Rattle.std.specs.Prelude.{Option, vec_len}
 use Rattle.std.proofs.lemmas.List.{length-map}
 use Rattle.ct_core.specs.CoreValue.{CoreValue}
 use Rattle.ct_worker.specs.State.{StateValue, put_of}
 use Rattle.ct_worker.specs.Work.{terms_in}
 use Rattle.ct_worker.specs.declared.state.Halt.{Halt}
-use Rattle.std.specs.Prelude.{Option}
 use Rattle.ct_app.specs.Run.{HasRun}
-use Rattle.ct_app.proofs.PoolLemmas.{pooled_run, rest_stays}
-use Rattle.ct_trees.proofs.PoolRunLemmas.{pool_ends, pool_halted, pool_puts}
-use Rattle.ct_trees.proofs.run.run_pool.Goals as goal
+use Rattle.ct_app.proofs.PoolLemmas.{pool_ends, pool_halted, pool_puts, pooled_run, rest_stays}
+use Rattle.ct_app.proofs.run.run_pool.Goals as goal
 
 pub returns-clause-ran : goal.returns-clause-ran
 returns-clause-ran g c =
@@ -23,19 +21,19 @@ returns-clause-ran g c =
 
 pub returns-clause-puts : goal.returns-clause-puts
 returns-clause-puts g c =
-    pool_puts (terms_in c.args.jobs.now c.open.result.plan) c.worker_count-workers.result c.args.core c.into_parts-core.result.0 (g.S.Sink.tells c.args.sink) (g.S.Sink.tells c.into_parts-core.result.1) c.open.result c.pool-state.result.state
-    (map g.G.Gate.tells c.args.gates.items) (map g.G.Gate.tells c.pool-state.result.gates.items) c.open.ensures c.pool-state.ensures.pooled c.into_parts-core.ensures.core c.into_parts-core.ensures.sink c.put_of-put.result (c.put_of-put.ensures ∙ ap (λ (h : Option Halt). put_of h) c.halt.ensures)
+    pool_puts (terms_in c.args.jobs.now c.open.result.plan) c.worker_count-workers.result c.args.core c.into_parts-core.result.0 (g.S.Sink.tells c.args.sink) c.open.result c.pool-state.result.state
+    (map g.G.Gate.tells c.args.gates.items) (map g.G.Gate.tells c.pool-state.result.gates.items) c.open.ensures c.pool-state.ensures.pooled c.into_parts-core.ensures.core (g.S.Sink.tells c.into_parts-core.result.1) c.into_parts-core.ensures.sink c.put_of-put.result (c.put_of-put.ensures ∙ ap (λ (h : Option Halt). put_of h) c.halt.ensures)
 
 pub returns-clause-ends : goal.returns-clause-ends
 returns-clause-ends g c =
-    pool_ends (terms_in c.args.jobs.now c.open.result.plan) c.worker_count-workers.result c.args.core c.into_parts-core.result.0 (g.S.Sink.tells c.args.sink) (g.S.Sink.tells c.into_parts-core.result.1) c.open.result c.pool-state.result.state
-    (map g.G.Gate.tells c.args.gates.items) (map g.G.Gate.tells c.pool-state.result.gates.items) c.open.ensures c.pool-state.ensures.pooled c.into_parts-core.ensures.core c.into_parts-core.ensures.sink c.put_of-put.result (c.put_of-put.ensures ∙ ap (λ (h : Option Halt). put_of h) c.halt.ensures)
+    pool_ends (terms_in c.args.jobs.now c.open.result.plan) c.worker_count-workers.result c.args.core c.into_parts-core.result.0 (g.S.Sink.tells c.args.sink) c.open.result c.pool-state.result.state
+    (map g.G.Gate.tells c.args.gates.items) (map g.G.Gate.tells c.pool-state.result.gates.items) c.open.ensures c.pool-state.ensures.pooled c.into_parts-core.ensures.core (g.S.Sink.tells c.into_parts-core.result.1) c.into_parts-core.ensures.sink c.put_of-put.result (c.put_of-put.ensures ∙ ap (λ (h : Option Halt). put_of h) c.halt.ensures)
     c.into_parts-core.ensures.memory
 
 pub returns-clause-halted : goal.returns-clause-halted
 returns-clause-halted g c =
-    pool_halted (terms_in c.args.jobs.now c.open.result.plan) c.worker_count-workers.result c.args.core c.into_parts-core.result.0 (g.S.Sink.tells c.args.sink) (g.S.Sink.tells c.into_parts-core.result.1) c.open.result c.pool-state.result.state
-    (map g.G.Gate.tells c.args.gates.items) (map g.G.Gate.tells c.pool-state.result.gates.items) c.open.ensures c.pool-state.ensures.pooled c.into_parts-core.ensures.core c.into_parts-core.ensures.sink c.put_of-put.result (c.put_of-put.ensures ∙ ap (λ (h : Option Halt). put_of h) c.halt.ensures)
+    pool_halted (terms_in c.args.jobs.now c.open.result.plan) c.worker_count-workers.result c.args.core c.into_parts-core.result.0 (g.S.Sink.tells c.args.sink) c.open.result c.pool-state.result.state
+    (map g.G.Gate.tells c.args.gates.items) (map g.G.Gate.tells c.pool-state.result.gates.items) c.open.ensures c.pool-state.ensures.pooled c.into_parts-core.ensures.core (g.S.Sink.tells c.into_parts-core.result.1) c.into_parts-core.ensures.sink c.put_of-put.result (c.put_of-put.ensures ∙ ap (λ (h : Option Halt). put_of h) c.halt.ensures)
 
 pub returns-clause-others : goal.returns-clause-others
 returns-clause-others g c =
