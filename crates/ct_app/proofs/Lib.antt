@@ -18,4 +18,5 @@ pub mod MeantRunLemmas
 pub mod MeantTextLemmas
 pub mod MeantAnswerLemmas
 pub mod SourceLemmas
+pub mod AlikeLemmas
 pub mod CompleteLemmas

@@ -24,7 +24,7 @@ use Rattle.ct_app.proofs.MeantLemmas.{IsRanked}
 use Rattle.ct_app.proofs.MeantRunLemmas.{are_meant, passed_last}
 
 -- what holds of each member holds along the list
-each_member : {A : Type 0} (P : A → Type 0) (xs : List A) → ((x : A) → Contains xs x → P x) → AllByRecursion P xs
+pub each_member : {A : Type 0} (P : A → Type 0) (xs : List A) → ((x : A) → Contains xs x → P x) → AllByRecursion P xs
 each_member P [] each = tt
 each_member P (x ∷ xs) each = (each x (zero, omega arith, refl), each_member P xs (λ y within. each y (suc within.0, omega (arith, within.1), within.2)))
 

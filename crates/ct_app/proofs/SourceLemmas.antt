@@ -1,4 +1,5 @@
--- Two readings of the same words and files have the same members, and the same tests before each member.
+-- Two readings of the same words and files have the same members, the same tests before each member, and the
+-- same setups among these.
 use Rattle.std.proofs.Common.{◌≡◌, ◌∙◌, sym, ap, Bool, false, ℕ, zero, suc, List, [], ◌∷◌, length, map, refl}
 use Rattle.std.specs.Prelude.{Option, Some, None, Result, Ok, filter, flat_map, option_map, unwrap_or, sum_by, not, ◌||◌, ◌&&◌, ◌==◌}
 use Rattle.std.specs.List.{list_all, list_any, range_with_len}
@@ -20,7 +21,7 @@ use Rattle.ct_props.specs.Numbered.{at_number, is_in}
 use Rattle.ct_props.specs.PropsOf.{HasProps}
 use Rattle.ct_select.specs.Chosen.{by_name, by_number, chosen_tests, hit_labels, is_chosen, is_chosen_at, is_chosen_by_options, is_chosen_there, is_left_out, is_named_or}
 use Rattle.ct_fixture.specs.Drawing.{after_rounds, draws, fixtures_required, is_drawn, is_hit, keeps_cleanups, keeps_setups, next_round, required_by}
-use Rattle.ct_graph.specs.Before.{before_of, comes_before}
+use Rattle.ct_graph.specs.Before.{before_of, comes_before, setups_of, sets_up}
 use Rattle.ct_graph.specs.Order.{edges_of}
 use Rattle.ct_plan.specs.Source.{HaveProps, members_in}
 
@@ -42,6 +43,10 @@ fixture_hit (Some pattern) text = refl
 
 labels_hit : (patterns : List Regex) (labels : List (List ℕ)) → hit_labels patterns labels ≡ list_all (λ tree. list_any (λ label. hits tree label) labels) (map regex_tree patterns)
 labels_hit patterns labels = sym (list_all-map (λ tree. list_any (λ label. hits tree label) labels) regex_tree patterns)
+
+-- patterns with the same trees are as many
+pub trees_length : (a b : List Regex) → map regex_tree a ≡ map regex_tree b → length a ≡ length b
+trees_length a b alike = sym (length-map a regex_tree) ∙ ap (λ (trees : List Tree). length trees) alike ∙ length-map b regex_tree
 
 -- two choices have equal trees for their patterns, and agree in all else
 pub record IsSameChoice (one other : Choice) : Type 0 where
@@ -67,12 +72,9 @@ module _ (one other : Choice) (same : IsSameChoice one other) where
   labels_same : (a b : List Regex) (labels : List (List ℕ)) → map regex_tree a ≡ map regex_tree b → hit_labels a labels ≡ hit_labels b labels
   labels_same a b labels alike = labels_hit a labels ∙ ap (list_all (λ tree. list_any (λ label. hits tree label) labels)) alike ∙ sym (labels_hit b labels)
 
-  length_same : (a b : List Regex) → map regex_tree a ≡ map regex_tree b → length a ≡ length b
-  length_same a b alike = sym (length-map a regex_tree) ∙ ap (λ (trees : List Tree). length trees) alike ∙ length-map b regex_tree
-
   left_out_same : (a b : List Regex) (labels : List (List ℕ)) → map regex_tree a ≡ map regex_tree b → is_left_out a labels ≡ is_left_out b labels
   left_out_same a b labels alike =
-      ap (λ n. not (n == 0) && hit_labels a labels) (length_same a b alike) ∙ ap (λ hit. not (length b == 0) && hit) (labels_same a b labels alike)
+      ap (λ n. not (n == 0) && hit_labels a labels) (trees_length a b alike) ∙ ap (λ hit. not (length b == 0) && hit) (labels_same a b labels alike)
 
   options_same : (numbered : Option Bool) (def : TestDef) (own : Props) → is_chosen_by_options one numbered def own ≡ is_chosen_by_options other numbered def own
   options_same numbered def own =
@@ -203,6 +205,21 @@ module _ (choice : Choice) (defs : List TestDef) (props : List Props) where
       ∙ ap (comes_before (at_number defs j) (option_map plain (at_number props j))) (plain_at props number)
       ∙ plain_comes (at_number defs j) (at_number props j) (at_number props number)) members
 
+-- the plain properties tell whether a test sets up another
+sets_up_plain : (earlier later : Option Props) → sets_up (option_map plain earlier) (option_map plain later) ≡ sets_up earlier later
+sets_up_plain None later = refl
+sets_up_plain (Some earlier) None = refl
+sets_up_plain (Some earlier) (Some later) = refl
+
+-- the plain properties lead to the same setups before each test as the properties
+plain_setups : (props : List Props) (members : List ℕ) (number : ℕ) → setups_of (map plain props) members number ≡ setups_of props members number
+plain_setups props members number =
+    filter_agree (λ j. sets_up (at_number (map plain props) j) (at_number (map plain props) number)) (λ j. sets_up (at_number props j) (at_number props number))
+    (λ j.
+    ap (λ earlier. sets_up earlier (at_number (map plain props) number)) (plain_at props j)
+    ∙ ap (sets_up (option_map plain (at_number props j))) (plain_at props number)
+    ∙ sets_up_plain (at_number props j) (at_number props number)) members
+
 -- two readings of the properties of a test have the same plain properties
 plain_same : (def : TestDef) (one other : Props) → HasProps def one → HasProps def other → plain one ≡ plain other
 plain_same def one other has own =
@@ -234,3 +251,10 @@ module _ (defs : List TestDef) (one other : List Props) (have : HaveProps defs o
   edges_same =
       ap (λ (before : ℕ → List ℕ). sum_by (λ number. length (before number)) (members_in choice defs one)) before_same
       ∙ ap (sum_by (λ number. length (before_of defs other (members_in chosen defs other) number))) members_same
+
+  pub set_up_same : setups_of one (members_in choice defs one) ≡ setups_of other (members_in chosen defs other)
+  set_up_same = fun_ext λ number.
+      ap (λ (members : List ℕ). setups_of one members number) members_same
+      ∙ sym (plain_setups one (members_in chosen defs other) number)
+      ∙ ap (λ (props : List Props). setups_of props (members_in chosen defs other) number) (all_plain_same defs one other have own)
+      ∙ plain_setups other (members_in chosen defs other) number

@@ -1,5 +1,4 @@
 pub mod RecordPlanLemmas
-pub mod RecordMemberLemmas
 pub mod RecordReadLemmas
 pub mod RecordPathLemmas
 pub mod RecordLemmas

@@ -27,7 +27,8 @@ use Rattle.ct_app.proofs.ChangeLemmas.{stays}
 use Rattle.ct_plan.specs.declared.whole.Tree.{Tree}
 use Rattle.ct_trees.specs.Planning.{AddsTree, HasNoTree, HasTree, LackPlans, LackTree}
 use Rattle.ct_trees.specs.Trees.{AreFirstTrees, AreTrees, HaveTrees, IsOverfull, IsReadTree, IsTreeIn, IsUnplannedTree, RefusesTree, StopsAtTree, TreeReads, invocation_for, most_tree_tests, plans_of}
-use Rattle.ct_trees.proofs.TreeLemmas.{same_told, then_fail, then_stay}
+use Rattle.ct_app.proofs.ReadLemmas.{then_stay}
+use Rattle.ct_trees.proofs.TreeLemmas.{same_told, then_fail}
 
 -- one more tree behind others
 trees_snoc : (told : Option Held) (invocation : Invocation) (lent : Option (List Resource)) (dirs : List (List ℕ)) (trees : List Tree) (dir : List ℕ) (tree : Tree) → AreTrees told invocation lent dirs trees → IsTreeIn told invocation lent dir tree → AreTrees told invocation lent (dirs ++ dir ∷ []) (trees ++ tree ∷ [])

@@ -14,7 +14,6 @@ pub mod TreeFilesLemmas
 pub mod PartFileLemmas
 pub mod CallLemmas
 pub mod TreeCompleteLemmas
-pub mod TreeMemberLemmas
 pub mod TreeSummaryLemmas
 pub mod TreeAlikeLemmas
 pub mod TreePartLemmas

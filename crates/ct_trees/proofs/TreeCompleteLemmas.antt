@@ -1,6 +1,6 @@
 -- A run over several trees that can be made is completed where no fault was counted, since nothing that is read
 -- for it is refused.
-use Rattle.std.proofs.Common.{◌≡◌, ◌∙◌, sym, ap, subst, ℕ, zero, suc, ◌+◌, ◌≤◌, List, [], ◌∷◌, ◌++◌, length, map, refl, arith, inl, inr}
+use Rattle.std.proofs.Common.{◌≡◌, ◌∙◌, sym, ap, subst, ℕ, ◌+◌, ◌≤◌, List, [], ◌∷◌, ◌++◌, length, map, refl, arith, inl, inr}
 use Rattle.std.specs.Prelude.{◌⊎◌, ⊤, Option, Some, None, Result, Ok, Err, IfSome, slice_get}
 use Rattle.std.proofs.lemmas.Option.{same_Some}
 use Rattle.ct_base.specs.declared.defs.Pair.{Pair}
@@ -11,7 +11,6 @@ use Rattle.ct_testfile.specs.declared.fault.ReadFault.{ReadFault}
 use Rattle.ct_testfile.specs.declared.fault.ReadFault.TheVariants.{At}
 use Rattle.ct_testfile.specs.Tree.{tree_of}
 use Rattle.ct_props.specs.declared.props.Props.{Props}
-use Rattle.ct_props.specs.PropsOf.{HasProps}
 use Rattle.ct_graph.specs.Cycle.{is_cycle}
 use Rattle.ct_history.specs.declared.plan.PlanParts.{PlanParts}
 use Rattle.ct_history.specs.declared.history.Entry.{Entry}
@@ -44,18 +43,6 @@ use Rattle.ct_trees.specs.TreeRuns.{RunSides, RunsTrees}
 use Rattle.ct_trees.specs.TreeStops.{TreesEnd}
 use Rattle.ct_trees.specs.TreeWords.{TreesValue, trees_in}
 use Rattle.ct_trees.specs.Trees.{AreTrees, AskForTrees, IsUnplannedTree, RefusesTree, StopsReading, invocation_for, most_tree_tests, source_for}
-
--- a test has its own properties, which stand at its place
-pub record HasOwnThere (props : List Props) (place : ℕ) (def : TestDef) : Type 0 where
-  pub own : Props
-  pub there : slice_get props place ≡ Some own
-  pub has : HasProps def own
-
-pub props_there : (defs : List TestDef) (props : List Props) (place : ℕ) (def : TestDef) → HaveProps defs props → slice_get defs place ≡ Some def → HasOwnThere props place def
-props_there [] props place def have there = absurd (cc)
-props_there (d ∷ ds) [] place def have there = absurd have
-props_there (d ∷ ds) (own ∷ owns) zero def have there = record { own = own; there = refl; has = subst (λ (x : TestDef). HasProps x own) (same_Some d def there) have.0 }
-props_there (d ∷ ds) (own ∷ owns) (suc place) def have there = let behind = props_there ds owns place def have.1 there in record { own = behind.own; there = behind.there; has = behind.has }
 
 -- choices of invocations that are seen alike are the same
 pub choices_alike : (one other : Invocation) → invocation_seen one ≡ invocation_seen other → IsSameChoice one.wanted.choice other.wanted.choice

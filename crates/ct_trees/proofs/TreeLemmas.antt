@@ -21,7 +21,8 @@ use Rattle.ct_app.specs.declared.run_files.RunFileFault.TheVariants as Fault
 use Rattle.ct_app.specs.Ends.{HasTests, IsUnplanned, IsUnread}
 use Rattle.ct_app.specs.Outcome.{outcome_of_file}
 use Rattle.ct_app.specs.RunFiles.{FilesFail, FilesStay, ReadsCosts, last_costs}
-use Rattle.ct_app.proofs.ChangeLemmas.{fails_then, same_then_same, serves_then}
+use Rattle.ct_app.proofs.ChangeLemmas.{fails_then, same_then_same}
+use Rattle.ct_app.proofs.ReadLemmas.{then_stay}
 use Rattle.ct_trees.specs.declared.planning.TreeFolder.{TreeFolder}
 use Rattle.ct_trees.specs.Planning.{HasNoTree, HasTree, IsTreeFolder, IsUnreadTree, RefusesNumber}
 use Rattle.ct_trees.specs.Trees.{IsReadTree, most_tree_tests}
@@ -31,10 +32,6 @@ pub same_told : (P : Held → Type 0) (before between : Option Held) → Becomes
 same_told P None between same holds = tt
 same_told P (Some x) None same holds = absurd same
 same_told P (Some x) (Some y) same holds = subst P (fun_ext same) holds
-
--- files that stayed twice, one after the other, stayed
-pub then_stay : (before between now : FilesTell) → FilesStay before between → FilesStay between now → FilesStay before now
-then_stay before between now = serves_then SameHeld SameHeld SameHeld same_then_same before between now
 
 -- files that stayed, and then failed at a path, failed at it
 pub then_fail : (path : List ℕ) (before between now : FilesTell) → FilesStay before between → FilesFail path SameHeld between now → FilesFail path SameHeld before now

@@ -1,5 +1,5 @@
 -- The summary of a run to its end is a function of the plan without its ranks, and of what is seen of each attempt.
-use Rattle.std.proofs.Common.{◌≡◌, ◌∙◌, sym, ap, Bool, true, false, ℕ, zero, suc, ◌+◌, List, [], ◌∷◌, ◌++◌, length, map, refl, arith}
+use Rattle.std.proofs.Common.{◌≡◌, ◌∙◌, sym, ap, Bool, true, false, ℕ, zero, suc, ◌+◌, List, [], ◌∷◌, ◌++◌, length, map, refl}
 use Rattle.std.specs.Prelude.{Option, Some, None, Contains, cond, codes, filter, flat_map, fold, count_by, not, option_map, ◌&&◌, ◌==◌}
 use Rattle.std.specs.List.{AllByRecursion}
 use Rattle.std.proofs.Math.Path.{fun_ext}
@@ -19,12 +19,10 @@ use Rattle.ct_history.proofs.PlanLemmas.{contained_at}
 use Rattle.ct_report.specs.Report.{counts_line, counts_with, failed_lines, failing_tests, good_count, has_label, in_order, is_good_in, is_unrun_in, label_line, label_lines, labelled_count, labelled_good_count, labels_in_order, listed_line, listed_with, summary_lines, under, unrun_tests}
 use Rattle.ct_app.specs.Meant.{AreSeen, meant_by_setups, meant_verdict, meant_within}
 use Rattle.ct_app.proofs.MeantLemmas.{IsRanked}
+use Rattle.ct_app.proofs.AlikeLemmas.{unranked}
 use Rattle.ct_app.proofs.MeantRunLemmas.{are_meant}
+use Rattle.ct_app.proofs.MeantTextLemmas.{each_member}
 use Rattle.ct_trees.specs.TreeReports.{summary_for, tree_summary}
-
--- the test without its rank
-abbrev pub unranked : PlanTest → PlanTest
-unranked t = record t { rank = 0 }
 
 -- a plan with no more than what the meant verdicts depend on
 abbrev bare : Repeat → List PlanTest → PlanParts
@@ -84,11 +82,6 @@ module _ {A B : Type 0} (f : A → B) where
 map_same : {A B : Type 0} (f g : A → B) (xs : List A) → AllByRecursion (λ x. f x ≡ g x) xs → map f xs ≡ map g xs
 map_same f g [] same = refl
 map_same f g (x ∷ xs) same = ap (λ y. y ∷ map f xs) same.0 ∙ ap (λ ys. g x ∷ ys) (map_same f g xs same.1)
-
--- what holds of each member holds along the list
-each_member : {A : Type 0} (P : A → Type 0) (xs : List A) → ((x : A) → Contains xs x → P x) → AllByRecursion P xs
-each_member P [] each = tt
-each_member P (x ∷ xs) each = (each x (zero, omega arith, refl), each_member P xs (λ y within. each y (suc within.0, omega (arith, within.1), within.2)))
 
 -- a test without its rank, and its verdict, if it has one
 record Judged : Type 0 where

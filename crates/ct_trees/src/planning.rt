@@ -42,7 +42,7 @@ pub struct UnplannedTrees {
 /// `trees` gets the trees that have a plan, in order; it has to be empty.
 ///
 /// Source: CMake manual, ctest(1), Run Tests, --resource-spec-file, for each tree.
-#[tactic(auto, using(crate::proofs::ForestLemmas::declared_trees, crate::proofs::ForestLemmas::lacks_plan, crate::proofs::ForestLemmas::lacks_spec, crate::proofs::ForestLemmas::few_plans, crate::proofs::ForestLemmas::have_no_more, crate::proofs::TreeLemmas::then_stay))]
+#[tactic(auto, using(crate::proofs::ForestLemmas::declared_trees, crate::proofs::ForestLemmas::lacks_plan, crate::proofs::ForestLemmas::lacks_spec, crate::proofs::ForestLemmas::few_plans, crate::proofs::ForestLemmas::have_no_more, ct_app::proofs::ReadLemmas::then_stay))]
 pub fn read_and_plan<F: Files>(
     alloc: Global,
     files: &mut F,
