@@ -3,6 +3,7 @@ pub mod FaultLemmas
 pub mod TreeLemmas
 pub mod ForestLemmas
 pub mod JoinLemmas
+pub mod NextTreeLemmas
 pub mod PutTreeLemmas
 pub mod WholeTreeLemmas
 pub mod SpanLemmas

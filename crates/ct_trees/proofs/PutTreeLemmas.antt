@@ -1,7 +1,7 @@
 -- Lines that are put tree by tree: those put so far, and those behind them.
 use Rattle.std.proofs.Common.{◌≡◌, ◌∙◌, sym, ap, subst, refl, ℕ, ◌+◌, ◌<◌, ◌≤◌, true, false, List, [], ◌∷◌, ◌++◌, length, drop, get_or, append_assoc, arith, eqb-true}
 use Rattle.std.specs.Prelude.{Result, Ok, Err, codes, ◌==◌}
-use Rattle.std.proofs.lemmas.List.{append-nil, drop_all, drop_more}
+use Rattle.std.proofs.lemmas.List.{append-nil, drop_all}
 use Rattle.ct_base.specs.declared.sink.SinkFault.{SinkFault}
 use Rattle.ct_base.specs.declared.sink.SinkFault.TheVariants as Sinks
 use Rattle.ct_base.specs.Outside.{Puts, PutsEach, SinkTell}
@@ -17,6 +17,7 @@ use Rattle.ct_report.proofs.PutLemmas.{lines_as, lines_more, lines_none, lines_n
 use Rattle.ct_trees.specs.declared.joining.TreeRest.{TreeRest}
 use Rattle.ct_trees.specs.TreeParts.{AreEnded, entries_of_each, parts_behind}
 use Rattle.ct_trees.specs.TreeReports.{header_lines, summaries_behind, summaries_of_parts, summary_for, tree_lines, tree_part, tree_summary}
+use Rattle.ct_trees.proofs.NextTreeLemmas.{both_from, rests_from}
 
 -- some first lines were put, and these are left
 pub record ArePutSoFar (all left : List (List ℕ)) (before now : SinkTell) : Type 0 where
@@ -46,10 +47,6 @@ module _ (all next left : List (List ℕ)) (old mid new : SinkTell) (so_far : Ar
   next_fails fault put =
       lines_as (sym (so_far.split ∙ sym (append_assoc so_far.front next left)))
       (lines_more old new (so_far.front ++ next) left fault (lines_then old mid new so_far.front next (Err fault) so_far.put put))
-
--- the next tree of a list
-pub rests_from : (trees : List TreeRest) (at : ℕ) (tree : TreeRest) → at < length trees → tree ≡ get_or trees at tree → drop at trees ≡ tree ∷ drop (at + 1) trees
-rests_from trees at tree within is = drop_more trees at tree within ∙ ap (λ (t : TreeRest). t ∷ drop (at + 1) trees) (sym is)
 
 -- the headers of trees
 module _ (trees : List TreeRest) (at : ℕ) (old mid : SinkTell) (so_far : ArePutSoFar (header_lines trees) (header_lines (drop at trees)) old mid) where
@@ -133,20 +130,14 @@ module _ (trees : List TreeRest) (parts : List History) (at : ℕ) (old mid : Si
     abbrev behind : List (List ℕ)
     behind = summaries_of_parts (drop (at + 1) trees) (entries_of_each (drop (at + 1) parts))
 
-    parts_here : entries_of_each (drop at parts) ≡ part.entries.items ∷ entries_of_each (drop (at + 1) parts)
-    parts_here = ap entries_of_each (drop_more parts at part there ∙ ap (λ (h : History). h ∷ drop (at + 1) parts) (sym part_is))
-
-    both_here : (P : List TreeRest → List (List Entry) → Type 0) → P (drop at trees) (entries_of_each (drop at parts)) → P (tree ∷ drop (at + 1) trees) (part.entries.items ∷ entries_of_each (drop (at + 1) parts))
-    both_here P is = subst (λ (ts : List TreeRest). P ts (part.entries.items ∷ entries_of_each (drop (at + 1) parts))) (rests_from trees at tree within tree_is) (subst (λ (ps : List (List Entry)). P (drop at trees) ps) parts_here is)
-
     ended_here : AreEnded (tree ∷ drop (at + 1) trees) (part.entries.items ∷ entries_of_each (drop (at + 1) parts))
-    ended_here = both_here AreEnded to.ended
+    ended_here = both_from trees parts at tree part within tree_is there part_is AreEnded to.ended
 
     pub final_there : are_all_final tree.plan part.entries.items ≡ true
     final_there = ended_here.0
 
     next_lines : ArePutSoFar all (tree_lines tree.plan part.entries.items ++ behind) old mid
-    next_lines = both_here (λ ts ps. ArePutSoFar all (summaries_of_parts ts ps) old mid) to.so_far
+    next_lines = both_from trees parts at tree part within tree_is there part_is (λ ts ps. ArePutSoFar all (summaries_of_parts ts ps) old mid) to.so_far
 
     -- the lines of the next tree were put
     pub summary_next : (new : SinkTell) → PutsLines (tree_lines tree.plan part.entries.items) mid new (Ok tt) → AreSummariesTo trees parts (at + 1) old new

@@ -5,7 +5,7 @@ use Rattle.std.specs.List.{cons_option}
 use Rattle.std.specs.List.Sorted.{IsNonDecreasingBy}
 use Rattle.std.proofs.lemmas.Bool.{cases_lt, le-ltb, lt-leb, ltb-false, ltb-true}
 use Rattle.std.proofs.Math.Bool.{and-false}
-use Rattle.std.proofs.lemmas.List.{append-nil, append_assoc, drop_all, drop_more, get_or-map, length-map, map-append, map-set, take_all, take_more}
+use Rattle.std.proofs.lemmas.List.{append-nil, append_assoc, drop_all, get_or-map, length-map, map-append, map-set, take_all, take_more}
 use Rattle.std.proofs.lemmas.List.Elements.{filter_map-append}
 use Rattle.ct_history.specs.declared.history.Entry.{Entry}
 use Rattle.ct_history.specs.declared.history.Entry.TheVariants.{Start, End, Settle, Stop}
@@ -16,6 +16,7 @@ use Rattle.ct_trees.specs.declared.tree_parts.Span.{Span}
 use Rattle.ct_trees.specs.Joining.{defined_by}
 use Rattle.ct_trees.specs.Spans.{FollowFrom, IsSpanPlace, last_of_span, parts_in, spans_behind, test_in_entry}
 use Rattle.ct_trees.specs.TreeParts.{entries_of_each, parts_behind}
+use Rattle.ct_trees.proofs.NextTreeLemmas.{rests_from}
 
 -- the parts by the spans of trees are those of the trees
 parts_of_spans : (offset : ℕ) (trees : List TreeRest) (entries : List Entry) → parts_in (spans_behind offset trees) entries ≡ parts_behind offset trees entries
@@ -183,11 +184,8 @@ module _ (trees : List TreeRest) (at offset : ℕ) (spans : List Span) (so_far :
       ∙ so_far.split
 
   module _ (tree : TreeRest) (within : at < length trees) (is : tree ≡ get_or trees at tree) where
-    trees_from : drop at trees ≡ tree ∷ drop (at + 1) trees
-    trees_from = drop_more trees at tree within ∙ ap (λ (t : TreeRest). t ∷ drop (at + 1) trees) (sym is)
-
     counted_next : offset + (tree.defined + defined_by (drop (at + 1) trees)) ≡ defined_by trees
-    counted_next = ap (λ (ts : List TreeRest). offset + defined_by ts) (sym trees_from) ∙ so_far.counted
+    counted_next = ap (λ (ts : List TreeRest). offset + defined_by ts) (sym (rests_from trees at tree within is)) ∙ so_far.counted
 
     -- the tests of the next tree are some of all
     pub span_fits : defined_by trees < 2 ^ 32 → offset + tree.defined < 2 ^ 32
@@ -198,7 +196,7 @@ module _ (trees : List TreeRest) (at offset : ℕ) (spans : List Span) (so_far :
     span_more = record {
       split =
           append_assoc spans ((record { offset = offset; count = tree.defined }) ∷ []) (spans_behind (offset + tree.defined) (drop (at + 1) trees))
-          ∙ ap (λ (ts : List TreeRest). spans ++ spans_behind offset ts) (sym trees_from)
+          ∙ ap (λ (ts : List TreeRest). spans ++ spans_behind offset ts) (sym (rests_from trees at tree within is))
           ∙ so_far.split;
       counted = let counted = counted_next in omega (arith, counted);
     }

@@ -2,7 +2,7 @@
 use Rattle.std.proofs.Common.{◌≡◌, ◌≢◌, ◌∙◌, sym, ap, subst, refl, Bool, true, false, ℕ, suc, ◌+◌, ◌<◌, ◌≤◌, List, [], ◌∷◌, ◌++◌, length, drop, get_or, append_assoc, inl, inr, arith}
 use Rattle.std.specs.Prelude.{Option, Some, Ok, Err, bytes_eq, ◌==◌, ◌||◌, if◌then◌else◌}
 use Rattle.std.proofs.Math.Bool.{or_assoc, or-false}
-use Rattle.std.proofs.lemmas.List.{append-nil, drop_all, drop_more, length-map}
+use Rattle.std.proofs.lemmas.List.{append-nil, drop_all, length-map}
 use Rattle.std.proofs.lemmas.Option.{slice_get_read}
 use Rattle.std.proofs.lemmas.Slice.Eq.{bytes_eq-Decides}
 use Rattle.ct_base.specs.Outside.{FilesTell, Held, SameHeld, Writes}
@@ -22,6 +22,7 @@ use Rattle.ct_trees.specs.declared.tree_files.TreeFileFault.{TreeFileFault}
 use Rattle.ct_trees.specs.declared.tree_files.TreeFileFault.TheVariants as Tree
 use Rattle.ct_trees.specs.TreeFiles.{FileText, IsPathIn, IsPathOf, LeavesFirstTexts, LeavesTexts, TearsText, WritesTexts, cost_text, held_after_files, log_text, log_texts, texts_for, texts_of_parts, tree_texts}
 use Rattle.ct_trees.specs.TreeParts.{AreEnded, entries_of_each, some_failing}
+use Rattle.ct_trees.proofs.NextTreeLemmas.{both_from}
 
 held_after_files-append : (first rest : List FileText) (path : List ℕ) (held : Option (List ℕ)) → held_after_files (first ++ rest) path held ≡ held_after_files rest path (held_after_files first path held)
 held_after_files-append [] rest path held = refl
@@ -34,9 +35,6 @@ texts_then first rest x y z one two = λ path.
     ∙ ap (λ (held : Option (List ℕ)). held_after_files rest path held) (one path)
     ∙ sym (held_after_files-append first rest path (x path))
 
-same_path : (one other : List ℕ) → bytes_eq one other ≡ true → one ≡ other
-same_path one other same = (bytes_eq-Decides one other).0 same
-
 other_path : (one other : List ℕ) → bytes_eq one other ≡ false → one ≢ other
 other_path one other differs = λ same. let is = (bytes_eq-Decides one other).1 same in let no : true ≡ false = sym is ∙ differs in cc
 
@@ -45,7 +43,7 @@ one_left : (file : FileText) (x y : Held) → Writes file.path file.text x y →
 one_left file x y writes = λ path. by_test path (bytes_eq path file.path) refl
   where
     by_test : (path : List ℕ) (same : Bool) → bytes_eq path file.path ≡ same → y path ≡ (if bytes_eq path file.path then Some file.text else x path)
-    by_test path true is = rw is (ap y (same_path path file.path is) ∙ writes.here)
+    by_test path true is = rw is (ap y ((bytes_eq-Decides path file.path).0 is) ∙ writes.here)
     by_test path false is = rw is (writes.others path (other_path path file.path is))
 
 -- the cost data of a tree, and its log
@@ -54,18 +52,18 @@ module _ (costs log : FileText) (differ : costs.path ≢ log.path) (x y : Held) 
   none_else here kept others = one_left costs x y (record { here = here; others = λ path off. by_test path off (bytes_eq path log.path) refl })
     where
       by_test : (path : List ℕ) → path ≢ costs.path → (same : Bool) → bytes_eq path log.path ≡ same → y path ≡ x path
-      by_test path off true is = let same = same_path path log.path is in ap y same ∙ kept ∙ ap x (sym same)
+      by_test path off true is = let same = (bytes_eq-Decides path log.path).0 is in ap y same ∙ kept ∙ ap x (sym same)
       by_test path off false is = others path off (other_path path log.path is)
 
   both_left : y costs.path ≡ Some costs.text → y log.path ≡ Some log.text → ((path : List ℕ) → path ≢ costs.path → path ≢ log.path → y path ≡ x path) → LeavesTexts (costs ∷ log ∷ []) x y
   both_left here there others = λ path. by_log path (bytes_eq path log.path) refl
     where
       by_costs : (path : List ℕ) → path ≢ log.path → (same : Bool) → bytes_eq path costs.path ≡ same → y path ≡ (if bytes_eq path costs.path then Some costs.text else x path)
-      by_costs path off true is = rw is (ap y (same_path path costs.path is) ∙ here)
+      by_costs path off true is = rw is (ap y ((bytes_eq-Decides path costs.path).0 is) ∙ here)
       by_costs path off false is = rw is (others path (other_path path costs.path is) off)
 
       by_log : (path : List ℕ) (same : Bool) → bytes_eq path log.path ≡ same → y path ≡ (if bytes_eq path log.path then Some log.text else (if bytes_eq path costs.path then Some costs.text else x path))
-      by_log path true is = rw is (ap y (same_path path log.path is) ∙ there)
+      by_log path true is = rw is (ap y ((bytes_eq-Decides path log.path).0 is) ∙ there)
       by_log path false is = rw is (by_costs path (other_path path log.path is) (bytes_eq path costs.path) refl)
 
   by_failed : (failed : Bool) → y costs.path ≡ Some costs.text → y log.path ≡ (if failed then Some log.text else x log.path) → ((path : List ℕ) → path ≢ costs.path → path ≢ log.path → y path ≡ x path) → LeavesTexts (costs ∷ (if failed then log ∷ [] else [])) x y
@@ -259,26 +257,17 @@ module _ (trees : List TreeRest) (parts : List History) (at : ℕ) (failed : Boo
 
   -- the next tree
   module _ (tree : TreeRest) (part : History) (within : at < length trees) (tree_is : tree ≡ get_or trees at tree) (there : at < length parts) (part_is : part ≡ get_or parts at part) where
-    trees_here : drop at trees ≡ tree ∷ drop (at + 1) trees
-    trees_here = drop_more trees at tree within ∙ ap (λ (t : TreeRest). t ∷ drop (at + 1) trees) (sym tree_is)
-
-    parts_here : entries_of_each (drop at parts) ≡ part.entries.items ∷ entries_of_each (drop (at + 1) parts)
-    parts_here = ap entries_of_each (drop_more parts at part there ∙ ap (λ (h : History). h ∷ drop (at + 1) parts) (sym part_is))
-
-    both_here : (P : List TreeRest → List (List Entry) → Type 0) → P (drop at trees) (entries_of_each (drop at parts)) → P (tree ∷ drop (at + 1) trees) (part.entries.items ∷ entries_of_each (drop (at + 1) parts))
-    both_here P is = subst (λ (ts : List TreeRest). P ts (part.entries.items ∷ entries_of_each (drop (at + 1) parts))) trees_here (subst (λ (ps : List (List Entry)). P (drop at trees) ps) parts_here is)
-
     ended_here : AreEnded (tree ∷ drop (at + 1) trees) (part.entries.items ∷ entries_of_each (drop (at + 1) parts))
-    ended_here = both_here AreEnded to.ended
+    ended_here = both_from trees parts at tree part within tree_is there part_is AreEnded to.ended
 
     pub final_there : are_all_final tree.plan part.entries.items ≡ true
     final_there = ended_here.0
 
     next_texts : AreWrittenSoFar (texts_of_parts trees (entries_of_each parts)) (tree_texts tree part.entries.items ++ texts_of_parts (drop (at + 1) trees) (entries_of_each (drop (at + 1) parts))) before mid
-    next_texts = both_here (λ ts ps. AreWrittenSoFar (texts_of_parts trees (entries_of_each parts)) (texts_of_parts ts ps) before mid) to.so_far
+    next_texts = both_from trees parts at tree part within tree_is there part_is (λ ts ps. AreWrittenSoFar (texts_of_parts trees (entries_of_each parts)) (texts_of_parts ts ps) before mid) to.so_far
 
     next_known : (failed || (has_failing tree.plan part.entries.items || some_failing (drop (at + 1) trees) (entries_of_each (drop (at + 1) parts)))) ≡ some_failing trees (entries_of_each parts)
-    next_known = both_here (λ ts ps. (failed || some_failing ts ps) ≡ some_failing trees (entries_of_each parts)) to.known
+    next_known = both_from trees parts at tree part within tree_is there part_is (λ ts ps. (failed || some_failing ts ps) ≡ some_failing trees (entries_of_each parts)) to.known
 
     -- the files of the next tree were written
     pub next_tree : (now : FilesTell) (Of : ℕ → List ℕ → Type 0) (any : Bool) → WritesTexts (tree_texts tree part.entries.items) Of mid now (Ok tt) → any ≡ has_failing tree.plan part.entries.items → AreWrittenTo trees parts (at + 1) (failed || any) before now

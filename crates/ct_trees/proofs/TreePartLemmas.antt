@@ -1,7 +1,7 @@
 -- What the workers of a run over several trees saw of a tree's tests is what the world tells of them, by the tree's
 -- own properties.
 use Rattle.std.proofs.Common.{◌≡◌, ◌∙◌, sym, ap, Bool, true, false, ℕ, zero, suc, ◌+◌, ◌-◌, ◌≤◌, ◌<◌, List, [], ◌∷◌, ◌++◌, length, refl, arith}
-use Rattle.std.specs.Prelude.{Option, Some, None, nat_le, nat_lt, slice_get, ◌==◌, if◌then◌else◌}
+use Rattle.std.specs.Prelude.{Option, Some, None, nat_le, nat_lt, slice_get, if◌then◌else◌}
 use Rattle.std.specs.List.{cons_option}
 use Rattle.std.proofs.lemmas.Bool.{and_parts, leb-true}
 use Rattle.ct_props.specs.declared.props.Props.{Props}
