@@ -1,5 +1,5 @@
 -- Whether some test has a failing verdict behind an allowed entry, and whether a Stop is due there.
-use Rattle.std.proofs.Common.{◌≡◌, ◌∙◌, sym, ap, subst, ℕ, ◌+◌, ◌<◌, Bool, true, false, not, ◌&&◌, List, [], ◌∷◌, ◌++◌, map, refl, arith, cond, inl, inr, Option, Some, None}
+use Rattle.std.proofs.Common.{◌≡◌, ◌∙◌, sym, ap, ℕ, ◌+◌, ◌<◌, Bool, true, false, not, ◌&&◌, List, [], ◌∷◌, ◌++◌, map, refl, arith, cond, inl, inr, Option, Some, None}
 use Rattle.std.specs.Prelude.{◌==◌, ◌||◌}
 use Rattle.std.specs.List.{list_any}
 use Rattle.std.proofs.lemmas.Bool.{cases_Bool, or_from, or_parts}
@@ -12,6 +12,7 @@ use Rattle.ct_history.specs.declared.history.Entry.TheVariants.{Start, End, Sett
 use Rattle.ct_history.specs.Plan.{IsAscendingFrom, IsSound, test_at}
 use Rattle.ct_history.specs.Verdicts.{is_failing_in, verdict_at, verdict_in, verdict_of_test}
 use Rattle.ct_history.specs.Legal.{has_failing, is_allowed, is_stop_due}
+use Rattle.ct_history.proofs.BoolLemmas.{flipped}
 use Rattle.ct_history.proofs.LegalLemmas.{due-snoc, failing_stays}
 use Rattle.ct_history.proofs.OtherLemmas.{is_about, verdict_in_other}
 use Rattle.ct_audit.specs.Seen.{test_of_entry}
@@ -68,9 +69,6 @@ module _ (plan : PlanParts) (sound : IsSound plan) (es : List Entry) where
     | inl failing ↦ failing_stays plan sound.numbers es e allowed failing ∙ sym (ap (λ (b : Bool). b || now) failing)
     | inr none ↦ fresh none ∙ sym (ap (λ (b : Bool). b || now) none)
   ]
-
-  flipped : (m n : ℕ) → (m == n) ≡ false → (n == m) ≡ false
-  flipped m n other = grind (arith, nat_tests)
 
   -- some test has a failing verdict behind an allowed entry exactly where one had, or the entry's test has one
   pub failing_more : (e : Entry) → is_allowed plan es e ≡ true → has_failing plan (es ++ e ∷ []) ≡ (has_failing plan es || has_failed_in plan (es ++ e ∷ []) (test_of_entry e))

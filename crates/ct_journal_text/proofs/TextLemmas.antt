@@ -9,11 +9,11 @@ use Rattle.std.proofs.lemmas.List.{append-nil, drop_all, drop_more, length-drop}
 use Rattle.std.proofs.lemmas.List.Folds.{list_any-append}
 use Rattle.ct_history.specs.declared.plan.PlanParts.{PlanParts}
 use Rattle.ct_history.specs.declared.history.Entry.{Entry}
-use Rattle.ct_history.specs.History.{Running, open_starts}
 use Rattle.ct_history.specs.Rules.{is_idle}
 use Rattle.ct_history.specs.Verdicts.{are_all_final}
 use Rattle.ct_history.specs.Legal.{IsComplete, is_allowed_so_far, is_legal, is_stop_due}
 use Rattle.ct_history.proofs.LegalLemmas.{allowed-snoc}
+use Rattle.ct_history.proofs.ProgressLemmas.{idle_empty}
 use Rattle.ct_audit.specs.declared.audit.Audit.{Audit}
 use Rattle.ct_audit.specs.Tells.{TellsHistory, is_at_end}
 use Rattle.ct_journal_text.specs.declared.check.Step.TheVariants.{GoesOn, Ends, IsBad}
@@ -23,10 +23,6 @@ use Rattle.ct_journal_text.specs.Journal.{EntriesFit, EntryFits, entry_lines, fu
 use Rattle.ct_journal_text.specs.Checked.{IsNoEntry, TakesLine}
 use Rattle.ct_journal_text.specs.Found.{Finds, FindsBehind, IsReading, StandsAt}
 use Rattle.ct_journal_text.proofs.LineLemmas.{line_again}
-
-idle_closed : (rs : List Running) → not (list_any (λ (r : Running). true) rs) ≡ true → rs ≡ []
-idle_closed [] idle = refl
-idle_closed (r ∷ rs) idle = cc
 
 fit_snoc : (entries : List Entry) (e : Entry) → EntriesFit entries → EntryFits (noted e) → EntriesFit (entries ++ e ∷ [])
 fit_snoc [] e fit one = (one, tt)
@@ -120,7 +116,7 @@ module _ (plan : PlanParts) (text : List ℕ) where
   legal_end entries allowed ended =
       let two = and_parts (are_all_final plan entries && is_idle entries) (not (is_stop_due plan entries)) ended in
       let one = and_parts (are_all_final plan entries) (is_idle entries) two.0 in
-      (and_from (is_allowed_so_far plan entries) (not (is_stop_due plan entries)) allowed two.1, record { final = one.0; closed = idle_closed (open_starts entries) one.1 })
+      (and_from (is_allowed_so_far plan entries) (not (is_stop_due plan entries)) allowed two.1, record { final = one.0; closed = idle_empty entries one.1 })
 
   -- the last line, and what stands behind it
   pub finds_last : (at count byte : ℕ) (old new : Audit) (line : List ℕ) (entries : List Entry) (ends : Bool) → length text < 2 ^ 64 → at < length text → byte ≡ get_or text at 0 → byte ≡ 10 → ends ≡ (at + 1 == length text) → IsReading plan text at old line count entries → TakesLine plan entries line Ends new → FindsBehind plan text (if ends then None else Some (count + 2))
