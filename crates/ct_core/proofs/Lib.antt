@@ -1,4 +1,5 @@
 pub mod AllowedLemmas
+pub mod ScriptLemmas
 pub mod OpenStartLemmas
 pub mod StateLemmas
 pub mod StandingLemmas

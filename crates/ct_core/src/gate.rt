@@ -51,7 +51,7 @@ impl Request {
 pub fn copy_names(alloc: Global, names: &[Name]) -> Result<List<Name>, NoMemory>
     ensures { IfOk result (λ copies. copies ≡ names.now) }
 {
-    let mut copies = List::new(alloc);
+    let mut copies = List::from_vec(Vec::with_capacity(alloc, names.len())?);
     for name in names {
         copies.push(name.copy(alloc)?)?;
     }
@@ -62,7 +62,7 @@ pub fn copy_names(alloc: Global, names: &[Name]) -> Result<List<Name>, NoMemory>
 pub fn copy_pairs(alloc: Global, pairs: &[Pair]) -> Result<List<Pair>, NoMemory>
     ensures { IfOk result (λ copies. copies ≡ pairs.now) }
 {
-    let mut copies = List::new(alloc);
+    let mut copies = List::from_vec(Vec::with_capacity(alloc, pairs.len())?);
     for pair in pairs {
         copies.push(Pair {
             name: pair.name.copy(alloc)?,

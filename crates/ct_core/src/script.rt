@@ -210,12 +210,37 @@ fn find_in_order(told: &[Told], test: u32, attempt: u32) -> Option<&Told>
     ensures { option_copied result ≡ find (λ t. t.test == test && t.attempt == attempt) told.entry.now }
 {
     let sought = rank_of(test, attempt);
-    let place = place_of(told, sought);
+    let place = place_near(told, (test as usize).saturating_sub(1), sought);
     let found = told.get(place)?;
     if rank(found) == sought {
         Some(found)
     } else {
         None
+    }
+}
+
+/// Finds the place where a rank belongs among the lines, and looks at the place `near` first.
+///
+/// If each test has one line, it stands at the place of the test's number.
+fn place_near(told: &[Told], near: usize, sought: u64) -> usize
+    requires { AreInOrder told.now }
+    ensures { IsPlaceOf sought told.now result }
+{
+    if is_place(told, near, sought) {
+        near
+    } else {
+        place_of(told, sought)
+    }
+}
+
+/// Tells whether a line at a place has the rank sought, and the line in front of it a lower one.
+fn is_place(told: &[Told], at: usize, sought: u64) -> bool
+    requires { AreInOrder told.now }
+    ensures { result ≡ true → IsPlaceOf sought told.now at }
+{
+    match told.get(at) {
+        Some(line) => rank(line) == sought && (at == 0 || rank(&told[at - 1]) < sought),
+        None => false,
     }
 }
 

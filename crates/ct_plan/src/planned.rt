@@ -28,7 +28,7 @@ pub(crate) fn plan_tests(
     requires unused { IfSome (option_copied free) IsUnused }
     ensures { IfOk result (AreLinked (lent (option_copied free.entry)) level defs.now props.now links) }
 {
-    let mut tests = List::new(alloc);
+    let mut tests = List::from_vec(Vec::with_capacity(alloc, links.len())?);
     for links in links.into_vec() {
         let at = links.number as usize - 1;
         let (def, own) = (&defs[at], &props[at]);
@@ -70,7 +70,7 @@ fn plan_test(
 pub(crate) fn copy_names(alloc: Global, names: &[Name]) -> Result<List<Name>, NoMemory>
     ensures { IfOk result (λ copies. copies ≡ names.now) }
 {
-    let mut copies = List::new(alloc);
+    let mut copies = List::from_vec(Vec::with_capacity(alloc, names.len())?);
     for name in names {
         copies.push(name.copy(alloc)?)?;
     }
@@ -99,7 +99,7 @@ fn is_among(name: &Name, others: &[Name]) -> bool
 pub(crate) fn copy_needs(alloc: Global, needs: &[Need]) -> Result<List<Need>, NoMemory>
     ensures { IfOk result (λ copies. copies ≡ needs.now) }
 {
-    let mut copies = List::new(alloc);
+    let mut copies = List::from_vec(Vec::with_capacity(alloc, needs.len())?);
     for need in needs {
         copies.push(Need {
             group: need.group,

@@ -79,20 +79,20 @@ module _ (test attempt : ℕ) where
 pub returns-in_err-found : goal.returns-in_err-found
 returns-in_err-found c =
     let told = c.args.told.now in
-    let place = c.place_of-place.result in
-    let point = subst (λ (rank : ℕ). IsPlaceOf rank told place) c.rank_of-sought.ensures c.place_of-place.ensures in
+    let place = c.place_near-place.result in
+    let point = subst (λ (rank : ℕ). IsPlaceOf rank told place) c.rank_of-sought.ensures c.place_near-place.ensures in
     rw c.from_residual.ensures (sym (past c.args.test c.args.attempt told place c.requires point (ltb-false place (length told) (sym c.in_err-found.ensures.lookup.0))))
 
 pub returns-then-rank-sought : goal.returns-then-rank-sought
 returns-then-rank-sought c =
     let told = c.args.told.now in
-    let place = c.place_of-place.result in
-    let point = subst (λ (rank : ℕ). IsPlaceOf rank told place) c.rank_of-sought.ensures c.place_of-place.ensures in
+    let place = c.place_near-place.result in
+    let point = subst (λ (rank : ℕ). IsPlaceOf rank told place) c.rank_of-sought.ensures c.place_near-place.ensures in
     here c.args.test c.args.attempt told place c.requires point c.in_ok-found.found.now (ltb-true place (length told) (sym c.in_ok-found.ensures.lookup.0)) c.in_ok-found.ensures.lookup.1 (sym c.rank.ensures.is ∙ c.if-rank-sought.true ∙ c.rank_of-sought.ensures) c.rank.ensures.low c.ranges.attempt.fits
 
 pub returns-else-rank-sought : goal.returns-else-rank-sought
 returns-else-rank-sought c =
     let told = c.args.told.now in
-    let place = c.place_of-place.result in
-    let point = subst (λ (rank : ℕ). IsPlaceOf rank told place) c.rank_of-sought.ensures c.place_of-place.ensures in
+    let place = c.place_near-place.result in
+    let point = subst (λ (rank : ℕ). IsPlaceOf rank told place) c.rank_of-sought.ensures c.place_near-place.ensures in
     nowhere c.args.test c.args.attempt told place c.requires point c.in_ok-found.found.now (ltb-true place (length told) (sym c.in_ok-found.ensures.lookup.0)) c.in_ok-found.ensures.lookup.1 (λ same. c.if-rank-sought.false (c.rank.ensures.is ∙ same ∙ sym c.rank_of-sought.ensures))

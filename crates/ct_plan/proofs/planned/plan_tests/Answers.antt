@@ -30,7 +30,9 @@ bounds-props-at c =
 
 pub loop-links-preserved : goal.loop-links-preserved
 loop-links-preserved c =
-    let turn = YieldsList-turn (YieldsList-from_vec {s = c.into_iter-links-iterator.result} c.args.links (cc) (search rules)) c.loop-links.yielded c.loop-links.links-iterator c.loop-links.yielded_by c.next.result c.next.new.self c.in-Some.links c.in-Some.is c.next.ensures.steps in
+    let taken : c.into_iter-links-iterator.result.rest.items ≡ c.into_vec-links-items.result.items = c.into_iter-links-iterator.ensures.into_iter_gives.0 in
+    let kept : c.into_vec-links-items.result.items ≡ c.args.links = c.into_vec-links-items.ensures in
+    let turn = YieldsList-turn (YieldsList-from_vec {s = c.into_iter-links-iterator.result} c.args.links (taken ∙ kept) (search rules)) c.loop-links.yielded c.loop-links.links-iterator c.loop-links.yielded_by c.next.result c.next.new.self c.in-Some.links c.in-Some.is c.next.ensures.steps in
     let defs = c.args.defs.now in
     let props = c.args.props.now in
     let links = c.in-Some.links in
