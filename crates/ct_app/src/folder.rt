@@ -10,7 +10,7 @@ ghost use Rattle.ct_worker.specs.Work.{Reach, terms_in};
 
 use crate::Outcome;
 use crate::planning::{PlannedFolder, Unplanned, hand_out_sound, plan_folder};
-use crate::run::{Reported, run};
+use crate::run::{PoolRun, run};
 use crate::run_files::write_files;
 use ct_args::Invocation;
 use ct_base::{Files, List, Name, Pair, Sink, SinkFault};
@@ -145,15 +145,15 @@ fn run_plan<R: Threads + Wait + Sync, G: Gate + Send, S: Sink + Send>(
 {
     match Core::open(alloc, plan) {
         Ok(core) => {
-            let Reported {
+            let PoolRun {
                 core,
                 gates,
                 sink,
-                ended,
+                put,
             } = run(rt, alloc, core, jobs, gates, sink);
             let (plan, history) = core.into_parts();
             PlanRun {
-                ended: outcome_of(ended),
+                ended: outcome_of(put),
                 plan,
                 history,
                 gates,

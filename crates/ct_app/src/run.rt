@@ -16,23 +16,13 @@ use std::alloc::Global;
 use std::sync::Wait;
 use std::thread::Threads;
 
-/// How the run of a plan ended, after its report, and the core, the gates and the sink of the run.
-#[derive(Drop)]
-pub(crate) struct Reported<G, S> {
-    pub(crate) core: Core,
-    pub(crate) gates: Vec<G>,
-    pub(crate) sink: S,
-    /// The fault of the sink, or `NoMemory`, which also tells that memory ran out for an attempt.
-    pub(crate) ended: Result<(), SinkFault>,
-}
-
 /// How the tests of a plan ran, and the core, the gates and the sink of the run.
 #[derive(Drop)]
 pub struct PoolRun<G, S> {
     pub core: Core,
     pub gates: Vec<G>,
     pub sink: S,
-    /// Whether the lines of the run were put; `NoMemory` also tells that memory ran out for an attempt.
+    /// Whether all lines were put; `NoMemory` also tells that memory ran out for an attempt.
     pub put: Result<(), SinkFault>,
 }
 
@@ -46,7 +36,7 @@ pub(crate) fn run<R: Threads + Wait + Sync, G: Gate + Send, S: Sink + Send>(
     jobs: &Jobs<'_>,
     gates: Vec<G>,
     mut sink: S,
-) -> Reported<G, S>
+) -> PoolRun<G, S>
     requires fresh { core ≡ record { plan = core.plan; entries = []; aborted = false } }
     requires level { 1 ≤ core.plan.level }
     requires some { 0 < vec_len gates }
@@ -54,24 +44,24 @@ pub(crate) fn run<R: Threads + Wait + Sync, G: Gate + Send, S: Sink + Send>(
     ensures plan { result.core.plan ≡ core.plan }
     ensures ran { HasRun (terms_in jobs.now core.plan) (map G.tells gates.items) (map G.tells result.gates.items) result.core.plan result.core.entries }
     ensures all { vec_len result.gates ≡ vec_len gates }
-    ensures puts { PutsLines (report_lines result.core.plan result.core.entries) (S.tells sink) (S.tells result.sink) result.ended }
-    ensures ends { RunEnds result.core.plan result.core.entries result.ended }
-    ensures stops { IfErr result.ended (λ fault. StopsAt fault result.core.plan result.core.entries (S.tells sink) (S.tells result.sink)) }
+    ensures puts { PutsLines (report_lines result.core.plan result.core.entries) (S.tells sink) (S.tells result.sink) result.put }
+    ensures ends { RunEnds result.core.plan result.core.entries result.put }
+    ensures stops { IfErr result.put (λ fault. StopsAt fault result.core.plan result.core.entries (S.tells sink) (S.tells result.sink)) }
     ensures others { RestStays result.core.plan gates.items result.gates.items }
 {
     match begin(alloc, &core, &mut sink) {
         Ok(true) => run_tests(rt, alloc, core, jobs, gates, sink),
-        Ok(false) => Reported {
+        Ok(false) => PoolRun {
             core,
             gates,
             sink,
-            ended: Ok(()),
+            put: Ok(()),
         },
-        Err(fault) => Reported {
+        Err(fault) => PoolRun {
             core,
             gates,
             sink,
-            ended: Err(fault),
+            put: Err(fault),
         },
     }
 }
@@ -97,7 +87,7 @@ fn run_tests<R: Threads + Wait + Sync, G: Gate + Send, S: Sink + Send>(
     jobs: &Jobs<'_>,
     gates: Vec<G>,
     sink: S,
-) -> Reported<G, S>
+) -> PoolRun<G, S>
     requires fresh { core ≡ record { plan = core.plan; entries = []; aborted = false } }
     requires level { 1 ≤ core.plan.level }
     requires some { 0 < vec_len gates }
@@ -105,9 +95,9 @@ fn run_tests<R: Threads + Wait + Sync, G: Gate + Send, S: Sink + Send>(
     ensures plan { result.core.plan ≡ core.plan }
     ensures ran { HasRun (terms_in jobs.now core.plan) (map G.tells gates.items) (map G.tells result.gates.items) result.core.plan result.core.entries }
     ensures all { vec_len result.gates ≡ vec_len gates }
-    ensures puts { PutsLines (lines_of_run result.core.plan result.core.entries) (S.tells sink) (S.tells result.sink) result.ended }
-    ensures ends { RunEnds result.core.plan result.core.entries result.ended }
-    ensures stops { IfErr result.ended (λ fault. StopsBehind fault result.core.plan result.core.entries (S.tells sink) (S.tells result.sink)) }
+    ensures puts { PutsLines (lines_of_run result.core.plan result.core.entries) (S.tells sink) (S.tells result.sink) result.put }
+    ensures ends { RunEnds result.core.plan result.core.entries result.put }
+    ensures stops { IfErr result.put (λ fault. StopsBehind fault result.core.plan result.core.entries (S.tells sink) (S.tells result.sink)) }
     ensures others { RestStays result.core.plan gates.items result.gates.items }
 {
     let PoolRun {
@@ -117,11 +107,11 @@ fn run_tests<R: Threads + Wait + Sync, G: Gate + Send, S: Sink + Send>(
         put,
     } = run_pool(rt, alloc, core, jobs, gates, sink);
     let ended = put_behind(alloc, &core, &mut sink, put);
-    Reported {
+    PoolRun {
         core,
         gates,
         sink,
-        ended,
+        put: ended,
     }
 }
 

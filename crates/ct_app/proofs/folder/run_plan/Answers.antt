@@ -14,7 +14,7 @@ returns-in-Ok-clause-ran g c =
 
 pub returns-in-Ok-clause-ends : goal.returns-in-Ok-clause-ends
 returns-in-Ok-clause-ends g c =
-    core_ends (g.S.Sink.tells c.args.sink) (g.S.Sink.tells c.run-core.result.sink) c.run-core.result.core c.run-core.result.ended c.into_parts-plan.result.0 c.into_parts-plan.result.1.entries.items c.outcome_of.result
+    core_ends (g.S.Sink.tells c.args.sink) (g.S.Sink.tells c.run-core.result.sink) c.run-core.result.core c.run-core.result.put c.into_parts-plan.result.0 c.into_parts-plan.result.1.entries.items c.outcome_of.result
     c.into_parts-plan.ensures.plan c.into_parts-plan.ensures.history c.run-core.ensures.puts c.run-core.ensures.ends c.run-core.ensures.stops c.outcome_of.ensures
 
 pub returns-in-Err-clause-ran : goal.returns-in-Err-clause-ran

@@ -15,7 +15,7 @@ returns-in-Ok-true-clause-puts g c =
     let ran = c.run_tests in
     let begun = subst (λ (r : Result Bool SinkFault). BeginsReport c.args.core.plan (g.S.Sink.tells c.args.sink) (g.S.Sink.tells c.begin.new.sink) r) (c.in-Ok-true.is ∙ ap (λ (b : Bool). Ok b) c.in-Ok-true.field-0-test) c.begin.ensures in
     let now = subst (λ (p : PlanParts). BeginsReport p (g.S.Sink.tells c.args.sink) (g.S.Sink.tells c.begin.new.sink) (Ok true)) (sym ran.ensures.plan) begun in
-    body_puts ran.result.core.plan ran.result.core.entries now.1 (g.S.Sink.tells c.args.sink) (g.S.Sink.tells c.begin.new.sink) (g.S.Sink.tells ran.result.sink) ran.result.ended now.0 ran.ensures.puts
+    body_puts ran.result.core.plan ran.result.core.entries now.1 (g.S.Sink.tells c.args.sink) (g.S.Sink.tells c.begin.new.sink) (g.S.Sink.tells ran.result.sink) ran.result.put now.0 ran.ensures.puts
 
 pub returns-in-Ok-false-clause-ran : goal.returns-in-Ok-false-clause-ran
 returns-in-Ok-false-clause-ran g c = unrun (terms_in c.args.jobs.now c.args.core.plan) (map g.G.Gate.tells c.args.gates.items) c.args.core.plan c.args.core.entries (ap (λ (k : CoreValue). k.entries) c.requires.fresh)
@@ -33,7 +33,7 @@ returns-in-Ok-true-clause-stops g c =
     let ran = c.run_tests in
     let begun = subst (λ (r : Result Bool SinkFault). BeginsReport c.args.core.plan (g.S.Sink.tells c.args.sink) (g.S.Sink.tells c.begin.new.sink) r) (c.in-Ok-true.is ∙ ap (λ (b : Bool). Ok b) c.in-Ok-true.field-0-test) c.begin.ensures in
     let now = subst (λ (p : PlanParts). BeginsReport p (g.S.Sink.tells c.args.sink) (g.S.Sink.tells c.begin.new.sink) (Ok true)) (sym ran.ensures.plan) begun in
-    header_stops ran.result.core.plan ran.result.core.entries (g.S.Sink.tells c.args.sink) (g.S.Sink.tells c.begin.new.sink) (g.S.Sink.tells ran.result.sink) ran.result.ended now.0 ran.ensures.stops
+    header_stops ran.result.core.plan ran.result.core.entries (g.S.Sink.tells c.args.sink) (g.S.Sink.tells c.begin.new.sink) (g.S.Sink.tells ran.result.sink) ran.result.put now.0 ran.ensures.stops
 
 pub returns-in-Err-clause-stops : goal.returns-in-Err-clause-stops
 returns-in-Err-clause-stops g c = inl (ap (λ (k : CoreValue). k.entries) c.requires.fresh)
