@@ -65,42 +65,45 @@ pub fn order(
     ensures none { OnOk result (HasCycle (before_of defs.now props.now members.now) → ⊥) }
 {
     let index = Index::of(alloc, defs.as_slice(), props.as_slice(), members.as_slice())?;
-    order_within(alloc, &index, MOST_EDGES)
+    order_within(alloc, index, MOST_EDGES)
 }
 
 /// Finds the order, where at most `most` edges are allowed.
-fn order_within(alloc: Global, index: &Index, most: u32) -> Result<Ordered, GraphFault>
-    requires indexed { Indexed index.now }
-    requires few { length index.now.props.now < 2 ^ 32 - 1 }
-    ensures { IsAnswer most index.now.defs.now index.now.props.now index.now.members.now result }
+fn order_within(alloc: Global, index: Index<'_>, most: u32) -> Result<Ordered, GraphFault>
+    requires indexed { Indexed index }
+    requires few { length index.props.now < 2 ^ 32 - 1 }
+    ensures { IsAnswer most index.entry.defs.now index.entry.props.now index.entry.members.now result }
 {
-    let graph = rows(alloc, index, most)?;
-    let marks = marks(alloc, graph.before.as_slice(), index.members)?;
+    let members = index.members;
+    let graph = rows(alloc, &index, most)?;
+    // The index is dropped first, since it is as large as the graph can be.
+    drop(index);
+    let marks = marks(alloc, graph.before.as_slice(), members)?;
     Ok(Ordered {
-        links: links_in_order(alloc, index, graph, &marks)?,
+        links: links_in_order(alloc, members, graph, &marks)?,
     })
 }
 
 /// Returns the links of each member, in order.
 fn links_in_order(
     alloc: Global,
-    index: &Index,
+    members: &[u32],
     graph: Graph,
     marks: &[Mark],
 ) -> Result<List<Links>, NoMemory>
-    requires indexed { Indexed index.now }
-    requires before { All (λ number. number < length graph.before.items) index.now.members.now }
-    requires setups { All (λ number. number < length graph.setups.items) index.now.members.now }
-    requires marks { All (λ number. number < length marks.now) index.now.members.now }
-    requires taken { are_taken marks.now index.now.members.now ≡ true }
-    ensures { IfOk result (λ links. links ≡ map (links_of (row_of graph.setups.items) graph.before.items marks.now) index.now.members.now) }
+    requires ascending { IsStrictlyIncreasing members.now }
+    requires before { All (λ number. number < length graph.before.items) members.now }
+    requires setups { All (λ number. number < length graph.setups.items) members.now }
+    requires marks { All (λ number. number < length marks.now) members.now }
+    requires taken { are_taken marks.now members.now ≡ true }
+    ensures { IfOk result (λ links. links ≡ map (links_of (row_of graph.setups.items) graph.before.items marks.now) members.now) }
 {
     let Graph {
         mut before,
         mut setups,
     } = graph;
     let mut links = List::new(alloc);
-    for number in index.members {
+    for number in members {
         let place = *number as usize;
         links.push(Links {
             number: *number,

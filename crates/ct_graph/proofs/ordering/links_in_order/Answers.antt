@@ -9,13 +9,13 @@ use Rattle.ct_graph.proofs.ordering.links_in_order.Goals as goal
 
 pub loop-number-preserved : goal.loop-number-preserved
 loop-number-preserved c =
-    let members = c.args.index.now.members.now in
+    let members = c.args.members.now in
     let rows = c.args.graph.before.items in
     let sets = c.args.graph.setups.items in
     let at = c.loop-number.number-index in
     let number = get_or members at 0 in
     let within = c.loop-number-test.true in
-    let front = not_in_front members at c.requires.indexed.ascending within in
+    let front = not_in_front members at c.requires.ascending within in
     let inside : number < length c.loop-number.before.items = subst (λ n. number < n) (sym c.loop-number.invariant.1.count) (All-get_or (λ n. n < length rows) members at 0 within c.requires.before) in
     let inside_sets : number < length c.loop-number.setups.items = subst (λ n. number < n) (sym c.loop-number.invariant.2.count) (All-get_or (λ n. n < length sets) members at 0 within c.requires.setups) in
     let before : c.replace.result ≡ row_of rows number = c.replace.ensures.value ∙ get_or_read c.loop-number.before.items number c.index_mut.result.now inside c.index_mut.ensures.value [] ∙ c.loop-number.invariant.1.same number front in

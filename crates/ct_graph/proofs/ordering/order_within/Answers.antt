@@ -9,13 +9,13 @@ use Rattle.ct_graph.proofs.ordering.order_within.Goals as goal
 
 pub marks-requires-clause-within : goal.marks-requires-clause-within
 marks-requires-clause-within c =
-    let index = c.args.index.now in
+    let index = c.args.index in
     subst AreWithin (sym c.as_slice.ensures.value)
     (rows_within (λ number j. comes_before (at_number index.defs.now j) (at_number index.props.now j) (at_number index.props.now number)) (length index.props.now) index.members.now c.in_ok-graph.graph.before.items c.requires.indexed.inside c.in_ok-graph.ensures.before)
 
 pub returns-in_err-marks : goal.returns-in_err-marks
 returns-in_err-marks c =
-    let index = c.args.index.now in
+    let index = c.args.index in
     let gave : c.from_residual-in_err-marks.result ≡ Err c.in_err-marks.field-0.0 = search rules in
     rw gave
     (ends_order c.args.most index.defs.now index.props.now (length index.props.now) index.members.now c.in_ok-graph.graph.before.items c.in_err-marks.field-0.0 c.in_ok-graph.ensures.few c.in_ok-graph.ensures.before
@@ -23,7 +23,7 @@ returns-in_err-marks c =
 
 pub returns : goal.returns
 returns c =
-    let index = c.args.index.now in
+    let index = c.args.index in
     let graph = c.in_ok-graph.graph in
     let ranked = subst (λ rows. AreRanked rows c.in_ok-marks.marks.items) c.as_slice.ensures.value c.in_ok-marks.ensures.ranked in (
       c.in_ok-graph.ensures.few,
