@@ -3,7 +3,7 @@
 use Rattle.std.proofs.Common.{◌≡◌, ◌∙◌, sym, ap, subst, refl, ℕ, ◌+◌, ◌<◌, ◌≤◌, Bool, true, false, cond, bytes_eq, List, [], ◌∷◌, ◌++◌, length, drop, get_or, Some, arith, append_assoc, nat_le}
 use Rattle.std.specs.Prelude.{slice_get}
 use Rattle.std.specs.List.{list_any}
-use Rattle.std.specs.Map.{AreApart, IsKeyTest, KeepsOthers, lookup}
+use Rattle.std.specs.Map.{lookup}
 use Rattle.std.specs.declared.vec.Vec.{Vec}
 use Rattle.std.proofs.lemmas.Bool.{true≢false}
 use Rattle.std.proofs.lemmas.Bool.Decides.{nat_tests}
@@ -13,28 +13,18 @@ use Rattle.std.proofs.lemmas.Slice.Eq.{bytes_eq-Decides}
 use Rattle.indexmap.specs.IndexMap.{IndexMap, UpdatesBy}
 use Rattle.ct_base.specs.declared.defs.Need.{Need}
 use Rattle.ct_base.specs.declared.defs.Resource.{Resource}
+use Rattle.ct_base.proofs.KeyLemmas.{kept_apart}
 use Rattle.ct_base.proofs.NameLemmas.{bytes_eq_comm}
 use Rattle.ct_alloc.specs.Free.{FreeValue, free_at}
 use Rattle.ct_alloc.specs.ByKind.{found_places, places_for}
 use Rattle.ct_alloc.specs.Spread.{HasRoom, cards_from, is_of_kind}
 use Rattle.ct_alloc.proofs.SpreadLemmas.{card-kind, card-there, index-at, index_of}
 
-module _ {Y : Type 0} where
-  key_test : (asked : List ℕ) → IsKeyTest (λ (one other : Vec ℕ Y). bytes_eq one.items other.items) (λ (name : Vec ℕ Y). bytes_eq asked name.items)
-  key_test asked = λ one other at_one. ap (λ bytes. bytes_eq bytes other.items) ((bytes_eq-Decides asked one.items).0 at_one)
-
-  apart : (kind asked : List ℕ) → bytes_eq kind asked ≡ false → AreApart (λ (name : Vec ℕ Y). bytes_eq kind name.items) (λ (name : Vec ℕ Y). bytes_eq asked name.items)
-  apart kind asked differ = λ name at_it. ap (bytes_eq asked) (sym ((bytes_eq-Decides kind name.items).0 at_it)) ∙ bytes_eq_comm asked kind ∙ differ
-
 module _ {Y Z : Type 0} where
-  kept_apart : (kind asked : List ℕ) (before now : List (Vec ℕ Y × Vec ℕ Z)) → bytes_eq kind asked ≡ false → KeepsOthers (λ (one other : Vec ℕ Y). bytes_eq one.items other.items) (λ (name : Vec ℕ Y). bytes_eq kind name.items) before now → lookup (λ (name : Vec ℕ Y). bytes_eq asked name.items) now ≡ lookup (λ (name : Vec ℕ Y). bytes_eq asked name.items) before
-  unfolding KeepsOthers
-  kept_apart kind asked before now differ kept = kept (λ (name : Vec ℕ Y). bytes_eq asked name.items) (key_test asked) (apart kind asked differ)
-
   module _ {S : Type 0} where
     updated : (before now : IndexMap (Vec ℕ Y) (Vec ℕ Z) S) (kind asked : List ℕ) (places : Vec ℕ Z) → UpdatesBy (λ (one other : Vec ℕ Y). bytes_eq one.items other.items) (λ (name : Vec ℕ Y). bytes_eq kind name.items) before now (Some places) → (is : Bool) → bytes_eq kind asked ≡ is → places_for now asked ≡ cond is places.items (places_for before asked)
     updated before now kind asked places updates true is = ap (places_for now) (sym ((bytes_eq-Decides kind asked).0 is)) ∙ ap found_places updates.1
-    updated before now kind asked places updates false is = ap found_places (kept_apart kind asked before.entries now.entries is updates.3)
+    updated before now kind asked places updates false is = ap found_places (kept_apart kind asked before.entries now.entries (bytes_eq_comm asked kind ∙ is) updates.3)
 
     noted_by : (before now : IndexMap (Vec ℕ Y) (Vec ℕ Z) S) (kind asked places : List ℕ) (place : ℕ) (is : Bool) → bytes_eq kind asked ≡ is → places ≡ places_for before kind ++ place ∷ [] → places_for now asked ≡ cond is places (places_for before asked) → places_for now asked ≡ cond is (places_for before asked ++ place ∷ []) (places_for before asked)
     noted_by before now kind asked places place true is pushed put = put ∙ pushed ∙ ap (λ k. places_for before k ++ place ∷ []) ((bytes_eq-Decides kind asked).0 is)

@@ -8,6 +8,7 @@ use Rattle.std.proofs.lemmas.List.{append-nil}
 use Rattle.std.proofs.lemmas.List.Folds.{list_all-append}
 use Rattle.std.proofs.lemmas.List.FromFn.{length-map-range_with_len}
 use Rattle.ct_base.proofs.TruthLemmas.{same_truth}
+use Rattle.ct_base.proofs.OptionLemmas.{some_is}
 use Rattle.ct_alloc.specs.declared.placement.Placement.{Placement}
 use Rattle.ct_verdict.specs.declared.attempt.Seen.{Seen}
 use Rattle.ct_verdict.specs.declared.verdict.Cause.{Cause}
@@ -377,10 +378,6 @@ module _ (plan : PlanParts) (ranked : IsRanked plan) (seen : ℕ → ℕ → See
     all_go : AllGo plan seen es
     all_go = goes_behind [] es so_far are goes_first
 
-    some_verdict : (o : Option Verdict) → is_some o ≡ true → (v : Verdict) × (o ≡ Some v)
-    some_verdict None is = cc
-    some_verdict (Some v) is = (v, refl)
-
     verdict_meant : (number : ℕ) → IsMeant plan seen es number
     verdict_meant number = by_test (test_at plan.tests number) refl
       where
@@ -388,7 +385,7 @@ module _ (plan : PlanParts) (ranked : IsRanked plan) (seen : ℕ → ℕ → See
         by_test None found = inl (sym (meant_verdict-is plan ranked seen number ∙ ap (λ (o : Option PlanTest). meant_by_setups plan.repeat seen (meant_verdict plan seen) o) found))
         by_test (Some t) found =
             let has = all_found (λ (x : PlanTest). is_final_in plan.repeat x es) (λ (x : PlanTest). x.number == number) plan.tests t final found in
-            let verdict = some_verdict (verdict_in plan.repeat t es) has in
+            let verdict = some_is (verdict_in plan.repeat t es) has in
             elim (right_at es all_go number (Some t) found verdict.0 verdict.1) [
               | inl meant ↦ inl (verdict.1 ∙ sym meant)
               | inr stopped ↦ inr (stopped.0, verdict.1 ∙ ap (λ (v : Verdict). Some v) stopped.1)

@@ -13,40 +13,10 @@ use Rattle.ct_history.specs.Plan.{IsAscendingFrom, IsSound, test_at}
 use Rattle.ct_history.specs.Verdicts.{is_failing_in, verdict_at, verdict_in, verdict_of_test}
 use Rattle.ct_history.specs.Legal.{has_failing, is_allowed, is_stop_due}
 use Rattle.ct_history.proofs.BoolLemmas.{flipped}
+use Rattle.ct_history.proofs.FailingLemmas.{any_one, holds_at}
 use Rattle.ct_history.proofs.LegalLemmas.{due-snoc, failing_stays}
 use Rattle.ct_history.proofs.OtherLemmas.{is_about, verdict_in_other}
 use Rattle.ct_audit.specs.Seen.{test_of_entry}
-
--- the test that was looked up is there and passes
-abbrev holds_at : (PlanTest → Bool) → Option PlanTest → Bool
-holds_at q None = false
-holds_at q (Some t) = q t
-
--- two predicates on tests that agree on each test but the one with this number
-module _ (p q : PlanTest → Bool) (n : ℕ) (same : (u : PlanTest) → (u.number == n) ≡ false → q u ≡ p u) where
-  none_above : (least : ℕ) (ts : List PlanTest) → IsAscendingFrom least (map (λ (x : PlanTest). x.number) ts) → n < least → list_any p ts ≡ false → list_any q ts ≡ false
-  none_above least [] ascends lt none = refl
-  none_above least (x ∷ xs) ascends lt none =
-      let le = ascends.0 in
-      let other : (x.number == n) ≡ false = grind (arith, nat_tests) in
-      let both = or_parts (p x) (list_any p xs) none in
-      or_from (q x) (list_any q xs) (same x other ∙ both.0) (none_above (x.number + 1) xs ascends.1 (omega (arith, lt, le)) both.1)
-
-  any_one : (least : ℕ) (ts : List PlanTest) → IsAscendingFrom least (map (λ (x : PlanTest). x.number) ts) → list_any p ts ≡ false → list_any q ts ≡ holds_at q (test_at ts n)
-  any_one least [] ascends none = refl
-  any_one least (x ∷ xs) ascends none =
-      let both = or_parts (p x) (list_any p xs) none in
-      elim (cases_Bool (x.number == n)) [
-        | inl here ↦
-            let above : n < x.number + 1 = grind (arith, nat_tests) in
-            ap (λ (b : Bool). q x || b) (none_above (x.number + 1) xs ascends.1 above both.1)
-            ∙ or-false (q x)
-            ∙ sym (ap (λ (b : Bool). holds_at q (cond b (Some x) (test_at xs n))) here)
-        | inr other ↦
-            ap (λ (b : Bool). b || list_any q xs) (same x other ∙ both.0)
-            ∙ any_one (x.number + 1) xs ascends.1 both.1
-            ∙ sym (ap (λ (b : Bool). holds_at q (cond b (Some x) (test_at xs n))) other)
-      ]
 
 -- the test that an entry is about has a failing verdict
 abbrev pub has_failed_in : PlanParts → List Entry → Option ℕ → Bool

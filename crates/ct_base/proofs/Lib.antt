@@ -1,6 +1,7 @@
 pub mod DecimalLemmas
 pub mod EntryLemmas
 pub mod HeldLemmas
+pub mod KeyLemmas
 pub mod NameLemmas
 pub mod TruthLemmas
 pub mod OptionLemmas

@@ -4,7 +4,7 @@ use Rattle.std.specs.Prelude.{is_some, Option, Some, None, not, ◌&&◌, ◌||�
 use Rattle.std.proofs.lemmas.Bool.{cases_Bool, true≢false, ltb-false}
 use Rattle.std.proofs.lemmas.List.{length-map}
 use Rattle.std.proofs.lemmas.Option.{slice_get-map}
-use Rattle.std.proofs.Math.Bool.{and-false, and-true}
+use Rattle.std.proofs.Math.Bool.{and-false, and-true, or-true}
 use Rattle.ct_verdict.specs.declared.verdict.Verdict.{Verdict}
 use Rattle.ct_verdict.specs.Verdict.{is_failing_verdict}
 use Rattle.ct_history.specs.declared.plan.PlanTest.{PlanTest}
@@ -35,11 +35,7 @@ abbrev pub counted : Parts → Parts
 counted parts = record parts { unfinished = parts.unfinished - 1 }
 
 stop_added : (es : List Entry) → has_stop (es ++ Stop ∷ []) ≡ true
-stop_added es = stop-snoc es Stop ∙ or_true (has_stop es)
-  where
-    or_true : (b : Bool) → (b || (true || false)) ≡ true
-    or_true true = refl
-    or_true false = refl
+stop_added es = stop-snoc es Stop ∙ or-true (has_stop es)
 
 -- the states and the history agree on whether the test at a place is pending
 pending_here : (plan : PlanParts) (es : List Entry) (place : ℕ) → is_pending_at_place (states_of plan es) place ≡ is_pending_at plan es (slice_get plan.tests place)

@@ -5,6 +5,7 @@ use Rattle.std.specs.List.{list_any}
 use Rattle.std.proofs.lemmas.Bool.{and_parts, cases_Bool, not-true, or_from, or_left, or_parts, or_right, true≢false}
 use Rattle.std.proofs.lemmas.Bool.Decides.{nat_tests}
 use Rattle.std.proofs.Math.Bool.{or-false, and-false}
+use Rattle.ct_base.proofs.TruthLemmas.{same_truth}
 use Rattle.ct_verdict.specs.declared.attempt.Seen.{Seen}
 use Rattle.ct_verdict.specs.declared.verdict.Cause.{Cause}
 use Rattle.ct_verdict.specs.declared.verdict.Verdict.{Verdict}
@@ -18,6 +19,7 @@ use Rattle.ct_history.specs.History.{attempts_of, has_stop, holds_start, is_busy
 use Rattle.ct_history.specs.Verdicts.{is_failing_in, verdict_at, verdict_in, verdict_of_test}
 use Rattle.ct_history.specs.Rules.{is_pending}
 use Rattle.ct_history.specs.Legal.{has_failing, is_allowed, is_allowed_so_far, is_legal, is_stop_due, settles, starts}
+use Rattle.ct_history.proofs.FailingLemmas.{any_one, holds_at}
 use Rattle.ct_history.proofs.LegalLemmas.{due-snoc, legal_allowed, legal_not_due, stop_failed, stop-snoc, failing-nil}
 use Rattle.ct_history.proofs.OpenLemmas.{opens_stop}
 use Rattle.ct_history.proofs.OtherLemmas.{verdict_in_other}
@@ -64,44 +66,15 @@ module _ (plan : PlanParts) (on : plan.stop_on_failure ≡ true) where
 pub failing_is_stop : (plan : PlanParts) → IsSound plan → (es : List Entry) → is_legal plan es ≡ true → plan.stop_on_failure ≡ true → has_failing plan es ≡ has_stop es
 failing_is_stop plan sound es legal on =
     let so_far = legal_allowed plan es legal in
-    same (has_failing plan es) (has_stop es) (λ failing. failed_stopped plan on es so_far failing (not-true (is_stop_due plan es) (legal_not_due plan es legal)))
+    same_truth (has_failing plan es) (has_stop es) (λ failing. failed_stopped plan on es so_far failing (not-true (is_stop_due plan es) (legal_not_due plan es legal)))
     (λ stop. stop_failed plan sound.numbers es so_far stop)
-  where
-    same : (a b : Bool) → (a ≡ true → b ≡ true) → (b ≡ true → a ≡ true) → a ≡ b
-    same true b one other = sym (one refl)
-    same false true one other = other refl
-    same false false one other = refl
-
--- two predicates on tests that agree on each test but the one with this number
-module _ (p q : PlanTest → Bool) (n : ℕ) (same : (u : PlanTest) → (u.number == n) ≡ false → q u ≡ p u) where
-  none_above : (least : ℕ) (ts : List PlanTest) → IsAscendingFrom least (map (λ (x : PlanTest). x.number) ts) → n < least → list_any p ts ≡ false → list_any q ts ≡ false
-  none_above least [] ascends lt none = refl
-  none_above least (x ∷ xs) ascends lt none =
-      let le = ascends.0 in
-      let other : (x.number == n) ≡ false = grind (arith, nat_tests) in
-      let both = or_parts (p x) (list_any p xs) none in
-      or_from (q x) (list_any q xs) (same x other ∙ both.0) (none_above (x.number + 1) xs ascends.1 (omega (arith, lt, le)) both.1)
-
-  any_one : (least : ℕ) (ts : List PlanTest) (t : PlanTest) → IsAscendingFrom least (map (λ (x : PlanTest). x.number) ts) → list_any p ts ≡ false → test_at ts n ≡ Some t → list_any q ts ≡ q t
-  any_one least [] t ascends none found = cc
-  any_one least (x ∷ xs) t ascends none found =
-      let both = or_parts (p x) (list_any p xs) none in
-      elim (cases_Bool (x.number == n)) [
-        | inl here ↦
-            let this : Some x ≡ Some t = sym (ap (λ (b : Bool). cond b (Some x) (test_at xs n)) here) ∙ found in
-            let is : x ≡ t = cc in
-            let above : n < x.number + 1 = grind (arith, nat_tests) in
-            ap (λ (b : Bool). q x || b) (none_above (x.number + 1) xs ascends.1 above both.1) ∙ or-false (q x) ∙ ap q is
-        | inr other ↦
-            ap (λ (b : Bool). b || list_any q xs) (same x other ∙ both.0)
-            ∙ any_one (x.number + 1) xs t ascends.1 both.1 (sym (ap (λ (b : Bool). cond b (Some x) (test_at xs n)) other) ∙ found)
-      ]
 
 -- if no test had failed in front of the entry, some test has behind it exactly if this test has
 failing_one : (plan : PlanParts) → IsSound plan → (es : List Entry) (e : Entry) (n : ℕ) (t : PlanTest) → IsAboutOnly n e → test_at plan.tests n ≡ Some t → has_failing plan es ≡ false → has_failing plan (es ++ e ∷ []) ≡ is_failing_in (verdict_of_test plan (es ++ e ∷ []) n)
 failing_one plan sound es e n t only found none =
     any_one (λ u. is_failing_in (verdict_in plan.repeat u es)) (λ u. is_failing_in (verdict_in plan.repeat u (es ++ e ∷ []))) n
-    (λ u other. ap is_failing_in (verdict_in_other plan.repeat u es e (only u.number other))) 1 plan.tests t sound.numbers none found
+    (λ u other. ap is_failing_in (verdict_in_other plan.repeat u es e (only u.number other))) 1 plan.tests sound.numbers none
+    ∙ ap (holds_at (λ u. is_failing_in (verdict_in plan.repeat u (es ++ e ∷ [])))) found
     ∙ sym (ap (λ (o : Option PlanTest). is_failing_in (verdict_at plan (es ++ e ∷ []) o)) found)
 
 -- a Stop is due exactly if the plan stops on failure, the

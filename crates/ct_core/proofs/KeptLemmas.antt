@@ -1,7 +1,7 @@
 -- Which entry is allowed next, and that a legal history stays legal with it.
 use Rattle.std.proofs.Common.{◌≡◌, ◌∙◌, sym, ap, subst, Bool, true, false, ℕ, ◌+◌, ◌≤◌, List, [], ◌∷◌, ◌++◌, length, refl, arith, length-append, inl, inr}
 use Rattle.std.specs.Prelude.{Option, Some, None, map, not, ◌&&◌, ◌||◌, if◌then◌else◌}
-use Rattle.std.proofs.Math.Bool.{or-false}
+use Rattle.std.proofs.Math.Bool.{or-false, or-true}
 use Rattle.std.proofs.lemmas.Bool.{and_from, cases_Bool, false_from_ne_true, true≢false, eq-eqb}
 use Rattle.std.proofs.lemmas.List.{append-nil}
 use Rattle.ct_alloc.specs.declared.placement.Placement.{Placement}
@@ -32,10 +32,6 @@ one_place_most es = by (has_stop es)
     by : (b : Bool) → (if b then 0 else 1) ≤ 1
     by true = omega arith
     by false = omega arith
-
-or_stop : (b : Bool) → (b || (true || false)) ≡ true
-or_stop true = refl
-or_stop false = refl
 
 -- a Start of the test that was looked up is allowed if the test may start and the attempt is its next
 starts_found : (plan : PlanParts) (es : List Entry) (o : Option PlanTest) (p : Option Placement) (a : ℕ) → may_start_at plan es p o ≡ true → a ≡ attempt_after es o → starts plan es a p o ≡ true
@@ -77,7 +73,7 @@ module _ (plan : PlanParts) (ascends : IsAscendingFrom 1 (map (λ (t : PlanTest)
   with_stop e plain allowed due =
       let xs = es ++ e ∷ [] in
       let none : has_stop xs ≡ false = stop-snoc es e ∙ ap (λ (b : Bool). b || (is_stop e || false)) (due_first e due) ∙ ap (λ (b : Bool). b || false) plain in
-      let now : stop_places (xs ++ Is.Stop ∷ []) ≡ 0 = ap (λ (b : Bool). if b then 0 else 1) (stop-snoc xs Is.Stop ∙ or_stop (has_stop xs)) in
+      let now : stop_places (xs ++ Is.Stop ∷ []) ≡ 0 = ap (λ (b : Bool). if b then 0 else 1) (stop-snoc xs Is.Stop ∙ or-true (has_stop xs)) in
       let before : stop_places es ≡ 1 = ap (λ (b : Bool). if b then 0 else 1) (due_first e due) in
       record {
         legal = legal_with_stop plan xs (allowed-snoc plan es e (legal_allowed plan es legal) allowed) due;

@@ -2,9 +2,9 @@
 use Rattle.std.proofs.Common.{◌≡◌, ◌∙◌, sym, ap, Bool, true, false, ℕ, List, get_or, cond, refl}
 use Rattle.std.specs.Prelude.{Option, Some, All, not, ◌&&◌, ◌||◌, bytes_eq, is_some, unwrap_or}
 use Rattle.std.specs.List.{list_any, list_all}
-use Rattle.std.specs.Map.{AreApart, IsKeyTest, KeepsOthers, lookup}
+use Rattle.std.specs.Map.{lookup}
 use Rattle.std.specs.declared.vec.Vec.{Vec}
-use Rattle.std.proofs.Math.Bool.{or-false}
+use Rattle.std.proofs.Math.Bool.{or-false, or-true}
 use Rattle.std.proofs.lemmas.List.Folds.{list_any_at}
 use Rattle.std.proofs.lemmas.List.Sums.{list_all-from_AllPass}
 use Rattle.std.proofs.lemmas.Slice.Eq.{bytes_eq-Decides}
@@ -12,19 +12,9 @@ use Rattle.indexmap.specs.IndexMap.{IndexMap, UpdatesBy}
 use Rattle.ct_history.specs.declared.plan.PlanTest.{PlanTest}
 use Rattle.ct_core.specs.Locks.{noted_for}
 use Rattle.ct_base.specs.Names.{is_among}
-
-module _ {Y : Type 0} where
-  key_test : (asked : List ℕ) → IsKeyTest (λ (one other : Vec ℕ Y). bytes_eq one.items other.items) (λ (name : Vec ℕ Y). bytes_eq asked name.items)
-  key_test asked = λ one other at_one. ap (λ bytes. bytes_eq bytes other.items) ((bytes_eq-Decides asked one.items).0 at_one)
-
-  apart : (name asked : List ℕ) → bytes_eq asked name ≡ false → AreApart (λ (lock : Vec ℕ Y). bytes_eq name lock.items) (λ (lock : Vec ℕ Y). bytes_eq asked lock.items)
-  apart name asked differ = λ lock at_it. ap (bytes_eq asked) (sym ((bytes_eq-Decides name lock.items).0 at_it)) ∙ differ
+use Rattle.ct_base.proofs.KeyLemmas.{kept_apart}
 
 module _ {Y V : Type 0} where
-  kept_apart : (name asked : List ℕ) (before now : List (Vec ℕ Y × V)) → bytes_eq asked name ≡ false → KeepsOthers (λ (one other : Vec ℕ Y). bytes_eq one.items other.items) (λ (lock : Vec ℕ Y). bytes_eq name lock.items) before now → lookup (λ (lock : Vec ℕ Y). bytes_eq asked lock.items) now ≡ lookup (λ (lock : Vec ℕ Y). bytes_eq asked lock.items) before
-  unfolding KeepsOthers
-  kept_apart name asked before now differ kept = kept (λ (lock : Vec ℕ Y). bytes_eq asked lock.items) (key_test asked) (apart name asked differ)
-
   module _ {S : Type 0} where
     updated_by : (before now : IndexMap (Vec ℕ Y) V S) (name asked : List ℕ) (held : V) → UpdatesBy (λ (one other : Vec ℕ Y). bytes_eq one.items other.items) (λ (lock : Vec ℕ Y). bytes_eq name lock.items) before now (Some held) → (is : Bool) → bytes_eq asked name ≡ is → noted_for now asked ≡ cond is (Some held) (noted_for before asked)
     updated_by before now name asked held updates true is = ap (noted_for now) ((bytes_eq-Decides asked name).0 is) ∙ updates.1
@@ -34,13 +24,9 @@ module _ {Y V : Type 0} where
     pub updated : (before now : IndexMap (Vec ℕ Y) V S) (name : List ℕ) (held : V) → UpdatesBy (λ (one other : Vec ℕ Y). bytes_eq one.items other.items) (λ (lock : Vec ℕ Y). bytes_eq name lock.items) before now (Some held) → (asked : List ℕ) → noted_for now asked ≡ cond (bytes_eq asked name) (Some held) (noted_for before asked)
     updated before now name held updates asked = updated_by before now name asked held updates (bytes_eq asked name) refl
 
-or_true : (b : Bool) → true ≡ (b || true)
-or_true true = refl
-or_true false = refl
-
 -- one more lock is known, or the same locks are
 pub known_more : {V : Type 0} (now before : Option V) (held : V) (is : Bool) → now ≡ cond is (Some held) before → is_some now ≡ (is_some before || is)
-known_more now before held true same = ap is_some same ∙ or_true (is_some before)
+known_more now before held true same = ap is_some same ∙ sym (or-true (is_some before))
 known_more now before held false same = ap is_some same ∙ sym (or-false (is_some before))
 
 pub known_still : {V : Type 0} (now before : Option V) (held : V) (is : Bool) → now ≡ cond is (Some held) before → (is ≡ true → is_some before ≡ true) → is_some now ≡ is_some before

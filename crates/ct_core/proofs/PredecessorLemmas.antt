@@ -5,6 +5,7 @@ use Rattle.std.specs.List.{list_any, list_all}
 use Rattle.std.proofs.Math.Bool.{and-false}
 use Rattle.std.proofs.lemmas.Bool.{and_parts, cases_Bool, or_parts, true≢false}
 use Rattle.std.proofs.lemmas.Bool.Decides.{nat_tests}
+use Rattle.ct_base.proofs.OptionLemmas.{some_is}
 use Rattle.ct_verdict.specs.declared.verdict.Verdict.{Verdict}
 use Rattle.ct_history.specs.Plan.{IsAscendingFrom}
 use Rattle.ct_history.specs.Verdicts.{is_passed_verdict}
@@ -40,10 +41,6 @@ none_open f (j ∷ js) all =
 
 -- each verdict stays: final tests stay final, and passed tests stay passed
 module _ (f g : ℕ → Option Verdict) (keeps : (j : ℕ) (v : Verdict) → f j ≡ Some v → g j ≡ Some v) where
-  some_is : (o : Option Verdict) → is_some o ≡ true → (v : Verdict) × (o ≡ Some v)
-  some_is None some = cc
-  some_is (Some v) some = (v, refl)
-
   passed_is : (o : Option Verdict) → is_passed_verdict o ≡ true → (v : Verdict) × (o ≡ Some v)
   passed_is None passed = cc
   passed_is (Some v) passed = (v, refl)

@@ -10,6 +10,7 @@ use Rattle.ct_verdict.specs.declared.verdict.Cause.{Cause}
 use Rattle.ct_verdict.specs.declared.verdict.Verdict.{Verdict}
 use Rattle.ct_verdict.specs.declared.verdict.Verdict.TheVariants.{NotRun}
 use Rattle.ct_verdict.specs.Verdict.{is_repeated, verdict_of}
+use Rattle.ct_history.proofs.PlaceLemmas.{place_bound}
 use Rattle.ct_history.specs.declared.plan.PlanTest.{PlanTest}
 use Rattle.ct_history.specs.declared.plan.PlanParts.{PlanParts}
 use Rattle.ct_history.specs.declared.history.Entry.{Entry}
@@ -39,12 +40,6 @@ verdict_state_at plan es n place here =
     by_test : (o : Option PlanTest) → verdict_at plan es o ≡ option_and_then verdict_of_state (option_map (state_of plan.repeat es) o)
     by_test None = refl
     by_test (Some t) = sym (verdict_state plan.repeat t es)
-
--- the number of each test is at least the bound from which the numbers ascend
-place_bound : (least : ℕ) (ts : List PlanTest) (place : ℕ) (t : PlanTest) → IsAscendingFrom least (map (λ (x : PlanTest). x.number) ts) → slice_get ts place ≡ Some t → least ≤ t.number
-place_bound least [] place t ascends is = cc
-place_bound least (x ∷ xs) zero t ascends is = let same : x ≡ t = cc in subst (λ (y : PlanTest). least ≤ y.number) same ascends.0
-place_bound least (x ∷ xs) (suc k) t ascends is = let later = place_bound (x.number + 1) xs k t ascends.1 is in omega (arith, ascends.0, later)
 
 module _ (f g : PlanTest → State) (n : ℕ) (same : (u : PlanTest) → (u.number == n) ≡ false → g u ≡ f u) where
   same_above : (least : ℕ) (ts : List PlanTest) → IsAscendingFrom least (map (λ (x : PlanTest). x.number) ts) → n < least → map g ts ≡ map f ts

@@ -2,7 +2,7 @@
 use Rattle.std.proofs.Common.{◌≡◌, ◌∙◌, sym, ap, subst, Bool, true, false, ℕ, ◌+◌, ◌<◌, ◌^◌, List, [], ◌∷◌, ◌++◌, length, refl, arith, inl, inr, length-append}
 use Rattle.std.specs.Prelude.{Option, Some, None, is_some, not, ◌&&◌, ◌||◌, ◌==◌, cond, find, filter, filter_map, if◌then◌else◌}
 use Rattle.std.specs.List.{list_any, cons_option}
-use Rattle.std.proofs.lemmas.Bool.{cases_Bool, true≢false, eq-eqb}
+use Rattle.std.proofs.lemmas.Bool.{cases_Bool, false_from_ne_true, true≢false, eq-eqb}
 use Rattle.std.proofs.lemmas.Bool.Decides.{nat_tests}
 use Rattle.std.proofs.lemmas.List.Elements.{filter_map-append}
 use Rattle.ct_alloc.specs.declared.placement.Placement.{Placement}
@@ -20,6 +20,7 @@ use Rattle.ct_history.specs.Plan.{test_at}
 use Rattle.ct_history.specs.History.{Running, attempt_by, attempts_of, holds_start, open_starts, settled_by}
 use Rattle.ct_history.specs.Verdicts.{first_of_list, is_final_in, is_over, last_of_list, settled_cause, settled_or, verdict_at, verdict_in, verdict_of_test}
 use Rattle.ct_history.specs.Rules.{is_pending}
+use Rattle.ct_history.proofs.BoolLemmas.{eq_one}
 use Rattle.ct_history.specs.Legal.{is_allowed_so_far}
 use Rattle.ct_history.proofs.OpenLemmas.{is_of, open_starts-end, opens_settle, opens_stop}
 use Rattle.ct_history.proofs.AttemptLemmas.{last_behind-snoc}
@@ -92,15 +93,11 @@ find_filter p q (x ∷ xs) keeps = elim (cases_Bool (q x)) [
   | inl kept ↦
       ap (λ (b : Bool). find p (cond b (x ∷ filter q xs) (filter q xs))) kept ∙ ap (λ o. cond (p x) (Some x) o) (find_filter p q xs keeps)
   | inr gone ↦
-      let fails : p x ≡ false = fails_with (p x) (q x) gone (keeps x) in
+      let fails : p x ≡ false = false_from_ne_true (p x) (λ is. true≢false (sym (keeps x is) ∙ gone)) in
       ap (λ (b : Bool). find p (cond b (x ∷ filter q xs) (filter q xs))) gone
       ∙ find_filter p q xs keeps
       ∙ sym (ap (λ (b : Bool). cond b (Some x) (find p xs)) fails)
 ]
-  where
-    fails_with : (a b : Bool) → b ≡ false → (a ≡ true → b ≡ true) → a ≡ false
-    fails_with false b gone keeps = refl
-    fails_with true b gone keeps = absurd (true≢false (sym (keeps refl) ∙ gone))
 
 find_gone : {A : Type 0} (p : A → Bool) (xs : List A) → find p (filter (λ x. not (p x)) xs) ≡ None
 find_gone p [] = refl
@@ -119,10 +116,7 @@ open_other n es (Start m a w p) other =
     ∙ find_more (λ (r : Running). r.test == n) (open_starts es) (record { test = m; attempt = a; worker = w; placement = p }) other
 open_other n es (End m a w s) other =
     ap (λ (rs : List Running). find (λ (r : Running). r.test == n) rs) (open_starts-end es m a w s)
-    ∙ find_filter (λ (r : Running). r.test == n) (λ r. not (is_of m a r)) (open_starts es) (λ r is. ap (λ (b : Bool). not (b && r.attempt == a)) (unlike r.test is))
-  where
-    unlike : (k : ℕ) → (k == n) ≡ true → (k == m) ≡ false
-    unlike k is = grind (arith, nat_tests, other)
+    ∙ find_filter (λ (r : Running). r.test == n) (λ r. not (is_of m a r)) (open_starts es) (λ r is. ap (λ (b : Bool). not (b && r.attempt == a)) (eq_one n m r.test other is))
 open_other n es (Settle m c) other = ap (λ (rs : List Running). find (λ (r : Running). r.test == n) rs) (opens_settle es m c)
 open_other n es Stop other = ap (λ (rs : List Running). find (λ (r : Running). r.test == n) rs) (opens_stop es)
 

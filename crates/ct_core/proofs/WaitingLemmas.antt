@@ -5,7 +5,7 @@ use Rattle.std.specs.List.{list_any}
 use Rattle.std.proofs.lemmas.Bool.{and_parts, and_from, eq-eqb, lt-ltb}
 use Rattle.std.proofs.lemmas.List.Folds.{list_any-append}
 use Rattle.std.proofs.lemmas.Map.Views.{any-filter_same}
-use Rattle.std.proofs.Math.Bool.{and-false}
+use Rattle.std.proofs.Math.Bool.{and-false, or-true}
 use Rattle.ct_base.proofs.OptionLemmas.{not_some}
 use Rattle.ct_alloc.specs.declared.placement.Placement.{Placement}
 use Rattle.ct_verdict.specs.declared.attempt.Seen.{Seen}
@@ -103,11 +103,7 @@ module _ (plan : PlanParts) (sound : IsSound plan) (es : List Entry) (n : ℕ) (
         ap (λ (rs : List Running). list_any (λ (r : Running). r.test == t.number) rs) (start_opens es n a w p)
         ∙ list_any-append (λ (r : Running). r.test == t.number) (open_starts es) (run ∷ [])
         ∙ ap (λ (b : Bool). list_any (λ (r : Running). r.test == t.number) (open_starts es) || (b || false)) (eq-eqb n t.number (sym number))
-        ∙ or_true (list_any (λ (r : Running). r.test == t.number) (open_starts es))
-      where
-        or_true : (b : Bool) → (b || (true || false)) ≡ true
-        or_true true = refl
-        or_true false = refl
+        ∙ or-true (list_any (λ (r : Running). r.test == t.number) (open_starts es))
 
     start_verdict : verdict_of_test plan started n ≡ verdict_of_test plan es n
     start_verdict = verdict_started plan es n t found a w p start_pending ∙ sym (pending_none start_pending)
@@ -285,11 +281,7 @@ stop_settleable plan es m room marked = record {
 }
   where
     stopped : has_stop (es ++ Stop ∷ []) ≡ true
-    stopped = stop-snoc es Stop ∙ or_true (has_stop es)
-      where
-        or_true : (b : Bool) → (b || (true || false)) ≡ true
-        or_true true = refl
-        or_true false = refl
+    stopped = stop-snoc es Stop ∙ or-true (has_stop es)
 
     and_true : (b : Bool) → b ≡ (b && true)
     and_true true = refl

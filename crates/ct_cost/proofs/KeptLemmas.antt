@@ -11,6 +11,7 @@ use Rattle.indexmap.specs.IndexSet.{insert_key}
 use Rattle.ct_cost.specs.CostLine.{CostLine, last_durations, line_of, with_line, with_new_name, with_run, unrun, after_run}
 use Rattle.ct_cost.specs.Kept.{line_for, kept_line, durations_of, with_read}
 use Rattle.ct_base.specs.Names.{is_among}
+use Rattle.ct_base.proofs.KeyLemmas.{put_behind}
 
 module _ {Z : Type 0} where
   durations_by : (entry : Vec ℕ Z × List ℕ) (name : List ℕ) (found : Option (List ℕ)) (lines : List CostLine) → found ≡ option_map durations_of (line_of lines name) → (is : Bool)
@@ -41,14 +42,10 @@ module _ {Z : Type 0} where
   is_among-keys name [] = refl
   is_among-keys name (key ∷ keys) = ap (λ more. bytes_eq name key.items || more) (is_among-keys name keys)
 
-  names_by : (keys : List (Vec ℕ Z)) (key : Vec ℕ Z) (is : Bool) → map (λ (k : Vec ℕ Z). k.items) (cond is keys (keys ++ key ∷ [])) ≡ cond is (map (λ (k : Vec ℕ Z). k.items) keys) (map (λ (k : Vec ℕ Z). k.items) keys ++ key.items ∷ [])
-  names_by keys key true = refl
-  names_by keys key false = map_push (λ (k : Vec ℕ Z). k.items) keys key
-
   -- a name that is put in
   pub names-insert_key : (keys : List (Vec ℕ Z)) (key : Vec ℕ Z) → map (λ (k : Vec ℕ Z). k.items) (insert_key (λ (one other : Vec ℕ Z). bytes_eq one.items other.items) keys key) ≡ with_new_name (map (λ (k : Vec ℕ Z). k.items) keys) key.items
   names-insert_key keys key =
-      names_by keys key (list_any (λ (k : Vec ℕ Z). bytes_eq key.items k.items) keys)
+      put_behind keys key (list_any (λ (k : Vec ℕ Z). bytes_eq key.items k.items) keys)
       ∙ ap (λ is. cond is (map (λ (k : Vec ℕ Z). k.items) keys) (map (λ (k : Vec ℕ Z). k.items) keys ++ key.items ∷ [])) (is_among-keys key.items keys)
 
 none_left : (is : Bool) (first : CostLine) (found : Option CostLine) → is_some (cond is (Some first) found) ≡ false → (is ≡ false) × (is_some found ≡ false)

@@ -1,11 +1,12 @@
 -- Which tests fixtures have once those of one fixture were changed.
 use Rattle.std.proofs.Common.{◌≡◌, ℕ, Bool, true, false, cond, eqb, ◌&&◌, ◌||◌, bytes_eq, List, [], ◌∷◌, ◌++◌, Option, refl, sym, ap, ◌∙◌}
-use Rattle.std.specs.Map.{AreApart, IsKeyTest, KeepsOthers, lookup}
+use Rattle.std.specs.Map.{lookup}
 use Rattle.std.specs.declared.vec.Vec.{Vec}
 use Rattle.std.proofs.lemmas.List.Folds.{list_any-append}
 use Rattle.std.proofs.lemmas.Slice.Eq.{bytes_eq-Decides}
 use Rattle.std.proofs.lemmas.List.{nil_from_length}
 use Rattle.indexmap.specs.IndexMap.{IndexMap, UpdatesBy, index_map_len}
+use Rattle.ct_base.proofs.KeyLemmas.{kept_apart}
 use Rattle.ct_props.specs.Numbered.{is_in}
 use Rattle.ct_fixture.specs.Kept.{found_tests, fixture_tests}
 
@@ -23,18 +24,7 @@ pub cond_same : (b : Bool) (tests : List ℕ) → tests ≡ [] → tests ≡ con
 cond_same true tests none = none
 cond_same false tests none = refl
 
-module _ {Y : Type 0} where
-  key_test : (asked : List ℕ) → IsKeyTest (λ (one other : Vec ℕ Y). bytes_eq one.items other.items) (λ (name : Vec ℕ Y). bytes_eq asked name.items)
-  key_test asked = λ one other at_one. ap (λ bytes. bytes_eq bytes other.items) ((bytes_eq-Decides asked one.items).0 at_one)
-
-  apart : (fixture asked : List ℕ) → bytes_eq asked fixture ≡ false → AreApart (λ (name : Vec ℕ Y). bytes_eq fixture name.items) (λ (name : Vec ℕ Y). bytes_eq asked name.items)
-  apart fixture asked differ = λ name at_it. ap (bytes_eq asked) (sym ((bytes_eq-Decides fixture name.items).0 at_it)) ∙ differ
-
 module _ {Y Z : Type 0} where
-  kept_apart : (fixture asked : List ℕ) (before now : List (Vec ℕ Y × Vec ℕ Z)) → bytes_eq asked fixture ≡ false → KeepsOthers (λ (one other : Vec ℕ Y). bytes_eq one.items other.items) (λ (name : Vec ℕ Y). bytes_eq fixture name.items) before now → lookup (λ (name : Vec ℕ Y). bytes_eq asked name.items) now ≡ lookup (λ (name : Vec ℕ Y). bytes_eq asked name.items) before
-  unfolding KeepsOthers
-  kept_apart fixture asked before now differ kept = kept (λ (name : Vec ℕ Y). bytes_eq asked name.items) (key_test asked) (apart fixture asked differ)
-
   module _ {S : Type 0} where
     updated_by : (before now : IndexMap (Vec ℕ Y) (Vec ℕ Z) S) (fixture asked : List ℕ) (tests : Option (Vec ℕ Z)) → UpdatesBy (λ (one other : Vec ℕ Y). bytes_eq one.items other.items) (λ (name : Vec ℕ Y). bytes_eq fixture name.items) before now tests → (is : Bool) → bytes_eq asked fixture ≡ is → fixture_tests now asked ≡ cond is (found_tests tests) (fixture_tests before asked)
     updated_by before now fixture asked tests updates true is = ap (fixture_tests now) ((bytes_eq-Decides asked fixture).0 is) ∙ ap found_tests updates.1

@@ -19,6 +19,7 @@ use Rattle.ct_graph.specs.declared.index.Index.{Index}
 use Rattle.ct_graph.proofs.TestLemmas.{is_in-filter, same_increasing, all_in}
 use Rattle.ct_base.specs.Names.{is_among, shares_name}
 use Rattle.ct_base.proofs.NameLemmas.{bytes_eq_comm}
+use Rattle.std.proofs.Math.Bool.{and-or_distrib_left}
 
 -- whether the number that was just added has what is asked
 more_here : (a o : Bool) → ((a && o) || (o && true)) ≡ ((a || true) && o)
@@ -60,11 +61,6 @@ indexes_more defs props members at d within names setups users names' setups' us
   by_user = λ cleans fixture. one_more members at d within (λ n. has_required fixture (at_number props n)) (λ n. is_in (users fixture) n) (λ n. is_in (users' fixture) n) (index.by_user cleans fixture) (by_user cleans fixture);
 }
 
--- the common part of two conjunctions comes out in front
-both_or : (m a b : Bool) → ((m && a) || (m && b)) ≡ (m && (a || b))
-both_or true a b = refl
-both_or false a b = refl
-
 and_false : (m : Bool) → false ≡ (m && false)
 and_false true = refl
 and_false false = refl
@@ -74,7 +70,7 @@ in_front m each has same [] = and_false m
 in_front m each has same (name ∷ names) =
     ap (λ b. b || list_any each names) (same name)
     ∙ ap (λ b. (m && has name) || b) (in_front m each has same names)
-    ∙ both_or m (has name) (list_any has names)
+    ∙ sym (and-or_distrib_left m (has name) (list_any has names))
 
 -- a list with a first item is not empty
 some_length : (n : ℕ) → not (suc n == 0) ≡ true

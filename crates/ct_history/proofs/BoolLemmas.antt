@@ -1,7 +1,6 @@
--- The parts of a conjunction and of a disjunction of tests, a test that each element
--- passes, and the test for equal numbers.
+-- The parts of a conjunction of tests, a test that each element passes, and the test for equal numbers.
 use Rattle.std.proofs.Common.{◌≡◌, ◌<◌, Bool, true, false, ℕ, refl, sym, ◌∙◌, arith, List, length, get_or, inl, inr}
-use Rattle.std.specs.Prelude.{◌&&◌, ◌||◌, ◌==◌}
+use Rattle.std.specs.Prelude.{◌&&◌, ◌==◌}
 use Rattle.std.specs.List.{list_all}
 use Rattle.std.proofs.lemmas.Bool.{cases_Bool, eq-eqb}
 use Rattle.std.proofs.lemmas.Bool.Decides.{nat_tests}
@@ -14,14 +13,6 @@ and_left false b both = both
 pub and_right : (a b : Bool) → (a && b) ≡ true → b ≡ true
 and_right true b both = both
 and_right false b both = cc
-
-pub or_left : (a b : Bool) → (a || b) ≡ false → a ≡ false
-or_left true b none = none
-or_left false b none = refl
-
-pub or_right : (a b : Bool) → (a || b) ≡ false → b ≡ false
-or_right true b none = cc
-or_right false b none = none
 
 -- where each element passes a test, the element at each place passes it
 pub all_at : {A : Type 0} (p : A → Bool) (xs : List A) (at : ℕ) (d : A) → list_all p xs ≡ true → at < length xs → p (get_or xs at d) ≡ true
@@ -41,3 +32,7 @@ eq_more m n more = grind (arith, nat_tests)
 
 pub flipped : (m n : ℕ) → (m == n) ≡ false → (n == m) ≡ false
 flipped m n other = grind (arith, nat_tests)
+
+-- a number that equals one of two other numbers does not equal the other one
+pub eq_one : (n m k : ℕ) → (m == n) ≡ false → (k == n) ≡ true → (k == m) ≡ false
+eq_one n m k other is = grind (arith, nat_tests)

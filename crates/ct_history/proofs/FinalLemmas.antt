@@ -2,7 +2,7 @@
 use Rattle.std.proofs.Common.{◌≡◌, ◌∙◌, sym, ap, subst, Bool, true, false, ℕ, List, [], ◌∷◌, ◌++◌, refl, arith, inl, inr}
 use Rattle.std.specs.Prelude.{Option, Some, None, is_some, not, ◌&&◌, ◌||◌, ◌==◌, cond, filter, filter_map, if◌then◌else◌}
 use Rattle.std.specs.List.{list_any, cons_option}
-use Rattle.std.proofs.lemmas.Bool.{and_parts, cases_Bool, false_from_ne_true, true≢false}
+use Rattle.std.proofs.lemmas.Bool.{and_parts, cases_Bool, false_from_ne_true, or_parts, true≢false}
 use Rattle.std.proofs.lemmas.Bool.Decides.{nat_tests}
 use Rattle.std.proofs.lemmas.List.{append-nil}
 use Rattle.std.proofs.lemmas.List.Elements.{filter_map-append}
@@ -48,16 +48,12 @@ any_filter : {A : Type 0} (p q : A → Bool) (xs : List A) → list_any p xs ≡
 any_filter p q [] none = refl
 any_filter p q (x ∷ xs) none = elim (cases_Bool (q x)) [
   | inl kept ↦ ap (λ (b : Bool). list_any p (cond b (x ∷ filter q xs) (filter q xs))) kept ∙ both (p x) (list_any p xs) (list_any p (filter q xs)) none (any_filter p q xs)
-  | inr gone ↦ ap (λ (b : Bool). list_any p (cond b (x ∷ filter q xs) (filter q xs))) gone ∙ any_filter p q xs (right (p x) (list_any p xs) none)
+  | inr gone ↦ ap (λ (b : Bool). list_any p (cond b (x ∷ filter q xs) (filter q xs))) gone ∙ any_filter p q xs ((or_parts (p x) (list_any p xs) none).1)
 ]
   where
     both : (a b c : Bool) → (a || b) ≡ false → (b ≡ false → c ≡ false) → (a || c) ≡ false
     both true b c is then' = cc
     both false b c is then' = then' is
-
-    right : (a b : Bool) → (a || b) ≡ false → b ≡ false
-    right true b is = cc
-    right false b is = is
 
 any_one : {A : Type 0} (p : A → Bool) (xs : List A) (o : Option A) → list_any p xs ≡ false → list_any p (cons_option o []) ≡ false → list_any p (xs ++ cons_option o []) ≡ false
 any_one p xs o none here = list_any-append p xs (cons_option o []) ∙ ap (λ (b : Bool). b || list_any p (cons_option o [])) none ∙ here

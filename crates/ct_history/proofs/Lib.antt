@@ -6,6 +6,7 @@ pub mod ExcludeLemmas
 pub mod MayLemmas
 pub mod WithinLemmas
 pub mod FinalLemmas
+pub mod FailingLemmas
 pub mod LegalLemmas
 pub mod ApartLemmas
 pub mod ProgressLemmas

@@ -76,7 +76,7 @@ pub record SettlesAs (plan : PlanParts) (es : List Entry) (cause : Cause) (looke
   pub found : looked_up ≡ Some test
   pub pending : is_pending plan test es ≡ true
 
-no_cause : (cause : Cause) → same_cause cause None ≡ false
+pub no_cause : (cause : Cause) → same_cause cause None ≡ false
 no_cause Unstarted = refl
 no_cause (Lacks k) = refl
 no_cause (Fixture k) = refl

@@ -2,7 +2,7 @@
 use Rattle.std.proofs.Common.{◌≡◌, ◌∙◌, sym, ap, ℕ, Bool, true, false, not, ◌&&◌, List, [], ◌∷◌, ◌++◌, filter, refl, arith, cond, inl, inr, Option, Some, None}
 use Rattle.std.specs.Prelude.{◌==◌, ◌||◌, if◌then◌else◌}
 use Rattle.std.specs.List.{list_any}
-use Rattle.std.proofs.lemmas.Bool.{cases_Bool}
+use Rattle.std.proofs.lemmas.Bool.{cases_Bool, false_from_ne_true, true≢false}
 use Rattle.std.proofs.lemmas.Bool.Decides.{nat_tests}
 use Rattle.std.proofs.lemmas.List.{append-nil}
 use Rattle.std.proofs.lemmas.List.Folds.{list_any-append}
@@ -18,6 +18,7 @@ use Rattle.ct_history.specs.declared.history.Entry.{Entry}
 use Rattle.ct_history.specs.declared.history.Entry.TheVariants.{Start, End, Settle, Stop}
 use Rattle.ct_history.specs.History.{Running, attempt_by, attempts_of, is_open_in, open_starts, settled_by}
 use Rattle.ct_history.specs.Verdicts.{is_over, last_of_list, settled_cause, settled_or, verdict_in}
+use Rattle.ct_history.proofs.BoolLemmas.{eq_one}
 use Rattle.ct_history.proofs.OpenLemmas.{is_of, open_starts-end, open_starts-snoc}
 use Rattle.ct_history.proofs.FinalLemmas.{settled-snoc, attempts-snoc}
 
@@ -54,12 +55,8 @@ any_filter p q (r ∷ rs) keeps = elim (cases_Bool (q r)) [
   | inr gone ↦
       ap (λ (b : Bool). list_any p (cond b (r ∷ filter q rs) (filter q rs))) gone
       ∙ any_filter p q rs keeps
-      ∙ sym (ap (λ (b : Bool). b || list_any p rs) (fails (p r) (q r) gone (keeps r)))
+      ∙ sym (ap (λ (b : Bool). b || list_any p rs) (false_from_ne_true (p r) (λ is. true≢false (sym (keeps r is) ∙ gone))))
 ]
-  where
-    fails : (a b : Bool) → b ≡ false → (a ≡ true → b ≡ true) → a ≡ false
-    fails false b none keep = refl
-    fails true b none keep = let both : true ≡ false = sym (keep refl) ∙ none in (cc)
 
 open_other : (n : ℕ) (es : List Entry) (e : Entry) → is_about n e ≡ false → is_open_in n (es ++ e ∷ []) ≡ is_open_in n es
 open_other n es (Start m a w p) other =
@@ -69,10 +66,7 @@ open_other n es (Start m a w p) other =
     ∙ or-false (is_open_in n es)
 open_other n es (End m a w s) other =
     ap (λ (rs : List Running). list_any (λ (r : Running). r.test == n) rs) (open_starts-end es m a w s)
-    ∙ any_filter (λ (r : Running). r.test == n) (λ r. not (is_of m a r)) (open_starts es) (λ r is. ap (λ (b : Bool). not (b && r.attempt == a)) (unlike r.test is))
-  where
-    unlike : (k : ℕ) → (k == n) ≡ true → (k == m) ≡ false
-    unlike k is = grind (arith, nat_tests, other)
+    ∙ any_filter (λ (r : Running). r.test == n) (λ r. not (is_of m a r)) (open_starts es) (λ r is. ap (λ (b : Bool). not (b && r.attempt == a)) (eq_one n m r.test other is))
 open_other n es (Settle m c) other =
     ap (λ (rs : List Running). list_any (λ (r : Running). r.test == n) rs) (open_starts-snoc es (Settle m c) refl ∙ append-nil (open_starts es))
 open_other n es Stop other =

@@ -27,9 +27,9 @@ use Rattle.ct_history.specs.Rules.{cause_behind, exclude, first_unpassed, follow
 use Rattle.ct_history.specs.Legal.{IsComplete, are_allowed_behind, ends_in_first_failure, is_allowed, is_legal, is_next_attempt, is_stop_due, same_cause, settles, starts}
 use Rattle.ct_history.specs.Parts.{IsPartOfPlan, cause_back, entry_of_part, is_in_tree, part_of, renumbered, without_stop}
 use Rattle.ct_history.proofs.LegalLemmas.{legal_allowed, legal_from, same_cause_refl, stop-snoc}
-use Rattle.ct_history.proofs.MayLemmas.{may_start-parts}
+use Rattle.ct_history.proofs.MayLemmas.{may_start-parts, no_cause}
 use Rattle.ct_history.proofs.PlanLemmas.{find_passes}
-use Rattle.ct_history.proofs.PartLemmas.{attempts-part, back_there, busy_less, final-part, found_in, holds-part, known_back, open-part, open_starts-part, part_goes_on, passed_back, running_of_part, test_at-part, tests_in, there_back, verdict_of_test-part}
+use Rattle.ct_history.proofs.PartLemmas.{attempts-part, back_there, busy_less, final-part, found_in, holds-part, some_back, open-part, open_starts-part, part_goes_on, passed_back, running_of_part, test_at-part, tests_in, there_back, verdict_of_test-part}
 use Rattle.ct_history.proofs.PartListLemmas.{all_kept, all_where, among_all, any_less, count_some, find-map, find_where, found_all, is_some_and, sum_less}
 
 -- what fits beside used slots fits where fewer are used
@@ -76,16 +76,6 @@ record StaysInside (o c : ℕ) (t : PlanTest) : Type 0 where
 -- the same cause, lowered on both sides
 same_back : (o : ℕ) (cause : Cause) (k : Option Cause) → same_cause cause k ≡ true → same_cause (cause_back o cause) (option_map (cause_back o) k) ≡ true
 same_back o cause None is = let none = no_cause cause in (cc)
-  where
-    no_cause : (cause : Cause) → same_cause cause None ≡ false
-    no_cause Unstarted = refl
-    no_cause (Lacks k) = refl
-    no_cause (Fixture k) = refl
-    no_cause NotAvailable = refl
-    no_cause (BadOperation k) = refl
-    no_cause Insufficient = refl
-    no_cause Stopped = refl
-    no_cause Memory = refl
 same_back o cause (Some k) is =
     let same = equal cause k is in
     subst (λ (x : Cause). same_cause (cause_back o cause) (Some (cause_back o x)) ≡ true) same (same_cause_refl (cause_back o cause))
@@ -202,7 +192,7 @@ module _ (whole : PlanParts) (o c : ℕ) (part : PlanParts) (is : IsPartOfPlan w
           ∙ sym (list_all-map (λ j. is_some (verdict_of_test whole es j)) (λ j. j + o) t.before)
         where
           each : (j : ℕ) → is_in_tree o c (j + o) ≡ true → is_some (verdict_of_test part (part_of o c es) j) ≡ is_some (verdict_of_test whole es (j + o))
-          each j here = ap is_some (verdict_of_test-part whole o c part is es j here) ∙ known_back o (verdict_of_test whole es (j + o))
+          each j here = ap is_some (verdict_of_test-part whole o c part is es j here) ∙ some_back o (verdict_of_test whole es (j + o))
 
       unpassed-part : first_unpassed whole (renumbered o t) es ≡ option_map (λ s. s + o) (first_unpassed part t (part_of o c es))
       unpassed-part =

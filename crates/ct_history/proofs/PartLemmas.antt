@@ -294,7 +294,7 @@ verdict-part o c repeat t here es = by_disabled t.disabled
         ap (λ (k : Option Cause). settled_or k (attempted_verdict repeat t (part_of o c es))) (settled-part o c t.number here es)
         ∙ by_cause (settled_cause (t.number + o) es) (attempted_verdict repeat t (part_of o c es)) (attempted_verdict repeat (renumbered o t) es) (attempted ∙ lowered)
 
-some_back : (o : ℕ) (v : Option Verdict) → is_some (option_map (verdict_back o) v) ≡ is_some v
+pub some_back : (o : ℕ) (v : Option Verdict) → is_some (option_map (verdict_back o) v) ≡ is_some v
 some_back o None = refl
 some_back o (Some v) = refl
 
@@ -311,9 +311,6 @@ passed_back o (Some Exception) = refl
 passed_back o (Some Skipped) = refl
 passed_back o (Some (NotRun cause)) = refl
 passed_back o (Some Disabled) = refl
-
-pub known_back : (o : ℕ) (v : Option Verdict) → is_some (option_map (verdict_back o) v) ≡ is_some v
-known_back o v = some_back o v
 
 -- looking up the tests of a part
 module _ (whole : PlanParts) (o c : ℕ) (part : PlanParts) (is : IsPartOfPlan whole o c part) where

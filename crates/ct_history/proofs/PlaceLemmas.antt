@@ -1,5 +1,5 @@
 -- The places of the tests of a plan, whose numbers ascend.
-use Rattle.std.proofs.Common.{◌≡◌, ◌∙◌, sym, ap, Bool, false, ℕ, suc, ◌+◌, ◌<◌, ◌≤◌, List, [], ◌∷◌, length, get_or, map, arith, refl, ⊎_elim}
+use Rattle.std.proofs.Common.{◌≡◌, ◌∙◌, sym, ap, subst, Bool, false, ℕ, zero, suc, ◌+◌, ◌<◌, ◌≤◌, List, [], ◌∷◌, length, get_or, map, arith, refl, ⊎_elim}
 use Rattle.std.specs.Prelude.{Some, None, ◌==◌, cond, slice_get}
 use Rattle.std.proofs.lemmas.Bool.{cases_lt, false_from_ne_true, eqb-true}
 use Rattle.std.proofs.lemmas.List.{get_or-map}
@@ -61,3 +61,9 @@ none_beside tests number low ascends below above other = none_here tests number 
     (λ (most : k ≤ low). let here : k ≡ low = omega (arith, behind, most) in other (omega (arith, lt, here)) (ap (number_at tests) (sym here) ∙ same))
     (cases_lt low k))
     (cases_lt k low))
+
+-- the number of the test at a place is at least the bound from which the numbers ascend
+pub place_bound : (least : ℕ) (ts : List PlanTest) (place : ℕ) (t : PlanTest) → IsAscendingFrom least (map (λ (x : PlanTest). x.number) ts) → slice_get ts place ≡ Some t → least ≤ t.number
+place_bound least [] place t ascends is = cc
+place_bound least (x ∷ xs) zero t ascends is = let same : x ≡ t = cc in subst (λ (y : PlanTest). least ≤ y.number) same ascends.0
+place_bound least (x ∷ xs) (suc k) t ascends is = let later = place_bound (x.number + 1) xs k t ascends.1 is in omega (arith, ascends.0, later)

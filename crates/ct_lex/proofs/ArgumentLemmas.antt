@@ -3,6 +3,7 @@ use Rattle.std.proofs.Common.{◌≡◌, ℕ, suc, ◌+◌, ◌<◌, Bool, true,
 use Rattle.std.proofs.lemmas.Bool.Decides.{nat_tests}
 use Rattle.std.proofs.lemmas.Bool.{true≢false, or_parts, or_from}
 use Rattle.std.proofs.lemmas.List.{take_at}
+use Rattle.std.proofs.Math.Seq.{drop-append_seam}
 use Rattle.ct_lex.specs.Argument.{with_bytes, ends_text, without_feed}
 use Rattle.ct_lex.specs.Bytes.{stands, is_gap}
 use Rattle.ct_lex.specs.Stop.{refused}
@@ -17,7 +18,7 @@ use Rattle.ct_lex.specs.declared.call.Part.{Part}
 use Rattle.ct_lex.specs.declared.stop.Stop.{Stop}
 use Rattle.ct_lex.specs.declared.stop.Stop.TheVariants.{Ended, At}
 use Rattle.ct_lex.specs.declared.stop.Cause.TheVariants.{BadChar}
-use Rattle.ct_lex.proofs.FrontLemmas.{drop-front, stands-front, not_true, is-other}
+use Rattle.ct_lex.proofs.FrontLemmas.{stands-front, not_true, is-other}
 use Rattle.ct_lex.proofs.BracketLemmas.{bracket-length, mark-length, opening-is, opening-read, opening-front, opening-behind, is_opening_byte, closing-is, closing-read}
 use Rattle.ct_lex.proofs.TextLemmas.{ends-backslash, ends-dollar, read_of, same-ok, text-is, text-read}
 
@@ -34,7 +35,7 @@ front_as : {text : List ℕ} {arg other : Arg} {n : ℕ} → other ≡ arg → A
 front_as {text} {arg} {other} {n} e read = subst (λ (a : Arg). ArgumentFront text a n) e read
 
 pub bracket-behind : (n : ℕ) (more : List ℕ) → drop (n + 2) (opens_with n ++ more) ≡ more
-bracket-behind n more = ap (λ k. drop k (opens_with n ++ more)) (sym (mark-length 91 n)) ∙ drop-front (opens_with n) more
+bracket-behind n more = ap (λ k. drop k (opens_with n ++ more)) (sym (mark-length 91 n)) ∙ drop-append_seam (opens_with n) more
 
 bracket-is : (text : List ℕ) (n : ℕ) (arg : Arg) (size : ℕ) → opening text ≡ Some n → (found : Option ℕ) → closing n (drop (n + 2) text) ≡ found → bracket_by text n found ≡ Ok (arg, size) → ArgumentFront text arg size
 bracket-is text n arg size o None f e = cc
@@ -137,7 +138,7 @@ argument-is byte rest arg n goes e = by_read (argument_by (byte ∷ rest) (openi
     by_follow x r true t f =
         let same = same-ok x.0 arg x.1 n f in
         let read = argument_by-is byte rest x.0 x.1 goes (opening (byte ∷ rest)) refl r in
-        let left : drop x.1 (byte ∷ rest) ≡ read.back = ap (λ k. drop k (byte ∷ rest)) (sym read.size) ∙ ap (λ t. drop (length read.front) t) read.split ∙ drop-front read.front read.back in
+        let left : drop x.1 (byte ∷ rest) ≡ read.back = ap (λ k. drop k (byte ∷ rest)) (sym read.size) ∙ ap (λ t. drop (length read.front) t) read.split ∙ drop-append_seam read.front read.back in
         let written : IsArgument read.front arg = subst (λ (a : Arg). IsArgument read.front a) same.0 read.written in
         record { front = read.front; back = read.back; split = read.split; size = read.size ∙ same.1; written = written; follows = ap (λ t. may_follow t) (sym left) ∙ t }
 
@@ -197,7 +198,7 @@ word-front-of byte e =
 
 apart-read : (front rest : List ℕ) (arg : Arg) → may_follow rest ≡ true → apart (front ++ rest) (arg, length front) ≡ Ok (arg, length front)
 apart-read front rest arg follows =
-    let left : drop (length front) (front ++ rest) ≡ rest = drop-front front rest in
+    let left : drop (length front) (front ++ rest) ≡ rest = drop-append_seam front rest in
     rw (left, follows) refl
 
 unquoted-read : (text : List ℕ) (byte : ℕ) (back : List ℕ) (parts : List Part) → IsText Unquoted text parts → (text ≡ [] → ⊥) → (BeginsBracket text → ⊥) → ends_text Unquoted byte ≡ true → argument_by (text ++ byte ∷ back) (opening (text ++ byte ∷ back)) ≡ read_of (record { kind = Unquoted; parts = parts }) (length text)

@@ -2,6 +2,7 @@
 use Rattle.std.proofs.Common.{◌≡◌, ℕ, zero, suc, ◌+◌, ◌<◌, ◌≤◌, Bool, true, false, ◌==◌, List, [], ◌∷◌, ◌++◌, length, drop, get_or, Result, Ok, Err, refl, sym, ap, ◌∙◌, subst, arith, append_assoc, append-nil, length-append}
 use Rattle.std.proofs.lemmas.Bool.Decides.{nat_tests}
 use Rattle.std.proofs.lemmas.Bool.{true≢false}
+use Rattle.std.proofs.Math.Seq.{drop-append_seam}
 use Rattle.ct_lex.specs.Bytes.{is_gap}
 use Rattle.ct_lex.specs.Bracket.{gap_at}
 use Rattle.ct_lex.specs.Text.{moved, may_follow, argument, argument_before, arguments_from}
@@ -10,7 +11,7 @@ use Rattle.ct_lex.specs.Grammar.{opens_with, closes_with, BeginsBracket, IsInsid
 use Rattle.ct_lex.specs.declared.call.Arg.{Arg}
 use Rattle.ct_lex.specs.declared.stop.Stop.{Stop}
 use Rattle.ct_lex.proofs.StepLemmas.{arguments_from-gap, arguments_from-argument}
-use Rattle.ct_lex.proofs.FrontLemmas.{behind-front, behind-feed, drop-front, is-other}
+use Rattle.ct_lex.proofs.FrontLemmas.{behind-front, behind-feed, is-other}
 use Rattle.ct_lex.proofs.BracketLemmas.{IsGapAt, no_gap, space, feed, line_comment, last_comment, gap-is, space-read, line-comment-read}
 use Rattle.ct_lex.proofs.ArgumentLemmas.{argument-is, argument-some, argument-read, follows_byte, front-read}
 use Rattle.ct_lex.proofs.TextLemmas.{same-ok, moved-ok}
@@ -55,7 +56,7 @@ gap-step (space {front = front} back s) behind args k some goes gap e again =
     let text : List ℕ = front ++ back in
     let size : length text ≡ n + length back = length-append front back in
     let passed = gap-passed text n args k some (omega arith) goes gap e in
-    let left : arguments_from 0 back ≡ Ok (args, passed.0) = ap (λ t. arguments_from 0 t) (sym (drop-front front back)) ∙ passed.1 in
+    let left : arguments_from 0 back ≡ Ok (args, passed.0) = ap (λ t. arguments_from 0 t) (sym (drop-append_seam front back)) ∙ passed.1 in
     let read = again back args passed.0 (omega arith) left in
     record {
       front = front ++ read.front;
@@ -79,7 +80,7 @@ gap-step (line_comment {front = front} back c) behind args k some goes gap e aga
     let text : List ℕ = front ++ 10 ∷ back in
     let size : length text ≡ n + length (10 ∷ back) = length-append front (10 ∷ back) in
     let passed = gap-passed text n args k some (omega arith) goes gap e in
-    let left : arguments_from 0 (10 ∷ back) ≡ Ok (args, passed.0) = ap (λ t. arguments_from 0 t) (sym (drop-front front (10 ∷ back))) ∙ passed.1 in
+    let left : arguments_from 0 (10 ∷ back) ≡ Ok (args, passed.0) = ap (λ t. arguments_from 0 t) (sym (drop-append_seam front (10 ∷ back))) ∙ passed.1 in
     let later = gap-passed (10 ∷ back) 1 args passed.0 (omega arith) (omega arith) refl refl left in
     let read = again back args later.0 (omega arith) later.1 in
     record {
@@ -91,7 +92,7 @@ gap-step (line_comment {front = front} back c) behind args k some goes gap e aga
     }
 gap-step (last_comment {front = front} c) behind args k some goes gap e again =
     let passed = gap-passed front (length front) args k some (omega arith) goes gap e in
-    let none : drop (length front) front ≡ [] = ap (λ t. drop (length front) t) (sym (append-nil front)) ∙ drop-front front [] in
+    let none : drop (length front) front ≡ [] = ap (λ t. drop (length front) t) (sym (append-nil front)) ∙ drop-append_seam front [] in
     let ended : arguments_from 0 [] ≡ Ok (args, passed.0) = ap (λ t. arguments_from 0 t) (sym none) ∙ passed.1 in
     cc
 
@@ -133,7 +134,7 @@ arguments-is (suc fuel) behind (byte ∷ rest) args n fits follows e =
         let step = arguments_from-argument (byte ∷ rest) x.0 x.1 some (omega (arith, read.size)) a g r in
         let peeled = argument_before-ok x.0 args n (moved x.1 (arguments_from 0 (drop x.1 (byte ∷ rest)))) (sym step ∙ e) in
         let shift = moved-ok x.1 n peeled.0 (arguments_from 0 (drop x.1 (byte ∷ rest))) peeled.1 in
-        let left : drop x.1 (byte ∷ rest) ≡ read.back = ap (λ k. drop k (byte ∷ rest)) (sym read.size) ∙ ap (λ t. drop (length read.front) t) read.split ∙ drop-front read.front read.back in
+        let left : drop x.1 (byte ∷ rest) ≡ read.back = ap (λ k. drop k (byte ∷ rest)) (sym read.size) ∙ ap (λ t. drop (length read.front) t) read.split ∙ drop-append_seam read.front read.back in
         let later = again read.back peeled.0 shift.0 (omega (arith, read.size)) read.follows (ap (λ t. arguments_from 0 t) (sym left) ∙ shift.1) in
         subst (λ (all : List Arg). ArgumentsRead false (byte ∷ rest) all n) peeled.2 (record {
           front = read.front ++ later.front;
@@ -176,7 +177,7 @@ gap-first (grammar.bracket_comment b) back = (35, _, refl, refl, refl)
 gap-read : (front back : List ℕ) (args : List Arg) (k : ℕ) → 0 < length front → (get_or (front ++ back) 0 0 == 41) ≡ false → gap_at (front ++ back) ≡ Ok (length front) → arguments_from 0 back ≡ Ok (args, k) → arguments_from 0 (front ++ back) ≡ Ok (args, k + length front)
 gap-read front back args k some goes gap read =
     let fits : length front ≤ length (front ++ back) = omega (arith, length-append front back) in
-    arguments_from-gap (front ++ back) (length front) some fits goes gap ∙ ap (λ t. moved (length front) (arguments_from 0 t)) (drop-front front back) ∙ ap (λ r. moved (length front) r) read
+    arguments_from-gap (front ++ back) (length front) some fits goes gap ∙ ap (λ t. moved (length front) (arguments_from 0 t)) (drop-append_seam front back) ∙ ap (λ r. moved (length front) r) read
 
 pub arguments-read : {behind : Bool} {text : List ℕ} {args : List Arg} → IsArguments behind text args → (back : List ℕ) → ArgumentsGo behind text back args
 arguments-read grammar.none back = record { reads = refl; follows = λ _. (41, back, refl, refl) }
@@ -224,7 +225,7 @@ arguments-read (grammar.argument {front = front} {text = text} {arg = arg} {args
     record {
       reads = ap (λ t. arguments_from 0 t) split
           ∙ arguments_from-argument (front ++ rest) arg (length front) (argument-some a) fits front_so.closes front_so.gap read
-          ∙ ap (λ t. argument_before arg (moved (length front) (arguments_from 0 t))) (drop-front front rest)
+          ∙ ap (λ t. argument_before arg (moved (length front) (arguments_from 0 t))) (drop-append_seam front rest)
           ∙ ap (λ r. argument_before arg (moved (length front) r)) again.reads
           ∙ ap P sums;
       follows = λ (no_way : false ≡ true). absurd (true≢false (sym no_way));

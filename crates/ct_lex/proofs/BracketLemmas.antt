@@ -5,14 +5,14 @@ use Rattle.std.proofs.lemmas.Bool.Decides.{nat_tests}
 use Rattle.std.proofs.lemmas.Bool.{true≢false, and_parts, and_from, false_from_ne_true}
 use Rattle.std.proofs.lemmas.List.{take-append-drop, length-replicate}
 use Rattle.std.proofs.lemmas.List.Folds.{prefix_len-replicate, list_all-append}
-use Rattle.std.proofs.Math.Seq.{get_or-append_seam}
+use Rattle.std.proofs.Math.Seq.{get_or-append_seam, drop-append_seam}
 use Rattle.std.specs.List.{prefix_len, list_all}
 use Rattle.ct_lex.specs.Bytes.{stands, is_gap, is_blank, feeds}
 use Rattle.ct_lex.specs.Bracket.{equals_count, opening, closes, closing, bracket_len, line_len, bracket_comment, comment_by, comment, gap_at}
 use Rattle.ct_lex.specs.Grammar as grammar
 use Rattle.ct_lex.specs.Grammar.{opens_with, closes_with, BeginsBracket, IsInside, IsBracket, IsSpace, IsLineComment, IsLineEnd}
 use Rattle.ct_lex.specs.declared.stop.Stop.{Stop}
-use Rattle.ct_lex.proofs.FrontLemmas.{feeds-append, run-read, stands-front, stands-at, drop-front}
+use Rattle.ct_lex.proofs.FrontLemmas.{feeds-append, run-read, stands-front, stands-at}
 
 -- n times `=` between two edge bytes
 abbrev pub mark : ℕ → ℕ → List ℕ
@@ -299,7 +299,7 @@ comment-is rest n e = by_opening (opening rest) refl e
     by_closing k o (Some inside) f g =
         let begins = opening-is rest k o in
         let shift : k + 3 ≡ suc (length (opens_with k)) = omega (arith, mark-length 91 k) in
-        let behind : drop (k + 3) (35 ∷ rest) ≡ begins.0 = ap (λ i. drop i (35 ∷ rest)) shift ∙ ap (λ t. drop (length (opens_with k)) t) begins.1 ∙ drop-front (opens_with k) begins.0 in
+        let behind : drop (k + 3) (35 ∷ rest) ≡ begins.0 = ap (λ i. drop i (35 ∷ rest)) shift ∙ ap (λ t. drop (length (opens_with k)) t) begins.1 ∙ drop-append_seam (opens_with k) begins.0 in
         let closed = closing-is k begins.0 inside (ap (λ t. closing k t) (sym behind) ∙ f) in
         let text : List ℕ = opens_with k ++ (closed.inside ++ closes_with k) in
         let whole : 35 ∷ (text ++ closed.back) ≡ 35 ∷ rest =
@@ -346,7 +346,7 @@ bracket-comment-read n inside back only =
     let split : (opens_with n ++ (inside ++ closes_with n)) ++ back ≡ opens_with n ++ behind = append_assoc (opens_with n) (inside ++ closes_with n) back ∙ ap (λ t. opens_with n ++ t) (append_assoc inside (closes_with n) back) in
     let text : List ℕ = 35 ∷ (opens_with n ++ behind) in
     let shift : n + 3 ≡ suc (length (opens_with n)) = omega (arith, mark-length 91 n) in
-    let left : drop (n + 3) text ≡ behind = ap (λ i. drop i text) shift ∙ drop-front (opens_with n) behind in
+    let left : drop (n + 3) text ≡ behind = ap (λ i. drop i text) shift ∙ drop-append_seam (opens_with n) behind in
     let P : ℕ → Result ℕ Stop = λ k. Ok k in
     ap (λ t. comment (35 ∷ t)) split
     ∙ ap (λ o. comment_by text o) (opening-read n behind)

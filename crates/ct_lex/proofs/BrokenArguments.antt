@@ -2,6 +2,7 @@
 use Rattle.std.proofs.Common.{◌≡◌, ℕ, zero, suc, ◌+◌, ◌<◌, ◌≤◌, Bool, true, false, cond, not, ◌||◌, ◌==◌, List, [], ◌∷◌, ◌++◌, length, drop, get_or, Option, Some, None, Result, Ok, Err, refl, sym, ap, ◌∙◌, subst, arith, append_assoc, append-nil, length-append}
 use Rattle.std.proofs.lemmas.Bool.Decides.{nat_tests}
 use Rattle.std.proofs.lemmas.Bool.{true≢false}
+use Rattle.std.proofs.Math.Seq.{drop-append_seam}
 use Rattle.ct_lex.specs.Argument.{ends_text}
 use Rattle.ct_lex.specs.Bracket.{opening, closes, closing, bracket_comment, comment_by, comment, gap_at}
 use Rattle.ct_lex.specs.Broken as broken
@@ -20,7 +21,7 @@ use Rattle.ct_lex.specs.declared.stop.Cause.{Cause}
 use Rattle.ct_lex.specs.declared.stop.Cause.TheVariants.{OpenString, OpenBracket, BadChar}
 use Rattle.ct_lex.specs.declared.stop.Stop.{Stop}
 use Rattle.ct_lex.specs.declared.stop.Stop.TheVariants.{Ended, At}
-use Rattle.ct_lex.proofs.FrontLemmas.{behind-front, drop-front, stands-front}
+use Rattle.ct_lex.proofs.FrontLemmas.{behind-front, stands-front}
 use Rattle.ct_lex.proofs.StepLemmas.{arguments_from-gap, arguments_from-argument}
 use Rattle.ct_lex.proofs.BracketLemmas.{mark-length, opening-is, opening-front, closes-read, tails, IsGapAt, no_gap, space, feed, line_comment, last_comment, gap-is}
 use Rattle.ct_lex.proofs.ArgumentLemmas.{bracket-behind, argument_by-is, argument-is, argument-some}
@@ -148,7 +149,7 @@ argument-stops byte rest stop goes e = by_read (argument_by (byte ∷ rest) (ope
     by_follow x r true t f = cc
     by_follow x r false t f =
         let read = argument_by-is byte rest x.0 x.1 goes (opening text) refl r in
-        let left : drop x.1 text ≡ read.back = ap (λ k. drop k text) (sym read.size) ∙ ap (λ t. drop (length read.front) t) read.split ∙ drop-front read.front read.back in
+        let left : drop x.1 text ≡ read.back = ap (λ k. drop k text) (sym read.size) ∙ ap (λ t. drop (length read.front) t) read.split ∙ drop-append_seam read.front read.back in
         by_back x read.front read.back read.split left read.written read.ends (ap (λ r. may_follow r) (sym left) ∙ t) f
 
     by_read : (read : Result (Arg × ℕ) Stop) → argument_by text (opening text) ≡ read → ArgumentStops text stop
@@ -168,7 +169,7 @@ comment-stops rest stop e = by_opening (opening rest) refl e
     by_closing k o None f g =
         let begins = opening-is rest k o in
         let shift : k + 3 ≡ suc (length (opens_with k)) = omega (arith, mark-length 91 k) in
-        let behind : drop (k + 3) (35 ∷ rest) ≡ begins.0 = ap (λ i. drop i (35 ∷ rest)) shift ∙ ap (λ t. drop (length (opens_with k)) t) begins.1 ∙ drop-front (opens_with k) begins.0 in
+        let behind : drop (k + 3) (35 ∷ rest) ≡ begins.0 = ap (λ i. drop i (35 ∷ rest)) shift ∙ ap (λ t. drop (length (opens_with k)) t) begins.1 ∙ drop-append_seam (opens_with k) begins.0 in
         let unclosed : HasNoClosing k begins.0 = unclosed-is k begins.0 (ap (λ t. closing k t) (sym behind) ∙ f) in
         (same_stop (At OpenBracket (length (35 ∷ rest))) stop (bracket_comment (35 ∷ rest) k None) refl g, subst (λ (t : List ℕ). IsOpenComment (35 ∷ t)) (sym begins.1) (broken.open_comment k begins.0 unclosed))
 
@@ -224,7 +225,7 @@ gap-step (no_gap a b) behind stop some goes gap e again = absurd (omega arith)
 gap-step (space {front = front} back s) behind stop some goes gap e again =
     let size : length (front ++ back) ≡ length front + length back = length-append front back in
     let passed = stop-passed (front ++ back) (length front) stop some (omega arith) goes gap e in
-    let left : arguments_from 0 back ≡ Err stop = ap (λ t. arguments_from 0 t) (sym (drop-front front back)) ∙ passed in
+    let left : arguments_from 0 back ≡ Err stop = ap (λ t. arguments_from 0 t) (sym (drop-append_seam front back)) ∙ passed in
     arguments-behind behind false front back stop (λ (c : AreCut false back). broken.space s c) (λ first rest kind b. broken.space s b) (again back (omega arith) left)
 gap-step (feed back) behind stop some goes gap e again =
     let passed = stop-passed (10 ∷ back) 1 stop some (omega arith) goes gap e in
@@ -232,13 +233,13 @@ gap-step (feed back) behind stop some goes gap e again =
 gap-step (line_comment {front = front} back c) behind stop some goes gap e again =
     let size : length (front ++ 10 ∷ back) ≡ length front + length (10 ∷ back) = length-append front (10 ∷ back) in
     let passed = stop-passed (front ++ 10 ∷ back) (length front) stop some (omega arith) goes gap e in
-    let left : arguments_from 0 (10 ∷ back) ≡ Err stop = ap (λ t. arguments_from 0 t) (sym (drop-front front (10 ∷ back))) ∙ passed in
+    let left : arguments_from 0 (10 ∷ back) ≡ Err stop = ap (λ t. arguments_from 0 t) (sym (drop-append_seam front (10 ∷ back))) ∙ passed in
     let later = stop-passed (10 ∷ back) 1 stop (omega arith) (omega arith) refl refl left in
     subst (λ (t : List ℕ). ArgumentsStop behind t stop) (append_assoc front (10 ∷ []) back)
     (arguments-behind behind false (front ++ 10 ∷ []) back stop (λ (r : AreCut false back). broken.line_end (grammar.commented c) r) (λ first rest kind b. broken.line_end (grammar.commented c) b) (again back (omega arith) later))
 gap-step (last_comment {front = front} c) behind stop some goes gap e again =
     let passed = stop-passed front (length front) stop some (omega arith) goes gap e in
-    let none : drop (length front) front ≡ [] = ap (λ t. drop (length front) t) (sym (append-nil front)) ∙ drop-front front [] in
+    let none : drop (length front) front ≡ [] = ap (λ t. drop (length front) t) (sym (append-nil front)) ∙ drop-append_seam front [] in
     let ended : arguments_from 0 [] ≡ Err stop = ap (λ t. arguments_from 0 t) (sym none) ∙ passed in
     arguments_stop_as behind front Ended stop (same_stop Ended stop (arguments_from 0 []) refl ended) (broken.in_comment c)
 
@@ -273,7 +274,7 @@ arguments-stop (suc fuel) behind (byte ∷ rest) stop fits follows e =
         let step = arguments_from-argument (byte ∷ rest) x.0 x.1 some (omega (arith, read.size)) a g r in
         let peeled = before-err x.0 stop (moved x.1 (arguments_from 0 (drop x.1 (byte ∷ rest)))) (sym step ∙ e) in
         let shift = moved-err x.1 stop (arguments_from 0 (drop x.1 (byte ∷ rest))) peeled in
-        let left : drop x.1 (byte ∷ rest) ≡ read.back = ap (λ k. drop k (byte ∷ rest)) (sym read.size) ∙ ap (λ t. drop (length read.front) t) read.split ∙ drop-front read.front read.back in
+        let left : drop x.1 (byte ∷ rest) ≡ read.back = ap (λ k. drop k (byte ∷ rest)) (sym read.size) ∙ ap (λ t. drop (length read.front) t) read.split ∙ drop-append_seam read.front read.back in
         let later = again read.back (omega (arith, read.size)) read.follows (ap (λ t. arguments_from 0 t) (sym left) ∙ shift) in
         subst (λ (t : List ℕ). ArgumentsStop false t stop) (sym read.split)
         (arguments-behind false true read.front read.back stop (λ (r : AreCut true read.back). broken.argument read.written r) (λ first rest kind b. broken.argument read.written b) later)

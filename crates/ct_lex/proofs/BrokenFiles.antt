@@ -3,7 +3,7 @@ use Rattle.std.proofs.Common.{◌≡◌, ℕ, zero, suc, ◌+◌, ◌-◌, ◌<�
 use Rattle.std.proofs.lemmas.Bool.Decides.{nat_tests}
 use Rattle.std.proofs.lemmas.Bool.{true≢false}
 use Rattle.std.proofs.lemmas.List.{take_at}
-use Rattle.std.proofs.Math.Seq.{get_or-append_seam}
+use Rattle.std.proofs.Math.Seq.{get_or-append_seam, drop-append_seam}
 use Rattle.std.specs.List.{prefix_len, list_all}
 use Rattle.ct_lex.specs.Bracket.{gap_at}
 use Rattle.ct_lex.specs.Broken as broken
@@ -25,7 +25,7 @@ use Rattle.ct_lex.specs.declared.stop.Cause.{Cause}
 use Rattle.ct_lex.specs.declared.stop.Cause.TheVariants as cause
 use Rattle.ct_lex.specs.declared.stop.Stop.{Stop}
 use Rattle.ct_lex.specs.declared.stop.Stop.TheVariants.{Ended, At}
-use Rattle.ct_lex.proofs.FrontLemmas.{behind-front, drop-front, stands-at, feeds-append}
+use Rattle.ct_lex.proofs.FrontLemmas.{behind-front, stands-at, feeds-append}
 use Rattle.ct_lex.proofs.StepLemmas.{start_from-step}
 use Rattle.ct_lex.proofs.BracketLemmas.{IsGapAt, no_gap, space, feed, line_comment, last_comment, gap-is}
 use Rattle.ct_lex.proofs.TextLemmas.{run-of}
@@ -162,7 +162,7 @@ start-gap (no_gap a b) behind line stop some gap e again = absurd (omega arith)
 start-gap (space {front = front} back s) behind line stop some gap e again =
     let size : length (front ++ back) ≡ length front + length back = length-append front back in
     let passed = start-passed behind behind (front ++ back) (length front) stop some (omega arith) gap (stays behind (get_or (front ++ back) 0 0 == 10) (space-first s back)) e in
-    let left : start_from behind 0 back ≡ Err stop = ap (λ t. start_from behind 0 t) (sym (drop-front front back)) ∙ passed in
+    let left : start_from behind 0 back ≡ Err stop = ap (λ t. start_from behind 0 t) (sym (drop-append_seam front back)) ∙ passed in
     start-behind behind behind line front back stop (λ fault b. broken.space s b) (again behind (line + feeds front) back (omega arith) left)
 start-gap (feed back) behind line stop some gap e again =
     let passed = start-passed behind false (10 ∷ back) 1 stop some (omega arith) gap (leaves behind (10 == 10) refl) e in
@@ -172,14 +172,14 @@ start-gap (line_comment back (grammar.line_comment text within unopened)) behind
     let whole : List ℕ = front ++ 10 ∷ [] in
     let size : length (front ++ 10 ∷ back) ≡ length front + length (10 ∷ back) = length-append front (10 ∷ back) in
     let passed = start-passed behind behind (front ++ 10 ∷ back) (length front) stop some (omega arith) gap (stays behind (35 == 10) refl) e in
-    let left : start_from behind 0 (10 ∷ back) ≡ Err stop = ap (λ t. start_from behind 0 t) (sym (drop-front front (10 ∷ back))) ∙ passed in
+    let left : start_from behind 0 (10 ∷ back) ≡ Err stop = ap (λ t. start_from behind 0 t) (sym (drop-append_seam front (10 ∷ back))) ∙ passed in
     let later = start-passed behind false (10 ∷ back) 1 stop (omega arith) (omega arith) refl (leaves behind (10 == 10) refl) left in
     subst (λ (t : List ℕ). StartStops behind line t stop) (append_assoc front (10 ∷ []) back)
     (start-behind behind false line whole back stop (λ fault b. broken.line_end (grammar.commented (grammar.line_comment text within unopened)) b) (again false (line + feeds whole) back (omega arith) later))
 start-gap (last_comment {front = front} (grammar.line_comment text within unopened)) behind line stop some gap e again =
     let comment : List ℕ = 35 ∷ text in
     let passed = start-passed behind behind comment (length comment) stop some (omega arith) gap (stays behind (35 == 10) refl) e in
-    let none : drop (length comment) comment ≡ [] = ap (λ t. drop (length comment) t) (sym (append-nil comment)) ∙ drop-front comment [] in
+    let none : drop (length comment) comment ≡ [] = ap (λ t. drop (length comment) t) (sym (append-nil comment)) ∙ drop-append_seam comment [] in
     let ended : Ok None ≡ Err stop = ap (λ t. start_from behind 0 t) (sym none) ∙ passed in
     cc
 
@@ -248,7 +248,7 @@ next-breaks place fault e = by_start (start_from place.behind 0 place.rest) refl
     by_command n s (Err stop) r f =
         let start = start-is (suc (length place.rest)) place.behind place.line place.rest (Some n) (omega arith) s in
         let rest : List ℕ = start.byte ∷ start.back in
-        let left : drop n place.rest ≡ rest = ap (λ k. drop k place.rest) (sym start.size) ∙ ap (λ t. drop (length start.front) t) start.split ∙ drop-front start.front rest in
+        let left : drop n place.rest ≡ rest = ap (λ k. drop k place.rest) (sym start.size) ∙ ap (λ t. drop (length start.front) t) start.split ∙ drop-append_seam start.front rest in
         let stops = command-stops start.byte start.back stop start.begins (ap (λ t. command t) (sym left) ∙ r) in
         let is = command-breaks place (place.line + feeds start.front) start.front rest stop refl start.split stops in
         let same : fault_at place (length start.front) stop ≡ fault = ap (λ k. fault_at place k stop) start.size ∙ same_fault (fault_at place n stop) fault (call_at place n (Err stop)) refl f in

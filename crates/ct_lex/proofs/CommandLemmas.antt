@@ -3,7 +3,7 @@ use Rattle.std.proofs.Common.{◌≡◌, ℕ, suc, ◌+◌, Bool, true, false, �
 use Rattle.std.proofs.lemmas.Bool.Decides.{nat_tests}
 use Rattle.std.proofs.lemmas.Bool.{true≢false, and_parts, and_from}
 use Rattle.std.proofs.lemmas.List.{take_at}
-use Rattle.std.proofs.Math.Seq.{get_or-append_seam}
+use Rattle.std.proofs.Math.Seq.{get_or-append_seam, drop-append_seam}
 use Rattle.std.specs.Int.{is_in_range}
 use Rattle.std.specs.List.{prefix_len, list_all}
 use Rattle.ct_lex.specs.Bytes.{stands, is_space, is_word, begins_word, lower}
@@ -16,7 +16,7 @@ use Rattle.ct_lex.specs.declared.call.Arg.{Arg}
 use Rattle.ct_lex.specs.declared.stop.Stop.{Stop}
 use Rattle.ct_lex.specs.declared.stop.Stop.TheVariants.{Ended}
 use Rattle.ct_lex.specs.declared.stop.Cause.TheVariants as cause
-use Rattle.ct_lex.proofs.FrontLemmas.{drop-front, stands-at, run-read}
+use Rattle.ct_lex.proofs.FrontLemmas.{stands-at, run-read}
 use Rattle.ct_lex.proofs.TextLemmas.{run-of, run-whole}
 use Rattle.ct_lex.proofs.ArgumentsLemmas.{arguments-is, arguments-read}
 
@@ -69,7 +69,7 @@ named-is word spaces inner name args n is_word blank (Ok x) r e =
 paren-of : (word spaces back : List ℕ) → word_len (word ++ (spaces ++ back)) ≡ length word → prefix_len is_space (spaces ++ back) ≡ length spaces → paren_at (word ++ (spaces ++ back)) ≡ length word + length spaces
 paren-of word spaces back count blank =
     let text : List ℕ = word ++ (spaces ++ back) in
-    ap (λ k. k + prefix_len is_space (drop k text)) count ∙ ap (λ t. length word + prefix_len is_space t) (drop-front word (spaces ++ back)) ∙ ap (λ k. length word + k) blank
+    ap (λ k. k + prefix_len is_space (drop k text)) count ∙ ap (λ t. length word + prefix_len is_space t) (drop-append_seam word (spaces ++ back)) ∙ ap (λ k. length word + k) blank
 
 pub command-as : (word spaces back : List ℕ) → word_len (word ++ (spaces ++ back)) ≡ length word → prefix_len is_space (spaces ++ back) ≡ length spaces → command (word ++ (spaces ++ back)) ≡ command_by (word ++ (spaces ++ back)) (lower word) (length word + length spaces)
 command-as word spaces back count blank =
@@ -82,7 +82,7 @@ command-as word spaces back count blank =
 pub behind-both : (word spaces back : List ℕ) (n : ℕ) → n ≡ length word + length spaces → drop n (word ++ (spaces ++ back)) ≡ back
 behind-both word spaces back n e =
     let text : List ℕ = word ++ (spaces ++ back) in
-    ap (λ k. drop k text) (e ∙ sym (length-append word spaces)) ∙ ap (λ t. drop (length (word ++ spaces)) t) (sym (append_assoc word spaces back)) ∙ drop-front (word ++ spaces) back
+    ap (λ k. drop k text) (e ∙ sym (length-append word spaces)) ∙ ap (λ t. drop (length (word ++ spaces)) t) (sym (append_assoc word spaces back)) ∙ drop-append_seam (word ++ spaces) back
 
 opens-is : (word spaces back name : List ℕ) (args : List Arg) (n : ℕ) → IsIdentifier word → list_all is_space spaces ≡ true → command_by (word ++ (spaces ++ back)) (lower word) (length word + length spaces) ≡ Ok (name, args, n) → CommandWritten (word ++ (spaces ++ back)) name args n
 opens-is word spaces [] name args n is_word blank e =

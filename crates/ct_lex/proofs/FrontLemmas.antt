@@ -2,7 +2,6 @@
 use Rattle.std.proofs.Common.{append_assoc, [], ◌≡◌, ℕ, ◌+◌, ◌<◌, Bool, true, false, cond, not, ◌==◌, nat_lt, List, ◌∷◌, ◌++◌, length, drop, get_or, eq-eqb, refl, sym, ap, ◌∙◌, arith, add-zero}
 use Rattle.std.proofs.lemmas.Bool.Decides.{nat_tests}
 use Rattle.std.proofs.lemmas.Bool.{true≢false}
-use Rattle.std.proofs.lemmas.List.{drop_at}
 use Rattle.std.proofs.lemmas.List.Folds.{prefix_len-append}
 use Rattle.std.proofs.lemmas.List.Sums.{sum_by-append}
 use Rattle.std.specs.List.{prefix_len}
@@ -24,9 +23,6 @@ run-read p run byte more all other =
     let e : (prefix_len p run == length run) ≡ true = grind (arith, nat_tests) in
     let none : prefix_len p (byte ∷ more) ≡ 0 = rw other in
     prefix_len-append p run (byte ∷ more) ∙ rw (e, none) (add-zero (length run))
-
-pub drop-front : (front rest : List ℕ) → drop (length front) (front ++ rest) ≡ rest
-drop-front front rest = drop_at front rest (length front) refl
 
 pub stands-at : (byte at : ℕ) (text : List ℕ) → at < length text → get_or text at 0 ≡ byte → stands byte at text ≡ true
 stands-at byte at text inside e =

@@ -3,6 +3,7 @@
 use Rattle.std.proofs.Common.{◌≡◌, ℕ, suc, ◌+◌, ◌<◌, ◌≤◌, Bool, true, false, ◌||◌, ◌==◌, List, [], ◌∷◌, ◌++◌, length, drop, get_or, Option, Some, None, Ok, Err, refl, sym, ap, ◌∙◌, subst, arith, append_assoc, append-nil, length-append}
 use Rattle.std.proofs.lemmas.Bool.Decides.{nat_tests}
 use Rattle.std.proofs.lemmas.Bool.{true≢false}
+use Rattle.std.proofs.Math.Seq.{drop-append_seam}
 use Rattle.ct_lex.specs.Argument.{ends_text}
 use Rattle.ct_lex.specs.Bracket.{opening, closing, bracket_comment, comment_by, gap_at}
 use Rattle.ct_lex.specs.Broken as broken
@@ -19,7 +20,7 @@ use Rattle.ct_lex.specs.declared.stop.Cause.{Cause}
 use Rattle.ct_lex.specs.declared.stop.Cause.TheVariants.{OpenString, OpenBracket, BadChar}
 use Rattle.ct_lex.specs.declared.stop.Stop.{Stop}
 use Rattle.ct_lex.specs.declared.stop.Stop.TheVariants.{Ended, At}
-use Rattle.ct_lex.proofs.FrontLemmas.{drop-front, stands-front, not_true}
+use Rattle.ct_lex.proofs.FrontLemmas.{stands-front, not_true}
 use Rattle.ct_lex.proofs.StepLemmas.{arguments_from-gap, arguments_from-argument}
 use Rattle.ct_lex.proofs.BracketLemmas.{mark-length, opening-read, closing-is, space-read, line-comment-read, last-comment-read}
 use Rattle.ct_lex.proofs.ArgumentLemmas.{bracket-behind, word-front-of, argument_by-read, argument-some, argument-read, IsFront, front-read}
@@ -40,7 +41,7 @@ open-comment-read (broken.open_comment n text unclosed) =
     let rest : List ℕ = opens_with n ++ text in
     let whole : List ℕ = 35 ∷ rest in
     let shift : n + 3 ≡ suc (length (opens_with n)) = omega (arith, mark-length 91 n) in
-    let left : drop (n + 3) whole ≡ text = ap (λ i. drop i whole) shift ∙ drop-front (opens_with n) text in
+    let left : drop (n + 3) whole ≡ text = ap (λ i. drop i whole) shift ∙ drop-append_seam (opens_with n) text in
     ap (λ o. comment_by whole o) (opening-read n text) ∙ ap (λ t. bracket_comment whole n (closing n t)) left ∙ ap (λ f. bracket_comment whole n f) (closing-none n text unclosed)
 
 argument-err : (text : List ℕ) (stop : Stop) → argument_by text (opening text) ≡ Err stop → argument text ≡ Err stop
@@ -107,7 +108,7 @@ touch-bits Unquoted byte e = by_paren (byte == 40) refl e
 
 apart-refused : (front back : List ℕ) (arg : Arg) → may_follow back ≡ false → apart (front ++ back) (arg, length front) ≡ Err (At BadChar (length back))
 apart-refused front back arg stays =
-    let left : drop (length front) (front ++ back) ≡ back = drop-front front back in
+    let left : drop (length front) (front ++ back) ≡ back = drop-append_seam front back in
     rw (left, stays) refl
 
 touching-refused : {front : List ℕ} {arg : Arg} (byte : ℕ) (back : List ℕ) → IsArgument front arg → touches arg.kind byte ≡ true → arguments_from 0 (front ++ byte ∷ back) ≡ Err (At BadChar (length (byte ∷ back)))
@@ -168,7 +169,7 @@ first-halts text stop read = record { reads = read; follows = λ (no_way : false
 gap-passed : (front back : List ℕ) (stop : Stop) → 0 < length front → (get_or (front ++ back) 0 0 == 41) ≡ false → gap_at (front ++ back) ≡ Ok (length front) → arguments_from 0 back ≡ Err stop → arguments_from 0 (front ++ back) ≡ Err stop
 gap-passed front back stop some goes gap read =
     let fits : length front ≤ length (front ++ back) = omega (arith, length-append front back) in
-    arguments_from-gap (front ++ back) (length front) some fits goes gap ∙ ap (λ t. moved (length front) (arguments_from 0 t)) (drop-front front back) ∙ ap (λ r. moved (length front) r) read
+    arguments_from-gap (front ++ back) (length front) some fits goes gap ∙ ap (λ t. moved (length front) (arguments_from 0 t)) (drop-append_seam front back) ∙ ap (λ r. moved (length front) r) read
 
 space-halts : {behind : Bool} {front text : List ℕ} {stop : Stop} → IsSpace front → ArgumentsHalt false text stop → ArgumentsHalt behind (front ++ text) stop
 space-halts {front = front} {text = text} {stop = stop} s later =
@@ -192,7 +193,7 @@ ends-none : (front : List ℕ) (arg : Arg) → IsArgument front arg → (arg.kin
 ends-none front arg a quoted =
     let text : List ℕ = front ++ [] in
     let read : argument_by text (opening text) ≡ Ok (arg, length front) = argument_by-read a [] (λ k. absurd (quoted k)) in
-    let left : drop (length front) text ≡ [] = drop-front front [] in
+    let left : drop (length front) text ≡ [] = drop-append_seam front [] in
     let whole : argument text ≡ apart text (arg, length front) = rw read refl in
     let alone : apart text (arg, length front) ≡ Ok (arg, length front) = rw left refl in
     let front_so = front-read a [] in
@@ -216,7 +217,7 @@ argument-halts {front = front} {rest = byte ∷ back} {arg = arg} {stop = stop} 
     let fits : length front ≤ length (front ++ rest) = omega (arith, length-append front rest) in
     let halts : arguments_from 0 (front ++ rest) ≡ Err stop =
     arguments_from-argument (front ++ rest) arg (length front) (argument-some a) fits front_so.closes front_so.gap read
-    ∙ ap (λ t. argument_before arg (moved (length front) (arguments_from 0 t))) (drop-front front rest)
+    ∙ ap (λ t. argument_before arg (moved (length front) (arguments_from 0 t))) (drop-append_seam front rest)
     ∙ ap (λ r. argument_before arg (moved (length front) r)) later.reads in
     first-halts (front ++ rest) stop halts
 

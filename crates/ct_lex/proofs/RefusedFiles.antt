@@ -3,7 +3,7 @@
 use Rattle.std.specs.Bool.{⊤}
 use Rattle.std.proofs.Common.{◌≡◌, ◌↔◌, ℕ, suc, ◌+◌, ◌-◌, ◌<◌, ◌≤◌, Bool, true, false, not, ◌&&◌, ◌==◌, nat_lt, List, [], ◌∷◌, ◌++◌, length, take, drop, get_or, Option, Some, None, Result, Ok, Err, refl, sym, ap, ◌∙◌, subst, arith, append_assoc, append-nil, length-append, length-drop, add-zero, add_comm}
 use Rattle.std.proofs.lemmas.Bool.Decides.{nat_tests}
-use Rattle.std.proofs.Math.Seq.{get_or-append_seam, drop-append-add}
+use Rattle.std.proofs.Math.Seq.{get_or-append_seam, drop-append-add, drop-append_seam}
 use Rattle.std.specs.List.{prefix_len, list_all}
 use Rattle.ct_lex.specs.Bracket.{gap_at}
 use Rattle.ct_lex.specs.Broken as broken
@@ -23,7 +23,7 @@ use Rattle.ct_lex.specs.declared.stop.Cause.{Cause}
 use Rattle.ct_lex.specs.declared.stop.Cause.TheVariants as cause
 use Rattle.ct_lex.specs.declared.stop.Stop.{Stop}
 use Rattle.ct_lex.specs.declared.stop.Stop.TheVariants.{Ended, At}
-use Rattle.ct_lex.proofs.FrontLemmas.{drop-front, feeds-append, is-other, run-read}
+use Rattle.ct_lex.proofs.FrontLemmas.{feeds-append, is-other, run-read}
 use Rattle.ct_lex.proofs.OneReading.{same_call, same_place, none-only, fault-only, one_reading}
 use Rattle.ct_lex.proofs.BracketLemmas.{space-read, line-comment-read}
 use Rattle.ct_lex.proofs.TextLemmas.{run-whole}
@@ -185,7 +185,7 @@ shift-refused front back line behind after fault (Ok (Some k)) s e = by_read (co
     by_read (Err stop) r f =
         let start = start-is (suc (length back)) after (line + feeds front) back (Some k) (omega arith) s in
         let first : List ℕ = start.byte ∷ start.back in
-        let here : drop k back ≡ first = ap (λ j. drop j back) (sym start.size) ∙ ap (λ t. drop (length start.front) t) start.split ∙ drop-front start.front first in
+        let here : drop k back ≡ first = ap (λ j. drop j back) (sym start.size) ∙ ap (λ t. drop (length start.front) t) start.split ∙ drop-append_seam start.front first in
         let stops = command-stops start.byte start.back stop start.begins (ap (λ t. command t) (sym here) ∙ r) in
         let within : IsWithin (drop k back) stop = subst (λ (t : List ℕ). IsWithin t stop) (sym here) (command-within first stop stops) in
         let left : drop (k + length front) (front ++ back) ≡ drop k back = ap (λ j. drop j (front ++ back)) (add_comm k (length front)) ∙ drop-append-add front back k in

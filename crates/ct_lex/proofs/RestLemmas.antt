@@ -3,7 +3,7 @@ use Rattle.std.proofs.Common.{◌≡◌, ℕ, zero, suc, ◌+◌, ◌<◌, ◌�
 use Rattle.std.proofs.lemmas.Bool.Decides.{nat_tests}
 use Rattle.std.proofs.lemmas.Bool.{true≢false}
 use Rattle.std.proofs.lemmas.List.{take_at}
-use Rattle.std.proofs.Math.Seq.{drop-append-add, take-append-add}
+use Rattle.std.proofs.Math.Seq.{drop-append-add, take-append-add, drop-append_seam}
 use Rattle.ct_lex.specs.Bytes.{is_blank, begins_word, feeds}
 use Rattle.ct_lex.specs.Stop.{refused}
 use Rattle.ct_lex.specs.Bracket.{gap_at}
@@ -23,7 +23,7 @@ use Rattle.ct_lex.specs.declared.fault.LexFault.TheVariants.{OpenString, OpenBra
 use Rattle.ct_lex.specs.declared.stop.Cause.TheVariants as cause
 use Rattle.ct_lex.proofs.StepLemmas.{start_from-step}
 use Rattle.ct_lex.proofs.OneReading.{same_place}
-use Rattle.ct_lex.proofs.FrontLemmas.{behind-front, drop-front, feeds-append, is-other}
+use Rattle.ct_lex.proofs.FrontLemmas.{behind-front, feeds-append, is-other}
 use Rattle.ct_lex.proofs.BracketLemmas.{IsGapAt, no_gap, space, feed, line_comment, last_comment, gap-is, space-read, line-comment-read, last-comment-read}
 use Rattle.ct_lex.proofs.CommandLemmas.{command-is, command-read}
 use Rattle.ct_lex.proofs.ArgumentsLemmas.{space-some}
@@ -103,7 +103,7 @@ start-gap (no_gap a b) behind line found some gap e again = absurd (omega arith)
 start-gap (space {front = front} back s) behind line found some gap e again =
     let size : length (front ++ back) ≡ length front + length back = length-append front back in
     let passed = start-passed behind behind (front ++ back) (length front) found some (omega arith) gap (stays behind (get_or (front ++ back) 0 0 == 10) (space-first s back)) e in
-    let left : start_from behind 0 back ≡ Ok passed.0 = ap (λ t. start_from behind 0 t) (sym (drop-front front back)) ∙ passed.1 in
+    let left : start_from behind 0 back ≡ Ok passed.0 = ap (λ t. start_from behind 0 t) (sym (drop-append_seam front back)) ∙ passed.1 in
     let read = again behind (line + feeds front) back passed.0 (omega arith) left in
     subst (λ (f : Option ℕ). StartSays behind line (front ++ back) f) passed.2 (before behind behind line front back passed.0 (λ calls r. grammar.space s r) (λ calls fault b. broken.space s b) read)
 start-gap (feed back) behind line found some gap e again =
@@ -114,7 +114,7 @@ start-gap (line_comment back (grammar.line_comment text within unopened)) behind
     let front : List ℕ = 35 ∷ text in
     let size : length (front ++ 10 ∷ back) ≡ length front + length (10 ∷ back) = length-append front (10 ∷ back) in
     let passed = start-passed behind behind (front ++ 10 ∷ back) (length front) found some (omega arith) gap (stays behind (35 == 10) refl) e in
-    let left : start_from behind 0 (10 ∷ back) ≡ Ok passed.0 = ap (λ t. start_from behind 0 t) (sym (drop-front front (10 ∷ back))) ∙ passed.1 in
+    let left : start_from behind 0 (10 ∷ back) ≡ Ok passed.0 = ap (λ t. start_from behind 0 t) (sym (drop-append_seam front (10 ∷ back))) ∙ passed.1 in
     let later = start-passed behind false (10 ∷ back) 1 passed.0 (omega arith) (omega arith) refl (leaves behind (10 == 10) refl) left in
     let whole : List ℕ = front ++ 10 ∷ [] in
     let read = again false (line + feeds whole) back later.0 (omega arith) later.1 in
@@ -129,7 +129,7 @@ start-gap (line_comment back (grammar.line_comment text within unopened)) behind
 start-gap (last_comment {front = front} (grammar.line_comment text within unopened)) behind line found some gap e again =
     let comment : List ℕ = 35 ∷ text in
     let passed = start-passed behind behind comment (length comment) found some (omega arith) gap (stays behind (35 == 10) refl) e in
-    let none : drop (length comment) comment ≡ [] = ap (λ t. drop (length comment) t) (sym (append-nil comment)) ∙ drop-front comment [] in
+    let none : drop (length comment) comment ≡ [] = ap (λ t. drop (length comment) t) (sym (append-nil comment)) ∙ drop-append_seam comment [] in
     let ended : Ok None ≡ Ok passed.0 = ap (λ t. start_from behind 0 t) (sym none) ∙ passed.1 in
     let no_more : None ≡ passed.0 = cc in
     let found_so : None ≡ found = ap (λ f. option_map (λ k. k + length comment) f) no_more ∙ passed.2 in
@@ -205,11 +205,11 @@ call-read place call after next =
     let rest : List ℕ = start.byte ∷ start.back in
     let n : ℕ = next.front in
     let m : ℕ = next.size in
-    let left : drop n place.rest ≡ rest = ap (λ k. drop k place.rest) (sym start.size) ∙ ap (λ t. drop (length start.front) t) start.split ∙ drop-front start.front rest in
+    let left : drop n place.rest ≡ rest = ap (λ k. drop k place.rest) (sym start.size) ∙ ap (λ t. drop (length start.front) t) start.split ∙ drop-append_seam start.front rest in
     let cmd = command-is start.byte start.back next.name next.args m start.begins (ap (λ t. command t) (sym left) ∙ next.read) in
     let both : n + m ≡ length (start.front ++ cmd.front) = omega (arith, length-append start.front cmd.front, start.size, cmd.size) in
     let whole : place.rest ≡ (start.front ++ cmd.front) ++ cmd.back = start.split ∙ ap (λ t. start.front ++ t) cmd.split ∙ sym (append_assoc start.front cmd.front cmd.back) in
-    let behind_it : drop (n + m) place.rest ≡ cmd.back = ap (λ k. drop k place.rest) both ∙ ap (λ t. drop (length (start.front ++ cmd.front)) t) whole ∙ drop-front (start.front ++ cmd.front) cmd.back in
+    let behind_it : drop (n + m) place.rest ≡ cmd.back = ap (λ k. drop k place.rest) both ∙ ap (λ t. drop (length (start.front ++ cmd.front)) t) whole ∙ drop-append_seam (start.front ++ cmd.front) cmd.back in
     let taken : take (n + m) place.rest ≡ start.front ++ cmd.front = ap (λ k. take k place.rest) both ∙ ap (λ t. take (length (start.front ++ cmd.front)) t) whole ∙ take_at (start.front ++ cmd.front) cmd.back (length (start.front ++ cmd.front)) refl in
     let first : take n place.rest ≡ start.front = ap (λ k. take k place.rest) (sym start.size) ∙ ap (λ t. take (length start.front) t) start.split ∙ take_at start.front rest (length start.front) refl in
     let line : ℕ = place.line + feeds start.front in
@@ -279,7 +279,7 @@ reads-shift p q (call ∷ calls) same read = (read.0, same (Some (call, read.0))
 pub gap-start : (front back : List ℕ) (behind after : Bool) → 0 < length front → gap_at (front ++ back) ≡ Ok (length front) → (behind && not (get_or (front ++ back) 0 0 == 10)) ≡ after → start_from behind 0 (front ++ back) ≡ shifted (length front) (start_from after 0 back)
 gap-start front back behind after some gap goes =
     let fits : length front ≤ length (front ++ back) = omega (arith, length-append front back) in
-    start_from-step behind (front ++ back) (length front) some fits gap ∙ ap (λ b. shifted (length front) (start_from b 0 (drop (length front) (front ++ back)))) goes ∙ ap (λ t. shifted (length front) (start_from after 0 t)) (drop-front front back)
+    start_from-step behind (front ++ back) (length front) some fits gap ∙ ap (λ b. shifted (length front) (start_from b 0 (drop (length front) (front ++ back)))) goes ∙ ap (λ t. shifted (length front) (start_from after 0 t)) (drop-append_seam front back)
 
 gap-shift : (front back : List ℕ) (line : ℕ) (behind after : Bool) (calls : List Call) → 0 < length front → gap_at (front ++ back) ≡ Ok (length front) → (behind && not (get_or (front ++ back) 0 0 == 10)) ≡ after →
     ReadsFrom (record { rest = back; line = line + feeds front; behind = after }) calls None → ReadsFrom (record { rest = front ++ back; line = line; behind = behind }) calls None
@@ -304,7 +304,7 @@ call-reads front back name args line c =
     let A : ℕ → ℕ → List ℕ → Result (Option (Call × Place)) LexFault = λ here there rest. Ok (Some (record { name = name; args = args; line = here }, record { rest = rest; line = there; behind = true })) in
     let sums : 0 + n ≡ n = omega arith in
     let there : line + feeds (take (0 + n) (front ++ back)) ≡ line + feeds front = ap (λ k. line + feeds (take k (front ++ back))) sums ∙ ap (λ t. line + feeds t) (take_at front back n refl) in
-    let rest : drop (0 + n) (front ++ back) ≡ back = ap (λ k. drop k (front ++ back)) sums ∙ drop-front front back in
+    let rest : drop (0 + n) (front ++ back) ≡ back = ap (λ k. drop k (front ++ back)) sums ∙ drop-append_seam front back in
     ap (λ r. next_by place r) (command-front c back)
     ∙ ap (λ r. call_at place 0 r) (command-read c back)
     ∙ ap (λ h. A h (line + feeds (take (0 + n) (front ++ back))) (drop (0 + n) (front ++ back))) (add-zero line)

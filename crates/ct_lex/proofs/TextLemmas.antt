@@ -3,7 +3,7 @@ use Rattle.std.proofs.Common.{◌≡◌, ℕ, zero, suc, ◌+◌, ◌<◌, Bool,
 use Rattle.std.proofs.lemmas.Bool.Decides.{nat_tests}
 use Rattle.std.proofs.lemmas.Bool.{true≢false, and_parts, or_parts, or_from, and_from}
 use Rattle.std.proofs.lemmas.List.{take_at}
-use Rattle.std.proofs.Math.Seq.{get_or-append_seam}
+use Rattle.std.proofs.Math.Seq.{get_or-append_seam, drop-append_seam}
 use Rattle.std.specs.List.{prefix_len, list_all, list_any, starts_with}
 use Rattle.ct_lex.specs.Argument.{escaped, begins_reference, with_piece, ends_text, is_plain}
 use Rattle.ct_lex.specs.Bytes.{stands, is_name}
@@ -20,7 +20,7 @@ use Rattle.ct_lex.specs.declared.stop.Stop.{Stop}
 use Rattle.ct_lex.specs.declared.stop.Stop.TheVariants.{Ended}
 use Rattle.ct_lex.specs.declared.stop.Cause.TheVariants.{BadReference}
 use Rattle.ct_lex.proofs.StepLemmas.{text_from-step}
-use Rattle.ct_lex.proofs.FrontLemmas.{run-read, stands-at, drop-front, not_true}
+use Rattle.ct_lex.proofs.FrontLemmas.{run-read, stands-at, not_true}
 use Rattle.ct_lex.proofs.BracketLemmas.{stands-is}
 
 -- what was read with its end moved by m was read with an end m bytes earlier
@@ -236,7 +236,7 @@ pub behind-reference : (name rest : List ℕ) → drop (length name + 3) (36 ∷
 behind-reference name rest =
     let shift : length name + 3 ≡ suc (suc (length name + 1)) = omega arith in
     let seam : length name + 1 ≡ length (name ++ 125 ∷ []) = omega (arith, length-append name (125 ∷ [])) in
-    ap (λ n. drop n (36 ∷ 123 ∷ (name ++ 125 ∷ rest))) shift ∙ ap (λ n. drop n (name ++ 125 ∷ rest)) seam ∙ ap (λ t. drop (length (name ++ 125 ∷ [])) t) (sym (append_assoc name (125 ∷ []) rest)) ∙ drop-front (name ++ 125 ∷ []) rest
+    ap (λ n. drop n (36 ∷ 123 ∷ (name ++ 125 ∷ rest))) shift ∙ ap (λ n. drop n (name ++ 125 ∷ rest)) seam ∙ ap (λ t. drop (length (name ++ 125 ∷ [])) t) (sym (append_assoc name (125 ∷ []) rest)) ∙ drop-append_seam (name ++ 125 ∷ []) rest
 
 text-step : {kind : ArgKind} {text : List ℕ} {piece : Part} {n : ℕ} → IsUnitAt kind text piece n → ends_text kind (get_or text 0 0) ≡ false → (more : List Part) (k : ℕ) → TextRead kind (drop n text) more k → TextRead kind text (with_piece piece more) (k + n)
 text-step {kind} (plain byte rest a b) ends more k read =

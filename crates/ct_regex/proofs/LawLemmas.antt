@@ -1,11 +1,12 @@
 -- Laws of matching over trees and over patterns of plain bytes.
 use Rattle.std.proofs.Common.{◌≡◌, ◌≤◌, ◌<◌, ◌⊎◌, ◌||◌, ◌==◌, ℕ, zero, suc, ◌+◌, Bool, true, false, List, [], ◌∷◌, ◌++◌, length, map, drop, take, get_or, inl, inr, ⊎_elim, refl, sym, ◌∙◌, ap, subst, append-nil, append_assoc, Ok, nat_lt, arith}
-use Rattle.std.proofs.lemmas.Bool.{and_parts, eqb-true, not-true, or_parts}
+use Rattle.std.proofs.lemmas.Bool.{and_parts, eqb-true, not-true, or_parts, cases_lt}
 use Rattle.std.proofs.Math.Bool.{or-false}
 use Rattle.std.specs.List.{flat_map, list_all}
 use Rattle.std.proofs.lemmas.List.{drop_more, take-append-drop, length-append, length-drop}
 use Rattle.std.proofs.lemmas.Option.{slice_get-get_or, slice_get_past}
 use Rattle.std.proofs.lemmas.Bool.Decides.{nat_tests}
+use Rattle.std.proofs.Math.Seq.{drop-append_seam}
 use Rattle.ct_regex.specs.Tree.{Tree, never, one, same, choice, sequence_of, branch_of}
 use Rattle.ct_regex.specs.Ends.{ends, behind, place_if, has_place, hits, hits_up_to}
 use Rattle.ct_regex.specs.Signs.{atom, signs}
@@ -89,11 +90,8 @@ plain_ends : (bytes text : List ℕ) (place to : ℕ) → place ≤ length text 
 plain_ends [] text place to within a = (drop place text, refl)
 plain_ends (byte ∷ bytes) text place to within a =
     let found = among_from (ends text (sequence_of (parts_of bytes))) (ends text (one (same byte)) place) to a in
-    step (λ mid w m. plain_ends bytes text mid to w m) found.0 found.1 found.2 (at_or_past place)
+    step (λ mid w m. plain_ends bytes text mid to w m) found.0 found.1 found.2 (cases_lt place (length text))
   where
-    at_or_past : (at : ℕ) → (at < length text) ⊎ (length text ≤ at)
-    at_or_past at = grind arith
-
     through : (b : Bool) (at mid : ℕ) → Among mid (place_if b (at + 1)) → (b ≡ true) × (at + 1 ≡ mid)
     through true at mid m = ⊎_elim (λ e. (refl, e)) (λ no. absurd no) m
     through false at mid m = absurd m
@@ -139,10 +137,6 @@ plain_ends_at (byte ∷ bytes) back text place e =
     here = subst (λ v. Among (place + 1) (behind (same byte) place v)) (sym (slice_get-get_or text place 0 inside))
         (subst (λ b. Among (place + 1) (place_if b (place + 1))) (sym (is_same (get_or text place 0) byte first)) (inl refl))
 
-drop_front : (front back : List ℕ) → drop (length front) (front ++ back) ≡ back
-drop_front [] back = refl
-drop_front (x ∷ front) back = drop_front front back
-
 choice_left : (left : Tree) (text : List ℕ) → hits (choice left never) text ≡ hits left text
 choice_left left text = choice_hits left never text ∙ ap (λ b. hits left text || b) (never_hits (length text)) ∙ or-false (hits left text)
   where
@@ -158,7 +152,7 @@ plain_hits bytes text h =
 
 pub plain_hits_at : (bytes text : List ℕ) → HasPart bytes text → hits (choice (sequence_of (parts_of bytes)) never) text ≡ true
 plain_hits_at bytes text p =
-    let at : drop (length p.front) text ≡ bytes ++ p.back = ap (drop (length p.front)) p.there ∙ drop_front p.front (bytes ++ p.back) in
+    let at : drop (length p.front) text ≡ bytes ++ p.back = ap (drop (length p.front)) p.there ∙ drop-append_seam p.front (bytes ++ p.back) in
     let found = plain_ends_at bytes p.back text (length p.front) at in
     choice_left (sequence_of (parts_of bytes)) text
     ∙ hits_from (length text) text (sequence_of (parts_of bytes)) (length p.front) found.0

@@ -1,6 +1,6 @@
 -- The marks say which point of the pattern a match has come to.
 use Rattle.std.proofs.Common.{◌≡◌, ◌≤◌, ◌<◌, ◌⊎◌, ◌||◌, ◌&&◌, ◌==◌, ℕ, zero, suc, ◌+◌, Bool, true, false, not, List, [], ◌++◌, length, get_or, inl, inr, ⊎_elim, refl, sym, ◌∙◌, ap, subst, append_assoc, slice_get, arith}
-use Rattle.std.proofs.lemmas.Bool.{and_cases, and_from, and_parts, not-true, or_cases, or_left, or_parts, or_right}
+use Rattle.std.proofs.lemmas.Bool.{and_cases, and_from, and_parts, not-true, or_cases, or_left, or_parts, or_right, cases_lt}
 use Rattle.std.proofs.lemmas.Option.{slice_get-get_or, slice_get_past}
 use Rattle.ct_regex.specs.Tree.{Test, takes, Tree, empty, never, start, end, one, sequence, choice, repeat}
 use Rattle.ct_regex.specs.declared.tree.Quantifier.TheVariants.{ZeroOrOne, ZeroOrMore, OneOrMore}
@@ -79,11 +79,8 @@ path_le step most f zero i j h p = omega arith
 path_le step most f (suc count) i j h p = f p.0 j (path_le step most f count i p.0 h p.1) p.2
 
 behind_at : (text : List ℕ) (test : Test) (i j : ℕ) → Among j (behind test i (slice_get text i)) → (i < length text) × (takes test (get_or text i 0) ≡ true) × (j ≡ i + 1)
-behind_at text test i j a = by_place (at_or_past i)
+behind_at text test i j a = by_place (cases_lt i (length text))
   where
-    at_or_past : (at : ℕ) → (at < length text) ⊎ (length text ≤ at)
-    at_or_past at = grind arith
-
     by_place : (i < length text) ⊎ (length text ≤ i) → (i < length text) × (takes test (get_or text i 0) ≡ true) × (j ≡ i + 1)
     by_place (inl inside) =
         let here = subst (λ v. Among j (behind test i v)) (slice_get-get_or text i 0 inside) a in

@@ -1,7 +1,7 @@
 -- A walk over the steps of a pattern changes the marks as a byte changes the live positions of the tree.
 use Rattle.std.proofs.Common.{◌≡◌, ℕ, suc, not, ◌+◌, Bool, true, false, ◌&&◌, ◌||◌, List, [], ◌∷◌, ◌++◌, length, slice_set, map, refl, sym, ◌∙◌, ap, subst, append-nil, append_assoc}
 use Rattle.std.proofs.lemmas.Bool.{and_parts, not-true}
-use Rattle.std.proofs.Math.Bool.{and-false, and-true, or-false, or_assoc}
+use Rattle.std.proofs.Math.Bool.{and-false, and-true, or-false, or_assoc, and-or_distrib_left}
 use Rattle.std.proofs.lemmas.List.{length-append, set_at, get_or_at}
 use Rattle.ct_regex.specs.Tree.{Test, Tree, empty, never, start, end, one, sequence, choice, repeat, takes, branch_of}
 use Rattle.ct_regex.specs.declared.tree.Quantifier.TheVariants.{ZeroOrOne, ZeroOrMore, OneOrMore}
@@ -100,6 +100,10 @@ slots_first (repeat OneOrMore tree) =
     ap (λ (b : Bool). b ∷ slots tree true []) (no_leaves tree (record { is_first = true; is_last = false }))
     ∙ ap (λ (xs : List Bool). false ∷ xs) (slots_first tree)
 
+absorbed : (a b : Bool) → (a || (a && b)) ≡ (a && true)
+absorbed true b = refl
+absorbed false b = refl
+
 -- in an empty text and without marks, a tree is left exactly if it is entered and can be empty
 pub leaves_empty : (tree : Tree) (enters : Bool) → is_sound tree ≡ true →
     leaves tree enters (record { is_first = true; is_last = true }) [] ≡ (enters && can_be_empty tree)
@@ -123,23 +127,11 @@ leaves_empty (choice left right) enters s =
     ap (λ (b : Bool). b || leaves right enters (record { is_first = true; is_last = true }) (marks_behind left [])) (leaves_empty left enters both.0)
     ∙ ap (λ (ms : List Bool). (enters && can_be_empty left) || leaves right enters (record { is_first = true; is_last = true }) ms) (marks_behind-none left)
     ∙ ap (λ (b : Bool). (enters && can_be_empty left) || b) (leaves_empty right enters both.1)
-    ∙ distributed enters (can_be_empty left) (can_be_empty right)
-  where
-    distributed : (a b c : Bool) → ((a && b) || (a && c)) ≡ (a && (b || c))
-    distributed true b c = refl
-    distributed false b c = refl
+    ∙ sym (and-or_distrib_left enters (can_be_empty left) (can_be_empty right))
 leaves_empty (repeat ZeroOrOne tree) enters s = ap (λ (b : Bool). enters || b) (leaves_empty tree enters s) ∙ absorbed enters (can_be_empty tree)
-  where
-    absorbed : (a b : Bool) → (a || (a && b)) ≡ (a && true)
-    absorbed true b = refl
-    absorbed false b = refl
 leaves_empty (repeat ZeroOrMore tree) enters s =
     let both = and_parts (not (can_be_empty tree)) (is_sound tree) s in
     ap (λ (b : Bool). enters || b) (leaves_empty tree enters both.1) ∙ absorbed enters (can_be_empty tree)
-  where
-    absorbed : (a b : Bool) → (a || (a && b)) ≡ (a && true)
-    absorbed true b = refl
-    absorbed false b = refl
 leaves_empty (repeat OneOrMore tree) enters s =
     let both = and_parts (not (can_be_empty tree)) (is_sound tree) s in
     leaves_empty tree enters both.1 ∙ ap (λ (b : Bool). enters && b) (not-true (can_be_empty tree) both.0)

@@ -8,6 +8,7 @@ use Rattle.std.proofs.lemmas.List.Sums.{sum_by-append}
 use Rattle.std.proofs.lemmas.Option.{get_or_from_slice_get, slice_get_read}
 use Rattle.ct_verdict.specs.declared.attempt.Seen.{Seen}
 use Rattle.ct_verdict.specs.declared.verdict.Verdict.{Verdict}
+use Rattle.ct_history.proofs.PlaceLemmas.{place_bound}
 use Rattle.ct_history.specs.declared.plan.PlanTest.{PlanTest}
 use Rattle.ct_history.specs.declared.plan.PlanParts.{PlanParts}
 use Rattle.ct_history.specs.declared.history.Entry.{Entry}
@@ -63,11 +64,6 @@ module _ (n a w : ℕ) (seen : Seen) where
       let other : (t.number == n) ≡ false = grind (arith, nat_tests) in
       ap (λ (m : ℕ). m ∷ micros_each ts (es ++ End n a w seen ∷ [])) (micros_other t.number es (End n a w seen) (other_none t.number other))
       ∙ ap (λ (ms : List ℕ). micros_of t.number es ∷ ms) (each_above (t.number + 1) ts es ascends.1 (omega (arith, lt, le)))
-
-  place_bound : (least : ℕ) (tests : List PlanTest) (place : ℕ) (t : PlanTest) → IsAscendingFrom least (map (λ (x : PlanTest). x.number) tests) → slice_get tests place ≡ Some t → least ≤ t.number
-  place_bound least [] place t ascends is = cc
-  place_bound least (x ∷ xs) zero t ascends is = let same : x ≡ t = cc in subst (λ (y : PlanTest). least ≤ y.number) same ascends.0
-  place_bound least (x ∷ xs) (suc k) t ascends is = let later = place_bound (x.number + 1) xs k t ascends.1 is in omega (arith, ascends.0, later)
 
   -- an End of a test sets those at its place
   each_set : (least : ℕ) (tests : List PlanTest) (place : ℕ) (t : PlanTest) (es : List Entry) → IsAscendingFrom least (map (λ (x : PlanTest). x.number) tests) → slice_get tests place ≡ Some t → t.number ≡ n → micros_each tests (es ++ End n a w seen ∷ []) ≡ slice_set (micros_each tests es) place (micros_of n (es ++ End n a w seen ∷ []))

@@ -2,7 +2,7 @@
 use Rattle.std.proofs.Common.{◌≡◌, ℕ, ◌+◌, ◌<◌, min, Bool, true, false, cond, ◌||◌, bytes_eq, List, [], ◌∷◌, ◌++◌, length, take, get_or, fold, sum_by, count_by, refl, sym, ap, ◌∙◌, arith}
 use Rattle.std.specs.List.{list_any}
 use Rattle.std.proofs.Math.Bool.{or_assoc, or-false}
-use Rattle.std.proofs.lemmas.Bool.{false≢true}
+use Rattle.std.proofs.lemmas.Bool.{false≢true, or_parts}
 use Rattle.std.proofs.lemmas.List.Sums.{fold_more, sum_by-cons, sum_by_more}
 use Rattle.std.proofs.lemmas.Slice.Eq.{bytes_eq-Decides}
 use Rattle.ct_base.specs.declared.defs.TestDef.{TestDef}
@@ -68,21 +68,12 @@ among-distinct names asked = among-fold [] names asked
 Distinct-push : (names : List (List ℕ)) (name : List ℕ) → Distinct names → is_one_of_names names name ≡ false → Distinct (names ++ name ∷ [])
 Distinct-push [] name distinct absent = (refl, tt)
 Distinct-push (first ∷ names) name distinct absent =
-    (among-append names (name ∷ []) first ∙ none (is_one_of_names names first) (bytes_eq name first) distinct.0 (bytes_eq_comm name first ∙ left (bytes_eq first name) (is_one_of_names names name) absent), Distinct-push names name distinct.1 (right (bytes_eq first name) (is_one_of_names names name) absent))
+    (among-append names (name ∷ []) first ∙ none (is_one_of_names names first) (bytes_eq name first) distinct.0 (bytes_eq_comm name first ∙ (or_parts (bytes_eq first name) (is_one_of_names names name) absent).0), Distinct-push names name distinct.1 ((or_parts (bytes_eq first name) (is_one_of_names names name) absent).1))
   where
     none : (a b : Bool) → a ≡ false → b ≡ false → (a || (b || false)) ≡ false
     none true b e f = e
     none false true e f = f
     none false false e f = refl
-
-    left : (a b : Bool) → (a || b) ≡ false → a ≡ false
-    left true b e = e
-    left false b e = refl
-
-    right : (a b : Bool) → (a || b) ≡ false → b ≡ false
-    right true true e = e
-    right true false e = refl
-    right false b e = e
 
 Distinct-with_new : (names : List (List ℕ)) (name : List ℕ) → Distinct names → Distinct (with_new names name)
 Distinct-with_new names name distinct = by (list_any (bytes_eq name) names) refl

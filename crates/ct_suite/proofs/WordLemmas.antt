@@ -5,6 +5,7 @@ use Rattle.std.specs.List.{list_any, flat_map, join_with_byte}
 use Rattle.std.specs.declared.vec.Vec.{Vec}
 use Rattle.indexmap.specs.IndexSet.{insert_key}
 use Rattle.ct_base.specs.declared.defs.Pair.{Pair}
+use Rattle.ct_base.proofs.KeyLemmas.{put_behind}
 use Rattle.ct_suite.specs.Words.{names_and_pairs, pairs_of, is_properties, list_value}
 use Rattle.ct_suite.specs.Entries.{with_new}
 
@@ -19,14 +20,10 @@ module _ {Z : Type 0} where
   any-keys name [] = refl
   any-keys name (key ∷ keys) = ap (λ more. bytes_eq name key.items || more) (any-keys name keys)
 
-  insert_by : (keys : List (Vec ℕ Z)) (key : Vec ℕ Z) (is : Bool) → map (λ (k : Vec ℕ Z). k.items) (cond is keys (keys ++ key ∷ [])) ≡ cond is (map (λ (k : Vec ℕ Z). k.items) keys) (map (λ (k : Vec ℕ Z). k.items) keys ++ key.items ∷ [])
-  insert_by keys key true = refl
-  insert_by keys key false = map_push (λ (k : Vec ℕ Z). k.items) keys key
-
   -- inserting a key into a set adds it if it is new
   pub with_new-insert_key : (keys : List (Vec ℕ Z)) (key : Vec ℕ Z) → map (λ (k : Vec ℕ Z). k.items) (insert_key (λ (one other : Vec ℕ Z). bytes_eq one.items other.items) keys key) ≡ with_new (map (λ (k : Vec ℕ Z). k.items) keys) key.items
   with_new-insert_key keys key =
-      insert_by keys key (list_any (λ (k : Vec ℕ Z). bytes_eq key.items k.items) keys)
+      put_behind keys key (list_any (λ (k : Vec ℕ Z). bytes_eq key.items k.items) keys)
       ∙ ap (λ is. cond is (map (λ (k : Vec ℕ Z). k.items) keys) (map (λ (k : Vec ℕ Z). k.items) keys ++ key.items ∷ [])) (any-keys key.items keys)
 
 -- fewer than two names are all different

@@ -2,6 +2,7 @@
 use Rattle.std.proofs.Common.{◌≡◌, ◌∙◌, sym, ap, subst, Bool, true, false, ℕ, ◌+◌, ◌≤◌, List, [], ◌∷◌, ◌++◌, refl, arith, inl, inr, append_assoc}
 use Rattle.std.specs.Prelude.{◌⊎◌, Option, Some, None, IfSome, map, count_by, not, ◌==◌, ◌&&◌, ◌||◌, cond}
 use Rattle.std.specs.List.{list_any, cons_option}
+use Rattle.std.proofs.lemmas.Bool.{or_parts}
 use Rattle.std.proofs.Math.Bool.{or-true}
 use Rattle.std.proofs.lemmas.List.{append-nil, map-append}
 use Rattle.std.proofs.lemmas.List.Elements.{filter_map-append}
@@ -14,7 +15,7 @@ use Rattle.ct_verdict.specs.declared.attempt.Seen.{Seen}
 use Rattle.ct_history.specs.declared.history.Entry.{Entry}
 use Rattle.ct_history.specs.declared.history.Entry.TheVariants.{Start, End, Settle, Stop}
 use Rattle.ct_history.specs.History.{Running}
-use Rattle.ct_history.proofs.BoolLemmas.{eq_same, or_left, or_right}
+use Rattle.ct_history.proofs.BoolLemmas.{eq_same}
 use Rattle.ct_core.specs.declared.gate.Asked.{Asked}
 use Rattle.ct_core.specs.declared.gate.Request.{Request}
 use Rattle.ct_core.specs.declared.gate.Told.{Told}
@@ -117,7 +118,7 @@ module _ (w : ℕ) where
 
   no_starts : (es : List Entry) → list_any (is_by w) es ≡ false → starts_of w es ≡ []
   no_starts [] is = refl
-  no_starts (e ∷ es) is = ap (λ (o : Option Running). cons_option o (starts_of w es)) (no_start e (or_left (is_by w e) (list_any (is_by w) es) is)) ∙ no_starts es (or_right (is_by w e) (list_any (is_by w) es) is)
+  no_starts (e ∷ es) is = ap (λ (o : Option Running). cons_option o (starts_of w es)) (no_start e ((or_parts (is_by w e) (list_any (is_by w) es) is).0)) ∙ no_starts es ((or_parts (is_by w e) (list_any (is_by w) es) is).1)
 
   not_unstarted : (e : Entry) → is_by w e ≡ false → is_unstarted w e ≡ false
   not_unstarted (Start t a v p) is = refl
@@ -133,14 +134,14 @@ module _ (w : ℕ) where
 
   none_ended : (es : List Entry) → list_any (is_by w) es ≡ false → ended_with_memory w es ≡ []
   none_ended [] is = refl
-  none_ended (e ∷ es) is = ap (λ (o : Option Asked). cons_option o (ended_with_memory w es)) (not_ended e (or_left (is_by w e) (list_any (is_by w) es) is)) ∙ none_ended es (or_right (is_by w e) (list_any (is_by w) es) is)
+  none_ended (e ∷ es) is = ap (λ (o : Option Asked). cons_option o (ended_with_memory w es)) (not_ended e ((or_parts (is_by w e) (list_any (is_by w) es) is).0)) ∙ none_ended es ((or_parts (is_by w e) (list_any (is_by w) es) is).1)
 
   none_counted : (counts : Entry → Bool) → ((e : Entry) → is_by w e ≡ false → counts e ≡ false) → (es : List Entry) → list_any (is_by w) es ≡ false → count_by counts es ≡ 0
   none_counted counts never [] is = refl
   none_counted counts never (e ∷ es) is =
       sum_by-cons (λ (x : Entry). cond (counts x) 1 0) e es
-      ∙ ap (λ (b : Bool). cond b 1 0 + count_by counts es) (never e (or_left (is_by w e) (list_any (is_by w) es) is))
-      ∙ none_more (count_by counts es) 0 (none_counted counts never es (or_right (is_by w e) (list_any (is_by w) es) is))
+      ∙ ap (λ (b : Bool). cond b 1 0 + count_by counts es) (never e ((or_parts (is_by w e) (list_any (is_by w) es) is).0))
+      ∙ none_more (count_by counts es) 0 (none_counted counts never es ((or_parts (is_by w e) (list_any (is_by w) es) is).1))
 
   saw_none : (props : List Props) (world : List Told) (e : Entry) → is_by w e ≡ false → SawTold props world w e
   saw_none props world (Start t a v p) is = tt
@@ -153,7 +154,7 @@ module _ (w : ℕ) where
 
   told_none : (props : List Props) (world : List Told) (es : List Entry) → list_any (is_by w) es ≡ false → SawAllTold props world w es
   told_none props world [] is = tt
-  told_none props world (e ∷ es) is = (saw_none props world e (or_left (is_by w e) (list_any (is_by w) es) is), told_none props world es (or_right (is_by w e) (list_any (is_by w) es) is))
+  told_none props world (e ∷ es) is = (saw_none props world e ((or_parts (is_by w e) (list_any (is_by w) es) is).0), told_none props world es ((or_parts (is_by w e) (list_any (is_by w) es) is).1))
 
   -- for entries that are not the worker's its gate is not asked
   unasked : (terms : Terms) (tell : GateTell) (es : List Entry) → list_any (is_by w) es ≡ false → IsAsked terms w tell tell es

@@ -4,11 +4,12 @@ use Rattle.std.proofs.Common.{◌≡◌, ◌∙◌, sym, ap, subst, refl, ℕ, s
 use Rattle.std.specs.Prelude.{⊤, Contains, IfErr, Option, Some, None, is_some, All, map, ◌==◌, ◌||◌, nat_lt}
 use Rattle.std.specs.List.{list_all, list_any}
 use Rattle.std.proofs.Math.ListN.{take}
-use Rattle.std.proofs.lemmas.Bool.{and_parts, and_from, cases_Bool, true≢false, or_from}
+use Rattle.std.proofs.lemmas.Bool.{and_parts, and_from, cases_Bool, true≢false, or_from, or_parts}
 use Rattle.std.proofs.lemmas.Bool.Decides.{nat_tests}
 use Rattle.std.proofs.lemmas.List.{append-nil, map-append}
 use Rattle.std.proofs.lemmas.List.Elements.{All-cons, All-head, All-nil, All-tail}
 use Rattle.std.proofs.lemmas.List.Folds.{list_any-append}
+use Rattle.ct_base.proofs.OptionLemmas.{some_is}
 use Rattle.ct_verdict.specs.declared.verdict.Verdict.{Verdict}
 use Rattle.ct_history.specs.declared.board.Base.{Base}
 use Rattle.ct_history.specs.declared.plan.PlanParts.{PlanParts}
@@ -19,7 +20,7 @@ use Rattle.ct_history.specs.History.{open_starts}
 use Rattle.ct_history.specs.Legal.{are_allowed_behind, is_allowed, is_legal}
 use Rattle.ct_history.specs.Plan.{IsSound, test_at}
 use Rattle.ct_history.specs.Verdicts.{are_all_final, is_final_in, verdict_in}
-use Rattle.ct_history.proofs.BoolLemmas.{eq_same, or_left, or_right}
+use Rattle.ct_history.proofs.BoolLemmas.{eq_same}
 use Rattle.ct_history.proofs.FinalLemmas.{verdict_stays}
 use Rattle.ct_history.proofs.LegalLemmas.{legal-nil, legal_allowed}
 use Rattle.ct_history.proofs.PlanLemmas.{contained_at}
@@ -68,7 +69,7 @@ joined_notes keeper (p ∷ ps) =
 -- if no halt is seen after joining, the keeper had seen none before
 joined_halted : (keeper : Known) (passes : List PassValue) → (all_joined keeper passes).seen.halted ≡ false → keeper.seen.halted ≡ false
 joined_halted keeper [] is = is
-joined_halted keeper (p ∷ ps) is = or_left keeper.seen.halted p.known.seen.halted (joined_halted (with_joined keeper p.known) ps is)
+joined_halted keeper (p ∷ ps) is = (or_parts keeper.seen.halted p.known.seen.halted (joined_halted (with_joined keeper p.known) ps is)).0
 
 -- the passes are for the workers from this number on, in order
 abbrev HaveNumbers : ℕ → List PassValue → Type 0
@@ -155,12 +156,8 @@ below_one workers Stop none = refl
 below_all : (workers : ℕ) (es : List Entry) → ((v : ℕ) → workers ≤ v → list_any (is_by v) es ≡ false) → are_below workers es ≡ true
 below_all workers [] none = refl
 below_all workers (e ∷ es) none =
-    and_from (is_below workers e) (are_below workers es) (below_one workers e (λ v behind. or_left (is_by v e) (list_any (is_by v) es) (none v behind)))
-    (below_all workers es (λ v behind. or_right (is_by v e) (list_any (is_by v) es) (none v behind)))
-
-some_of : {A : Type 0} (o : Option A) → is_some o ≡ true → (x : A) × (o ≡ Some x)
-some_of None is = cc
-some_of (Some x) is = (x, refl)
+    and_from (is_below workers e) (are_below workers es) (below_one workers e (λ v behind. (or_parts (is_by v e) (list_any (is_by v) es) (none v behind)).0))
+    (below_all workers es (λ v behind. (or_parts (is_by v e) (list_any (is_by v) es) (none v behind)).1))
 
 allowed_behind : (plan : PlanParts) (front xs ys : List Entry) → are_allowed_behind plan front (xs ++ ys) ≡ true → are_allowed_behind plan (front ++ xs) ys ≡ true
 allowed_behind plan front [] ys allowed = subst (λ (es : List Entry). are_allowed_behind plan es ys ≡ true) (sym (append-nil front)) allowed
@@ -179,7 +176,7 @@ finals_more : (plan : PlanParts) (front more : List Entry) → are_allowed_behin
 finals_more plan front more allowed [] at all = refl
 finals_more plan front more allowed (t ∷ ts) at all =
     let both = and_parts (is_final_in plan.repeat t front) (list_all (λ u. is_final_in plan.repeat u front) ts) all in
-    let own = some_of (verdict_in plan.repeat t front) both.0 in
+    let own = some_is (verdict_in plan.repeat t front) both.0 in
     and_from (is_final_in plan.repeat t (front ++ more)) (list_all (λ u. is_final_in plan.repeat u (front ++ more)) ts)
     (ap is_some (verdict_more plan t (at t (0, omega arith, refl)) front more own.0 allowed own.1))
     (finals_more plan front more allowed ts (λ u there. at u (later u there)) both.1)
