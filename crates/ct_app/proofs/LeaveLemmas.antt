@@ -85,8 +85,8 @@ module _ (words : List (List ℕ)) (env : List Pair) (invocation : Invocation) (
   is_source = record { tests = read.read.read; only = read.limits; wanted = refl; resources = read.lent; costs = read.last }
 
   -- the plan was run, and the files of the run were written where the run is complete
-  pub folder_ends : (terms : Terms) (gates gates_now : List GateTell) (sink sink_now : SinkTell) (plan : PlanParts) (entries : List Entry) (names : List (List ℕ)) (ended given : Result (Unit {0}) Outcome) → terms ≡ terms_from env (source tests.defs tests.props (wanted_of invocation only) lent costs) invocation.timeout → IsPlanAnswer most_edges (source tests.defs tests.props (wanted_of invocation only) lent costs) (Ok plan) → HasRun terms gates gates_now plan entries → FollowsQueue plan entries → PlanEnds plan entries sink sink_now ended → EndsWithFiles plan entries costs between files_now ended given → Ends (sides words env files files_now gates gates_now sink sink_now (Some plan) (Some entries)) names (with_status invocation.empty_is_error plan entries given)
-  folder_ends terms gates gates_now sink sink_now plan entries names ended given same planned ran order ends left =
+  pub folder_ends : (terms : Terms) (gates gates_now : List GateTell) (sink sink_now : SinkTell) (plan : PlanParts) (entries : List Entry) (names : List (List ℕ)) (ended given : Result (Unit {0}) Outcome) → (AreAsked terms 0 gates gates_now entries → AreAsked (terms_from env (source tests.defs tests.props (wanted_of invocation only) lent costs) invocation.timeout) 0 gates gates_now entries) → IsPlanAnswer most_edges (source tests.defs tests.props (wanted_of invocation only) lent costs) (Ok plan) → HasRun terms gates gates_now plan entries → FollowsQueue plan entries → PlanEnds plan entries sink sink_now ended → EndsWithFiles plan entries costs between files_now ended given → Ends (sides words env files files_now gates gates_now sink sink_now (Some plan) (Some entries)) names (with_status invocation.empty_is_error plan entries given)
+  folder_ends terms gates gates_now sink sink_now plan entries names ended given asked_so planned ran order ends left =
       let s = sides words env files files_now gates gates_now sink sink_now (Some plan) (Some entries) in
       let made = source tests.defs tests.props (wanted_of invocation only) lent costs in
       let last = subst (λ (dir : List ℕ). IfSome files.held (λ held. costs ≡ last_costs dir held)) (sym planned.1.dir) read.last in
@@ -98,7 +98,7 @@ module _ (words : List (List ℕ)) (env : List Pair) (invocation : Invocation) (
         order = order;
         closed = ran.closed;
         workers = ran.workers;
-        asked = subst (λ (t : Terms). AreAsked t 0 gates gates_now entries) same ran.asked;
+        asked = asked_so ran.asked;
       } in
       inl (record {
         invocation = invocation;

@@ -10,6 +10,7 @@ pub mod PlanLemmas
 pub mod PoolLemmas
 pub mod EndLemmas
 pub mod LeaveLemmas
+pub mod TermLemmas
 pub mod AnswerLemmas
 pub mod ListLemmas
 pub mod MeantLemmas

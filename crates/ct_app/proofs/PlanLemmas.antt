@@ -32,9 +32,9 @@ planned_at s (m ∷ ms) (x ∷ xs) are n t found = elim (cases_Bool (x.number ==
 ]
 
 -- the jobs of the tests that a plan was made of reach each test of the plan
-pub reaches : (s : Source) (jobs : Jobs) (plan : PlanParts) → jobs.defs.now ≡ s.defs → jobs.props.now ≡ s.props → HaveProps s.defs s.props → IsPlanOf s plan → Reach jobs plan
-reaches s jobs plan defs_are props_are have is = record {
-  paired = ap (λ (props : List Props). length props) props_are ∙ length-have_props s.defs s.props have ∙ ap (λ (defs : List TestDef). length defs) (sym defs_are);
+pub reaches : (s : Source) (jobs : Jobs) (plan : PlanParts) → jobs.defs.now ≡ s.defs → length jobs.props.now ≡ length s.props → HaveProps s.defs s.props → IsPlanOf s plan → Reach jobs plan
+reaches s jobs plan defs_are counted have is = record {
+  paired = counted ∙ length-have_props s.defs s.props have ∙ ap (λ (defs : List TestDef). length defs) (sym defs_are);
   low = λ number t found. let planned = planned_at s (run_members s) plan.tests is.tests number t found in (number_within s.defs number planned.def planned.def_is).0;
   within = λ number t found.
       let planned = planned_at s (run_members s) plan.tests is.tests number t found in

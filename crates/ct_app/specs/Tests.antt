@@ -1,10 +1,11 @@
 -- The tests of a call, and the first property of them that is refused.
 -- Source: CMake manual, cmake-properties(7), Properties on Tests.
 -- The order of refusals is this project's choice.
-use Rattle.std.specs.Prelude.{◌≡◌, ℕ, ◌-◌, ◌≤◌, List, take, All, Some, None, is_some, ⊤}
+use Rattle.std.specs.Prelude.{◌≡◌, ℕ, ◌-◌, ◌≤◌, List, [], take, All, Some, None, is_some, ⊤}
 use Rattle.ct_base.specs.declared.defs.Pair.{Pair}
 use Rattle.ct_base.specs.declared.defs.TestDef.{TestDef}
 use Rattle.ct_props.specs.declared.fault.PropKind.{PropKind}
+use Rattle.ct_props.specs.declared.props.Props.{Props}
 use Rattle.ct_props.specs.Refusal.{IsLeastRefused, refused_as}
 use Rattle.ct_props.specs.Numbered.{at_number}
 use Rattle.ct_plan.specs.Source.{Source}
@@ -23,6 +24,10 @@ terms_from own source limit = record {
   limit = limit;
   lends = is_some source.resources;
 }
+
+-- the properties without the names that link tests: those of DEPENDS, and those of fixtures
+abbrev pub without_links : Props → Props
+without_links own = record own { depends = []; setup = []; required = []; cleanup = [] }
 
 -- no property of the test is refused
 abbrev pub IsUnrefused : TestDef → Type 0

@@ -10,6 +10,7 @@ ghost use Rattle.ct_worker.specs.Work.{Reach, terms_in};
 
 use crate::Outcome;
 use crate::planning::{PlannedFolder, Unplanned, hand_out_sound, plan_folder};
+use crate::props::without_links;
 use crate::run::{PoolRun, run};
 use crate::run_files::write_files;
 use ct_args::Invocation;
@@ -72,6 +73,7 @@ pub(crate) fn run_folder<R: Threads + Wait + Sync, F: Files, G: Gate + Send, S: 
         Err(bad) => return unrun(bad, gates, sink),
     };
     hand_out_sound(&plan);
+    let tests = without_links(alloc, tests);
     let jobs = Jobs {
         own: env,
         defs: &tests.defs,

@@ -1,10 +1,10 @@
-ghost use Rattle.std.specs.Prelude.{◌≡◌, ◌-◌, ◌^◌, ◌<◌, IfOk, IfErr, length};
+ghost use Rattle.std.specs.Prelude.{◌≡◌, ◌-◌, ◌^◌, ◌<◌, IfOk, IfErr, length, map};
 ghost use Rattle.std.specs.Option.{option_copied};
 ghost use Rattle.ct_props.specs.Numbered.{at_number};
 ghost use Rattle.ct_plan.specs.Source.{HaveProps};
 ghost use Rattle.ct_props.specs.PropsOf.{HasProps};
 ghost use Rattle.ct_app.specs.Outcome.{outcome_of_prop};
-ghost use Rattle.ct_app.specs.Tests.{IsUnrefused, RefusesTest, RefusesTests};
+ghost use Rattle.ct_app.specs.Tests.{IsUnrefused, RefusesTest, RefusesTests, without_links};
 
 use crate::{Outcome, Refusal};
 use ct_base::{List, TestDef};
@@ -24,6 +24,31 @@ pub(crate) fn at_number<T>(items: &[T], number: u32) -> Option<&T>
 {
     let place = number.checked_sub(1)?;
     items.get(place as usize)
+}
+
+/// Drops the names that link tests, which nothing needs behind a plan. They may take most of the memory.
+pub(crate) fn without_links(alloc: Global, tests: Tests) -> Tests
+    ensures { result ≡ record { defs = tests.defs; props = map without_links tests.props } }
+{
+    let Tests { defs, props } = tests;
+    let mut props = props.into_vec();
+    for own in props.iter_mut() {
+        drop_links(alloc, own);
+    }
+    Tests {
+        defs,
+        props: List::from_vec(props),
+    }
+}
+
+/// Drops what the test depends on, and its fixtures.
+fn drop_links(alloc: Global, own: &mut Props)
+    ensures { own.new ≡ without_links own.old }
+{
+    own.depends = List::new(alloc);
+    own.setup = List::new(alloc);
+    own.required = List::new(alloc);
+    own.cleanup = List::new(alloc);
 }
 
 /// Reads the properties of each test, or refuses the first test that has a bad property.

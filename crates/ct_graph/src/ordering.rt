@@ -76,7 +76,6 @@ fn order_within(alloc: Global, index: Index<'_>, most: u32) -> Result<Ordered, G
 {
     let members = index.members;
     let graph = rows(alloc, &index, most)?;
-    // The index is dropped first, since it is as large as the graph can be.
     drop(index);
     let marks = marks(alloc, graph.before.as_slice(), members)?;
     Ok(Ordered {
