@@ -18,15 +18,39 @@ use anyhow::{anyhow, bail};
 use ct_base::NoMemory;
 use ct_history::Plan;
 use std::alloc::Global;
-use std::env;
+use std::env::Env;
+use std::io::Print;
 use std::time::{Clock, Duration, Instant};
+use std::{env, io};
 
 /// The greatest number of tests that are driven.
 const MOST_TESTS: u32 = 1_000_000;
 
+/// What the words ask for.
+#[derive(Clone, Copy)]
+struct Asked {
+    kind: Kind,
+    count: u32,
+    /// Whether the times are printed too.
+    is_timed: bool,
+}
+
 fn main(rt: HostRuntime) -> anyhow::Result<()> {
-    let alloc = rt.alloc();
-    let words: Vec<String> = env::args(&rt)?.skip(1).collect(alloc)?;
+    let Asked {
+        kind,
+        count,
+        is_timed,
+    } = read_words(&rt)?;
+    let plan = plan_of(rt.alloc(), kind, count)?;
+    let driven = drive(&rt, rt.alloc(), plan, kind, count);
+    let driven = driven.map_err(|_| anyhow!("memory was wanting"))?;
+    show(&rt, &driven, is_timed)?;
+    Ok(())
+}
+
+/// Reads the words that the program was started with.
+fn read_words(rt: &(impl AllocGlobal + Env)) -> anyhow::Result<Asked> {
+    let words: Vec<String> = env::args(rt)?.skip(1).collect(rt.alloc())?;
     let [kind, count, shown] = words.as_slice() else {
         bail!("measure_core wants three words: KIND COUNT times|counts");
     };
@@ -39,14 +63,21 @@ fn main(rt: HostRuntime) -> anyhow::Result<()> {
     if count == 0 || count > MOST_TESTS {
         bail!("the number of tests is from 1 to {MOST_TESTS}");
     }
-    let plan = plan_of(alloc, kind, count)?;
-    let driven = drive(&rt, alloc, plan, kind, count).map_err(|_| anyhow!("memory was wanting"))?;
+    Ok(Asked {
+        kind,
+        count,
+        is_timed: shown.as_str() == "times",
+    })
+}
+
+/// Prints the counts, and the times where these are asked for.
+fn show(rt: &impl Print, driven: &Driven, is_timed: bool) -> io::Result<()> {
     let tally = &driven.tally;
     println!(rt;
         "{} starts, {} passed, {} failed",
         tally.starts, tally.passed, tally.failed
     )?;
-    if shown.as_str() == "times" {
+    if is_timed {
         println!(rt;
             "open {} us, next and finish {} us",
             driven.opening.as_micros(),

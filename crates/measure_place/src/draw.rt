@@ -30,6 +30,26 @@ impl Dice {
     }
 }
 
+/// A family of cases.
+#[derive(Clone, Copy)]
+pub enum Family {
+    Drawn,
+    Hard,
+    One,
+}
+
+impl Family {
+    /// Returns the family of this name.
+    pub fn of(name: &str) -> Option<Family> {
+        match name {
+            "drawn" => Some(Family::Drawn),
+            "hard" => Some(Family::Hard),
+            "one" => Some(Family::One),
+            _ => None,
+        }
+    }
+}
+
 /// The slots of cards of one kind, and of the needs that are placed on them.
 #[derive(Drop)]
 pub struct Case {
@@ -38,9 +58,23 @@ pub struct Case {
 }
 
 impl Case {
+    /// Makes the case of a family for a round.
+    pub fn of(
+        alloc: Global,
+        family: Family,
+        round: u32,
+        dice: &mut Dice,
+    ) -> Result<Case, NoMemory> {
+        match family {
+            Family::Drawn => Case::draw(alloc, dice),
+            Family::Hard => Case::hard(alloc, round),
+            Family::One => Case::one(alloc),
+        }
+    }
+
     /// Draws up to 64 cards of up to 16 slots each, and up to 64 needs of up to 8 slots each. The
     /// needs take 85 to 105 percent of the slots, if 64 needs suffice for that.
-    pub fn draw(alloc: Global, dice: &mut Dice) -> Result<Case, NoMemory> {
+    fn draw(alloc: Global, dice: &mut Dice) -> Result<Case, NoMemory> {
         let count = 1 + dice.roll(64);
         let most = 1 + dice.roll(16);
         let mut cards = Vec::new(alloc);
@@ -60,7 +94,7 @@ impl Case {
 
     /// Makes needs of 2 slots, and cards of 11 slots, each of which takes 5 needs. In every second
     /// round there is one need too many.
-    pub fn hard(alloc: Global, round: u32) -> Result<Case, NoMemory> {
+    fn hard(alloc: Global, round: u32) -> Result<Case, NoMemory> {
         let count = round / 2 % 10 + 3;
         let needs = (count * 5 + round % 2) as usize;
         Ok(Case {
@@ -70,7 +104,7 @@ impl Case {
     }
 
     /// Makes one need and 4,096 cards, of which only the last one has room.
-    pub fn one(alloc: Global) -> Result<Case, NoMemory> {
+    fn one(alloc: Global) -> Result<Case, NoMemory> {
         let mut cards = vec![in alloc; 1; 4095]?;
         cards.push(2)?;
         Ok(Case {

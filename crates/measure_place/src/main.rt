@@ -8,36 +8,50 @@
 mod draw;
 mod round;
 
-use crate::draw::{Case, Dice};
-use crate::round::{Tally, place};
+use crate::draw::Family;
+use crate::round::{Tally, place_all};
 use anyhow::{anyhow, bail};
-use std::env;
+use std::env::Env;
+use std::io::Print;
+use std::{env, io};
+
+/// What the words ask for.
+#[derive(Clone, Copy)]
+struct Asked {
+    family: Family,
+    rounds: u32,
+    /// Whether the times are printed too.
+    is_timed: bool,
+}
 
 fn main(rt: HostRuntime) -> anyhow::Result<()> {
-    let alloc = rt.alloc();
-    let words: Vec<String> = env::args(&rt)?.skip(1).collect(alloc)?;
+    let asked = read_words(&rt)?;
+    let placed = place_all(&rt, asked.family, asked.rounds);
+    let tally = placed.map_err(|_| anyhow!("memory was wanting"))?;
+    show(&rt, &tally, asked.is_timed)?;
+    Ok(())
+}
+
+/// Reads the words that the program was started with.
+fn read_words(rt: &(impl AllocGlobal + Env)) -> anyhow::Result<Asked> {
+    let words: Vec<String> = env::args(rt)?.skip(1).collect(rt.alloc())?;
     let [family, rounds, shown] = words.as_slice() else {
         bail!("measure_place wants three words: drawn|hard|one ROUNDS times|counts");
     };
-    let rounds: u32 = rounds.as_str().parse().unwrap_or(0);
-    let mut dice = Dice::new(2026);
-    let mut tally = Tally::new();
-    for round in 0..rounds {
-        let case = match family.as_str() {
-            "drawn" => Case::draw(alloc, &mut dice),
-            "hard" => Case::hard(alloc, round),
-            "one" => Case::one(alloc),
-            _ => bail!("the family is drawn, hard or one"),
-        };
-        place(
-            &rt,
-            &case.map_err(|_| anyhow!("memory was wanting"))?,
-            &mut tally,
-        )
-        .map_err(|_| anyhow!("memory was wanting"))?;
-    }
+    let Some(family) = Family::of(family.as_str()) else {
+        bail!("the family is drawn, hard or one");
+    };
+    Ok(Asked {
+        family,
+        rounds: rounds.as_str().parse().unwrap_or(0),
+        is_timed: shown.as_str() == "times",
+    })
+}
+
+/// Prints the counts, and the times where these are asked for.
+fn show(rt: &impl Print, tally: &Tally, is_timed: bool) -> io::Result<()> {
     println!(rt; "{} placed, {} refused", tally.placed, tally.refused)?;
-    if shown.as_str() == "times" {
+    if is_timed {
         println!(rt;
             "slowest {} us, {} above 50 ms, {} above 10 ms",
             tally.slowest, tally.above_50, tally.above_10

@@ -2,7 +2,7 @@
 
 ghost use Rattle.std.specs.Prelude.{◌<◌};
 
-use crate::draw::Case;
+use crate::draw::{Case, Dice, Family};
 use ct_alloc::Free;
 use ct_base::{List, Name, Need, NoMemory, Resource};
 use std::alloc::Global;
@@ -45,22 +45,42 @@ impl Tally {
     }
 }
 
-/// Places the needs of a case on its cards, and adds the result.
-pub fn place(
+/// Places the needs of so many cases of a family on their cards.
+pub fn place_all(
     rt: &(impl AllocGlobal + Clock),
-    case: &Case,
-    tally: &mut Tally,
-) -> Result<(), NoMemory> {
+    family: Family,
+    rounds: u32,
+) -> Result<Tally, NoMemory> {
+    let mut dice = Dice::new(2026);
+    let mut tally = Tally::new();
+    for round in 0..rounds {
+        let case = Case::of(rt.alloc(), family, round, &mut dice)?;
+        place(rt, &case, &mut tally)?;
+    }
+    Ok(tally)
+}
+
+/// Places the needs of a case on its cards, and adds the result.
+fn place(rt: &(impl AllocGlobal + Clock), case: &Case, tally: &mut Tally) -> Result<(), NoMemory> {
     let resources = cards(rt.alloc(), case.cards.as_slice())?;
-    let needs = needs(rt.alloc(), case.needs.as_slice())?;
     if resources.len() >= 4_294_967_295 {
         return Ok(());
     }
     let free = Free::all(rt.alloc(), &resources)?;
+    place_on(rt, &free, case.needs.as_slice(), tally)
+}
+
+/// Places needs of these slots, and adds the result.
+fn place_on(
+    rt: &(impl AllocGlobal + Clock),
+    free: &Free,
+    slots: &[u32],
+    tally: &mut Tally,
+) -> Result<(), NoMemory> {
+    let needs = needs(rt.alloc(), slots)?;
     let start = Instant::now(rt).ok();
-    let found = free.place(rt.alloc(), &needs)?;
-    let micros = micros_since(rt, start);
-    tally.add(found.is_some(), micros);
+    let is_placed = free.place(rt.alloc(), &needs)?.is_some();
+    tally.add(is_placed, micros_since(rt, start));
     Ok(())
 }
 
@@ -76,14 +96,19 @@ fn micros_since(rt: &impl Clock, start: Option<Instant>) -> u128 {
 fn cards(alloc: Global, slots: &[u32]) -> Result<List<Resource>, NoMemory> {
     let mut cards = List::new(alloc);
     for (at, slots) in slots.iter().enumerate() {
-        let id = at.to_string(alloc)?;
-        cards.push(Resource {
-            kind: Name::of(alloc, b"gpus")?,
-            id: Name::of(alloc, id.as_bytes())?,
-            slots: *slots,
-        })?;
+        cards.push(card(alloc, at, *slots)?)?;
     }
     Ok(cards)
+}
+
+/// Makes a card with this number.
+fn card(alloc: Global, at: usize, slots: u32) -> Result<Resource, NoMemory> {
+    let id = at.to_string(alloc)?;
+    Ok(Resource {
+        kind: Name::of(alloc, b"gpus")?,
+        id: Name::of(alloc, id.as_bytes())?,
+        slots,
+    })
 }
 
 /// Makes needs of one kind with these slots.

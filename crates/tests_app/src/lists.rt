@@ -1,12 +1,11 @@
 //! Lists of tests, of labels and for editors, by `list_main` and by `ctest_main`.
 
-use crate::calls::{Machine, Ran, calls_of, list, name_of, run_as_told, written};
-use ct_app::{Listed, Outcome};
-use ct_base::{MemFiles, MemSink, Name, NoMemory};
-use ct_core::ScriptGate;
+use crate::calls::{Ran, list, name_of, run_as_told};
+use ct_app::Outcome;
+use ct_base::{MemFiles, MemSink, NoMemory};
 use std::alloc::Global;
-use std::process::Abort;
 use std::test::Fail;
+use tests_calls::{Call, Machine, are_asked, calls_of, expect, holds_run_files, written};
 
 /// Lists of tests.
 const TESTS: &str = "
@@ -458,7 +457,7 @@ fn ending(
 ) -> Result<String, NoMemory> {
     let name = name_of(outcome);
     let written = written(sink);
-    let left = if has_run_files(alloc, files)? {
+    let left = if holds_run_files(alloc, files)? {
         "files of a run"
     } else {
         ""
@@ -466,60 +465,39 @@ fn ending(
     Ok(format!(in alloc; "{name}, status {status}\n{written}{left}")?)
 }
 
-/// Tells whether there are files of a run in one of the folders that these tables name.
-fn has_run_files(alloc: Global, files: &MemFiles) -> Result<bool, NoMemory> {
-    for path in [
-        "./Testing/Temporary/CTestCostData.txt",
-        "./Testing/Temporary/LastTestsFailed.log",
-        "build/Testing/Temporary/CTestCostData.txt",
-        "build/Testing/Temporary/LastTestsFailed.log",
-    ] {
-        if files.held(&Name::of(alloc, path.as_bytes())?).is_some() {
-            return Ok(true);
-        }
-    }
-    Ok(false)
-}
-
 /// Reports a list by `ctest_main`; then `a run`, if there is a plan, a history or a gate that was
 /// asked.
 fn listing(alloc: Global, ran: &Ran) -> Result<String, NoMemory> {
     let text = ending(alloc, &ran.outcome, ran.status, &ran.sink, &ran.files)?;
-    if ran.plan.is_some() || ran.history.is_some() || are_asked(&ran.gates) {
+    if ran.plan.is_some() || ran.history.is_some() || are_asked(ran.gates.as_slice()) {
         return Ok(format!(in alloc; "{text}a run")?);
     }
     Ok(text)
 }
 
-/// Tells whether a gate was asked for an attempt, or sent a request.
-fn are_asked(gates: &[ScriptGate]) -> bool {
-    for gate in gates {
-        if !gate.asked().is_empty() || !gate.sent().is_empty() {
-            return true;
-        }
-    }
-    false
+/// Reports a list by `list_main`.
+fn plain_listing(alloc: Global, call: &Call<'_>) -> Result<String, NoMemory> {
+    let listed = list(alloc, call)?;
+    ending(
+        alloc,
+        &listed.outcome,
+        listed.status,
+        &listed.sink,
+        &listed.files,
+    )
 }
 
 /// Compares the list of `list_main` with the wanted text of each call of a table.
-fn list_as_told(rt: &(impl Abort + AllocGlobal), table: &str) -> Result<(), Fail> {
-    let alloc = rt.alloc();
+fn list_as_told(alloc: Global, table: &str) -> Result<(), Fail> {
     for call in &calls_of(alloc, table)? {
-        let Listed {
-            outcome,
-            status,
-            files,
-            sink,
-        } = list(rt, call)?;
-        let text = ending(alloc, &outcome, status, &sink, &files)?;
-        assert_eq!(rt; text.trim_end(), call.want, "{call}");
+        expect(call, plain_listing(alloc, call)?.as_str())?;
     }
     Ok(())
 }
 
 /// Compares the lists of both top calls with the wanted text of each call of a table.
 fn both_as_told(rt: &impl Machine, table: &str) -> Result<(), Fail> {
-    list_as_told(rt, table)?;
+    list_as_told(rt.alloc(), table)?;
     run_as_told(rt, table, listing)
 }
 
@@ -545,5 +523,5 @@ fn tells_why_there_is_no_whole_list(rt: HostRuntime) -> Result<(), Fail> {
 
 #[test]
 fn lists_where_the_words_ask_for_a_run(rt: HostRuntime) -> Result<(), Fail> {
-    list_as_told(&rt, RUNS)
+    list_as_told(rt.alloc(), RUNS)
 }

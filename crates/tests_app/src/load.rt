@@ -1,10 +1,11 @@
 //! Loads: runs of many generated tests.
 
-use crate::calls::{sink_failing_at, words_of, written};
+use crate::calls::status_told;
 use ct_base::NoMemory;
 use ct_load::load_main;
 use std::alloc::Global;
 use std::test::Fail;
+use tests_calls::{Machine, sink_failing_at, words_of};
 
 /// Loads. The cells of a row are:
 /// - the number of the put that fails, if one does;
@@ -46,6 +47,12 @@ impl<'a> Load<'a> {
         }
     }
 
+    /// Makes the report that is wanted.
+    fn report(self, alloc: Global) -> Result<String, NoMemory> {
+        let text = self.text(alloc)?;
+        Ok(format!(in alloc; "status {}\n{text}", self.status)?)
+    }
+
     /// Makes the text that is to be written.
     fn text(self, alloc: Global) -> Result<String, NoMemory> {
         let line = self.line;
@@ -74,23 +81,22 @@ fn failed_lines(alloc: Global, count: u32) -> Result<String, NoMemory> {
     Ok(lines)
 }
 
+/// Runs a load, and reports the status and what was written.
+fn report(rt: &impl Machine, load: Load<'_>) -> Result<String, NoMemory> {
+    let words = words_of(rt.alloc(), load.words)?;
+    let sink = sink_failing_at(rt.alloc(), load.fails)?;
+    let loaded = load_main(rt, rt.alloc(), words.as_slice(), sink);
+    status_told(rt.alloc(), loaded.status, &loaded.sink)
+}
+
 #[test]
 fn puts_the_same_summary_at_each_run(rt: HostRuntime) -> Result<(), Fail> {
-    let alloc = rt.alloc();
     for row in LOADS.lines() {
         let load = Load::of(row);
-        let want = load.text(alloc)?;
-        let words = words_of(alloc, load.words)?;
+        let want = load.report(rt.alloc())?;
         for _ in 0..2 {
-            let sink = sink_failing_at(alloc, load.fails)?;
-            let loaded = load_main(&rt, alloc, words.as_slice(), sink);
-            assert!(rt;
-                loaded.status == load.status,
-                "{row}: status {}",
-                loaded.status
-            );
-            let text = written(&loaded.sink);
-            assert!(rt; text == want.as_str(), "{row}\n{text}");
+            let text = report(&rt, load)?;
+            assert_eq!(rt; text.as_str(), want.as_str(), "{row}");
         }
     }
     Ok(())

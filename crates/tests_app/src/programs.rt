@@ -2,12 +2,14 @@
 
 ghost use Rattle.std.specs.Prelude.{◌≡◌, None};
 
-use crate::calls::{Call, Machine, calls_of, entries, name_of, run_on, written};
-use ct_base::Ear;
+use crate::calls::{happened, name_of, run_on};
+use ct_app::Finished;
+use ct_base::{Ear, MemFiles, MemSink};
 use ct_core::{Ended, Gate, Request, Ticket};
 use ct_verdict::How;
 use std::alloc::{AllocError, Global};
 use std::test::Fail;
+use tests_calls::{Call, Machine, calls_of, expect, written};
 
 /// A run of a test that writes 64 MiB of `x` and then `done`, the last word in two pieces.
 const ENDS: &str = "
@@ -168,14 +170,15 @@ fn report<G: Gate + Send + Drop>(
     call: &Call<'_>,
     gate: G,
 ) -> Result<String, Fail> {
-    let alloc = rt.alloc();
-    let mut gates = Vec::new(alloc);
+    let mut gates = Vec::new(rt.alloc());
     gates.push(gate).map_err(AllocError::from)?;
     let ran = run_on(rt, call, gates)?;
-    let happened = match &ran.history {
-        Some(history) => entries(alloc, history.entries.as_slice())?,
-        None => String::new(alloc),
-    };
+    told(rt.alloc(), &ran)
+}
+
+/// Tells how a run came out, what happened and what was written.
+fn told<G>(alloc: Global, ran: &Finished<MemFiles, G, MemSink>) -> Result<String, Fail> {
+    let happened = happened(alloc, ran.history.as_ref())?;
     let name = name_of(&ran.outcome);
     let text = written(&ran.sink);
     Ok(format!(in alloc; "{name}, status {}\n{happened}{text}", ran.status)?)
@@ -184,8 +187,7 @@ fn report<G: Gate + Send + Drop>(
 /// Compares the reports of the calls of a table, whose programs write this many pieces of `x` first.
 fn writes_as_told(rt: &impl Machine, table: &str, pieces: u32) -> Result<(), Fail> {
     for call in &calls_of(rt.alloc(), table)? {
-        let report = report(rt, call, Writes { pieces })?;
-        assert_eq!(rt; report.trim_end(), call.want, "{call}");
+        expect(call, report(rt, call, Writes { pieces })?.as_str())?;
     }
     Ok(())
 }
@@ -213,8 +215,7 @@ fn finds_a_pattern_of_all_that_comes_in_two_pieces(rt: HostRuntime) -> Result<()
 #[test]
 fn gives_up_where_memory_is_wanting_for_a_program(rt: HostRuntime) -> Result<(), Fail> {
     for call in &calls_of(rt.alloc(), STARVES)? {
-        let report = report(&rt, call, Starves)?;
-        assert_eq!(rt; report.trim_end(), call.want, "{call}");
+        expect(call, report(&rt, call, Starves)?.as_str())?;
     }
     Ok(())
 }

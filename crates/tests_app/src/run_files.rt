@@ -1,11 +1,12 @@
 //! The files that a whole run reads from the last run and writes for the next one, and faults of each call on
 //! the files.
 
-use crate::calls::{COSTS, LOG, Ran, run_as_told, text_of, written};
+use crate::calls::{Ran, run_as_told};
 use ct_app::Outcome;
-use ct_base::{MemFiles, Name, NoMemory};
+use ct_base::NoMemory;
 use std::alloc::Global;
 use std::test::Fail;
+use tests_calls::{COSTS, LOG, left_in, text_of, written};
 
 /// Runs without a fault of the files.
 const COMPLETE: &str = "
@@ -490,8 +491,8 @@ fn leavings(alloc: Global, ran: &Ran) -> Result<String, NoMemory> {
 pub(crate) fn with_files(alloc: Global, ran: &Ran, report: &str) -> Result<String, NoMemory> {
     let status = ran.status;
     let made = made(alloc, ran)?;
-    let costs = left(alloc, &ran.files, COSTS, "costs")?;
-    let log = left(alloc, &ran.files, LOG, "log")?;
+    let costs = left_in(alloc, &ran.files, COSTS, "costs")?;
+    let log = left_in(alloc, &ran.files, LOG, "log")?;
     Ok(format!(in alloc; "status {status}, {made}\n{report}{costs}{log}")?)
 }
 
@@ -507,19 +508,6 @@ fn made(alloc: Global, ran: &Ran) -> Result<String, NoMemory> {
         Outcome::FilesFault { path } => Ok(format!(in alloc; "{made}, for {}", text_of(path))?),
         _ => Ok(made),
     }
-}
-
-/// Makes a line of what a path holds.
-fn left(alloc: Global, files: &MemFiles, path: &str, name: &str) -> Result<String, NoMemory> {
-    let Some(held) = files.held(&Name::of(alloc, path.as_bytes())?) else {
-        return Ok(format!(in alloc; "no {name}\n")?);
-    };
-    let mut line = format!(in alloc; "{name} ")?;
-    for letter in text_of(held).chars() {
-        line.push(if letter == '\n' { ';' } else { letter })?;
-    }
-    line.push('\n')?;
-    Ok(line)
 }
 
 #[test]

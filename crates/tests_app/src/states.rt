@@ -5,11 +5,10 @@ ghost use Rattle.ct_turn.specs.Seen.{held_start};
 ghost use Rattle.ct_worker.specs.Attempt.{run_of};
 ghost use Rattle.ct_worker.specs.Work.{AsksNext, EndsOwn};
 
-use crate::calls::{Call, Machine, calls_of, entries, run, sink, written};
-use ct_app::Finished;
+use crate::calls::{Ran, run};
 use ct_base::{MemSink, NoMemory};
 use ct_core::{Core, Next, Ticket};
-use ct_history::{Plan, holds_start, is_busy};
+use ct_history::{History, Plan, holds_start, is_busy};
 use ct_turn::{Pass, Turn};
 use ct_verdict::{How, Seen};
 use ct_worker::{Halt, State};
@@ -17,6 +16,7 @@ use std::alloc::Global;
 use std::process::Abort;
 use std::sync::Wait;
 use std::test::Fail;
+use tests_calls::{Call, Machine, calls_of, entries_of, expect, sink_of, written};
 
 /// A run of five tests on three processors, whose second put fails.
 const FIVE: &str = "
@@ -53,8 +53,13 @@ End 1/1
 
 /// Makes the plan of a call.
 fn plan_of(rt: &impl Machine, call: &Call<'_>) -> Result<Plan, Fail> {
-    let Finished { plan, .. } = run(rt, call)?;
-    Ok(plan.ok_or("no plan")?)
+    let ran = run(rt, call)?;
+    Ok(plan_in(ran).ok_or("no plan")?)
+}
+
+/// Takes the plan out of what a run left.
+fn plan_in(mut ran: Ran) -> Option<Plan> {
+    ran.plan.take()
 }
 
 /// Opens the core of a plan.
@@ -71,19 +76,27 @@ fn core_of(alloc: Global, plan: Plan) -> Result<Core, NoMemory>
 fn open(rt: &impl Machine, call: &Call<'_>) -> Result<State<MemSink>, Fail>
     ensures { IfOk result (λ state. (state.entries ≡ []) × (state.halt ≡ None)) }
 {
+    let sink = sink_of(rt.alloc(), call)?;
     let core = core_of(rt.alloc(), plan_of(rt, call)?)?;
-    let sink = sink(rt.alloc(), call)?;
     Ok(State::open(core, sink))
 }
 
 /// Compares what was written, and the history behind it, with the wanted text of a call.
 fn close(rt: &impl Machine, call: &Call<'_>, state: State<MemSink>) -> Result<(), Fail> {
-    let alloc = rt.alloc();
     let (core, sink) = state.into_parts();
-    let happened = entries(alloc, core.history().entries.as_slice())?;
-    let text = format!(in alloc; "{}{happened}", written(&sink))?;
-    assert_eq!(rt; text.trim_end(), call.want, "{call}");
-    Ok(())
+    compare(rt, call, core.history(), &sink)
+}
+
+/// Compares what was written, and a history behind it, with the wanted text of a call.
+fn compare(
+    rt: &impl Machine,
+    call: &Call<'_>,
+    history: &History,
+    sink: &MemSink,
+) -> Result<(), Fail> {
+    let happened = entries_of(rt.alloc(), history.entries.as_slice())?;
+    let text = format!(in rt.alloc(); "{}{happened}", written(sink))?;
+    expect(call, text.as_str())
 }
 
 /// Asks what a worker without an attempt has to do next.

@@ -1,6 +1,8 @@
 //! Runs with words: what they run, how often and how long, and how they end.
 
-use crate::calls::{ending, happened, requests, run_as_told};
+use crate::calls::{Ran, ending, happened, requests, run_as_told};
+use ct_base::NoMemory;
+use std::alloc::Global;
 use std::test::Fail;
 
 /// Runs whose words name a folder and a configuration.
@@ -459,7 +461,12 @@ fn asks_with_the_folder_and_the_limit_of_the_words(rt: HostRuntime) -> Result<()
     run_as_told(&rt, REQUESTS, requests)
 }
 
+/// Reports the history of a run.
+fn history(alloc: Global, ran: &Ran) -> Result<String, NoMemory> {
+    happened(alloc, ran.history.as_ref())
+}
+
 #[test]
 fn stops_and_tries_again_in_this_order(rt: HostRuntime) -> Result<(), Fail> {
-    run_as_told(&rt, HISTORIES, happened)
+    run_as_told(&rt, HISTORIES, history)
 }

@@ -2,7 +2,7 @@
 
 ghost use Rattle.std.specs.Prelude.{None};
 
-use crate::calls::{Ran, calls_of, name_of, report_on, run_as_told, written};
+use crate::calls::{Ran, name_of, report_on, run_as_told};
 use crate::run_files::with_files;
 use ct_base::{Ear, NoMemory};
 use ct_core::{Ended, Gate, Request, Ticket};
@@ -12,6 +12,7 @@ use std::alloc::Global;
 use std::hint::spin_loop;
 use std::sync::atomic::{AtomicBool, Ordering};
 use std::test::Fail;
+use tests_calls::{Call, Machine, calls_of, written};
 
 /// Runs of tests that pass only if all of them run at the same time.
 const MEETINGS: &str = "
@@ -168,14 +169,18 @@ fn meetings<'a>(alloc: Global, asked: &'a [AtomicBool]) -> Result<Vec<Meeting<'a
     Ok(gates)
 }
 
+/// Runs on gates that pass a test only if all of them are asked at the same time.
+fn report(rt: &impl Machine, call: &Call<'_>) -> Result<String, Fail> {
+    let flags = flags(rt.alloc(), call.gates())?;
+    let gates = meetings(rt.alloc(), flags.as_slice())?;
+    assert!(rt; !gates.is_empty(), "{call}");
+    Ok(report_on(rt, call, gates)?)
+}
+
 #[test]
 fn works_on_each_gate_at_once(rt: HostRuntime) -> Result<(), Fail> {
-    let alloc = rt.alloc();
-    for call in &calls_of(alloc, MEETINGS)? {
-        let flags = flags(alloc, call.gates())?;
-        let gates = meetings(alloc, flags.as_slice())?;
-        assert!(rt; !gates.is_empty(), "{call}");
-        let report = report_on(&rt, call, gates)?;
+    for call in &calls_of(rt.alloc(), MEETINGS)? {
+        let report = report(&rt, call)?;
         assert!(rt; report.starts_with("status 0\n"), "{call}\n{report}");
         assert!(rt; report.trim_end().ends_with(call.want), "{call}\n{report}");
     }

@@ -123,8 +123,8 @@ fn mark(alloc: Global, test: &mut PlanTest, text: &str) -> Result<(), NoMemory> 
     let count = number(object);
     match word {
         "processors" => test.processors = count,
-        "locks" => test.locks.push(Name::of(alloc, object.as_bytes())?)?,
-        "shares" => test.shared.push(Name::of(alloc, object.as_bytes())?)?,
+        "locks" => add_name(alloc, &mut test.locks, object)?,
+        "shares" => add_name(alloc, &mut test.shared, object)?,
         "serial" => test.serial = true,
         "insufficient" => test.fixed = Some(Cause::Insufficient),
         "needs" => test.needs.push(need(alloc, count)?)?,
@@ -136,6 +136,10 @@ fn mark(alloc: Global, test: &mut PlanTest, text: &str) -> Result<(), NoMemory> 
         _ => {}
     }
     Ok(())
+}
+
+fn add_name(alloc: Global, names: &mut List<Name>, name: &str) -> Result<(), NoMemory> {
+    Ok(names.push(Name::of(alloc, name.as_bytes())?)?)
 }
 
 fn parts(alloc: Global, asked: &str, texts: &str) -> Result<PlanParts, NoMemory> {
@@ -230,14 +234,24 @@ fn kind_of(entry: &Entry) -> &'static str {
 
 #[test]
 fn a_failure_stops_a_run_that_is_to_stop(rt: HostRuntime) -> Result<(), Fail> {
-    let (_plan, history) = play(&rt, rt.alloc(), STOPS)?;
-    let mut kinds = List::new(rt.alloc());
-    for entry in history.entries.as_slice() {
-        kinds.push(kind_of(entry))?;
-    }
+    let kinds = kinds_played(&rt, rt.alloc(), STOPS)?;
     let wanted = ["start", "end", "stop", "settle", "settle"];
     assert_eq!(rt; kinds.as_slice(), wanted.as_slice());
     Ok(())
+}
+
+/// Takes the steps of a run, and returns the kinds of its entries.
+fn kinds_played(rt: &impl Abort, alloc: Global, row: &str) -> Result<Vec<&'static str>, NoMemory> {
+    let (_plan, history) = play(rt, alloc, row)?;
+    kinds_of(alloc, history.entries.as_slice())
+}
+
+fn kinds_of(alloc: Global, entries: &[Entry]) -> Result<Vec<&'static str>, NoMemory> {
+    let mut kinds = Vec::new(alloc);
+    for entry in entries {
+        kinds.push(kind_of(entry))?;
+    }
+    Ok(kinds)
 }
 
 /// Puts the start of the third test of that run in front of the end before it.

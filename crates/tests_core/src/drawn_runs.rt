@@ -74,13 +74,35 @@ fn drawn_tests(
     for number in 1..count.saturating_add(1) {
         let mut test = free(alloc, number)?;
         draw_marks(dice, &mut test, level);
-        draw_locks(alloc, dice, &mut test.locks)?;
-        draw_locks(alloc, dice, &mut test.shared)?;
-        draw_links(dice, &mut test, tests.as_slice())?;
-        draw_needs(alloc, dice, &mut test, resources)?;
-        tests.push(test)?;
+        tests.push(drawn_test(alloc, dice, test, tests.as_slice(), resources)?)?;
     }
     Ok(tests)
+}
+
+/// Draws what a test needs, beside its marks.
+fn drawn_test(
+    alloc: Global,
+    dice: &mut Dice,
+    mut test: PlanTest,
+    earlier: &[PlanTest],
+    resources: Option<&List<Resource>>,
+) -> Result<PlanTest, NoMemory> {
+    draw_rest(alloc, dice, &mut test, earlier, resources)?;
+    Ok(test)
+}
+
+/// Draws the locks of a test, the earlier tests that it waits for, and its needs.
+fn draw_rest(
+    alloc: Global,
+    dice: &mut Dice,
+    test: &mut PlanTest,
+    earlier: &[PlanTest],
+    resources: Option<&List<Resource>>,
+) -> Result<(), NoMemory> {
+    draw_locks(alloc, dice, &mut test.locks)?;
+    draw_locks(alloc, dice, &mut test.shared)?;
+    draw_links(dice, test, earlier)?;
+    draw_needs(alloc, dice, test, resources)
 }
 
 /// Draws the properties of a test that need no other test.
@@ -465,6 +487,17 @@ fn judge_change(
     Ok(())
 }
 
+/// Judges the history of a drawn run with a change.
+fn judge_one(
+    rt: &impl Abort,
+    alloc: Global,
+    dice: &mut Dice,
+    counts: &mut Counts,
+) -> Result<(), NoMemory> {
+    let (plan, history) = drawn_run(rt, alloc, dice)?;
+    judge_change(rt, alloc, dice, &plan, history.entries.as_slice(), counts)
+}
+
 #[test]
 fn drawn_runs_are_legal_and_changed_ones_are_not(rt: HostRuntime) -> Result<(), Fail> {
     let mut dice = Dice::new(2026);
@@ -473,9 +506,7 @@ fn drawn_runs_are_legal_and_changed_ones_are_not(rt: HostRuntime) -> Result<(), 
         refused: [0; 9],
     };
     for _ in 0..10_000 {
-        let (plan, history) = drawn_run(&rt, rt.alloc(), &mut dice)?;
-        let entries = history.entries.as_slice();
-        judge_change(&rt, rt.alloc(), &mut dice, &plan, entries, &mut counts)?;
+        judge_one(&rt, rt.alloc(), &mut dice, &mut counts)?;
     }
     for kind in 0..9 {
         assert!(rt; 0 < counts.refused[kind], "{:?}", CHANGES[kind]);

@@ -3,7 +3,7 @@
 use crate::core_runs::play;
 use ct_alloc::{Pick, Placement};
 use ct_base::{List, Name, NoMemory};
-use ct_history::{Entry, History, judge};
+use ct_history::{Entry, History, Plan, judge};
 use std::alloc::Global;
 use std::process::Abort;
 use std::test::Fail;
@@ -89,7 +89,13 @@ fn a_test_takes_the_card_that_another_gave_back(rt: HostRuntime) -> Result<(), F
 fn check_cards(rt: &impl Abort, alloc: Global, run: &str, first: u32) -> Result<(), NoMemory> {
     let (plan, history) = play(rt, alloc, run)?;
     assert!(rt; takes_the_card(&history, first), "{run}");
-    let is_legal = judge(&plan, &crowded(alloc, history)?)?;
+    let is_legal = judge_crowded(alloc, &plan, history)?;
     assert!(rt; !is_legal, "{run}");
     Ok(())
+}
+
+/// Judges a history if the first two tests have one card.
+fn judge_crowded(alloc: Global, plan: &Plan, history: History) -> Result<bool, NoMemory> {
+    let history = crowded(alloc, history)?;
+    judge(plan, &history)
 }

@@ -4,6 +4,7 @@ use crate::rows::{asked_and_wanted, expect, number, text};
 use ct_base::{Files, FilesFault, Name, NoMemory};
 use ct_edge::RealFiles;
 use std::alloc::Global;
+use std::process::Abort;
 use std::test::Fail;
 
 /// How many bytes of a file of `hello` are asked for, and what is read: at most one byte more.
@@ -51,12 +52,23 @@ fn path(alloc: Global, row: &str) -> Result<Name, NoMemory> {
 fn reads_back_what_it_wrote(rt: HostRuntime) -> Result<(), Fail> {
     let mut files = RealFiles::new(&rt);
     let path = path(rt.alloc(), "made/for/it/file")?;
-    assert!(rt; !files.exists(rt.alloc(), &path)?);
-    files.write(rt.alloc(), &path, b"something longer")?;
-    files.write(rt.alloc(), &path, b"hello")?;
-    are_read(&mut files, rt.alloc(), &path)?;
-    assert!(rt; files.exists(rt.alloc(), &path)?);
+    write_twice(&rt, &mut files, &path)?;
     assert_eq!(rt; files.faults(), 0);
+    Ok(())
+}
+
+/// Writes a file that is not there, writes it again, and reads it back.
+fn write_twice(
+    rt: &(impl Abort + AllocGlobal),
+    files: &mut impl Files,
+    path: &Name,
+) -> Result<(), Fail> {
+    let alloc = rt.alloc();
+    assert!(rt; !files.exists(alloc, path)?);
+    files.write(alloc, path, b"something longer")?;
+    files.write(alloc, path, b"hello")?;
+    are_read(files, alloc, path)?;
+    assert!(rt; files.exists(alloc, path)?);
     Ok(())
 }
 
@@ -74,10 +86,15 @@ fn are_read(files: &mut impl Files, alloc: Global, path: &Name) -> Result<(), Fa
 #[test]
 fn finds_nothing_where_nothing_is(rt: HostRuntime) -> Result<(), Fail> {
     let mut files = RealFiles::new(&rt);
-    for row in ABSENT.lines() {
-        assert!(rt; is_absent(&mut files, rt.alloc(), row)?, "at {row}");
-    }
+    are_absent(&rt, &mut files)?;
     assert_eq!(rt; files.faults(), 0);
+    Ok(())
+}
+
+fn are_absent(rt: &(impl Abort + AllocGlobal), files: &mut impl Files) -> Result<(), Fail> {
+    for row in ABSENT.lines() {
+        assert!(rt; is_absent(files, rt.alloc(), row)?, "at {row}");
+    }
     Ok(())
 }
 
@@ -91,14 +108,23 @@ fn is_absent(files: &mut impl Files, alloc: Global, row: &str) -> Result<bool, F
 #[test]
 fn counts_the_reads_and_looks_that_fail(rt: HostRuntime) -> Result<(), Fail> {
     let mut files = RealFiles::new(&rt);
-    for row in UNREADABLE.lines() {
-        assert!(rt; is_unreadable(&mut files, rt.alloc(), row)?, "at {row}");
-    }
+    are_unreadable(&rt, &mut files)?;
     assert_eq!(rt; files.faults(), 3);
-    let path = path(rt.alloc(), "a\0b")?;
-    assert!(rt; files.exists(rt.alloc(), &path).is_err());
+    assert!(rt; cannot_be_looked_at(&mut files, rt.alloc(), "a\0b")?);
     assert_eq!(rt; files.faults(), 4);
     Ok(())
+}
+
+fn are_unreadable(rt: &(impl Abort + AllocGlobal), files: &mut impl Files) -> Result<(), Fail> {
+    for row in UNREADABLE.lines() {
+        assert!(rt; is_unreadable(files, rt.alloc(), row)?, "at {row}");
+    }
+    Ok(())
+}
+
+fn cannot_be_looked_at(files: &mut impl Files, alloc: Global, row: &str) -> Result<bool, NoMemory> {
+    let path = path(alloc, row)?;
+    Ok(files.exists(alloc, &path).is_err())
 }
 
 fn is_unreadable(files: &mut impl Files, alloc: Global, row: &str) -> Result<bool, NoMemory> {
@@ -109,10 +135,15 @@ fn is_unreadable(files: &mut impl Files, alloc: Global, row: &str) -> Result<boo
 #[test]
 fn counts_the_writes_that_fail(rt: HostRuntime) -> Result<(), Fail> {
     let mut files = RealFiles::new(&rt);
-    for row in UNWRITABLE.lines() {
-        assert!(rt; is_unwritable(&mut files, rt.alloc(), row)?, "at {row}");
-    }
+    are_unwritable(&rt, &mut files)?;
     assert_eq!(rt; files.faults(), 5);
+    Ok(())
+}
+
+fn are_unwritable(rt: &(impl Abort + AllocGlobal), files: &mut impl Files) -> Result<(), Fail> {
+    for row in UNWRITABLE.lines() {
+        assert!(rt; is_unwritable(files, rt.alloc(), row)?, "at {row}");
+    }
     Ok(())
 }
 

@@ -173,17 +173,30 @@ fn told_read(
 fn hands_on_what_it_kept_in_order(rt: HostRuntime) -> Result<(), Fail> {
     for row in KEPT.lines() {
         let (most, pieces) = cell(row);
-        let mut spool = Spool::new(rt, rt.alloc(), number(most) as usize);
-        let mut wanted = String::new(rt.alloc());
-        for piece in pieces.split(',') {
-            spool.keep(piece.as_bytes())?;
-            wanted = format!(in rt.alloc(); "{wanted}{piece}")?;
-        }
         let mut ear = Collect::new(rt.alloc());
-        spool.hand_on(&mut ear)?;
+        hand_on(rt, number(most) as usize, pieces, &mut ear)?;
+        let wanted = whole_of(rt.alloc(), pieces)?;
         expect(row, text(ear.heard()), wanted.as_str())?;
     }
     Ok(())
+}
+
+/// Keeps the pieces, so many bytes of them in memory, and hands them on.
+fn hand_on(rt: HostRuntime, most: usize, pieces: &str, ear: &mut Collect) -> Result<(), Fail> {
+    let mut spool = Spool::new(rt, rt.alloc(), most);
+    for piece in pieces.split(',') {
+        spool.keep(piece.as_bytes())?;
+    }
+    Ok(spool.hand_on(ear)?)
+}
+
+/// Puts the pieces together.
+fn whole_of(alloc: Global, pieces: &str) -> Result<String, NoMemory> {
+    let mut whole = String::new(alloc);
+    for piece in pieces.split(',') {
+        whole.push_str(piece)?;
+    }
+    Ok(whole)
 }
 
 #[test]

@@ -1,9 +1,10 @@
 //! Checks of journals by `check_main`.
 
-use crate::rows::{Call, calls_of, files_of, sink_of, words_of, written};
+use ct_base::{MemFiles, MemSink, NoMemory};
 use ct_journal::{Checked, check_main};
-use std::process::Abort;
+use std::alloc::Global;
 use std::test::Fail;
+use tests_calls::{Call, Inputs, calls_of, expect, inputs_of, written};
 
 /// Checks of journals that are read.
 const JOURNALS: &str = "
@@ -132,30 +133,31 @@ ctest: ./CTestTestfile.cmake:1: unknown command
 ";
 
 /// Checks a journal, and reports the status and what was written.
-fn report(rt: &(impl Abort + AllocGlobal), call: &Call<'_>) -> Result<String, Fail> {
-    let alloc = rt.alloc();
-    let (files, sink) = (files_of(alloc, call)?, sink_of(alloc, call)?);
-    let words = words_of(alloc, call)?;
-    assert!(rt; words.len() < 100, "{call}");
-    let Checked { status, sink, .. } = check_main(alloc, words.as_slice(), files, sink);
-    Ok(format!(in alloc; "status {status}\n{}", written(&sink))?)
+fn report(alloc: Global, call: &Call<'_>) -> Result<String, NoMemory> {
+    let Checked { status, sink, .. } = &checked(alloc, call)?;
+    Ok(format!(in alloc; "status {status}\n{}", written(sink))?)
+}
+
+/// Checks a journal.
+fn checked(alloc: Global, call: &Call<'_>) -> Result<Checked<MemFiles, MemSink>, NoMemory> {
+    let Inputs { words, files, sink } = inputs_of(alloc, call)?;
+    Ok(check_main(alloc, words.as_slice(), files, sink))
 }
 
 /// Compares what each call of a table gives with the wanted text.
-fn check_as_told(rt: &(impl Abort + AllocGlobal), table: &str) -> Result<(), Fail> {
-    for call in &calls_of(rt.alloc(), table)? {
-        let text = report(rt, call)?;
-        assert_eq!(rt; text.trim_end(), call.want, "{call}");
+fn check_as_told(alloc: Global, table: &str) -> Result<(), Fail> {
+    for call in &calls_of(alloc, table)? {
+        expect(call, report(alloc, call)?.as_str())?;
     }
     Ok(())
 }
 
 #[test]
 fn says_which_line_of_a_journal_is_refused(rt: HostRuntime) -> Result<(), Fail> {
-    check_as_told(&rt, JOURNALS)
+    check_as_told(rt.alloc(), JOURNALS)
 }
 
 #[test]
 fn says_why_a_journal_was_not_checked(rt: HostRuntime) -> Result<(), Fail> {
-    check_as_told(&rt, FAULTS)
+    check_as_told(rt.alloc(), FAULTS)
 }

@@ -1,21 +1,17 @@
 //! Runs that keep a journal: what its path holds behind them, how the call ends, and what a check of this
 //! journal says.
 
-use crate::rows::{Call, calls_of, files_of, sink_of, words_of, written};
-use ct_app::Finished;
-use ct_base::{Blob, List, MemFiles, MemSink, Name, NoMemory};
-use ct_core::{Ended, ScriptGate, Told};
+use ct_base::{List, MemFiles, MemSink, NoMemory};
+use ct_core::ScriptGate;
 use ct_journal::{JournalEnd, Recorded, check_main, record_main};
-use ct_verdict::How;
 use std::alloc::Global;
-use std::process::Abort;
-use std::str;
-use std::sync::Wait;
 use std::test::Fail;
-use std::thread::Threads;
+use tests_calls::{
+    Call, Inputs, Machine, calls_of, expect, gates_of, inputs_of, left_in, words_of, written,
+};
 
 /// The path of the journal in each row that has a word.
-const PATH: &[u8] = b"journal";
+const PATH: &str = "journal";
 
 /// Calls, and the journal behind each with `;` for the end of each line.
 const ROWS: &str = "
@@ -77,16 +73,12 @@ Test project .
 journal ct-journal 1;start 1 1 0;end 1 1 0 exit:0 000 10000;start 2 1 0;end 2 1 0 exit:0 000 20000;done 4;
 check 0
 === with the costs that this run left, the second test starts first
+costs version 2;a 0.010000;b 0.020000;---;
 told 1 0 30000
 told 2 0 20000
 --- ./CTestTestfile.cmake
 add_test(a true)
 add_test(b true)
---- ./Testing/Temporary/CTestCostData.txt
-version 2
-a 0.010000
-b 0.020000
----
 >>> journal -j 2
 status 0 of 0, Written
 Test project .
@@ -181,104 +173,90 @@ Test project .
 no journal
 ";
 
-/// Makes a gate that plays the attempts of the facts.
-fn gate(alloc: Global, facts: &str) -> Result<ScriptGate, NoMemory> {
-    let mut world = List::new(alloc);
-    for fact in facts.lines() {
-        if let Some(cells) = fact.strip_prefix("told ") {
-            world.push(told(alloc, cells)?)?;
+/// What a recorded run leaves behind.
+#[derive(Drop)]
+struct Behind {
+    status: u8,
+    /// The status of the run itself.
+    of_run: u8,
+    journal: JournalEnd,
+    files: MemFiles,
+    sink: MemSink,
+}
+
+impl Behind {
+    fn of(recorded: Recorded<MemFiles, ScriptGate, MemSink>) -> Behind {
+        let Recorded {
+            status,
+            journal,
+            finished,
+            ..
+        } = recorded;
+        Behind {
+            status,
+            of_run: finished.status,
+            journal,
+            files: finished.files,
+            sink: finished.sink,
         }
     }
-    Ok(ScriptGate::new(alloc, world))
 }
 
-/// Reads a first attempt: its test, its exit code and its microseconds.
-fn told(alloc: Global, cells: &str) -> Result<Told, NoMemory> {
-    let mut cells = cells.split(' ');
-    Ok(Told {
-        test: cells.next().unwrap_or("").parse().unwrap_or(0),
-        attempt: 1,
-        ended: Ended {
-            how: How::Exited(cells.next().unwrap_or("").parse().unwrap_or(0)),
-            micros: cells.next().unwrap_or("").parse().unwrap_or(0),
-        },
-        heard: Blob::new(alloc),
-    })
-}
-
-/// Makes a line of what the path of the journal holds, with `;` for the end of each line.
-fn journal_in(alloc: Global, files: &MemFiles) -> Result<String, NoMemory> {
-    let Some(held) = files.held(&Name::of(alloc, PATH)?) else {
-        return Ok(format!(in alloc; "no journal\n")?);
-    };
-    let mut line = format!(in alloc; "journal ")?;
-    for letter in str::from_utf8(held.bytes()).unwrap_or("?").chars() {
-        line.push(if letter == '\n' { ';' } else { letter })?;
-    }
-    line.push('\n')?;
-    Ok(line)
-}
-
-/// A recorded run over files, a gate and a sink in memory.
-type Kept = Recorded<MemFiles, ScriptGate, MemSink>;
-
-/// Records the run of a call with these words.
-fn record(
-    rt: &(impl Abort + AllocGlobal + Threads + Wait + Sync),
-    call: &Call<'_>,
-    words: &[Name],
-) -> Result<Kept, Fail> {
+/// Records the run of a call.
+fn record(rt: &impl Machine, call: &Call<'_>) -> Result<Behind, NoMemory> {
     let alloc = rt.alloc();
-    let mut gates = Vec::new(alloc);
-    gates.push(gate(alloc, call.facts)?)?;
-    assert!(rt; !gates.is_empty(), "{call}");
-    assert!(rt; words.len() < 100, "{call}");
-    let (files, sink) = (files_of(alloc, call)?, sink_of(alloc, call)?);
-    Ok(record_main(rt, alloc, words, &[], files, gates, sink))
+    let gates = gates_of(alloc, call, 1)?;
+    let Inputs { words, files, sink } = inputs_of(alloc, call)?;
+    Ok(Behind::of(record_main(rt, alloc, words.as_slice(), &[], files, gates, sink)))
 }
 
 /// Makes the lines of both statuses, the end of the journal, what was put, and what the path holds.
-fn outcome_of(alloc: Global, kept: &Kept) -> Result<String, NoMemory> {
-    let status = kept.status;
-    let of_run = kept.finished.status;
-    let journal = kept.journal;
-    let put = written(&kept.finished.sink);
-    let held = journal_in(alloc, &kept.finished.files)?;
+fn outcome_of(alloc: Global, behind: &Behind) -> Result<String, NoMemory> {
+    let held = left_in(alloc, &behind.files, PATH, PATH)?;
+    let Behind {
+        status,
+        of_run,
+        journal,
+        ..
+    } = behind;
+    let put = written(&behind.sink);
     Ok(format!(in alloc; "status {status} of {of_run}, {journal:?}\n{put}{held}")?)
 }
 
-/// Checks the journal of a call, and returns the status.
-fn check(rt: &(impl Abort + AllocGlobal), words: &[Name], kept: Kept) -> u8 {
-    let alloc = rt.alloc();
-    assert!(rt; words.len() < 100, "too many words");
-    let sink = MemSink::new(alloc, List::new(alloc));
-    let Recorded { finished, .. } = kept;
-    let Finished { files, .. } = finished;
-    let checked = check_main(alloc, words, files, sink);
-    checked.status
+/// Records a run, checks a journal that was written, and reports what came of both.
+fn report(rt: &impl Machine, call: &Call<'_>) -> Result<String, NoMemory> {
+    let behind = record(rt, call)?;
+    let text = outcome_of(rt.alloc(), &behind)?;
+    if behind.journal == JournalEnd::Written {
+        with_check(rt.alloc(), call, text, behind.files)
+    } else {
+        Ok(text)
+    }
 }
 
-/// Records a run, checks a journal that was written, and reports what came of both.
-fn report(
-    rt: &(impl Abort + AllocGlobal + Threads + Wait + Sync),
+/// Puts the status of the check of a journal behind this text.
+fn with_check(
+    alloc: Global,
     call: &Call<'_>,
-) -> Result<String, Fail> {
-    let alloc = rt.alloc();
-    let words = words_of(alloc, call)?;
-    let kept = record(rt, call, words.as_slice())?;
-    let text = outcome_of(alloc, &kept)?;
-    if kept.journal != JournalEnd::Written {
-        return Ok(text);
-    }
-    let status = check(rt, words.as_slice(), kept);
+    text: String,
+    files: MemFiles,
+) -> Result<String, NoMemory> {
+    let status = check(alloc, call, files)?;
     Ok(format!(in alloc; "{text}check {status}")?)
+}
+
+/// Checks the journal of a call over the files that the run left, and returns the status.
+fn check(alloc: Global, call: &Call<'_>, files: MemFiles) -> Result<u8, NoMemory> {
+    let words = words_of(alloc, call.words)?;
+    let sink = MemSink::new(alloc, List::new(alloc));
+    let checked = check_main(alloc, words.as_slice(), files, sink);
+    Ok(checked.status)
 }
 
 #[test]
 fn keeps_a_journal_that_is_accepted(rt: HostRuntime) -> Result<(), Fail> {
     for call in &calls_of(rt.alloc(), ROWS)? {
-        let text = report(&rt, call)?;
-        assert_eq!(rt; text.trim_end(), call.want, "{call}");
+        expect(call, report(&rt, call)?.as_str())?;
     }
     Ok(())
 }

@@ -1,7 +1,8 @@
 //! Which tests the words choose.
 
-use crate::rows::{chosen, invocation_of, is_told, tests_of, told};
-use ct_base::NoMemory;
+use crate::rows::{Tests, chosen, invocation_of, is_told, tests_of, told};
+use ct_args::Invocation;
+use ct_base::{List, Name, NoMemory};
 use ct_select::failed_names;
 use std::alloc::Global;
 use std::process::Abort;
@@ -158,8 +159,28 @@ x:b | is none
 /// What the words choose among the tests.
 fn chosen_told(rt: &impl Abort, alloc: Global, tests: &str, words: &str) -> Result<String, Fail> {
     let tests = tests_of(alloc, tests)?;
+    chosen_by_words(rt, alloc, &tests, words)
+}
+
+/// What the words choose among these tests.
+fn chosen_by_words(
+    rt: &impl Abort,
+    alloc: Global,
+    tests: &Tests,
+    words: &str,
+) -> Result<String, Fail> {
     let invocation = invocation_of(rt, alloc, words)?;
-    let chosen = chosen(rt, alloc, &tests, &invocation)?;
+    Ok(numbers_told(rt, alloc, tests, &invocation)?)
+}
+
+/// What an invocation chooses among these tests.
+fn numbers_told(
+    rt: &impl Abort,
+    alloc: Global,
+    tests: &Tests,
+    invocation: &Invocation,
+) -> Result<String, NoMemory> {
+    let chosen = chosen(rt, alloc, tests, invocation)?;
     Ok(told(alloc, chosen.as_slice())?)
 }
 
@@ -175,11 +196,27 @@ fn log_of(alloc: Global, row: &str) -> Result<Vec<u8>, NoMemory> {
 /// What the words choose where the tests of a log alone are asked for.
 fn chosen_again(rt: &impl Abort, alloc: Global, log: &str, words: &str) -> Result<String, Fail> {
     let tests = tests_of(alloc, LOGGED)?;
-    let mut invocation = invocation_of(rt, alloc, words)?;
+    let only = names_in(alloc, log)?;
+    chosen_of_names(rt, alloc, &tests, words, only)
+}
+
+/// The names in a row's log.
+fn names_in(alloc: Global, log: &str) -> Result<List<Name>, NoMemory> {
     let log = log_of(alloc, log)?;
-    invocation.wanted.choice.only = Some(failed_names(alloc, log.as_slice())?);
-    let chosen = chosen(rt, alloc, &tests, &invocation)?;
-    Ok(told(alloc, chosen.as_slice())?)
+    failed_names(alloc, log.as_slice())
+}
+
+/// What the words choose among the tests with these names.
+fn chosen_of_names(
+    rt: &impl Abort,
+    alloc: Global,
+    tests: &Tests,
+    words: &str,
+    only: List<Name>,
+) -> Result<String, Fail> {
+    let mut invocation = invocation_of(rt, alloc, words)?;
+    invocation.wanted.choice.only = Some(only);
+    Ok(numbers_told(rt, alloc, tests, &invocation)?)
 }
 
 /// Compares what each row's words choose among its tests, or else among these.

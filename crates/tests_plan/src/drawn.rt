@@ -120,8 +120,18 @@ fn members(
 /// Reports the tests that the words choose and draw in.
 fn members_told(rt: &impl Abort, alloc: Global, tests: &str, words: &str) -> Result<String, Fail> {
     let tests = tests_of(alloc, tests)?;
+    members_by_words(rt, alloc, &tests, words)
+}
+
+/// Reports the tests that the words choose among these and draw in.
+fn members_by_words(
+    rt: &impl Abort,
+    alloc: Global,
+    tests: &Tests,
+    words: &str,
+) -> Result<String, Fail> {
     let invocation = invocation_of(rt, alloc, words)?;
-    let members = members(rt, alloc, &tests, &invocation)?;
+    let members = members(rt, alloc, tests, &invocation)?;
     Ok(told(alloc, members.as_slice())?)
 }
 

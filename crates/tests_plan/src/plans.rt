@@ -67,10 +67,23 @@ fn planned(
 fn plan_of(rt: &impl Abort, alloc: Global, given: &str) -> Result<Plan, Fail> {
     let (words, rest) = given.split_once(" | ").unwrap_or((given, ""));
     let (tests, left) = rest.split_once(" |").unwrap_or((rest, ""));
-    let invocation = invocation_of(rt, alloc, words)?;
     let tests = tests_of(alloc, tests)?;
     let costs = costs_of(alloc, left.trim())?;
-    planned(rt, alloc, &tests, &invocation.wanted, &costs)
+    plan_by_words(rt, alloc, &tests, words, &costs)
+}
+
+/// Plans these tests by words.
+fn plan_by_words(
+    rt: &impl Abort,
+    alloc: Global,
+    tests: &Tests,
+    words: &str,
+    costs: &CostData,
+) -> Result<Plan, Fail>
+    requires { HaveProps tests.now.defs tests.now.props }
+{
+    let invocation = invocation_of(rt, alloc, words)?;
+    planned(rt, alloc, tests, &invocation.wanted, costs)
 }
 
 /// Lists the locks that the tests of a plan share, with a `,` behind each.

@@ -7,7 +7,7 @@
 use crate::rows::{invocation_of, is_told};
 use ct_args::{Invocation, Task, UsageFault};
 use ct_base::{List, Name, NoMemory};
-use ct_props::{Choice, Numbers};
+use ct_props::{Choice, Numbers, Wanted};
 use ct_regex::Regex;
 use ct_verdict::{Mode, Repeat};
 use std::alloc::{AllocError, Global};
@@ -508,18 +508,21 @@ fn put_task(told: &mut String, task: Task) -> Result<(), AllocError> {
 
 /// Appends the fields in which the invocation differs from that of an empty command line.
 fn put_facts(alloc: Global, told: &mut String, invocation: &Invocation) -> Result<(), NoMemory> {
-    let wanted = &invocation.wanted;
     put_task(told, invocation.task)?;
-    put_text(told, "dir", text_of(&wanted.dir), ".")?;
-    put_choice(alloc, told, &wanted.choice)?;
-    put_number(told, "level", u64::from(wanted.level), 1)?;
-    put_repeat(told, wanted.repeat)?;
-    put_flag(told, "stop", wanted.stop_on_failure)?;
+    put_wanted(alloc, told, &invocation.wanted)?;
     put_text(told, "config", text_of(&invocation.config), "")?;
     put_number(told, "timeout", invocation.timeout, 1_500_000_000)?;
     put_file(told, &invocation.spec_file)?;
     put_flag(told, "empty_is_error", invocation.empty_is_error)?;
     Ok(put_flag(told, "rerun", invocation.rerun)?)
+}
+
+fn put_wanted(alloc: Global, told: &mut String, wanted: &Wanted) -> Result<(), NoMemory> {
+    put_text(told, "dir", text_of(&wanted.dir), ".")?;
+    put_choice(alloc, told, &wanted.choice)?;
+    put_number(told, "level", u64::from(wanted.level), 1)?;
+    put_repeat(told, wanted.repeat)?;
+    Ok(put_flag(told, "stop", wanted.stop_on_failure)?)
 }
 
 fn put_fault(told: &mut String, fault: &UsageFault) -> Result<(), AllocError> {
@@ -531,11 +534,21 @@ fn put_fault(told: &mut String, fault: &UsageFault) -> Result<(), AllocError> {
 
 /// Reports what the words of a row ask for, or which word is refused.
 fn told(rt: &impl Abort, alloc: Global, words: &str) -> Result<String, NoMemory> {
-    let mut told = String::new(alloc);
     match invocation_of(rt, alloc, words) {
-        Ok(invocation) => put_facts(alloc, &mut told, &invocation)?,
-        Err(fault) => put_fault(&mut told, &fault)?,
+        Ok(invocation) => facts_told(alloc, &invocation),
+        Err(fault) => fault_told(alloc, &fault),
     }
+}
+
+fn facts_told(alloc: Global, invocation: &Invocation) -> Result<String, NoMemory> {
+    let mut told = String::new(alloc);
+    put_facts(alloc, &mut told, invocation)?;
+    Ok(told)
+}
+
+fn fault_told(alloc: Global, fault: &UsageFault) -> Result<String, NoMemory> {
+    let mut told = String::new(alloc);
+    put_fault(&mut told, fault)?;
     Ok(told)
 }
 

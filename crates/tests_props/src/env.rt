@@ -153,9 +153,19 @@ fn changed(alloc: Global, given: &str) -> Result<String, Fail> {
     let own = own_pairs(alloc, cell(cells.next()))?;
     let sets = cell(cells.next());
     let changes = cell(cells.next());
+    let props = changing(alloc, sets, changes)?;
+    changed_told(alloc, own.as_slice(), &props)
+}
+
+/// Reads the properties of a test that sets and changes variables.
+fn changing(alloc: Global, sets: &str, changes: &str) -> Result<Props, Fail> {
     let text = format!(in alloc; "ENVIRONMENT={sets}&ENVIRONMENT_MODIFICATION={changes}")?;
-    let props = props_of(alloc, text.as_str())?;
-    let pairs = environment(alloc, own.as_slice(), &props, None)?;
+    Ok(props_of(alloc, text.as_str())?)
+}
+
+/// Reports the environment of a test with these properties, for a run with these variables.
+fn changed_told(alloc: Global, own: &[Pair], props: &Props) -> Result<String, Fail> {
+    let pairs = environment(alloc, own, props, None)?;
     Ok(told(alloc, "", pairs.as_slice())?)
 }
 
@@ -166,7 +176,7 @@ fn given_told(
     own: &[Pair],
     props: &Props,
     placement: &Placement,
-) -> Result<String, NoMemory> {
+) -> Result<String, Fail> {
     let pairs = environment(alloc, own, props, Some(placement))?;
     Ok(told(alloc, "CTEST_RESOURCE_GROUP_", pairs.as_slice())?)
 }
@@ -175,25 +185,29 @@ fn given_told(
 fn with_given(alloc: Global, own: &[Pair], given: &str) -> Result<String, Fail> {
     let mut cells = given.split(" | ");
     let groups = cell(cells.next());
+    let placement = placement(alloc, cell(cells.next()))?;
+    let props = grouped(alloc, groups)?;
+    given_told(alloc, own, &props, &placement)
+}
+
+/// Reads the properties of a test that needs groups, and changes a variable of one.
+fn grouped(alloc: Global, groups: &str) -> Result<Props, Fail> {
     let change = "ENVIRONMENT_MODIFICATION=CTEST_RESOURCE_GROUP_0=set:x";
     let text = format!(in alloc; "RESOURCE_GROUPS={groups}&{change}")?;
-    let props = props_of(alloc, text.as_str())?;
-    let placement = placement(alloc, cell(cells.next()))?;
-    Ok(given_told(alloc, own, &props, &placement)?)
+    Ok(props_of(alloc, text.as_str())?)
 }
 
 /// Reports the place of the first entry that names no operation.
-fn bad_told(rt: &impl Abort, alloc: Global, props: &Props) -> Result<String, AllocError> {
+fn bad_told(rt: &impl Abort, alloc: Global, props: &Props) -> Result<String, Fail> {
     assert!(rt; props.modification.len() < 4_294_967_296);
     let found = bad_operation(props);
-    format!(in alloc; "{found:?}")
+    Ok(format!(in alloc; "{found:?}")?)
 }
 
 /// Reports the place of the first entry of a modification that names no operation.
 fn first_bad(rt: &impl Abort, alloc: Global, modification: &str) -> Result<String, Fail> {
-    let text = format!(in alloc; "ENVIRONMENT_MODIFICATION={modification}")?;
-    let props = props_of(alloc, text.as_str())?;
-    Ok(bad_told(rt, alloc, &props)?)
+    let props = changing(alloc, "", modification)?;
+    bad_told(rt, alloc, &props)
 }
 
 #[test]

@@ -1,7 +1,7 @@
 //! The tests of a run as JSON, for editors, byte for byte.
 
 use crate::rows::{is_told, pair};
-use ct_base::{List, Name, NoMemory, TestDef};
+use ct_base::{Blob, List, Name, NoMemory, TestDef};
 use ct_info::info;
 use std::alloc::{AllocError, Global};
 use std::process::Abort;
@@ -66,13 +66,23 @@ fn is_listed(
     config: &str,
     tests: &str,
 ) -> Result<(), Fail> {
-    let members = List::from_vec(Vec::from_slice(alloc, members)?);
-    let config = Name::of(alloc, config.as_bytes())?;
-    let text = info(alloc, defs, &members, &config)?;
+    let text = listed(alloc, defs, members, config)?;
     let told = str::from_utf8(text.bytes()).unwrap_or("no text");
     let want = format!(in alloc; "{FRONT}{tests}{BACK}")?;
     is_told(rt, tests, told, want.as_str());
     Ok(())
+}
+
+/// Makes the JSON text of the tests with these numbers.
+fn listed(
+    alloc: Global,
+    defs: &List<TestDef>,
+    members: &[u32],
+    config: &str,
+) -> Result<Blob, NoMemory> {
+    let members = List::from_vec(Vec::from_slice(alloc, members)?);
+    let config = Name::of(alloc, config.as_bytes())?;
+    info(alloc, defs, &members, &config)
 }
 
 #[test]

@@ -105,14 +105,23 @@ fn accepts_the_journal_of_no_test(rt: HostRuntime) -> Result<(), Fail> {
 
 #[test]
 fn refuses_more_slots_than_a_card_has(rt: HostRuntime) -> Result<(), Fail> {
-    let alloc = rt.alloc();
+    let tests = three_on_cards(rt.alloc())?;
+    let plan = plan_or_abort(&rt, rt.alloc(), Manner::once(3), tests, Some(&[3, 2]))?;
+    Ok(finds(&rt, rt.alloc(), &plan, OF_CARDS)?)
+}
+
+/// Makes three tests, each of which needs two slots of a card.
+fn three_on_cards(alloc: Global) -> Result<List<PlanTest>, NoMemory> {
     let mut tests = List::new(alloc);
     for number in 1..4 {
-        let mut test = free(alloc, number)?;
-        test.needs = needs(alloc, &[2])?;
-        tests.push(test)?;
+        tests.push(on_a_card(alloc, number)?)?;
     }
-    let plan = plan_or_abort(&rt, alloc, Manner::once(3), tests, Some(&[3, 2]))?;
-    finds(&rt, alloc, &plan, OF_CARDS)?;
-    Ok(())
+    Ok(tests)
+}
+
+/// Makes a test that needs two slots of a card.
+fn on_a_card(alloc: Global, number: u32) -> Result<PlanTest, NoMemory> {
+    let mut test = free(alloc, number)?;
+    test.needs = needs(alloc, &[2])?;
+    Ok(test)
 }

@@ -156,11 +156,30 @@ fn check_run(rt: &impl Abort, alloc: Global, row: &str) -> Result<(), NoMemory> 
     let (run, rest) = rest.split_once(" => ").unwrap_or((rest, ""));
     let (new, log) = rest.split_once(" =>").unwrap_or((rest, ""));
     let record = record_of(rt, alloc, run)?;
-    let text = text_after(alloc, &record, old)?;
-    says(rt, alloc, &text, MARK, new, row)?;
-    let text = log_of(alloc, &record)?;
-    says(rt, alloc, &text, "", log.trim_start(), row)?;
-    Ok(())
+    leaves_costs(rt, alloc, &record, old, new)?;
+    leaves_log(rt, alloc, &record, log.trim_start())
+}
+
+/// Checks the cost data that a run leaves.
+fn leaves_costs(
+    rt: &impl Abort,
+    alloc: Global,
+    past: &Record,
+    old: &str,
+    new: &str,
+) -> Result<(), NoMemory>
+    requires { are_all_final past.now.plan past.now.history.entries.items ≡ true }
+{
+    let text = text_after(alloc, past, old)?;
+    says(rt, alloc, &text, MARK, new, old)
+}
+
+/// Checks the log of failed tests that a run leaves.
+fn leaves_log(rt: &impl Abort, alloc: Global, past: &Record, log: &str) -> Result<(), NoMemory>
+    requires { are_all_final past.now.plan past.now.history.entries.items ≡ true }
+{
+    let text = log_of(alloc, past)?;
+    says(rt, alloc, &text, "", log, log)
 }
 
 /// Returns the text of the cost data that a run leaves.

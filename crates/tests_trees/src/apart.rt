@@ -1,10 +1,11 @@
 //! Two trees whose tests need the same card, and what the judge says of their history.
 
-use crate::rows::{Call, Machine, Ran, calls_of, run};
+use crate::run::run;
 use ct_base::NoMemory;
-use ct_history::{Entry, History, judge};
+use ct_history::{Entry, History, Plan, judge};
 use std::alloc::Global;
 use std::test::Fail;
+use tests_calls::{Call, Machine, calls_of, expect};
 
 /// Two tests that each take all slots of one card, at a level that admits both, and what happens.
 const ROWS: &str = "
@@ -36,65 +37,52 @@ fn happened(alloc: Global, history: &History) -> Result<String, NoMemory> {
 }
 
 /// Gives each test a worker of its own, so that no worker keeps two of them apart.
-fn by_own_workers(alloc: Global, history: History) -> Result<History, NoMemory> {
-    let mut entries = Vec::new(alloc);
-    for entry in history.entries {
-        entries.push(match entry {
-            Entry::Start {
-                test,
-                attempt,
-                placement,
-                ..
-            } => Entry::Start {
-                test,
-                attempt,
-                worker: test,
-                placement,
-            },
-            Entry::End {
-                test,
-                attempt,
-                seen,
-                ..
-            } => Entry::End {
-                test,
-                attempt,
-                worker: test,
-                seen,
-            },
-            other => other,
-        })?;
+fn work_apart(entries: &mut [Entry]) {
+    for entry in entries {
+        match entry {
+            Entry::Start { test, worker, .. } => *worker = *test,
+            Entry::End { test, worker, .. } => *worker = *test,
+            Entry::Settle { .. } | Entry::Stop => {}
+        }
     }
-    Ok(History { entries })
 }
 
 /// Exchanges the End of the first test with the Start of the second one.
-fn start_both_first(entries: &mut Vec<Entry>) {
+fn start_both_first(entries: &mut [Entry]) {
     if entries.len() > 2 {
         entries.swap(1, 2);
     }
 }
 
-/// Checks a run, and what the judge says of it and of the same entries with both Starts first.
+/// Checks a run, and what the judge says of it.
 fn check(rt: &impl Machine, call: &Call<'_>) -> Result<(), Fail> {
-    let alloc = rt.alloc();
-    let Ran {
-        status,
-        whole,
-        history,
-        ..
-    } = run(rt, call, 2)?;
-    let (Some(whole), Some(history)) = (whole, history) else {
-        assert!(rt; false, "there is no history");
-        return Ok(());
-    };
-    assert_eq!(rt; status, 0);
-    assert_eq!(rt; happened(alloc, &history)?.as_str(), call.want);
-    assert!(rt; judge(&whole, &history)?);
-    let mut history = by_own_workers(alloc, history)?;
-    assert!(rt; judge(&whole, &history)?);
-    start_both_first(&mut history.entries);
-    assert!(rt; !judge(&whole, &history)?);
+    let mut ran = run(rt, call, 2)?;
+    assert_eq!(rt; ran.status, 0);
+    match (&ran.whole, ran.history.take()) {
+        (Some(whole), Some(history)) => check_history(rt, call, whole, history),
+        _ => panic!(rt; "there is no history"),
+    }
+}
+
+/// Checks a history, and what the judge says of it.
+fn check_history(
+    rt: &impl Machine,
+    call: &Call<'_>,
+    whole: &Plan,
+    history: History,
+) -> Result<(), Fail> {
+    expect(call, happened(rt.alloc(), &history)?.as_str())?;
+    assert!(rt; judge(whole, &history)?);
+    check_apart(rt, whole, history)
+}
+
+/// Checks what the judge says of a history if each test has a worker of its own, and then if both Starts
+/// come first.
+fn check_apart(rt: &impl Machine, whole: &Plan, mut history: History) -> Result<(), Fail> {
+    work_apart(history.entries.as_mut_slice());
+    assert!(rt; judge(whole, &history)?);
+    start_both_first(history.entries.as_mut_slice());
+    assert!(rt; !judge(whole, &history)?);
     Ok(())
 }
 

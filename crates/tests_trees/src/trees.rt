@@ -1,8 +1,11 @@
 //! Calls over several build trees: the status, the tree that a fault names, how many plans there are, the
 //! report, and the logs and the cost data that the trees have behind them.
 
-use crate::rows::{Machine, calls_of, held_in, run, written};
+use crate::run::{Ran, run};
+use ct_base::{MemFiles, NoMemory};
+use std::alloc::Global;
 use std::test::Fail;
+use tests_calls::{Call, Machine, calls_of, expect, line_of, written};
 
 /// Calls, each with its status, the tree of its fault, the number of plans, its report, and what its trees
 /// hold.
@@ -225,33 +228,48 @@ const PATHS: [&str; 4] = [
     "b/Testing/Temporary/LastTestsFailed.log",
 ];
 
-/// Compares the end of each call of a table with the wanted text.
-pub(crate) fn run_as_told(rt: &impl Machine, table: &str) -> Result<(), Fail> {
-    let alloc = rt.alloc();
-    for call in &calls_of(alloc, table)? {
-        let ran = run(rt, call, 1)?;
-        let tree = match ran.tree {
-            Some(tree) => tree.to_string(alloc)?,
-            None => format!(in alloc; "none")?,
-        };
-        let put = written(&ran.sink);
-        let plans = ran.plans.len();
-        let mut text = format!(in alloc;
-            "status {}, tree {tree}, plans {plans}\n{put}",
-            ran.status
-        )?;
-        for path in PATHS {
-            text = format!(in alloc; "{text}{}", held_in(alloc, &ran.files, path)?)?;
+/// Reports how a call ended, how many plans it made, what was written, and what the trees hold.
+fn ending(alloc: Global, ran: &Ran) -> Result<String, NoMemory> {
+    let Ran { status, plans, .. } = ran;
+    let plans = plans.len();
+    let tree = tree_of(alloc, ran.tree)?;
+    let held = held_in(alloc, &ran.files)?;
+    let put = written(&ran.sink);
+    Ok(format!(in alloc; "status {status}, tree {tree}, plans {plans}\n{put}{held}")?)
+}
+
+/// Reports the tree that a refusal or a fault of the files came at.
+fn tree_of(alloc: Global, tree: Option<u32>) -> Result<String, NoMemory> {
+    Ok(match tree {
+        Some(tree) => tree.to_string(alloc)?,
+        None => format!(in alloc; "none")?,
+    })
+}
+
+/// Makes a line of each path that holds something.
+fn held_in(alloc: Global, files: &MemFiles) -> Result<String, NoMemory> {
+    let mut text = String::new(alloc);
+    for path in PATHS {
+        if let Some(line) = line_of(alloc, files, path)? {
+            text = format!(in alloc; "{text}{path} {line}\n")?;
         }
-        assert_eq!(rt;
-            text.trim_end(),
-            call.want,
-            "{} >>>{}",
-            call.facts,
-            call.words
-        );
+    }
+    Ok(text)
+}
+
+/// Compares the ending of each call of a table with the wanted text.
+pub(crate) fn run_as_told(rt: &impl Machine, table: &str) -> Result<(), Fail> {
+    for call in &calls_of(rt.alloc(), table)? {
+        let text = report(rt, call)?;
+        expect(call, text.as_str())?;
     }
     Ok(())
+}
+
+/// Makes a call, and reports its ending.
+fn report(rt: &impl Machine, call: &Call<'_>) -> Result<String, NoMemory> {
+    let ran = run(rt, call, 1)?;
+    ending(rt.alloc(), &ran)
 }
 
 #[test]
