@@ -1,2 +1,2 @@
-add_test(one "sh" "-c" "sleep 2; : >one")
-add_test(two "sh" "-c" "sleep 2; : >two")
+add_test(one "sh" "-c" "sleep 3; : >one")
+add_test(two "sh" "-c" "sleep 3; : >two")

@@ -1,7 +1,8 @@
 -- How the end of a program is answered, and with which
 -- variables a program is started. This project's own.
-use Rattle.std.specs.Prelude.{◌≡◌, ◌↔◌, ℕ, Bool, not, ◌==◌, ◌<◌, length, All, IsUtf8, List, [], ◌∷◌, ◌++◌, codes, ℤ, Option, Some, None, Result, Ok, Err, option_map, true, false, if◌then◌else◌}
+use Rattle.std.specs.Prelude.{◌≡◌, ◌↔◌, ℕ, Bool, not, ◌==◌, ◌||◌, ◌<◌, length, All, IsUtf8, List, [], ◌∷◌, ◌++◌, codes, ℤ, pos, Option, Some, None, Result, Ok, Err, option_map, true, false, if◌then◌else◌}
 use Rattle.std.specs.List.{list_any}
+use Rattle.std.specs.Ordering.{int_eq}
 use Rattle.std.specs.IoError.{error_kind}
 use Rattle.std.specs.declared.io.Error.{Error}
 use Rattle.std.specs.declared.io.ErrorKind.TheVariants as ErrorKind
@@ -45,6 +46,11 @@ abbrev pub how_of_run : Result How StartFault → How
 how_of_run (Ok how) = how
 how_of_run (Err Fault.Failed) = Ends.NotStarted
 how_of_run (Err Fault.NoMemory) = Ends.NoMemory
+
+-- the number of an error of Linux that says that no descriptor or no process is left: EAGAIN, ENFILE, EMFILE
+abbrev pub is_shortage : Option ℤ → Bool
+is_shortage (Some code) = int_eq code (pos 11) || int_eq code (pos 23) || int_eq code (pos 24)
+is_shortage None = false
 
 -- a program is given these variables and no others; of several with the same name the last counts
 pub record HasEnv {A : Type 0} (pairs : List Pair) (command : Command A) : Type 0 where

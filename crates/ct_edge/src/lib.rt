@@ -4,7 +4,7 @@
 //! parts of them that are tested without the machine: `read_up_to`, `read_both`, `first_missing`,
 //! `attend`, and `Spool`, which keeps what comes on the standard error.
 //! Read first: `real_files.rt`, `real_sink.rt` and `process_gate.rt`; then the parts of the gate:
-//! `required.rt`, `command.rt`, `watch.rt`, `pipe.rt`, `keep.rt` and `spool.rt`.
+//! `required.rt`, `command.rt`, `start.rt`, `watch.rt`, `pipe.rt`, `keep.rt` and `spool.rt`.
 #![tactic(auto)]
 
 mod command;
@@ -17,6 +17,7 @@ mod real_files;
 mod real_sink;
 mod required;
 mod spool;
+mod start;
 mod text;
 mod transfer;
 mod watch;

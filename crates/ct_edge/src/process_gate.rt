@@ -7,10 +7,11 @@ ghost use Rattle.ct_edge.specs.Process.{has_run, how_of_run};
 
 use crate::command::{command_of, is_beside};
 use crate::fault::StartFault;
-use crate::limit::{Limit, micros_of};
+use crate::limit::micros_of;
 use crate::real_files::RealFiles;
 use crate::required::first_missing;
 use crate::spool::Spool;
+use crate::start::start;
 use crate::watch::{Running, attend};
 use ct_base::Ear;
 use ct_core::{Ended, Gate, Request, Ticket};
@@ -109,9 +110,8 @@ fn run_program<E: Ear>(
     if let Some(place) = first_missing(&mut RealFiles::new(rt), alloc, required)? {
         return Ok(How::Lacks(u32::try_from(place).unwrap_or(u32::MAX)));
     }
-    let limit = Limit::from_now(&rt, request.limit)?;
     let beside = is_beside(&rt, alloc, request)?;
-    let child = command_of(alloc, request, beside)?.spawn(&rt)?;
+    let (child, limit) = start(rt, command_of(alloc, request, beside)?, request.limit)?;
     let mut kept = Spool::new(rt, alloc, MOST_IN_MEMORY);
     attend(&rt, &limit, &mut Running::of(child)?, ear, &mut kept)
 }
