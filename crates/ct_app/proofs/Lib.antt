@@ -21,3 +21,4 @@ pub mod MeantAnswerLemmas
 pub mod SourceLemmas
 pub mod AlikeLemmas
 pub mod CompleteLemmas
+pub mod StepLemmas

@@ -13,6 +13,7 @@ use Rattle.ct_cost.specs.declared.cost_data.CostData.{CostData}
 use Rattle.ct_args.specs.declared.invocation.Invocation.{Invocation}
 use Rattle.ct_app.specs.declared.outcome.Outcome.{Outcome}
 use Rattle.ct_app.specs.declared.outcome.Outcome.TheVariants.{Completed, Listed, Usage, Refused, FilesFault, OutputFault, Memory}
+use Rattle.ct_app.specs.declared.outcome.Refusal.{Refusal}
 use Rattle.ct_app.specs.declared.outcome.Refusal.TheVariants.{TestFile, Prop, Spec, Cycle, TooManyEdges}
 use Rattle.ct_app.specs.declared.run_files.RunFileFault.{RunFileFault}
 use Rattle.ct_app.specs.declared.run_files.RunFileFault.TheVariants as Fault
@@ -22,9 +23,11 @@ use Rattle.ct_app.specs.declared.spec_file.SpecFileFault.{SpecFileFault}
 use Rattle.ct_app.specs.declared.spec_file.SpecFileFault.TheVariants as Named
 use Rattle.ct_app.specs.Ends.{HasTests, IsReadFolder, IsReadList, IsUnread, IsUnreadFolder}
 use Rattle.ct_app.specs.Outcome.{outcome_of, outcome_of_file, outcome_of_spec}
+use Rattle.ct_app.specs.Reading.{ListAsks, RefusesSpec, RunAsks}
 use Rattle.ct_app.specs.Rerun.{AreOnly, ReadsOnly, last_failed, names_in_text}
 use Rattle.ct_app.specs.RunFiles.{FilesStay, ReadsCosts, costs_of, costs_path, last_costs, log_path}
 use Rattle.ct_app.specs.SpecFile.{AreLent, ReadsSpec, RefusesFile, declared_in}
+use Rattle.ct_app.specs.Steps.{AreReadInputs, AreUnreadInputs}
 use Rattle.ct_app.specs.Tests.{RefusesTests}
 use Rattle.ct_app.proofs.ChangeLemmas.{fails_then, same_then_same, serves_then}
 
@@ -85,18 +88,48 @@ same_refused (Some path) why before between same is = same_declared path (Err wh
 pub then_stay : (before between now : FilesTell) → FilesStay before between → FilesStay between now → FilesStay before now
 then_stay before between now = serves_then SameHeld SameHeld SameHeld same_then_same before between now
 
+-- what a plan needs beside the tests, read in three steps
+module _ (invocation : Invocation) (before : FilesTell) where
+  pub read_inputs : (behind beyond now : FilesTell) (lent : Option (List Resource)) (costs : CostData) (only : Option (List (List ℕ))) → ReadsSpec invocation.spec_file before behind (Ok lent) → ReadsCosts invocation.wanted.dir behind beyond (Ok costs) → ReadsOnly invocation.rerun invocation.wanted.dir beyond now (Ok only) → AreReadInputs invocation before now lent costs only
+  read_inputs behind beyond now lent costs only named last log =
+      let stays = then_stay before behind beyond named.1 last.1 in
+      record {
+        lent = named.0;
+        last = same_last invocation.wanted.dir costs before.held behind.held named.1.held last.0;
+        limits = same_only invocation.rerun invocation.wanted.dir only before.held beyond.held stays.held log.0;
+        files = then_stay before beyond now stays log.1;
+      }
+
+  -- the specification was not read
+  pub unread_spec : (now : FilesTell) (fault : SpecFileFault) (outcome : Outcome) → outcome ≡ outcome_of_spec fault → ReadsSpec invocation.spec_file before now (Err fault) → AreUnreadInputs invocation before now outcome
+  unread_spec now (Named.Refused why) outcome is refused = subst (λ (o : Outcome). AreUnreadInputs invocation before now o) (sym is) refused
+  unread_spec now (Named.Failed path) outcome is fails = subst (λ (o : Outcome). AreUnreadInputs invocation before now o) (sym is) (inl fails.0, fails.1)
+  unread_spec now Named.NoMemory outcome is stays = subst (λ (o : Outcome). AreUnreadInputs invocation before now o) (sym is) stays
+
+  -- the cost data was not read
+  pub unread_costs : (behind now : FilesTell) (lent : Option (List Resource)) (fault : RunFileFault) (outcome : Outcome) → outcome ≡ outcome_of_file fault → ReadsSpec invocation.spec_file before behind (Ok lent) → ReadsCosts invocation.wanted.dir behind now (Err fault) → AreUnreadInputs invocation before now outcome
+  unread_costs behind now lent (Fault.Failed path) outcome is named fails =
+      subst (λ (o : Outcome). AreUnreadInputs invocation before now o) (sym is) (inr (inl fails.0), fails_then SameHeld SameHeld SameHeld same_then_same path before behind now named.1 fails.1)
+  unread_costs behind now lent Fault.NoMemory outcome is named stays =
+      subst (λ (o : Outcome). AreUnreadInputs invocation before now o) (sym is) (then_stay before behind now named.1 stays)
+
+  -- the log was not read
+  pub unread_log : (behind beyond now : FilesTell) (lent : Option (List Resource)) (costs : CostData) (fault : RunFileFault) (outcome : Outcome) → outcome ≡ outcome_of_file fault → ReadsSpec invocation.spec_file before behind (Ok lent) → ReadsCosts invocation.wanted.dir behind beyond (Ok costs) → ReadsOnly invocation.rerun invocation.wanted.dir beyond now (Err fault) → AreUnreadInputs invocation before now outcome
+  unread_log behind beyond now lent costs (Fault.Failed path) outcome is named last fails =
+      subst (λ (o : Outcome). AreUnreadInputs invocation before now o) (sym is)
+      (inr (inr (fails.0, fails.1)), fails_then SameHeld SameHeld SameHeld same_then_same path before beyond now (then_stay before behind beyond named.1 last.1) fails.2)
+  unread_log behind beyond now lent costs Fault.NoMemory outcome is named last stays =
+      subst (λ (o : Outcome). AreUnreadInputs invocation before now o) (sym is) (then_stay before beyond now (then_stay before behind beyond named.1 last.1) stays)
+
 -- the tests of a folder were read
 module _ (invocation : Invocation) (before between : FilesTell) (tests : Tests) (read : HasTests invocation before between tests) where
-  pub read_folder : (behind beyond now : FilesTell) (lent : Option (List Resource)) (costs : CostData) (only : Option (List (List ℕ))) → ReadsSpec invocation.spec_file between behind (Ok lent) → ReadsCosts invocation.wanted.dir behind beyond (Ok costs) → ReadsOnly invocation.rerun invocation.wanted.dir beyond now (Ok only) → IsReadFolder invocation before now tests lent costs only
-  read_folder behind beyond now lent costs only named last log =
-      let stay = then_stay before between behind read.files named.1 in
-      let stays = then_stay before behind beyond stay last.1 in
-      record {
-        read = record { read = read.read; few = read.few; files = then_stay before beyond now stays log.1 };
-        lent = same_lent invocation.spec_file lent before.held between.held read.files.held named.0;
-        last = same_last invocation.wanted.dir costs before.held behind.held stay.held last.0;
-        limits = same_only invocation.rerun invocation.wanted.dir only before.held beyond.held stays.held log.0;
-      }
+  pub read_folder : (now : FilesTell) (lent : Option (List Resource)) (costs : CostData) (only : Option (List (List ℕ))) → AreReadInputs invocation between now lent costs only → IsReadFolder invocation before now tests lent costs only
+  read_folder now lent costs only beside = record {
+    read = record { read = read.read; few = read.few; files = then_stay before between now read.files beside.files };
+    lent = same_lent invocation.spec_file lent before.held between.held read.files.held beside.lent;
+    last = same_last invocation.wanted.dir costs before.held between.held read.files.held beside.last;
+    limits = same_only invocation.rerun invocation.wanted.dir only before.held between.held read.files.held beside.limits;
+  }
 
   -- all that a list needs was read
   pub read_listed : (now : FilesTell) (only : Option (List (List ℕ))) → ReadsOnly invocation.rerun invocation.wanted.dir between now (Ok only) → IsReadList invocation before now tests only
@@ -105,34 +138,6 @@ module _ (invocation : Invocation) (before between : FilesTell) (tests : Tests) 
     limits = same_only invocation.rerun invocation.wanted.dir only before.held between.held read.files.held log.0;
   }
 
-  -- the specification was not read, so the folder was not
-  pub unread_spec : (now : FilesTell) (fault : SpecFileFault) (outcome : Outcome) → outcome ≡ outcome_of_spec fault → ReadsSpec invocation.spec_file between now (Err fault) → IsUnreadFolder invocation before now outcome
-  unread_spec now (Named.Refused why) outcome is refused =
-      subst (λ (o : Outcome). IsUnreadFolder invocation before now o) (sym is)
-      (inr (record { tests = tests; read = read.read; refused = same_refused invocation.spec_file why before.held between.held read.files.held refused.0; files = then_stay before between now read.files refused.1 }))
-  unread_spec now (Named.Failed path) outcome is fails =
-      subst (λ (o : Outcome). IsUnreadFolder invocation before now o) (sym is) (inr (inl fails.0), fails_then SameHeld SameHeld SameHeld same_then_same path before between now read.files fails.1)
-  unread_spec now Named.NoMemory outcome is stays =
-      subst (λ (o : Outcome). IsUnreadFolder invocation before now o) (sym is) (then_stay before between now read.files stays)
-
-  -- the cost data was not read, so the folder was not
-  pub unread_costs : (behind now : FilesTell) (lent : Option (List Resource)) (fault : RunFileFault) (outcome : Outcome) → outcome ≡ outcome_of_file fault → ReadsSpec invocation.spec_file between behind (Ok lent) → ReadsCosts invocation.wanted.dir behind now (Err fault) → IsUnreadFolder invocation before now outcome
-  unread_costs behind now lent (Fault.Failed path) outcome is named fails =
-      subst (λ (o : Outcome). IsUnreadFolder invocation before now o) (sym is)
-      (inr (inr fails.0), fails_then SameHeld SameHeld SameHeld same_then_same path before behind now (then_stay before between behind read.files named.1) fails.1)
-  unread_costs behind now lent Fault.NoMemory outcome is named stays =
-      subst (λ (o : Outcome). IsUnreadFolder invocation before now o) (sym is)
-      (then_stay before behind now (then_stay before between behind read.files named.1) stays)
-
-  -- the log was not read, so the folder was not
-  pub unread_log : (behind beyond now : FilesTell) (lent : Option (List Resource)) (costs : CostData) (fault : RunFileFault) (outcome : Outcome) → outcome ≡ outcome_of_file fault → ReadsSpec invocation.spec_file between behind (Ok lent) → ReadsCosts invocation.wanted.dir behind beyond (Ok costs) → ReadsOnly invocation.rerun invocation.wanted.dir beyond now (Err fault) → IsUnreadFolder invocation before now outcome
-  unread_log behind beyond now lent costs (Fault.Failed path) outcome is named last fails =
-      subst (λ (o : Outcome). IsUnreadFolder invocation before now o) (sym is)
-      (inl (inr (fails.0, fails.1)), fails_then SameHeld SameHeld SameHeld same_then_same path before beyond now (then_stay before behind beyond (then_stay before between behind read.files named.1) last.1) fails.2)
-  unread_log behind beyond now lent costs Fault.NoMemory outcome is named last stays =
-      subst (λ (o : Outcome). IsUnreadFolder invocation before now o) (sym is)
-      (then_stay before beyond now (then_stay before behind beyond (then_stay before between behind read.files named.1) last.1) stays)
-
   -- the log was not read, so the tests of the list were not
   pub unread_only : (now : FilesTell) (fault : RunFileFault) (outcome : Outcome) → outcome ≡ outcome_of_file fault → ReadsOnly invocation.rerun invocation.wanted.dir between now (Err fault) → IsUnread invocation before now outcome
   unread_only now (Fault.Failed path) outcome is fails =
@@ -140,12 +145,36 @@ module _ (invocation : Invocation) (before between : FilesTell) (tests : Tests) 
   unread_only now Fault.NoMemory outcome is stays =
       subst (λ (o : Outcome). IsUnread invocation before now o) (sym is) (then_stay before between now read.files stays)
 
+  same_spec_refused : (refusal : Refusal) → RefusesSpec between.held invocation refusal → RefusesSpec before.held invocation refusal
+  same_spec_refused (TestFile file line kind) refused = absurd refused
+  same_spec_refused (Prop test key kind) refused = absurd refused
+  same_spec_refused (Spec why) refused = same_refused invocation.spec_file why before.held between.held read.files.held refused
+  same_spec_refused (Cycle tests) refused = absurd refused
+  same_spec_refused TooManyEdges refused = absurd refused
+
+  -- what a plan needs beside the tests was not read, so the folder was not, for the same reason
+  pub unread_inputs : (now : FilesTell) (outcome : Outcome) → AreUnreadInputs invocation between now outcome → IsUnreadFolder invocation before now outcome
+  unread_inputs now Completed unread = absurd unread
+  unread_inputs now Listed unread = absurd unread
+  unread_inputs now (Usage word kind) unread = absurd unread
+  unread_inputs now (Refused refusal) unread =
+      inr (record { tests = tests; read = read.read; refused = same_spec_refused refusal unread.0; files = then_stay before between now read.files unread.1 })
+  unread_inputs now (FilesFault path) unread =
+      (inr unread.0, fails_then SameHeld SameHeld SameHeld same_then_same path before between now read.files unread.1)
+  unread_inputs now OutputFault unread = absurd unread
+  unread_inputs now Memory unread = then_stay before between now read.files unread
+
+-- what is asked for a list is asked for a run too
+list_asks : (told : Option Held) (invocation : Invocation) (path : List ℕ) → ListAsks told invocation path → RunAsks told invocation path
+list_asks told invocation path (inl tree) = inl tree
+list_asks told invocation path (inr log) = inr (inr (inr log))
+
 -- where the tests of a folder were not read, the folder was not read, for the same reason
 pub unread_tests : (invocation : Invocation) (before now : FilesTell) (outcome : Outcome) → IsUnread invocation before now outcome → IsUnreadFolder invocation before now outcome
 unread_tests invocation before now Completed unread = unread
 unread_tests invocation before now Listed unread = unread
 unread_tests invocation before now (Usage word kind) unread = unread
 unread_tests invocation before now (Refused refusal) unread = inl unread
-unread_tests invocation before now (FilesFault path) unread = (inl unread.0, unread.1)
+unread_tests invocation before now (FilesFault path) unread = (list_asks before.held invocation path unread.0, unread.1)
 unread_tests invocation before now OutputFault unread = unread
 unread_tests invocation before now Memory unread = unread

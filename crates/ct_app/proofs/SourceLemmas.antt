@@ -144,9 +144,9 @@ plain own =
       groups = no_groups;
     }
 
-pub plain_at : (props : List Props) (number : ℕ) → at_number (map plain props) number ≡ option_map plain (at_number props number)
-plain_at props zero = refl
-plain_at props (suc place) = slice_get-map plain props place
+pub mapped_at : {A B : Type 0} (f : A → B) (items : List A) (number : ℕ) → at_number (map f items) number ≡ option_map f (at_number items number)
+mapped_at f items zero = refl
+mapped_at f items (suc place) = slice_get-map f items place
 
 -- the plain properties lead to the same members, and the same tests before each, as the properties
 module _ (choice : Choice) (defs : List TestDef) (props : List Props) where
@@ -157,7 +157,7 @@ module _ (choice : Choice) (defs : List TestDef) (props : List Props) where
 
   plain_chosen : (number : ℕ) → is_chosen_at defs (map plain props) choice number ≡ is_chosen_at defs props choice number
   plain_chosen number =
-      ap (λ own. is_chosen_there choice (by_number choice (length defs) number) (at_number defs number) own) (plain_at props number)
+      ap (λ own. is_chosen_there choice (by_number choice (length defs) number) (at_number defs number) own) (mapped_at plain props number)
       ∙ plain_there (by_number choice (length defs) number) (at_number defs number) (at_number props number)
 
   plain_requires : (own : Option Props) → required_by (option_map plain own) ≡ required_by own
@@ -165,7 +165,7 @@ module _ (choice : Choice) (defs : List TestDef) (props : List Props) where
   plain_requires (Some own) = refl
 
   plain_required : (tests : List ℕ) → fixtures_required (map plain props) tests ≡ fixtures_required props tests
-  plain_required tests = ap (λ (by : ℕ → List (List ℕ)). flat_map by tests) (fun_ext λ number. ap required_by (plain_at props number) ∙ plain_requires (at_number props number))
+  plain_required tests = ap (λ (by : ℕ → List (List ℕ)). flat_map by tests) (fun_ext λ number. ap required_by (mapped_at plain props number) ∙ plain_requires (at_number props number))
 
   plain_draws : (fixtures : List (List ℕ)) (own : Option Props) → is_drawn choice fixtures (option_map plain own) ≡ is_drawn choice fixtures own
   plain_draws fixtures None = refl
@@ -174,7 +174,7 @@ module _ (choice : Choice) (defs : List TestDef) (props : List Props) where
   plain_drawn : (tests : List ℕ) (number : ℕ) → is_drawn choice (fixtures_required (map plain props) tests) (at_number (map plain props) number) ≡ is_drawn choice (fixtures_required props tests) (at_number props number)
   plain_drawn tests number =
       ap (λ fixtures. is_drawn choice fixtures (at_number (map plain props) number)) (plain_required tests)
-      ∙ ap (is_drawn choice (fixtures_required props tests)) (plain_at props number)
+      ∙ ap (is_drawn choice (fixtures_required props tests)) (mapped_at plain props number)
       ∙ plain_draws (fixtures_required props tests) (at_number props number)
 
   plain_round : (tests : List ℕ) → next_round choice (map plain props) tests ≡ next_round choice props tests
@@ -201,8 +201,8 @@ module _ (choice : Choice) (defs : List TestDef) (props : List Props) where
   plain_before members number =
       filter_agree (λ j. comes_before (at_number defs j) (at_number (map plain props) j) (at_number (map plain props) number)) (λ j. comes_before (at_number defs j) (at_number props j) (at_number props number))
       (λ j.
-      ap (λ earlier. comes_before (at_number defs j) earlier (at_number (map plain props) number)) (plain_at props j)
-      ∙ ap (comes_before (at_number defs j) (option_map plain (at_number props j))) (plain_at props number)
+      ap (λ earlier. comes_before (at_number defs j) earlier (at_number (map plain props) number)) (mapped_at plain props j)
+      ∙ ap (comes_before (at_number defs j) (option_map plain (at_number props j))) (mapped_at plain props number)
       ∙ plain_comes (at_number defs j) (at_number props j) (at_number props number)) members
 
 -- the plain properties tell whether a test sets up another
@@ -216,8 +216,8 @@ plain_setups : (props : List Props) (members : List ℕ) (number : ℕ) → setu
 plain_setups props members number =
     filter_agree (λ j. sets_up (at_number (map plain props) j) (at_number (map plain props) number)) (λ j. sets_up (at_number props j) (at_number props number))
     (λ j.
-    ap (λ earlier. sets_up earlier (at_number (map plain props) number)) (plain_at props j)
-    ∙ ap (sets_up (option_map plain (at_number props j))) (plain_at props number)
+    ap (λ earlier. sets_up earlier (at_number (map plain props) number)) (mapped_at plain props j)
+    ∙ ap (sets_up (option_map plain (at_number props j))) (mapped_at plain props number)
     ∙ sets_up_plain (at_number props j) (at_number props number)) members
 
 -- two readings of the properties of a test have the same plain properties

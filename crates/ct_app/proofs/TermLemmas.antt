@@ -1,7 +1,6 @@
 -- Gates that were asked by properties without links were asked by the properties.
-use Rattle.std.proofs.Common.{◌≡◌, ◌∙◌, ap, subst, refl, ℕ, zero, suc, ◌+◌, List, [], ◌∷◌, map}
-use Rattle.std.specs.Prelude.{Option, Some, None, Bool, false, option_map, IfSome, IsSomeAnd}
-use Rattle.std.proofs.lemmas.Option.{slice_get-map}
+use Rattle.std.proofs.Common.{◌≡◌, subst, refl, ℕ, ◌+◌, List, [], ◌∷◌, map}
+use Rattle.std.specs.Prelude.{Option, Some, None, Bool, option_map, IfSome, IsSomeAnd}
 use Rattle.ct_base.specs.declared.defs.Pair.{Pair}
 use Rattle.ct_base.specs.declared.defs.TestDef.{TestDef}
 use Rattle.ct_base.specs.Outside.{Becomes}
@@ -15,13 +14,10 @@ use Rattle.ct_history.specs.History.{Running}
 use Rattle.ct_core.specs.declared.gate.Request.{Request}
 use Rattle.ct_core.specs.declared.gate.Told.{Told}
 use Rattle.ct_core.specs.Gate.{GateTell}
-use Rattle.ct_worker.specs.Gates.{AreAsked, AreRequests, IsAsked, IsRequestFor, IsRequestOf, SawAllTold, SawTold, Sends, Terms, placement_told}
+use Rattle.ct_worker.specs.Gates.{AreAsked, AreRequests, IsAsked, IsRequestOf, SawAllTold, SawTold, Sends, Terms, placement_told}
 use Rattle.ct_app.specs.declared.props.Tests.{Tests}
 use Rattle.ct_app.specs.Tests.{without_links}
-
-unlinked_at : (props : List Props) (number : ℕ) → at_number (map without_links props) number ≡ option_map without_links (at_number props number)
-unlinked_at props zero = refl
-unlinked_at props (suc place) = slice_get-map without_links props place
+use Rattle.ct_app.proofs.SourceLemmas.{mapped_at}
 
 -- what holds of the properties of a test without their links turns into what holds of the properties
 some_linked : (P Q : Props → Type 0) → ((own : Props) → P (without_links own) → Q own) → (found : Option Props) → IsSomeAnd (option_map without_links found) P → IsSomeAnd found Q
@@ -29,7 +25,7 @@ some_linked P Q turn None is = is
 some_linked P Q turn (Some own) is = turn own is
 
 linked_at : (P Q : Props → Type 0) → ((own : Props) → P (without_links own) → Q own) → (props : List Props) (number : ℕ) → IsSomeAnd (at_number (map without_links props) number) P → IsSomeAnd (at_number props number) Q
-linked_at P Q turn props number is = some_linked P Q turn (at_number props number) (subst (λ (found : Option Props). IsSomeAnd found P) (unlinked_at props number) is)
+linked_at P Q turn props number is = some_linked P Q turn (at_number props number) (subst (λ (found : Option Props). IsSomeAnd found P) (mapped_at without_links props number) is)
 
 -- links play no part in what a program is told and in what its variables hold
 same_told : (lends : Bool) (own : Props) (placement : Option Placement) → placement_told lends (without_links own) placement ≡ placement_told lends own placement

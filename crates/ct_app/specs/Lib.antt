@@ -18,3 +18,4 @@ pub mod Answers
 pub mod Complete
 pub mod Ends
 pub mod Planning
+pub mod Steps

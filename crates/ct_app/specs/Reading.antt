@@ -64,12 +64,18 @@ ListAsks told invocation path =
     IfSome told (λ held. TreeAsks held invocation.wanted.dir invocation.config path)
     ⊎ ((invocation.rerun ≡ true) × (path ≡ log_path invocation.wanted.dir))
 
--- what is read for a run is at this path: as for a list, or the specification that is named, or the cost data
+-- an input of a plan beside the tests is read at this path: the specification that is named, the cost data,
+-- or with --rerun-failed the log
+abbrev pub InputsAsk : Invocation → List ℕ → Type 0
+InputsAsk invocation path =
+    (invocation.spec_file ≡ Some path)
+    ⊎ (path ≡ costs_path invocation.wanted.dir)
+    ⊎ ((invocation.rerun ≡ true) × (path ≡ log_path invocation.wanted.dir))
+
+-- what is read for a run is at this path: in the tree of test files, or an input of the plan beside them
 abbrev pub RunAsks : Option Held → Invocation → List ℕ → Type 0
 RunAsks told invocation path =
-    ListAsks told invocation path
-    ⊎ (invocation.spec_file ≡ Some path)
-    ⊎ (path ≡ costs_path invocation.wanted.dir)
+    IfSome told (λ held. TreeAsks held invocation.wanted.dir invocation.config path) ⊎ InputsAsk invocation path
 
 -- a test file is refused; or all test files are read, and the first test with a bad property is refused
 abbrev pub RefusesReading : Option Held → Invocation → Refusal → Type 0

@@ -11,6 +11,7 @@ ghost use Rattle.ct_app.specs.Lists.{asked_lines, labels_among, labels_there, li
 use crate::Outcome;
 use crate::props::{Tests, at_number};
 use crate::reading::read_listed;
+use crate::rerun::limit_choice;
 use ct_args::{Invocation, Task};
 use ct_base::{Files, List, Name, NoMemory, Sink, SinkFault};
 use ct_info::info;
@@ -30,10 +31,22 @@ pub(crate) fn list_folder<F: Files, S: Sink>(
 ) -> Outcome
     ensures { ListEndsFor invocation (λ words. list_sides words (F.tells files.old) (F.tells files.new) (S.tells sink.old) (S.tells sink.new)) result }
 {
-    match read_listed(alloc, files, &invocation) {
-        Ok((tests, only)) => {
-            invocation.wanted.choice.only = only;
-            listed(put_list(alloc, sink, &invocation, &tests))
+    list_asked(alloc, &mut invocation, files, sink)
+}
+
+/// Puts the list as `list_folder` does, and leaves the choice of the invocation limited.
+fn list_asked<F: Files, S: Sink>(
+    alloc: Global,
+    invocation: &mut Invocation,
+    files: &mut F,
+    sink: &mut S,
+) -> Outcome
+    ensures { ListEndsFor invocation.old (λ words. list_sides words (F.tells files.old) (F.tells files.new) (S.tells sink.old) (S.tells sink.new)) result }
+{
+    match read_listed(alloc, files, invocation) {
+        Ok(mut folder) => {
+            limit_choice(invocation, folder.only.take());
+            listed(put_list(alloc, sink, invocation, &folder.tests))
         }
         Err(outcome) => outcome,
     }

@@ -1,12 +1,17 @@
-ghost use Rattle.std.specs.Prelude.{◌≡◌, ◌<◌, ◌-◌, ◌^◌, IfOk, IfErr, [], Err, length};
+ghost use Rattle.std.specs.Prelude.{◌≡◌, ◌<◌, ◌≤◌, ◌-◌, ◌^◌, IfOk, IfErr, [], Ok, Err, length};
 ghost use Rattle.ct_args.specs.Invocation.{IsBounded};
+ghost use Rattle.ct_graph.specs.Order.{most_edges};
 ghost use Rattle.ct_history.specs.Plan.{IsSound};
+ghost use Rattle.ct_plan.specs.PlanOf.{IsPlanAnswer};
+ghost use Rattle.ct_plan.specs.Source.{HaveProps, source};
 ghost use Rattle.ct_app.specs.Ends.{IsReadFolder, IsUnplanned, IsUnreadFolder};
 ghost use Rattle.ct_app.specs.Planning.{HasNoPlan, HasPlan, HasSomeReason, IsPlannedFolder, IsUnplannedFolder};
+ghost use Rattle.ct_app.specs.Rerun.{wanted_of};
+ghost use Rattle.ct_app.specs.Steps.{AreReadInputs, AreUnreadInputs, IsUnplannedSource};
 
 use crate::props::Tests;
 use crate::reading::{names_at, read_tests};
-use crate::rerun::read_only;
+use crate::rerun::{limit_choice, read_only};
 use crate::run_files::read_costs;
 use crate::spec_file::read_spec;
 use crate::{Outcome, Refusal};
@@ -15,6 +20,7 @@ use ct_base::{Files, List, Name, NoMemory, TestDef};
 use ct_cost::CostData;
 use ct_history::Plan;
 use ct_plan::{PlanFault, plan};
+use ct_props::Wanted;
 use ct_spec::Spec;
 use std::alloc::Global;
 
@@ -39,12 +45,49 @@ pub struct Unplanned {
 #[derive(Drop)]
 struct Folder {
     tests: Tests,
+    inputs: PlanInputs,
+}
+
+/// What the plan of a run needs beside the tests and the words.
+#[derive(Drop)]
+struct PlanInputs {
     /// The resources that are lent, if the words name a specification.
     spec: Option<Spec>,
     /// The cost data of the last run.
     costs: CostData,
     /// The names that the run is limited to, if the words ask for the tests that failed last.
     only: Option<List<Name>>,
+}
+
+impl Folder {
+    /// Plans the tests of the folder, or says why they have no plan.
+    fn plan(&self, alloc: Global, wanted: &Wanted) -> Result<Plan, Unplanned>
+        requires few { length self.now.tests.defs < 2 ^ 32 - 1 }
+        requires have { HaveProps self.now.tests.defs self.now.tests.props }
+        requires level { 1 ≤ wanted.now.level }
+        requires times { 1 ≤ wanted.now.repeat.times }
+        ensures ok { IfOk result (λ plan. IsPlanAnswer most_edges (source self.now.tests.defs self.now.tests.props wanted.now self.now.inputs.spec self.now.inputs.costs) (Ok plan)) }
+        ensures err { IfErr result (λ bad. IsUnplannedSource (source self.now.tests.defs self.now.tests.props wanted.now self.now.inputs.spec self.now.inputs.costs) bad.names bad.outcome) }
+    {
+        let Tests { defs, props } = &self.tests;
+        let spec = self.inputs.spec.as_ref();
+        match plan(alloc, defs, props, wanted, spec, &self.inputs.costs) {
+            Ok(plan) => Ok(plan),
+            Err(fault) => Err(why_unplanned(alloc, defs.as_slice(), fault)),
+        }
+    }
+
+    /// Keeps what a run of this plan needs.
+    fn with_plan(self, plan: Plan) -> PlannedFolder
+        ensures { result ≡ record { tests = self.tests; costs = self.inputs.costs; plan = plan } }
+    {
+        let Folder { tests, inputs } = self;
+        PlannedFolder {
+            tests,
+            costs: inputs.costs,
+            plan,
+        }
+    }
 }
 
 /// Makes the plan of the run that the words ask for, as `ctest_main` does, whatever their task is.
@@ -93,21 +136,42 @@ pub(crate) fn plan_folder<F: Files>(
     ensures ok { IfOk result (λ folder. IsPlannedFolder invocation (F.tells files.old) (F.tells files.new) folder.tests folder.costs folder.plan) }
     ensures err { IfErr result (λ bad. IsUnplannedFolder invocation (F.tells files.old) (F.tells files.new) bad.names bad.outcome) }
 {
-    let Folder {
-        tests,
-        spec,
-        costs,
-        only,
-    } = match read_folder(alloc, files, &invocation) {
-        Ok(folder) => folder,
-        Err(outcome) => return Err(unread(alloc, outcome)),
-    };
-    invocation.wanted.choice.only = only;
-    let wanted = &invocation.wanted;
-    let spec = spec.as_ref();
-    match plan(alloc, &tests.defs, &tests.props, wanted, spec, &costs) {
-        Ok(plan) => Ok(PlannedFolder { tests, costs, plan }),
-        Err(fault) => Err(why_unplanned(alloc, tests.defs.as_slice(), fault)),
+    plan_asked(alloc, files, &mut invocation)
+}
+
+/// Plans the folder as `plan_folder` does, and leaves the choice of the invocation limited.
+fn plan_asked<F: Files>(
+    alloc: Global,
+    files: &mut F,
+    invocation: &mut Invocation,
+) -> Result<PlannedFolder, Unplanned>
+    requires bounded { IsBounded invocation.old }
+    ensures ok { IfOk result (λ folder. IsPlannedFolder invocation.old (F.tells files.old) (F.tells files.new) folder.tests folder.costs folder.plan) }
+    ensures err { IfErr result (λ bad. IsUnplannedFolder invocation.old (F.tells files.old) (F.tells files.new) bad.names bad.outcome) }
+{
+    match read_folder(alloc, files, invocation) {
+        Ok(folder) => plan_read(alloc, folder, invocation),
+        Err(outcome) => Err(unread(alloc, outcome)),
+    }
+}
+
+/// Plans the tests of a folder that was read, with the choice limited to the names that were read.
+fn plan_read(
+    alloc: Global,
+    mut folder: Folder,
+    invocation: &mut Invocation,
+) -> Result<PlannedFolder, Unplanned>
+    requires few { length folder.tests.defs < 2 ^ 32 - 1 }
+    requires have { HaveProps folder.tests.defs folder.tests.props }
+    requires bounded { IsBounded invocation.old }
+    ensures kept { IfOk result (λ planned. planned ≡ record { tests = folder.tests; costs = folder.inputs.costs; plan = planned.plan }) }
+    ensures ok { IfOk result (λ planned. IsPlanAnswer most_edges (source folder.tests.defs folder.tests.props (wanted_of invocation.old folder.inputs.only) folder.inputs.spec folder.inputs.costs) (Ok planned.plan)) }
+    ensures err { IfErr result (λ bad. IsUnplannedSource (source folder.tests.defs folder.tests.props (wanted_of invocation.old folder.inputs.only) folder.inputs.spec folder.inputs.costs) bad.names bad.outcome) }
+{
+    limit_choice(invocation, folder.inputs.only.take());
+    match folder.plan(alloc, &invocation.wanted) {
+        Ok(plan) => Ok(folder.with_plan(plan)),
+        Err(bad) => Err(bad),
     }
 }
 
@@ -149,23 +213,33 @@ pub fn hand_out_sound(plan: &Plan)
 /// Reads the tests of a folder, their properties, the named specification and the cost data.
 ///
 /// Where the words ask for the tests that failed last, it reads the log too.
-#[tactic(auto, using(crate::proofs::ReadLemmas::read_folder, crate::proofs::ReadLemmas::unread_tests, crate::proofs::ReadLemmas::unread_spec, crate::proofs::ReadLemmas::unread_costs, crate::proofs::ReadLemmas::unread_log))]
+#[tactic(auto, using(crate::proofs::ReadLemmas::read_folder, crate::proofs::ReadLemmas::unread_tests, crate::proofs::ReadLemmas::unread_inputs))]
 fn read_folder<F: Files>(
     alloc: Global,
     files: &mut F,
     invocation: &Invocation,
 ) -> Result<Folder, Outcome>
-    ensures ok { IfOk result (λ folder. IsReadFolder invocation.now (F.tells files.old) (F.tells files.new) folder.tests folder.spec folder.costs folder.only) }
+    ensures ok { IfOk result (λ folder. IsReadFolder invocation.now (F.tells files.old) (F.tells files.new) folder.tests folder.inputs.spec folder.inputs.costs folder.inputs.only) }
     ensures err { IfErr result (IsUnreadFolder invocation.now (F.tells files.old) (F.tells files.new)) }
 {
     let tests = read_tests(alloc, files, invocation)?;
+    let inputs = read_inputs(alloc, files, invocation)?;
+    Ok(Folder { tests, inputs })
+}
+
+/// Reads the named specification, the cost data and, where the words ask for the tests that failed
+/// last, the log.
+#[tactic(auto, using(crate::proofs::ReadLemmas::read_inputs, crate::proofs::ReadLemmas::unread_spec, crate::proofs::ReadLemmas::unread_costs, crate::proofs::ReadLemmas::unread_log))]
+fn read_inputs<F: Files>(
+    alloc: Global,
+    files: &mut F,
+    invocation: &Invocation,
+) -> Result<PlanInputs, Outcome>
+    ensures ok { IfOk result (λ read. AreReadInputs invocation.now (F.tells files.old) (F.tells files.new) read.spec read.costs read.only) }
+    ensures err { IfErr result (AreUnreadInputs invocation.now (F.tells files.old) (F.tells files.new)) }
+{
     let spec = read_spec(alloc, files, invocation.spec_file.as_ref())?;
     let costs = read_costs(alloc, files, &invocation.wanted.dir)?;
     let only = read_only(alloc, files, invocation.rerun, &invocation.wanted.dir)?;
-    Ok(Folder {
-        tests,
-        spec,
-        costs,
-        only,
-    })
+    Ok(PlanInputs { spec, costs, only })
 }

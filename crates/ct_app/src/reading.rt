@@ -31,19 +31,27 @@ pub fn read_tests<F: Files>(
     Ok(Tests { defs, props })
 }
 
+/// What is read for a list.
+#[derive(Drop)]
+pub(crate) struct ListFolder {
+    pub(crate) tests: Tests,
+    /// The names that the list is limited to, if the words ask for the tests that failed last.
+    pub(crate) only: Option<List<Name>>,
+}
+
 /// Reads the tests of a list, and the names that the list is limited to, if any.
 #[tactic(auto, using(crate::proofs::ReadLemmas::read_listed, crate::proofs::ReadLemmas::unread_only))]
 pub(crate) fn read_listed<F: Files>(
     alloc: Global,
     files: &mut F,
     invocation: &Invocation,
-) -> Result<(Tests, Option<List<Name>>), Outcome>
-    ensures ok { IfOk result (λ listed. IsReadList invocation.now (F.tells files.old) (F.tells files.new) listed.0 listed.1) }
+) -> Result<ListFolder, Outcome>
+    ensures ok { IfOk result (λ folder. IsReadList invocation.now (F.tells files.old) (F.tells files.new) folder.tests folder.only) }
     ensures err { IfErr result (IsUnread invocation.now (F.tells files.old) (F.tells files.new)) }
 {
     let tests = read_tests(alloc, files, invocation)?;
     let only = read_only(alloc, files, invocation.rerun, &invocation.wanted.dir)?;
-    Ok((tests, only))
+    Ok(ListFolder { tests, only })
 }
 
 /// Copies the names of the tests with these numbers.

@@ -1,7 +1,8 @@
 ghost use Rattle.std.specs.Prelude.{◌≡◌, IfOk};
-ghost use Rattle.ct_app.specs.Rerun.{ReadsLog, ReadsOnly, names_in_text};
+ghost use Rattle.ct_app.specs.Rerun.{ReadsLog, ReadsOnly, names_in_text, wanted_of};
 
 use crate::run_files::{LOG, RunFileFault, fault_at};
+use ct_args::Invocation;
 use ct_base::{Blob, Files, List, Name, NoMemory, join_path};
 use ct_select::failed_names;
 use std::alloc::Global;
@@ -29,6 +30,13 @@ pub(crate) fn read_only<F: Files>(
     } else {
         Ok(None)
     }
+}
+
+/// Limits the choice of an invocation to these names, if any.
+pub(crate) fn limit_choice(invocation: &mut Invocation, only: Option<List<Name>>)
+    ensures { invocation.new ≡ record invocation.old { wanted = wanted_of invocation.old only } }
+{
+    invocation.wanted.choice.only = only;
 }
 
 /// Reads the names in the log of a folder. An absent log, or a log above 64 MiB, counts as empty.

@@ -2,7 +2,8 @@ ghost use Rattle.std.specs.Prelude.{◌≡◌, ◌∷◌, true, IfOk, codes};
 ghost use Rattle.ct_base.specs.Path.{joined};
 ghost use Rattle.ct_history.specs.Legal.{has_failing};
 ghost use Rattle.ct_history.specs.Verdicts.{are_all_final};
-ghost use Rattle.ct_app.specs.RunFiles.{ReadsCosts, WritesFiles, WritesText, costs_of, done_of, file_fault_at as fault_of_files};
+ghost use Rattle.ct_app.specs.RunFiles.{ReadsCosts, WritesFiles, WritesText, costs_of, costs_path, done_of, file_fault_at as fault_of_files, new_costs};
+ghost use Rattle.ct_app.specs.Steps.{WritesLog};
 ghost use Rattle.ct_app.specs.declared.run_files.RunFileFault.TheVariants as Cause;
 
 use ct_base::{Blob, Files, FilesFault, Name, NoMemory, join_path};
@@ -89,13 +90,53 @@ pub fn write_files<F: Files>(
     if plan.parts().tests.is_empty() {
         return Ok(false);
     }
-    let text = costs.after(alloc, plan, history)?.text(alloc)?;
     let log = failed_log(alloc, plan, history)?;
-    write(alloc, files, &plan.parts().dir, COSTS, text.bytes())?;
-    if log.bytes().is_empty() {
+    write_costs(alloc, files, costs, plan, history)?;
+    write_log(alloc, files, &plan.parts().dir, log.bytes())
+}
+
+/// Writes the cost data after a complete run.
+fn write_costs<F: Files>(
+    alloc: Global,
+    files: &mut F,
+    costs: &CostData,
+    plan: &Plan,
+    history: &History,
+) -> Result<(), RunFileFault>
+    requires ended { are_all_final plan.now history.now.entries.items ≡ true }
+    ensures { WritesText (costs_path plan.now.dir) (new_costs plan.now history.now.entries.items costs.now) (F.tells files.old) (F.tells files.new) result }
+{
+    let text = text_after(alloc, costs, plan, history)?;
+    write(alloc, files, &plan.parts().dir, COSTS, text.bytes())
+}
+
+/// Makes the text of the cost data after a complete run.
+fn text_after(
+    alloc: Global,
+    costs: &CostData,
+    plan: &Plan,
+    history: &History,
+) -> Result<Blob, NoMemory>
+    requires ended { are_all_final plan.now history.now.entries.items ≡ true }
+    ensures { IfOk result (λ text. text ≡ new_costs plan.now history.now.entries.items costs.now) }
+{
+    let after = costs.after(alloc, plan, history)?;
+    after.text(alloc)
+}
+
+/// Writes the log of the failed tests, if it names a test, and tells whether it does.
+fn write_log<F: Files>(
+    alloc: Global,
+    files: &mut F,
+    dir: &Name,
+    log: &[u8],
+) -> Result<bool, RunFileFault>
+    ensures { WritesLog dir.now log.now (F.tells files.old) (F.tells files.new) result }
+{
+    if log.is_empty() {
         return Ok(false);
     }
-    write(alloc, files, &plan.parts().dir, LOG, log.bytes())?;
+    write(alloc, files, dir, LOG, log)?;
     Ok(true)
 }
 

@@ -1,6 +1,7 @@
-ghost use Rattle.std.specs.Prelude.{◌≡◌, ℕ, ◌-◌, ◌<◌, ◌≤◌, ◌^◌, Some, [], IfOk, length, map, slice_get};
+ghost use Rattle.std.specs.Prelude.{◌≡◌, ℕ, ◌-◌, ◌<◌, ◌≤◌, ◌^◌, Some, [], IfOk, false, length, map, slice_get};
 ghost use Rattle.ct_core.specs.Begin.{count_before, first_counts, first_state, settles_first};
 ghost use Rattle.ct_core.specs.Bunches.{AreBunchesOf};
+ghost use Rattle.ct_core.specs.Followers.{followers_of};
 ghost use Rattle.ct_core.specs.Parts.{IsKept};
 ghost use Rattle.ct_core.specs.Waiting.{AreSettleable, IsQueued};
 ghost use Rattle.ct_history.specs.Plan.{IsAscendingFrom, IsSound, test_at};
@@ -8,7 +9,7 @@ ghost use Rattle.ct_queue.specs.Marks.{is_marked};
 
 use crate::bunches::{KeyPlace, bunches_of, keys_of};
 use crate::followers::followers;
-use crate::in_use::nothing;
+use crate::in_use::{InUse, nothing};
 use crate::lines::lines_of;
 use crate::parts::Parts;
 use crate::places::place_of;
@@ -26,20 +27,86 @@ impl Parts {
         requires { IsSound plan.now }
         ensures { IfOk result (λ parts. IsKept plan.now [] 0 parts) }
     {
-        let tests = plan.tests.as_slice();
-        if tests.len() >= u32::MAX as usize {
+        if plan.tests.len() >= u32::MAX as usize {
             return Err(NoMemory);
         }
+        let waiting = FirstWaiting::of(alloc, plan)?;
+        let first = FirstOfTests::of(alloc, plan)?;
+        let in_use = nothing(alloc, plan)?;
+        Ok(joined(plan, waiting, first, in_use))
+    }
+}
+
+/// Joins the parts of a run before its first entry.
+fn joined(plan: &PlanParts, waiting: FirstWaiting, first: FirstOfTests, in_use: InUse) -> Parts
+    ensures { result ≡ record {
+      states = first.states;
+      unfinished = length plan.now.queue;
+      in_use = in_use;
+      followers = first.followers;
+      keys = waiting.keys;
+      ready = waiting.ready;
+      settleable = first.settleable;
+      stopped = false;
+    } }
+{
+    Parts {
+        states: first.states,
+        unfinished: plan.queue.len(),
+        in_use,
+        followers: first.followers,
+        keys: waiting.keys,
+        ready: waiting.ready,
+        settleable: first.settleable,
+        stopped: false,
+    }
+}
+
+/// What is kept of the queue before any entry.
+#[derive(Drop)]
+struct FirstWaiting {
+    /// The key of each test, by its place in the queue.
+    keys: Vec<Option<KeyPlace>>,
+    ready: Ready,
+}
+
+impl FirstWaiting {
+    /// Chooses the key of each test, and makes the ready set with the bunches of these keys.
+    fn of(alloc: Global, plan: &PlanParts) -> Result<FirstWaiting, NoMemory>
+        requires sound { IsSound plan.now }
+        requires few { length plan.now.tests < 2 ^ 32 - 1 }
+        ensures queued { IfOk result (λ waiting. IsQueued plan.now [] [] waiting.ready) }
+        ensures bunches { IfOk result (λ waiting. AreBunchesOf plan.now waiting.keys.items waiting.ready.bunches) }
+    {
         let keys = keys_of(alloc, plan)?;
-        Ok(Parts {
+        let ready = first_ready(alloc, plan, keys.as_slice())?;
+        Ok(FirstWaiting { keys, ready })
+    }
+}
+
+/// What is kept of each test before any entry.
+#[derive(Drop)]
+struct FirstOfTests {
+    states: Vec<State>,
+    /// The tests that wait for each test.
+    followers: Vec<List<u32>>,
+    settleable: Marks,
+}
+
+impl FirstOfTests {
+    /// Makes the state of each test, the tests that wait for it, and the marks of those that may be settled.
+    fn of(alloc: Global, plan: &PlanParts) -> Result<FirstOfTests, NoMemory>
+        requires sound { IsSound plan.now }
+        requires few { length plan.now.tests < 2 ^ 32 - 1 }
+        ensures states { IfOk result (λ first. first.states.items ≡ map first_state plan.now.tests) }
+        ensures followers { IfOk result (λ first. first.followers.items ≡ map (λ t. followers_of plan.now.tests t.number) plan.now.tests) }
+        ensures settleable { IfOk result (λ first. AreSettleable plan.now [] [] first.settleable) }
+    {
+        let tests = plan.tests.as_slice();
+        Ok(FirstOfTests {
             states: first_states(alloc, tests)?,
-            unfinished: plan.queue.len(),
-            in_use: nothing(alloc, plan)?,
             followers: followers(alloc, tests)?,
-            ready: first_ready(alloc, plan, keys.as_slice())?,
-            keys,
             settleable: first_settleable(alloc, plan)?,
-            stopped: false,
         })
     }
 }

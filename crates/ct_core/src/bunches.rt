@@ -26,31 +26,48 @@ pub(crate) fn keys_of(alloc: Global, plan: &PlanParts) -> Result<Vec<Option<KeyP
     requires { IsAscendingFrom 1 (map (λ t. t.number) plan.now.tests) }
 {
     let tests = plan.tests.as_slice();
-    let mut alone = IndexMap::new(alloc);
-    let mut shared = IndexMap::new(alloc);
-    for test in tests {
-        count_locks(alloc, &mut alone, test.locks.as_slice())?;
-        count_locks(alloc, &mut shared, test.shared.as_slice())?;
-    }
+    let counts = LockCounts::of(alloc, tests)?;
     let mut keys = Vec::new(alloc);
     for number in plan.queue.as_slice() {
-        keys.push(key_of(&alone, &shared, tests, *number))?;
+        keys.push(key_of(&counts, tests, *number))?;
     }
     Ok(keys)
 }
 
+/// How many tests hold each lock alone, and how many share it.
+#[derive(Drop)]
+struct LockCounts {
+    alone: IndexMap<Vec<u8>, u32>,
+    shared: IndexMap<Vec<u8>, u32>,
+}
+
+impl LockCounts {
+    /// Counts the locks of these tests.
+    fn of(alloc: Global, tests: &[PlanTest]) -> Result<LockCounts, NoMemory> {
+        let mut counts = LockCounts {
+            alone: IndexMap::new(alloc),
+            shared: IndexMap::new(alloc),
+        };
+        for test in tests {
+            counts.add(alloc, test)?;
+        }
+        Ok(counts)
+    }
+
+    /// Adds the locks of one more test.
+    fn add(&mut self, alloc: Global, test: &PlanTest) -> Result<(), NoMemory> {
+        count_locks(alloc, &mut self.alone, test.locks.as_slice())?;
+        count_locks(alloc, &mut self.shared, test.shared.as_slice())
+    }
+}
+
 /// Chooses one of the locks of the test with this number, if it has any.
-fn key_of(
-    alone: &IndexMap<Vec<u8>, u32>,
-    shared: &IndexMap<Vec<u8>, u32>,
-    tests: &[PlanTest],
-    number: u32,
-) -> Option<KeyPlace>
+fn key_of(counts: &LockCounts, tests: &[PlanTest], number: u32) -> Option<KeyPlace>
     requires { IsAscendingFrom 1 (map (λ t. t.number) tests.now) }
 {
     let test = &tests[place_of(tests, number)?];
-    let held = most_named(alone, test.locks.as_slice());
-    let joined = most_named(shared, test.shared.as_slice());
+    let held = most_named(&counts.alone, test.locks.as_slice());
+    let joined = most_named(&counts.shared, test.shared.as_slice());
     match (held, joined) {
         (Some((at, most)), Some((_, count))) if most >= count => Some(KeyPlace::Alone(at)),
         (_, Some((at, _))) => Some(KeyPlace::Shared(at)),

@@ -1,4 +1,4 @@
-ghost use Rattle.std.specs.Prelude.{◌≡◌, IfOk, ◌++◌, bytes_eq};
+ghost use Rattle.std.specs.Prelude.{◌≡◌, IfOk, Some, ◌++◌, bytes_eq};
 ghost use Rattle.std.specs.Option.{option_map, option_copied};
 ghost use Rattle.ct_env.specs.Operation.{operation_named, value_after, set_behind as behind, set_in_front as in_front};
 
@@ -67,12 +67,12 @@ impl Operation {
             Operation::Reset => copied(alloc, base),
             Operation::Set => copied(alloc, Some(value)),
             Operation::Unset => Ok(None),
-            Operation::StringAppend => Ok(Some(joined(alloc, text, &[], value)?)),
-            Operation::StringPrepend => Ok(Some(joined(alloc, value, &[], text)?)),
-            Operation::PathListAppend => Ok(Some(set_behind(alloc, b':', text, value)?)),
-            Operation::PathListPrepend => Ok(Some(set_in_front(alloc, b':', text, value)?)),
-            Operation::CmakeListAppend => Ok(Some(set_behind(alloc, b';', text, value)?)),
-            Operation::CmakeListPrepend => Ok(Some(set_in_front(alloc, b';', text, value)?)),
+            Operation::StringAppend => joined(alloc, text, &[], value),
+            Operation::StringPrepend => joined(alloc, value, &[], text),
+            Operation::PathListAppend => set_behind(alloc, b':', text, value),
+            Operation::PathListPrepend => set_in_front(alloc, b':', text, value),
+            Operation::CmakeListAppend => set_behind(alloc, b';', text, value),
+            Operation::CmakeListPrepend => set_in_front(alloc, b';', text, value),
         }
     }
 }
@@ -92,36 +92,47 @@ fn copied(alloc: Global, value: Option<&[u8]>) -> Result<Option<Vec<u8>>, NoMemo
     }
 }
 
-/// Returns a list with a value behind its others.
-fn set_behind(alloc: Global, separator: u8, list: &[u8], value: &[u8]) -> Result<Vec<u8>, NoMemory>
-    ensures { IfOk result (λ text. text.items ≡ behind separator list.now value.now) }
+/// Returns a list with a value behind its others, as the value of a variable that is set.
+fn set_behind(
+    alloc: Global,
+    separator: u8,
+    list: &[u8],
+    value: &[u8],
+) -> Result<Option<Vec<u8>>, NoMemory>
+    ensures { IfOk result (λ new. option_map (λ text. text.items) new ≡ Some (behind separator list.now value.now)) }
 {
     match list {
-        [] => Ok(Vec::from_slice(alloc, value)?),
+        [] => copied(alloc, Some(value)),
         _ => joined(alloc, list, &[separator], value),
     }
 }
 
-/// Returns a list with a value in front of its others.
+/// Returns a list with a value in front of its others, as the value of a variable that is set.
 fn set_in_front(
     alloc: Global,
     separator: u8,
     list: &[u8],
     value: &[u8],
-) -> Result<Vec<u8>, NoMemory>
-    ensures { IfOk result (λ text. text.items ≡ in_front separator list.now value.now) }
+) -> Result<Option<Vec<u8>>, NoMemory>
+    ensures { IfOk result (λ new. option_map (λ text. text.items) new ≡ Some (in_front separator list.now value.now)) }
 {
     match list {
-        [] => Ok(Vec::from_slice(alloc, value)?),
+        [] => copied(alloc, Some(value)),
         _ => joined(alloc, value, &[separator], list),
     }
 }
 
-fn joined(alloc: Global, front: &[u8], between: &[u8], behind: &[u8]) -> Result<Vec<u8>, NoMemory>
-    ensures { IfOk result (λ text. text.items ≡ front.now ++ (between.now ++ behind.now)) }
+/// Returns three texts as one, as the value of a variable that is set.
+fn joined(
+    alloc: Global,
+    front: &[u8],
+    between: &[u8],
+    behind: &[u8],
+) -> Result<Option<Vec<u8>>, NoMemory>
+    ensures { IfOk result (λ new. option_map (λ text. text.items) new ≡ Some (front.now ++ (between.now ++ behind.now))) }
 {
     let mut text = Vec::from_slice(alloc, front)?;
     text.extend_from_slice(between)?;
     text.extend_from_slice(behind)?;
-    Ok(text)
+    Ok(Some(text))
 }

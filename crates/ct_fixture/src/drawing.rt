@@ -1,7 +1,7 @@
 ghost use Rattle.std.specs.Prelude.{◌≡◌, ◌<◌, ◌≤◌, ◌-◌, ◌^◌, ◌||◌, ℕ, [], length, All, IfOk, OnOk, bytes_eq, ◌∷◌, if◌then◌else◌};
 ghost use Rattle.ct_props.specs.Numbered.{at_number};
 ghost use Rattle.ct_fixture.specs.Drawing.{is_hit as is_hit_by, members_of, required_by};
-ghost use Rattle.ct_fixture.specs.Kept.{AreLeft, Draws, HaveMarks, TakesFixture, given, fixture_tests};
+ghost use Rattle.ct_fixture.specs.Kept.{AreLeft, AreUntaken, Draws, HaveMarks, TakesFixture, given, fixture_tests};
 
 use crate::by_fixture::{ByFixture, take};
 use crate::fixtures::Fixtures;
@@ -30,10 +30,26 @@ pub fn draw_in(
 {
     let props = props.as_slice();
     let mut fixtures = Fixtures::of(alloc, props)?;
+    draw_from(alloc, props, chosen.as_slice(), choice, &mut fixtures)
+}
+
+/// Returns the numbers of these tests and of those that are drawn in, where no fixture has drawn any in.
+fn draw_from(
+    alloc: Global,
+    props: &[Props],
+    chosen: &[u32],
+    choice: &Choice,
+    fixtures: &mut Fixtures,
+) -> Result<List<u32>, NoMemory>
+    requires few { length props.now < 2 ^ 32 - 1 }
+    requires within { All (λ number. (1 ≤ number) × (number ≤ length props.now)) chosen.now }
+    requires untaken { AreUntaken props.now fixtures.old }
+    ensures { IfOk result (λ members. members ≡ members_of choice.now props.now chosen.now) }
+{
     let mut members = Members::none(alloc, props.len())?;
-    members.add_all(chosen.as_slice())?;
+    members.add_all(chosen)?;
     while let Some(number) = members.next() {
-        draw_for(alloc, props, choice, &mut fixtures, &mut members, number)?;
+        draw_for(alloc, props, choice, fixtures, &mut members, number)?;
     }
     members.into_list(alloc)
 }

@@ -48,10 +48,22 @@ impl<'a> Index<'a> {
             cleans: has_cleanup(props),
             users: ByName::new(alloc),
         };
-        for number in members {
-            index.add(alloc, *number)?;
-        }
+        index.add_all(alloc)?;
         Ok(index)
+    }
+
+    /// Adds each member that is not disabled to an index that has none yet.
+    fn add_all(&mut self, alloc: Global) -> Result<(), NoMemory>
+        requires paired { length self.old.props.now ≡ length self.old.defs.now }
+        requires within { AreMembers (length self.old.defs.now) self.old.members.now }
+        requires none { IsIndexAt self.old.defs.now self.old.props.now self.old.members.now [] self.old }
+        ensures { OnOk result (IsIndexAt self.old.defs.now self.old.props.now self.old.members.now self.old.members.now self.new) }
+    {
+        let members = self.members;
+        for number in members {
+            self.add(alloc, *number)?;
+        }
+        Ok(())
     }
 
     /// Adds a member, unless it is disabled.
@@ -129,12 +141,40 @@ impl<'a> Index<'a> {
         let cleaned = self
             .setups
             .find(alloc, cleanup, &mut search.setups, &mut search.found)?;
-        self.names
-            .find_all(alloc, later.depends.as_slice(), &mut search.found)?;
-        search.found.add_all(setups)?;
-        search.found.add_all(users.as_slice())?;
-        search.found.add_all(cleaned.as_slice())?;
-        Ok(search.found.take(alloc)?)
+        self.together(
+            alloc,
+            later,
+            setups,
+            users.as_slice(),
+            cleaned.as_slice(),
+            &mut search.found,
+        )
+    }
+
+    /// Puts the tests of the names that these properties depend on together with those of the fixtures
+    /// that they require, and with the users and the setups of those that they clean.
+    fn together(
+        &self,
+        alloc: Global,
+        later: &'a Props,
+        setups: &[u32],
+        users: &[u32],
+        cleaned: &[u32],
+        found: &mut Found,
+    ) -> Result<List<u32>, NoMemory>
+        requires empty { IsEmpty found.old }
+        requires setups { AreFound (tests_of self.now.setups) later.now.required setups.now }
+        requires users { AreFound (tests_of self.now.users) later.now.cleanup users.now }
+        requires cleaned { AreFound (tests_of self.now.setups) later.now.cleanup cleaned.now }
+        ensures empty { OnOk result (IsEmpty found.new) }
+        ensures ascending { IfOk result (λ tests. IsStrictlyIncreasing tests) }
+        ensures found { IfOk result (λ tests. FindsBefore (tests_of self.now.names) (tests_of self.now.setups) (tests_of self.now.users) later.now [] tests) }
+    {
+        self.names.find_all(alloc, later.depends.as_slice(), found)?;
+        found.add_all(setups)?;
+        found.add_all(users)?;
+        found.add_all(cleaned)?;
+        found.take(alloc)
     }
 }
 

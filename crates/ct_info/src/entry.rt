@@ -1,12 +1,13 @@
 ghost use Rattle.std.specs.Prelude.{◌≡◌, ◌<◌, ◌^◌, ◌++◌, false, IfOk, OnOk, IsUtf8, length, map};
 ghost use Rattle.std.specs.Option.{option_copied};
-ghost use Rattle.serde_json.specs.View.{items_of, view};
+ghost use Rattle.serde_json.specs.Data.{put as with_member};
+ghost use Rattle.serde_json.specs.View.{items_of, members_view, view};
 ghost use Rattle.serde_json.specs.Written.{comma_if, compact_text, items_text};
 ghost use Rattle.ct_info.specs.Info.{def_at, property_value as property_says, test_value as test_says, test_values as tests_say, text_value as text_says};
 
 use crate::text::text_of;
 use ct_base::{Blob, Name, NoMemory, Pair, TestDef};
-use serde_json::{Map, Value, json, put};
+use serde_json::{Map, Value, put};
 use std::alloc::Global;
 
 /// Writes the tests with these numbers behind a text, as the items of an array with its closing bracket.
@@ -110,7 +111,21 @@ fn property_values(alloc: Global, props: &[Pair]) -> Result<Vec<Value>, NoMemory
 fn property_value(alloc: Global, pair: &Pair) -> Result<Value, NoMemory>
     ensures { IfOk result (λ value. view value ≡ property_says pair.now) }
 {
-    let name = text_of(alloc, &pair.name)?;
-    let value = text_of(alloc, &pair.value)?;
-    Ok(json!(in alloc; {"name": name, "value": value})?)
+    let mut told = Map::new(alloc);
+    put_text(alloc, &mut told, "name", &pair.name)?;
+    put_text(alloc, &mut told, "value", &pair.value)?;
+    Ok(Value::Object(told))
+}
+
+/// Puts the text of a name into an object, as its member with this key.
+fn put_text(
+    alloc: Global,
+    told: &mut Map<String, Value>,
+    key: &str,
+    name: &Name,
+) -> Result<(), NoMemory>
+    ensures { OnOk result (members_view told.new.entries ≡ with_member key.now (text_says name.now) (members_view told.old.entries)) }
+{
+    put(told, alloc, key, Value::String(text_of(alloc, name)?))?;
+    Ok(())
 }

@@ -1,6 +1,6 @@
 -- A journal is no shorter than its beginning, so one whose beginning passes a limit passes it.
 use Rattle.std.proofs.Common.{◌≡◌, ◌∙◌, ◌++◌, ◌+◌, ◌<◌, ◌≤◌, sym, ap, subst, arith, ℕ, List, length, take, drop, true, flat_map}
-use Rattle.std.specs.Prelude.{Option, Some, None, nat_lt, if◌then◌else◌}
+use Rattle.std.specs.Prelude.{false, not, nat_lt}
 use Rattle.std.proofs.lemmas.Bool.{ltb-true, lt-ltb}
 use Rattle.std.proofs.lemmas.Grind.{flat_map-append}
 use Rattle.std.proofs.lemmas.List.{length-append, take-append-drop}
@@ -20,6 +20,6 @@ begins_journal entries count =
     (begins (full_line Line.First) (entry_lines (take count entries)) (entry_lines (drop count entries)) (full_line (Line.Done (length entries))))
 
 -- a text that is no shorter than one behind the limit is behind the limit
-pub passes : {A : Type 0} (most : ℕ) (begin text : List ℕ) (given : A) → nat_lt most (length begin) ≡ true → length begin ≤ length text → None ≡ (if nat_lt most (length text) then None else Some given)
-passes most begin text given above shorter =
-    sym (ap (λ b. if b then None else Some given) (lt-ltb most (length text) (omega (arith, ltb-true most (length begin) above, shorter))))
+pub passes : (most : ℕ) (begin text : List ℕ) → nat_lt most (length begin) ≡ true → length begin ≤ length text → false ≡ not (nat_lt most (length text))
+passes most begin text above shorter =
+    sym (ap not (lt-ltb most (length text) (omega (arith, ltb-true most (length begin) above, shorter))))

@@ -14,8 +14,7 @@ pub(crate) fn guess_of(alloc: Global, text: &[u8]) -> Result<JournalLine, NoMemo
     ensures { IfOk result (λ guess. guess ≡ guess_in text.now) }
 {
     let words = pieces_of(alloc, text, b' ')?;
-    let guess = guess_by(alloc, words.as_slice())?;
-    Ok(guess)
+    guess_by(alloc, words.as_slice())
 }
 
 fn guess_by(alloc: Global, words: &[Name]) -> Result<JournalLine, NoMemory>
@@ -65,8 +64,7 @@ fn places_in(alloc: Global, word: &[u8]) -> Result<List<u32>, NoMemory>
         return Ok(List::new(alloc));
     }
     let pieces = pieces_of(alloc, word, b',')?;
-    let places = shorts_in(alloc, pieces.as_slice())?;
-    Ok(places)
+    shorts_in(alloc, pieces.as_slice())
 }
 
 fn shorts_in(alloc: Global, pieces: &[Name]) -> Result<List<u32>, NoMemory>

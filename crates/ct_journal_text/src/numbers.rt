@@ -10,8 +10,7 @@ pub(crate) fn append_number(alloc: Global, text: &mut Blob, number: u64) -> Resu
     ensures { OnOk result (text.new ≡ text.old ++ decimal number) }
 {
     let digits = number.to_string(alloc)?;
-    text.append(digits.as_bytes())?;
-    Ok(())
+    text.append(digits.as_bytes())
 }
 
 /// Puts a number with its sign in decimal behind the text.
@@ -19,8 +18,7 @@ pub(crate) fn append_code(alloc: Global, text: &mut Blob, code: i32) -> Result<(
     ensures { OnOk result (text.new ≡ text.old ++ signed_decimal code) }
 {
     let digits = code.to_string(alloc)?;
-    text.append(digits.as_bytes())?;
-    Ok(())
+    text.append(digits.as_bytes())
 }
 
 /// Takes a text for the digits of a number. Other bytes give some number.

@@ -70,14 +70,21 @@ fn pick_at(
             if !need.kind.is(&resource.kind) {
                 return Ok(None);
             }
-            let (kind, id) = (need.kind.copy(alloc)?, resource.id.copy(alloc)?);
-            Ok(Some(Pick {
-                group: need.group,
-                kind,
-                id,
-                slots: need.slots,
-                resource: place,
-            }))
+            Ok(Some(pick_of(alloc, need, place, resource)?))
         }
     }
+}
+
+/// Makes the pick that meets a need with a resource, which has this place.
+fn pick_of(alloc: Global, need: &Need, place: u32, resource: &Resource) -> Result<Pick, NoMemory>
+    ensures { IfOk result (λ pick. pick ≡ record { group = need.now.group; kind = need.now.kind; id = resource.now.id; slots = need.now.slots; resource = place }) }
+{
+    let kind = need.kind.copy(alloc)?;
+    Ok(Pick {
+        group: need.group,
+        kind,
+        id: resource.id.copy(alloc)?,
+        slots: need.slots,
+        resource: place,
+    })
 }

@@ -1,5 +1,5 @@
-ghost use Rattle.std.specs.Prelude.{◌≡◌, IfOk};
-ghost use Rattle.ct_journal_text.specs.Journal.{Says};
+ghost use Rattle.std.specs.Prelude.{◌≡◌, IfOk, bytes_eq};
+ghost use Rattle.ct_journal_text.specs.Journal.{Says, journal_line_text};
 ghost use Rattle.ct_journal_text.specs.Guess.{said_in};
 
 use crate::JournalLine;
@@ -23,10 +23,17 @@ fn said_of(alloc: Global, line: &[u8]) -> Result<Option<JournalLine>, NoMemory>
     ensures { IfOk result (λ said. said ≡ said_in line.now) }
 {
     let guess = guess_of(alloc, line)?;
-    let text = line_text(alloc, &guess)?;
-    if text.bytes() == line {
+    if is_text_of(alloc, &guess, line)? {
         Ok(Some(guess))
     } else {
         Ok(None)
     }
+}
+
+/// Tells whether a text is that of a line of a journal, without its line feed.
+fn is_text_of(alloc: Global, line: &JournalLine, text: &[u8]) -> Result<bool, NoMemory>
+    ensures { IfOk result (λ same. same ≡ bytes_eq (journal_line_text line.now) text.now) }
+{
+    let written = line_text(alloc, line)?;
+    Ok(written.bytes() == text)
 }

@@ -1,5 +1,6 @@
-ghost use Rattle.std.specs.Prelude.{◌≡◌, ◌<◌, ◌+◌, ◌-◌, ◌^◌, ◌++◌, None, Some, IfOk, IfSome, if◌then◌else◌};
+ghost use Rattle.std.specs.Prelude.{◌≡◌, [], ◌<◌, ◌+◌, ◌-◌, ◌^◌, ◌++◌, None, Some, IfOk, IfSome, if◌then◌else◌};
 ghost use Rattle.std.specs.Option.{option_copied};
+ghost use Rattle.ct_audit.specs.Tells.{TellsHistory};
 ghost use Rattle.ct_journal_text.specs.Journal.{full_line};
 ghost use Rattle.ct_journal_text.specs.declared.lines.JournalLine.TheVariants as Line;
 ghost use Rattle.ct_journal_text.specs.Found.{Finds, FindsBehind, IsSoleFinding, LacksFirst};
@@ -30,7 +31,7 @@ fn find_in(alloc: Global, plan: &Plan, text: &[u8]) -> Result<Option<u64>, NoMem
     ensures { IfOk result (λ found. Finds plan.now text.now found) }
 {
     match behind_first(text) {
-        Some(rest) => Ok(check_lines(alloc, plan, rest)?),
+        Some(rest) => check_lines(alloc, plan, rest),
         None => Ok(Some(1)),
     }
 }
@@ -41,10 +42,25 @@ fn check_lines(alloc: Global, plan: &Plan, text: &[u8]) -> Result<Option<u64>, N
 {
     let mut audit = Audit::new(alloc, plan);
     let mut line = Vec::new(alloc);
+    check_by(alloc, plan, text, &mut audit, &mut line)
+}
+
+/// Checks the same text by an audit that has noted nothing so far. `line` gets each line in turn.
+fn check_by(
+    alloc: Global,
+    plan: &Plan,
+    text: &[u8],
+    audit: &mut Audit,
+    line: &mut Vec<u8>,
+) -> Result<Option<u64>, NoMemory>
+    requires fresh { TellsHistory plan.now [] audit.old }
+    requires empty { line.old.items ≡ [] }
+    ensures { IfOk result (λ found. FindsBehind plan.now text.now found) }
+{
     let mut count: u64 = 0;
     for at in 0..text.len() {
         if text[at] == b'\n' {
-            match take_line(alloc, plan, &mut audit, count, &line)? {
+            match take_line(alloc, plan, audit, count, line)? {
                 Step::GoesOn => {
                     count += 1;
                     line.clear();

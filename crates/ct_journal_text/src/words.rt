@@ -1,4 +1,4 @@
-ghost use Rattle.std.specs.Prelude.{◌≡◌, ◌++◌, IfOk, take, drop, decimal};
+ghost use Rattle.std.specs.Prelude.{◌≡◌, ◌++◌, OnOk, take, drop, decimal};
 ghost use Rattle.ct_journal_text.specs.Journal.{not_run_word as cause_written, hit_digit as digit_of, hits_text as hits_written, how_text as how_written};
 ghost use Rattle.ct_journal_text.specs.Guess.{cause_in as cause_by, numbered_cause_in as numbered_cause_by, hit_in as hit_by, how_in as how_by};
 
@@ -7,46 +7,44 @@ use ct_base::{Blob, NoMemory};
 use ct_verdict::{Cause, How, Seen};
 use std::alloc::Global;
 
-/// Writes how an attempt ended, as a word.
-pub(crate) fn how_text(alloc: Global, how: How) -> Result<Blob, NoMemory>
-    ensures { IfOk result (λ text. text ≡ how_written how) }
+/// Puts how an attempt ended behind the text, as a word.
+pub(crate) fn append_how(alloc: Global, text: &mut Blob, how: How) -> Result<(), NoMemory>
+    ensures { OnOk result (text.new ≡ text.old ++ how_written how) }
 {
     match how {
         How::Exited(code) => {
-            let mut text = Blob::of(alloc, b"exit:")?;
-            append_code(alloc, &mut text, code)?;
-            Ok(text)
+            text.append(b"exit:")?;
+            append_code(alloc, text, code)
         }
-        How::Signalled => Blob::of(alloc, b"signal"),
-        How::TimedOut => Blob::of(alloc, b"timeout"),
-        How::NotStarted => Blob::of(alloc, b"unstarted"),
-        How::Lacks(place) => numbered(alloc, b"lacks:", place),
-        How::NoMemory => Blob::of(alloc, b"memory"),
+        How::Signalled => text.append(b"signal"),
+        How::TimedOut => text.append(b"timeout"),
+        How::NotStarted => text.append(b"unstarted"),
+        How::Lacks(place) => append_numbered(alloc, text, b"lacks:", place),
+        How::NoMemory => text.append(b"memory"),
     }
 }
 
-/// Writes why a test did not run, as a word.
-pub(crate) fn cause_text(alloc: Global, cause: Cause) -> Result<Blob, NoMemory>
-    ensures { IfOk result (λ text. text ≡ cause_written cause) }
+/// Puts why a test did not run behind the text, as a word.
+pub(crate) fn append_cause(alloc: Global, text: &mut Blob, cause: Cause) -> Result<(), NoMemory>
+    ensures { OnOk result (text.new ≡ text.old ++ cause_written cause) }
 {
     match cause {
-        Cause::Unstarted => Blob::of(alloc, b"unstarted"),
-        Cause::Lacks(place) => numbered(alloc, b"lacks:", place),
-        Cause::Fixture(setup) => numbered(alloc, b"fixture:", setup),
-        Cause::NotAvailable => Blob::of(alloc, b"notavailable"),
-        Cause::BadOperation(place) => numbered(alloc, b"badoperation:", place),
-        Cause::Insufficient => Blob::of(alloc, b"insufficient"),
-        Cause::Stopped => Blob::of(alloc, b"stopped"),
-        Cause::Memory => Blob::of(alloc, b"memory"),
+        Cause::Unstarted => text.append(b"unstarted"),
+        Cause::Lacks(place) => append_numbered(alloc, text, b"lacks:", place),
+        Cause::Fixture(setup) => append_numbered(alloc, text, b"fixture:", setup),
+        Cause::NotAvailable => text.append(b"notavailable"),
+        Cause::BadOperation(place) => append_numbered(alloc, text, b"badoperation:", place),
+        Cause::Insufficient => text.append(b"insufficient"),
+        Cause::Stopped => text.append(b"stopped"),
+        Cause::Memory => text.append(b"memory"),
     }
 }
 
-fn numbered(alloc: Global, name: &[u8], number: u32) -> Result<Blob, NoMemory>
-    ensures { IfOk result (λ text. text ≡ name.now ++ decimal number) }
+fn append_numbered(alloc: Global, text: &mut Blob, name: &[u8], number: u32) -> Result<(), NoMemory>
+    ensures { OnOk result (text.new ≡ text.old ++ name.now ++ decimal number) }
 {
-    let mut text = Blob::of(alloc, name)?;
-    append_number(alloc, &mut text, u64::from(number))?;
-    Ok(text)
+    text.append(name)?;
+    append_number(alloc, text, u64::from(number))
 }
 
 /// Gives the hits of the patterns for fail, pass and skip, as three digits.

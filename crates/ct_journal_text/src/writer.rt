@@ -1,9 +1,10 @@
-ghost use Rattle.std.specs.Prelude.{◌≡◌, ◌++◌, IfOk, None, OnOk, Some, codes, decimal, flat_map, if◌then◌else◌, length, nat_lt, option_map};
+ghost use Rattle.std.specs.Prelude.{◌≡◌, ◌++◌, [], IfOk, None, OnOk, Some, codes, decimal, flat_map, if◌then◌else◌, length, nat_lt, not, option_map, true};
 ghost use Rattle.std.specs.Option.{option_copied};
+ghost use Rattle.ct_journal_text.specs.declared.lines.JournalLine.TheVariants as Line;
 ghost use Rattle.ct_journal_text.specs.Journal.{attempt_text as front_of_line, not_run_word as cause_written, entry_text as line_of_entry, full_line, journal_of, journal_line_text as written, listed, noted as said, places_of_placement as resources_of, places_text as said_of_places, seen_text as said_of_attempt};
 
 use crate::numbers::append_number;
-use crate::words::{cause_text, hits_text, how_text};
+use crate::words::{append_cause, append_how, hits_text};
 use crate::{EntryLine, JournalLine};
 use ct_alloc::Placement;
 use ct_base::{Blob, List, NoMemory};
@@ -18,12 +19,19 @@ pub fn journal_text(alloc: Global, entries: &[Entry]) -> Result<Blob, NoMemory>
     ensures { IfOk result (λ text. text ≡ journal_of entries.now) }
 {
     let mut text = Blob::new(alloc);
-    append_line(alloc, &mut text, &JournalLine::First)?;
-    for entry in entries {
-        append_line(alloc, &mut text, &JournalLine::Entry(noted(alloc, entry)?))?;
-    }
-    append_line(alloc, &mut text, &JournalLine::Done(entries.len() as u64))?;
+    append_journal(alloc, &mut text, entries)?;
     Ok(text)
+}
+
+/// Puts the journal of a history behind the text.
+fn append_journal(alloc: Global, text: &mut Blob, entries: &[Entry]) -> Result<(), NoMemory>
+    ensures { OnOk result (text.new ≡ text.old ++ journal_of entries.now) }
+{
+    append_line(alloc, text, &JournalLine::First)?;
+    for entry in entries {
+        append_noted(alloc, text, entry)?;
+    }
+    append_line(alloc, text, &JournalLine::Done(entries.len() as u64))
 }
 
 /// Writes the journal of a history, or returns `None` where it has more than `most` bytes.
@@ -35,29 +43,51 @@ pub fn journal_within(alloc: Global, entries: &[Entry], most: u64) -> Result<Opt
     ensures { IfOk result (λ text. text ≡ (if nat_lt most (length (journal_of entries.now)) then None else Some (journal_of entries.now))) }
 {
     let mut text = Blob::new(alloc);
-    append_line(alloc, &mut text, &JournalLine::First)?;
+    if fill_within(alloc, &mut text, entries, most)? {
+        Ok(Some(text))
+    } else {
+        Ok(None)
+    }
+}
+
+/// Puts the journal of a history into an empty text, and tells whether it has at most `most` bytes.
+///
+/// Where it has more, the text may lack lines.
+fn fill_within(
+    alloc: Global,
+    text: &mut Blob,
+    entries: &[Entry],
+    most: u64,
+) -> Result<bool, NoMemory>
+    requires empty { text.old ≡ [] }
+    ensures fits { IfOk result (λ fits. fits ≡ not (nat_lt most (length (journal_of entries.now)))) }
+    ensures filled { IfOk result (λ fits. fits ≡ true → text.new ≡ journal_of entries.now) }
+{
+    append_line(alloc, text, &JournalLine::First)?;
     for entry in entries {
         if text.bytes().len() as u64 > most {
-            return Ok(None);
+            return Ok(false);
         }
-        append_line(alloc, &mut text, &JournalLine::Entry(noted(alloc, entry)?))?;
+        append_noted(alloc, text, entry)?;
     }
-    let count = entries.len() as u64;
-    append_line(alloc, &mut text, &JournalLine::Done(count))?;
-    if text.bytes().len() as u64 > most {
-        return Ok(None);
-    }
-    Ok(Some(text))
+    append_line(alloc, text, &JournalLine::Done(entries.len() as u64))?;
+    Ok(text.bytes().len() as u64 <= most)
+}
+
+/// Puts the line of an entry with its line feed behind the text.
+fn append_noted(alloc: Global, text: &mut Blob, entry: &Entry) -> Result<(), NoMemory>
+    ensures { OnOk result (text.new ≡ text.old ++ full_line (Line.Entry (said entry.now))) }
+{
+    let line = JournalLine::Entry(noted(alloc, entry)?);
+    append_line(alloc, text, &line)
 }
 
 /// Puts a line with its line feed behind the text.
 fn append_line(alloc: Global, text: &mut Blob, line: &JournalLine) -> Result<(), NoMemory>
     ensures { OnOk result (text.new ≡ text.old ++ full_line line.now) }
 {
-    let mut full = line_text(alloc, line)?;
-    full.append(b"\n")?;
-    text.append(full.bytes())?;
-    Ok(())
+    append_bare_line(alloc, text, line)?;
+    text.append(b"\n")
 }
 
 /// Writes a line of a journal, without its line feed.
@@ -66,19 +96,33 @@ fn append_line(alloc: Global, text: &mut Blob, line: &JournalLine) -> Result<(),
 pub fn line_text(alloc: Global, line: &JournalLine) -> Result<Blob, NoMemory>
     ensures { IfOk result (λ text. text ≡ written line.now) }
 {
+    let mut text = Blob::new(alloc);
+    append_bare_line(alloc, &mut text, line)?;
+    Ok(text)
+}
+
+/// Puts a line without its line feed behind the text.
+fn append_bare_line(alloc: Global, text: &mut Blob, line: &JournalLine) -> Result<(), NoMemory>
+    ensures { OnOk result (text.new ≡ text.old ++ written line.now) }
+{
     match line {
-        JournalLine::First => Blob::of(alloc, b"ct-journal 1"),
-        JournalLine::Entry(entry) => entry_text(alloc, entry),
-        JournalLine::Done(count) => {
-            let mut text = Blob::of(alloc, b"done ")?;
-            append_number(alloc, &mut text, *count)?;
-            Ok(text)
-        }
+        JournalLine::First => text.append(b"ct-journal 1"),
+        JournalLine::Entry(entry) => append_entry(alloc, text, entry),
+        JournalLine::Done(count) => append_done(alloc, text, *count),
     }
 }
 
-fn entry_text(alloc: Global, entry: &EntryLine) -> Result<Blob, NoMemory>
-    ensures { IfOk result (λ text. text ≡ line_of_entry entry.now) }
+/// Puts the last line of a journal of so many entries behind the text.
+fn append_done(alloc: Global, text: &mut Blob, count: u64) -> Result<(), NoMemory>
+    ensures { OnOk result (text.new ≡ text.old ++ codes "done " ++ decimal count) }
+{
+    text.append(b"done ")?;
+    append_number(alloc, text, count)
+}
+
+/// Puts the line of an entry without its line feed behind the text.
+fn append_entry(alloc: Global, text: &mut Blob, entry: &EntryLine) -> Result<(), NoMemory>
+    ensures { OnOk result (text.new ≡ text.old ++ line_of_entry entry.now) }
 {
     match entry {
         EntryLine::Start {
@@ -87,9 +131,8 @@ fn entry_text(alloc: Global, entry: &EntryLine) -> Result<Blob, NoMemory>
             worker,
             places,
         } => {
-            let mut text = attempt_text(alloc, b"start ", *test, *attempt, *worker)?;
-            text.append(places_text(alloc, places.as_ref())?.bytes())?;
-            Ok(text)
+            append_attempt(alloc, text, b"start ", *test, *attempt, *worker)?;
+            append_places(alloc, text, places.as_ref())
         }
         EntryLine::End {
             test,
@@ -97,57 +140,63 @@ fn entry_text(alloc: Global, entry: &EntryLine) -> Result<Blob, NoMemory>
             worker,
             seen,
         } => {
-            let mut text = attempt_text(alloc, b"end ", *test, *attempt, *worker)?;
-            text.append(seen_text(alloc, seen)?.bytes())?;
-            Ok(text)
+            append_attempt(alloc, text, b"end ", *test, *attempt, *worker)?;
+            append_seen(alloc, text, seen)
         }
-        EntryLine::Settle { test, cause } => settle_text(alloc, *test, *cause),
-        EntryLine::Stop => Blob::of(alloc, b"stop"),
+        EntryLine::Settle { test, cause } => append_settle(alloc, text, *test, *cause),
+        EntryLine::Stop => text.append(b"stop"),
     }
 }
 
-/// Writes the front of a line that speaks of an attempt.
-fn attempt_text(
+/// Puts the front of a line that speaks of an attempt behind the text.
+fn append_attempt(
     alloc: Global,
+    text: &mut Blob,
     name: &[u8],
     test: u32,
     attempt: u32,
     worker: u32,
-) -> Result<Blob, NoMemory>
-    ensures { IfOk result (λ text. text ≡ front_of_line name.now test attempt worker) }
+) -> Result<(), NoMemory>
+    ensures { OnOk result (text.new ≡ text.old ++ front_of_line name.now test attempt worker) }
 {
-    let mut text = Blob::of(alloc, name)?;
-    append_number(alloc, &mut text, u64::from(test))?;
-    text.append(b" ")?;
-    append_number(alloc, &mut text, u64::from(attempt))?;
-    text.append(b" ")?;
-    append_number(alloc, &mut text, u64::from(worker))?;
-    Ok(text)
+    text.append(name)?;
+    append_number(alloc, text, u64::from(test))?;
+    append_next(alloc, text, u64::from(attempt))?;
+    append_next(alloc, text, u64::from(worker))
 }
 
-fn places_text(alloc: Global, places: Option<&List<u32>>) -> Result<Blob, NoMemory>
-    ensures { IfOk result (λ text. text ≡ said_of_places (option_copied places.entry)) }
+/// Puts a blank and a number in decimal behind the text.
+fn append_next(alloc: Global, text: &mut Blob, number: u64) -> Result<(), NoMemory>
+    ensures { OnOk result (text.new ≡ text.old ++ codes " " ++ decimal number) }
+{
+    text.append(b" ")?;
+    append_number(alloc, text, number)
+}
+
+/// Puts what a line says of a placement behind the text.
+fn append_places(alloc: Global, text: &mut Blob, places: Option<&List<u32>>) -> Result<(), NoMemory>
+    ensures { OnOk result (text.new ≡ text.old ++ said_of_places (option_copied places.entry)) }
 {
     match places {
-        None => Ok(Blob::new(alloc)),
+        None => Ok(()),
         Some(places) => {
-            let mut text = Blob::of(alloc, b" at ")?;
-            text.append(list_text(alloc, places.as_slice())?.bytes())?;
-            Ok(text)
+            text.append(b" at ")?;
+            append_list(alloc, text, places.as_slice())
         }
     }
 }
 
-/// Writes the places of resources with commas between them.
-fn list_text(alloc: Global, places: &[u32]) -> Result<Blob, NoMemory>
-    ensures { IfOk result (λ text. text ≡ listed places.now) }
+/// Puts the places of resources with commas between them behind the text.
+fn append_list(alloc: Global, text: &mut Blob, places: &[u32]) -> Result<(), NoMemory>
+    ensures { OnOk result (text.new ≡ text.old ++ listed places.now) }
 {
-    let mut text = Blob::new(alloc);
-    if let [first, rest @ ..] = places {
-        append_number(alloc, &mut text, u64::from(*first))?;
-        append_others(alloc, &mut text, rest)?;
+    match places {
+        [] => Ok(()),
+        [first, rest @ ..] => {
+            append_number(alloc, text, u64::from(*first))?;
+            append_others(alloc, text, rest)
+        }
     }
-    Ok(text)
 }
 
 fn append_others(alloc: Global, text: &mut Blob, places: &[u32]) -> Result<(), NoMemory>
@@ -160,26 +209,25 @@ fn append_others(alloc: Global, text: &mut Blob, places: &[u32]) -> Result<(), N
     Ok(())
 }
 
-fn seen_text(alloc: Global, seen: &Seen) -> Result<Blob, NoMemory>
-    ensures { IfOk result (λ text. text ≡ said_of_attempt seen.now) }
+/// Puts what was seen of an attempt behind the text.
+fn append_seen(alloc: Global, text: &mut Blob, seen: &Seen) -> Result<(), NoMemory>
+    ensures { OnOk result (text.new ≡ text.old ++ said_of_attempt seen.now) }
 {
-    let mut text = Blob::of(alloc, b" ")?;
-    text.append(how_text(alloc, seen.how)?.bytes())?;
+    text.append(b" ")?;
+    append_how(alloc, text, seen.how)?;
     text.append(b" ")?;
     text.append(&hits_text(seen))?;
-    text.append(b" ")?;
-    append_number(alloc, &mut text, seen.micros)?;
-    Ok(text)
+    append_next(alloc, text, seen.micros)
 }
 
-fn settle_text(alloc: Global, test: u32, cause: Cause) -> Result<Blob, NoMemory>
-    ensures { IfOk result (λ text. text ≡ codes "settle " ++ decimal test ++ codes " " ++ cause_written cause) }
+/// Puts what settles a test behind the text.
+fn append_settle(alloc: Global, text: &mut Blob, test: u32, cause: Cause) -> Result<(), NoMemory>
+    ensures { OnOk result (text.new ≡ text.old ++ codes "settle " ++ decimal test ++ codes " " ++ cause_written cause) }
 {
-    let mut text = Blob::of(alloc, b"settle ")?;
-    append_number(alloc, &mut text, u64::from(test))?;
+    text.append(b"settle ")?;
+    append_number(alloc, text, u64::from(test))?;
     text.append(b" ")?;
-    text.append(cause_text(alloc, cause)?.bytes())?;
-    Ok(text)
+    append_cause(alloc, text, cause)
 }
 
 /// Gives what a journal says of an entry.

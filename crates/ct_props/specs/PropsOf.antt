@@ -8,6 +8,10 @@ use Rattle.ct_base.specs.declared.defs.TestDef.{TestDef}
 use Rattle.ct_regex.specs.TreeOf.{regex_tree}
 use Rattle.ct_props.specs.declared.checked.Checked.{Checked}
 use Rattle.ct_props.specs.declared.props.Props.{Props}
+use Rattle.ct_props.specs.declared.unchecked.FixtureNames.{FixtureNames}
+use Rattle.ct_props.specs.declared.unchecked.Surroundings.{Surroundings}
+use Rattle.ct_props.specs.declared.unchecked.Unchecked.{Unchecked}
+use Rattle.ct_props.specs.declared.unchecked.DependsAndLocks.{DependsAndLocks}
 use Rattle.ct_props.specs.Values.{value_of_key, text_of_key, is_true_text, processors_in, seconds_in, skip_code_in, patterns_in, resource_groups_in, working_dir_in, distinct}
 
 -- the fields whose keys can be refused
@@ -36,6 +40,33 @@ required_files_of def =
 -- the labels of a test, and behind them those of its folder, each once
 abbrev pub test_labels : TestDef → List (List ℕ)
 test_labels def = distinct (entries_of (text_of_key def.props (codes "LABELS")) ++ def.dir_labels)
+
+-- the fixtures that a test sets up, requires and cleans up
+pub record HasFixtureNames (def : TestDef) (fixtures : FixtureNames) : Type 0 where
+  pub setup : fixtures.setup ≡ entries_of (text_of_key def.props (codes "FIXTURES_SETUP"))
+  pub required : fixtures.required ≡ entries_of (text_of_key def.props (codes "FIXTURES_REQUIRED"))
+  pub cleanup : fixtures.cleanup ≡ entries_of (text_of_key def.props (codes "FIXTURES_CLEANUP"))
+
+-- what a test waits for before it starts
+pub record HasDependsAndLocks (def : TestDef) (waits : DependsAndLocks) : Type 0 where
+  pub depends : waits.depends ≡ entries_of (text_of_key def.props (codes "DEPENDS"))
+  pub locks : waits.locks ≡ entries_of (text_of_key def.props (codes "RESOURCE_LOCK"))
+  pub shared : waits.shared ≡ entries_of (text_of_key def.props (codes "RESOURCE_LOCK_SHARED"))
+
+-- what the program of a test starts in
+pub record HasSurroundings (def : TestDef) (surroundings : Surroundings) : Type 0 where
+  pub environment : surroundings.environment ≡ entries_of (text_of_key def.props (codes "ENVIRONMENT"))
+  pub modification :
+      surroundings.modification ≡ entries_of (text_of_key def.props (codes "ENVIRONMENT_MODIFICATION"))
+  pub required_files : surroundings.required_files ≡ required_files_of def
+  pub working_dir : surroundings.working_dir ≡ working_dir_of def
+
+-- the fields whose keys take any value, where reading them takes memory
+pub record HasUnchecked (def : TestDef) (unchecked : Unchecked) : Type 0 where
+  pub fixtures : HasFixtureNames def unchecked.fixtures
+  pub waits : HasDependsAndLocks def unchecked.waits
+  pub labels : unchecked.labels ≡ test_labels def
+  pub surroundings : HasSurroundings def unchecked.surroundings
 
 -- the properties of a test: each field by the rule of its key; no other key has an effect
 pub record HasProps (def : TestDef) (props : Props) : Type 0 where

@@ -15,6 +15,7 @@ mod patterns;
 mod props;
 mod texts;
 mod truth;
+mod unchecked;
 mod wanted;
 
 pub use fault::{PropFault, PropKind};

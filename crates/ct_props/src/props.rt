@@ -1,14 +1,12 @@
 ghost use Rattle.std.specs.Prelude.{◌≡◌, ℕ, List as Bytes, None, IfOk, IfErr};
-ghost use Rattle.ct_props.specs.PropsOf.{HasProps};
+ghost use Rattle.ct_props.specs.PropsOf.{HasChecked, HasUnchecked, HasProps};
 ghost use Rattle.ct_props.specs.Refusal.{IsPropFault, refused_as, HasReason};
 
 use crate::PropFault;
 use crate::checked::Checked;
-use crate::folder::{required_files, working_dir};
-use crate::labels::labels;
-use crate::lists::entries;
 use crate::texts::text_of;
 use crate::truth::is_true;
+use crate::unchecked::Unchecked;
 use ct_base::{List, Name, TestDef};
 use ct_groups::Groups;
 use ct_regex::Regex;
@@ -79,17 +77,33 @@ impl Props {
         ensures bad { IfErr result (λ fault. IsPropFault def.now.props fault) }
         ensures reason { IfErr result HasReason }
     {
+        let checked = Checked::of(alloc, def.props.as_slice())?;
+        let unchecked = Unchecked::of(alloc, def)?;
+        Ok(Props::with(def, checked, unchecked))
+    }
+
+    /// Returns the properties that were read, and beside them the truth values.
+    fn with(def: &TestDef, checked: Checked, unchecked: Unchecked) -> Props
+        requires checked { HasChecked def.now.props checked }
+        requires unchecked { HasUnchecked def.now unchecked }
+        ensures { HasProps def.now result }
+    {
+        let Unchecked {
+            fixtures,
+            waits,
+            labels,
+            surroundings,
+        } = unchecked;
         let props = def.props.as_slice();
-        let checked = Checked::of(alloc, props)?;
-        Ok(Props {
-            depends: entries(alloc, props, b"DEPENDS")?,
-            setup: entries(alloc, props, b"FIXTURES_SETUP")?,
-            required: entries(alloc, props, b"FIXTURES_REQUIRED")?,
-            cleanup: entries(alloc, props, b"FIXTURES_CLEANUP")?,
+        Props {
+            depends: waits.depends,
+            setup: fixtures.setup,
+            required: fixtures.required,
+            cleanup: fixtures.cleanup,
             disabled: is_true(text_of(props, b"DISABLED")),
             processors: checked.processors,
-            locks: entries(alloc, props, b"RESOURCE_LOCK")?,
-            shared: entries(alloc, props, b"RESOURCE_LOCK_SHARED")?,
+            locks: waits.locks,
+            shared: waits.shared,
             serial: is_true(text_of(props, b"RUN_SERIAL")),
             fail: checked.fail,
             pass: checked.pass,
@@ -98,12 +112,12 @@ impl Props {
             will_fail: is_true(text_of(props, b"WILL_FAIL")),
             timeout: checked.timeout,
             cost: checked.cost,
-            environment: entries(alloc, props, b"ENVIRONMENT")?,
-            modification: entries(alloc, props, b"ENVIRONMENT_MODIFICATION")?,
-            labels: labels(alloc, props, b"LABELS", def.dir_labels.as_slice())?,
-            required_files: required_files(alloc, def)?,
-            working_dir: working_dir(alloc, def)?,
+            environment: surroundings.environment,
+            modification: surroundings.modification,
+            labels,
+            required_files: surroundings.required_files,
+            working_dir: surroundings.working_dir,
             groups: checked.groups,
-        })
+        }
     }
 }

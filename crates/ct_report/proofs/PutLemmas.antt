@@ -168,6 +168,10 @@ lines_then old mid new a b (Err fault) first second = record {
   each = record { ok = tt; err = adds_then_prefix old.pieces mid.pieces new.pieces a b first.each.ok second.each.err };
 }
 
+-- one line was put, and then another
+pub two_lines : (old mid new : SinkTell) (one two : List ℕ) (result : Result (Unit {0}) SinkFault) → PutsLines (one ∷ []) old mid (Ok tt) → PutsLines (two ∷ []) mid new result → PutsLines (one ∷ two ∷ []) old new result
+two_lines old mid new one two result first second = lines_then old mid new (one ∷ []) (two ∷ []) result first second
+
 -- where lines were not put whole, the lines with more behind them were not either
 pub lines_more : (old new : SinkTell) (a b : List (List ℕ)) (fault : SinkFault) → PutsLines a old new (Err fault) → PutsLines (a ++ b) old new (Err fault)
 lines_more old new a b fault put = record {

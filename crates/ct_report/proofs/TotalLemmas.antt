@@ -1,5 +1,5 @@
 -- The totals with one test more, and what is put under a heading.
-use Rattle.std.proofs.Common.{◌≡◌, ◌∙◌, sym, ap, ℕ, ◌+◌, ◌-◌, ◌^◌, ◌<◌, ◌≤◌, Bool, true, false, not, ◌&&◌, cond, List, [], ◌∷◌, ◌++◌, length, get_or, take, map, filter, count_by, codes, refl, append_assoc, arith, eqb-true, ◌==◌, if◌then◌else◌}
+use Rattle.std.proofs.Common.{◌≡◌, ◌∙◌, sym, ap, ℕ, ◌+◌, ◌-◌, ◌^◌, ◌<◌, ◌≤◌, Bool, true, false, not, ◌&&◌, cond, List, [], ◌∷◌, ◌++◌, length, get_or, take, map, filter, count_by, codes, refl, append_assoc, arith, eqb-true, ◌==◌}
 use Rattle.std.proofs.lemmas.List.{length-take-le, map-append}
 use Rattle.std.proofs.lemmas.List.Elements.{filter_more}
 use Rattle.std.proofs.lemmas.List.Sums.{count_by-le-length, sum_by_more}
@@ -11,9 +11,9 @@ use Rattle.ct_history.specs.declared.history.Entry.{Entry}
 use Rattle.ct_history.specs.Verdicts.{are_all_final, verdict_in, is_failing_in, is_final_in}
 use Rattle.ct_history.proofs.BoolLemmas.{all_at}
 use Rattle.ct_report.specs.declared.totals.Totals.{Totals}
-use Rattle.ct_report.specs.Labels.{count_at, CountsTest, HasRoom}
+use Rattle.ct_report.specs.Labels.{count_at, HasRoom}
 use Rattle.ct_report.specs.Report.{failed_lines, has_label, is_good_in, is_unrun_in, label_line, label_lines, labelled_count, labelled_good_count, labels_in_order, listed_line, under}
-use Rattle.ct_report.specs.Totals.{AreTotals}
+use Rattle.ct_report.specs.Totals.{AddsToTotals, AreTotals}
 
 listed_by : {A B : Type 0} (f : A → B) (x : A) (wanted : Bool) → map f (cond wanted (x ∷ []) []) ≡ cond wanted (f x ∷ []) []
 listed_by f x true = refl
@@ -39,22 +39,26 @@ final_there plan entries at t all within is = ap (λ (u : PlanTest). is_final_in
 fewer : (bound place count sum len : ℕ) → place < bound → count ≡ sum → sum ≤ len → len ≡ place → count < bound
 fewer bound place count sum len below is most long = omega (arith, below, is, most, long)
 
+-- how many of the tests in front of a place are counted is below a bound that the place is below
+pub counted_below : (count bound : ℕ) (counted : PlanTest → Bool) (tests : List PlanTest) (at : ℕ) → at < length tests → at < bound → count ≡ count_by counted (take at tests) → count < bound
+counted_below count bound counted tests at within below is = fewer bound at count (count_by counted (take at tests)) (length (take at tests)) below is (count_by-le-length counted (take at tests)) (length-take-le at tests (omega (arith, within)))
+
 -- what is counted in front of a place leaves room for one test more
 pub has_room : {Y : Type 0} (counts : BTreeMap (Vec ℕ Y) ℕ) (counted : List ℕ → PlanTest → Bool) (tests : List PlanTest) (at : ℕ) → at < length tests → at < 2 ^ 64 - 1 → ((label : List ℕ) → count_at counts label ≡ count_by (counted label) (take at tests)) → HasRoom counts
-has_room counts counted tests at within below are = λ label. fewer (2 ^ 64 - 1) at (count_at counts label) (count_by (counted label) (take at tests)) (length (take at tests)) below (are label) (count_by-le-length (counted label) (take at tests)) (length-take-le at tests (omega (arith, within)))
+has_room counts counted tests at within below are = λ label. counted_below (count_at counts label) (2 ^ 64 - 1) (counted label) tests at within below (are label)
 
 -- the totals of the tests in front of one, and of that one too
 module _ (plan : PlanParts) (entries : List Entry) (tests : List PlanTest) (at : ℕ) (t : PlanTest) (within : at < length tests) (is : t ≡ get_or tests at t) (before after : Totals) (were : AreTotals plan entries (take at tests) before) where
   abbrev good : PlanTest → Bool
   good u = is_good_in (verdict_in plan.repeat u entries)
 
-  pub one_test_more : after.good ≡ before.good + (if good t then 1 else 0) → after.unrun ≡ before.unrun ++ (if is_unrun_in (verdict_in plan.repeat t entries) then listed_line plan entries t ∷ [] else []) → after.failed ≡ before.failed ++ (if is_failing_in (verdict_in plan.repeat t entries) then listed_line plan entries t ∷ [] else []) → CountsTest (not t.disabled) t before.labelled after.labelled → CountsTest (good t) t before.labelled_good after.labelled_good → AreTotals plan entries (take (at + 1) tests) after
-  one_test_more goods unruns fails labels good_labels = record {
-    good = goods ∙ ap (λ n. n + cond (good t) 1 0) were.good ∙ sym (more_counted good tests at t within is);
-    unrun = unruns ∙ ap (λ ls. ls ++ cond (is_unrun_in (verdict_in plan.repeat t entries)) (listed_line plan entries t ∷ []) []) were.unrun ∙ sym (more_listed (listed_line plan entries) (λ u. is_unrun_in (verdict_in plan.repeat u entries)) tests at t within is);
-    failed = fails ∙ ap (λ ls. ls ++ cond (is_failing_in (verdict_in plan.repeat t entries)) (listed_line plan entries t ∷ []) []) were.failed ∙ sym (more_listed (listed_line plan entries) (λ u. is_failing_in (verdict_in plan.repeat u entries)) tests at t within is);
-    labelled = λ label. labels label ∙ ap (λ n. n + cond (not t.disabled && has_label label t) 1 0) (were.labelled label) ∙ sym (more_counted (λ (u : PlanTest). not u.disabled && has_label label u) tests at t within is);
-    labelled_good = λ label. good_labels label ∙ ap (λ n. n + cond (good t && has_label label t) 1 0) (were.labelled_good label) ∙ sym (more_counted (λ u. good u && has_label label u) tests at t within is);
+  pub one_test_more : AddsToTotals t (verdict_in plan.repeat t entries) before after → AreTotals plan entries (take (at + 1) tests) after
+  one_test_more adds = record {
+    good = adds.good ∙ ap (λ n. n + cond (good t) 1 0) were.good ∙ sym (more_counted good tests at t within is);
+    unrun = adds.unrun ∙ ap (λ ls. ls ++ cond (is_unrun_in (verdict_in plan.repeat t entries)) (listed_line plan entries t ∷ []) []) were.unrun ∙ sym (more_listed (listed_line plan entries) (λ u. is_unrun_in (verdict_in plan.repeat u entries)) tests at t within is);
+    failed = adds.failed ∙ ap (λ ls. ls ++ cond (is_failing_in (verdict_in plan.repeat t entries)) (listed_line plan entries t ∷ []) []) were.failed ∙ sym (more_listed (listed_line plan entries) (λ u. is_failing_in (verdict_in plan.repeat u entries)) tests at t within is);
+    labelled = λ label. adds.labelled label ∙ ap (λ n. n + cond (not t.disabled && has_label label t) 1 0) (were.labelled label) ∙ sym (more_counted (λ (u : PlanTest). not u.disabled && has_label label u) tests at t within is);
+    labelled_good = λ label. adds.labelled_good label ∙ ap (λ n. n + cond (good t && has_label label t) 1 0) (were.labelled_good label) ∙ sym (more_counted (λ u. good u && has_label label u) tests at t within is);
   }
 
 full : (length {A = List ℕ} [] == 0) ≡ false → ⊥

@@ -42,8 +42,7 @@ pub fn label_list<S: Sink>(
     ensures each { PutsEach (label_list labels.now) (S.tells sink.old) (S.tells sink.new) result }
 {
     let lines = label_lines(alloc, labels.as_slice())?;
-    put_lines(sink, lines.as_slice())?;
-    Ok(())
+    put_lines(sink, lines.as_slice())
 }
 
 /// Puts the list of these tests of a folder, and the number of those that are not disabled.
@@ -62,8 +61,7 @@ pub fn test_list<S: Sink>(
     let total = total_line(alloc, enabled_count(tests))?;
     sink.put(heading.bytes())?;
     put_tests(alloc, sink, tests)?;
-    put_total(sink, total.bytes())?;
-    Ok(())
+    put_total(sink, total.bytes())
 }
 
 fn label_lines(alloc: Global, labels: &[Name]) -> Result<List<Blob>, NoMemory>
@@ -125,8 +123,7 @@ fn put_total<S: Sink>(sink: &mut S, total: &[u8]) -> Result<(), SinkFault>
     ensures each { PutsEach (codes "\n" ∷ total.now ∷ []) (S.tells sink.old) (S.tells sink.new) result }
 {
     sink.put(b"\n")?;
-    sink.put(total)?;
-    Ok(())
+    sink.put(total)
 }
 
 fn test_entry(alloc: Global, test: &ListedTest<'_>) -> Result<Blob, NoMemory>

@@ -13,6 +13,19 @@ pub(crate) fn append_number(alloc: Global, text: &mut Blob, number: u128) -> Res
     Ok(())
 }
 
+/// Puts a number in decimal and then these bytes behind the text.
+pub(crate) fn append_number_and(
+    alloc: Global,
+    text: &mut Blob,
+    number: u128,
+    bytes: &[u8],
+) -> Result<(), NoMemory>
+    ensures { OnOk result (text.new ≡ text.old ++ decimal number ++ bytes.now) }
+{
+    append_number(alloc, text, number)?;
+    text.append(bytes)
+}
+
 /// Writes microseconds as seconds with two digits of hundredths, rounded down.
 pub(crate) fn seconds_text(alloc: Global, micros: u64) -> Result<Blob, NoMemory>
     ensures { IfOk result (λ text. text ≡ seconds_text micros) }

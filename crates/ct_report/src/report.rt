@@ -19,8 +19,7 @@ pub fn header<S: Sink>(alloc: Global, sink: &mut S, plan: &Plan) -> Result<(), S
     ensures each { PutsEach (header_line plan.now ∷ []) (S.tells sink.old) (S.tells sink.new) result }
 {
     let header = header_line(alloc, plan.parts())?;
-    sink.put(header.bytes())?;
-    Ok(())
+    sink.put(header.bytes())
 }
 
 /// Puts the line of a test, which is the `place`-th to become final, from 1.
@@ -39,8 +38,7 @@ pub fn line<S: Sink>(
     ensures each { PutsEach (test_line plan.now history.now.entries.items place (test_at plan.now.tests test) ∷ []) (S.tells sink.old) (S.tells sink.new) result }
 {
     let line = test_line(alloc, plan.parts(), history.entries.as_slice(), place, test)?;
-    sink.put(line.bytes())?;
-    Ok(())
+    sink.put(line.bytes())
 }
 
 /// Puts the summary of a run in which each test is final. It has the counts and, where there are
@@ -58,8 +56,7 @@ pub fn summary<S: Sink>(
     ensures each { PutsEach (summary_lines plan.now history.now.entries.items) (S.tells sink.old) (S.tells sink.new) result }
 {
     let lines = summary_lines(alloc, plan.parts(), history.entries.as_slice())?;
-    put_lines(sink, lines.as_slice())?;
-    Ok(())
+    put_lines(sink, lines.as_slice())
 }
 
 /// Puts the line that says that no tests were found.

@@ -61,8 +61,7 @@ impl TestLines {
         ensures knows { KnowsLines plan.now history.now.entries.items self.new }
     {
         let line = self.line(alloc, plan, history, test, place, verdict)?;
-        sink.put(line.bytes())?;
-        Ok(())
+        sink.put(line.bytes())
     }
 
     /// Writes the line of a test with this verdict.

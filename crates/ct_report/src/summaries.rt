@@ -1,14 +1,16 @@
-ghost use Rattle.std.specs.Prelude.{◌≡◌, ◌++◌, codes, length, true, IfOk, OnOk};
+ghost use Rattle.std.specs.Prelude.{◌≡◌, ◌++◌, ◌∷◌, [], codes, length, true, IfOk, OnOk};
+ghost use Rattle.ct_history.specs.Plan.{enabled};
 ghost use Rattle.ct_history.specs.Verdicts.{are_all_final};
 ghost use Rattle.ct_report.specs.Report.{counts_with, failed_lines, label_lines, percent, summary_lines, under};
 ghost use Rattle.ct_report.specs.Totals.{AreTotals};
 
 use crate::labels;
-use crate::numbers::append_number;
+use crate::numbers::append_number_and;
 use crate::totals::{Totals, count_enabled, totals_of};
 use ct_base::{Blob, List, NoMemory};
 use ct_history::{Entry, PlanParts};
 use std::alloc::Global;
+use std::mem;
 
 /// Writes the lines of the summary.
 pub(crate) fn summary_lines(
@@ -19,23 +21,48 @@ pub(crate) fn summary_lines(
     requires ended { are_all_final plan.now entries.now ≡ true }
     ensures { IfOk result (λ lines. lines ≡ summary_lines plan.now entries.now) }
 {
-    let totals = totals_of(alloc, plan, entries)?;
-    let labels = label_lines(alloc, plan, entries, &totals)?;
-    let all = count_enabled(plan.tests.as_slice());
-    let counts = counts_line(alloc, totals.good, totals.failed.len(), all)?;
-    let Totals { unrun, failed, .. } = totals;
+    let mut totals = totals_of(alloc, plan, entries)?;
+    lines_of_totals(alloc, plan, entries, &mut totals)
+}
+
+/// Writes the lines of the summary from its totals, whose lists of tests move into the lines.
+fn lines_of_totals(
+    alloc: Global,
+    plan: &PlanParts,
+    entries: &[Entry],
+    totals: &mut Totals,
+) -> Result<List<Blob>, NoMemory>
+    requires { AreTotals plan.now entries.now plan.now.tests totals.old }
+    ensures { IfOk result (λ lines. lines ≡ summary_lines plan.now entries.now) }
+{
     let mut lines = List::new(alloc);
-    lines.push(Blob::of(alloc, b"\n")?)?;
-    lines.push(counts)?;
-    push_under(alloc, &mut lines, b"Label Summary:\n", labels)?;
-    push_under(
+    push_counts(alloc, &mut lines, plan, totals)?;
+    push_labels(alloc, &mut lines, plan, entries, totals)?;
+    push_unrun(
         alloc,
         &mut lines,
-        b"The following tests did not run:\n",
-        unrun,
+        mem::replace(&mut totals.unrun, List::new(alloc)),
     )?;
-    push_failed(alloc, &mut lines, failed)?;
+    push_failed(
+        alloc,
+        &mut lines,
+        mem::replace(&mut totals.failed, List::new(alloc)),
+    )?;
     Ok(lines)
+}
+
+/// Adds a blank line and the line of the counts of a run.
+fn push_counts(
+    alloc: Global,
+    lines: &mut List<Blob>,
+    plan: &PlanParts,
+    totals: &Totals,
+) -> Result<(), NoMemory>
+    ensures { OnOk result (lines.new ≡ lines.old ++ codes "\n" ∷ counts_with totals.now.good (length totals.now.failed) (length (enabled plan.now.tests)) ∷ []) }
+{
+    let all = count_enabled(plan.tests.as_slice());
+    push_line(alloc, lines, b"\n")?;
+    lines.push(counts_line(alloc, totals.good, totals.failed.len(), all)?)
 }
 
 /// Writes the counts of a run.
@@ -43,12 +70,9 @@ fn counts_line(alloc: Global, good: usize, failing: usize, all: usize) -> Result
     ensures { IfOk result (λ text. text ≡ counts_with good failing all) }
 {
     let mut text = Blob::new(alloc);
-    append_number(alloc, &mut text, percent(good, all))?;
-    text.append(b"% tests passed, ")?;
-    append_number(alloc, &mut text, failing as u128)?;
-    text.append(b" tests failed out of ")?;
-    append_number(alloc, &mut text, all as u128)?;
-    text.append(b"\n")?;
+    append_number_and(alloc, &mut text, percent(good, all), b"% tests passed, ")?;
+    append_number_and(alloc, &mut text, failing as u128, b" tests failed out of ")?;
+    append_number_and(alloc, &mut text, all as u128, b"\n")?;
     Ok(text)
 }
 
@@ -60,6 +84,21 @@ fn percent(good: usize, all: usize) -> u128
     } else {
         100 * (good as u128) / (all as u128)
     }
+}
+
+/// Adds the lines of the labels under their heading, or nothing where there are none.
+fn push_labels(
+    alloc: Global,
+    lines: &mut List<Blob>,
+    plan: &PlanParts,
+    entries: &[Entry],
+    totals: &Totals,
+) -> Result<(), NoMemory>
+    requires { AreTotals plan.now entries.now plan.now.tests totals.now }
+    ensures { OnOk result (lines.new ≡ lines.old ++ under (codes "Label Summary:\n") (label_lines plan.now entries.now)) }
+{
+    let labels = label_lines(alloc, plan, entries, totals)?;
+    push_under(alloc, lines, b"Label Summary:\n", labels)
 }
 
 /// Writes the line of each label.
@@ -81,6 +120,13 @@ fn label_lines(
     )
 }
 
+/// Adds the lines of the tests that did not run under their heading, or nothing where there are none.
+fn push_unrun(alloc: Global, lines: &mut List<Blob>, unrun: List<Blob>) -> Result<(), NoMemory>
+    ensures { OnOk result (lines.new ≡ lines.old ++ under (codes "The following tests did not run:\n") unrun) }
+{
+    push_under(alloc, lines, b"The following tests did not run:\n", unrun)
+}
+
 /// Adds a blank line, a heading and these lines behind the others, or nothing where these are none.
 #[tactic(auto, using(crate::proofs::TotalLemmas::under_none))]
 fn push_under(
@@ -94,10 +140,16 @@ fn push_under(
     if more.is_empty() {
         return Ok(());
     }
-    lines.push(Blob::of(alloc, b"\n")?)?;
-    lines.push(Blob::of(alloc, heading)?)?;
-    push_all(lines, more)?;
-    Ok(())
+    push_line(alloc, lines, b"\n")?;
+    push_line(alloc, lines, heading)?;
+    push_all(lines, more)
+}
+
+/// Adds a line with this text.
+fn push_line(alloc: Global, lines: &mut List<Blob>, line: &[u8]) -> Result<(), NoMemory>
+    ensures { OnOk result (lines.new ≡ lines.old ++ line.now ∷ []) }
+{
+    lines.push(Blob::of(alloc, line)?)
 }
 
 fn push_all(lines: &mut List<Blob>, more: List<Blob>) -> Result<(), NoMemory>
@@ -117,6 +169,5 @@ fn push_failed(alloc: Global, lines: &mut List<Blob>, failed: List<Blob>) -> Res
         return Ok(());
     }
     push_under(alloc, lines, b"The following tests FAILED:\n", failed)?;
-    lines.push(Blob::of(alloc, b"Errors while running CTest\n")?)?;
-    Ok(())
+    push_line(alloc, lines, b"Errors while running CTest\n")
 }

@@ -1,8 +1,11 @@
-ghost use Rattle.std.specs.Prelude.{◌≡◌, ◌+◌, ◌<◌, ◌-◌, ◌^◌, ◌++◌, ◌∷◌, [], length, true, IfOk, OnOk, if◌then◌else◌};
+ghost use Rattle.std.specs.Prelude.{◌≡◌, ◌+◌, ◌<◌, ◌-◌, ◌^◌, ◌++◌, ◌∷◌, [], length, true, IfOk, List, OnOk, if◌then◌else◌};
+ghost use Rattle.ct_history.specs.declared.history.Entry.{Entry};
+ghost use Rattle.ct_history.specs.declared.plan.PlanParts.{PlanParts};
 ghost use Rattle.ct_history.specs.Plan.{enabled};
 ghost use Rattle.ct_history.specs.Verdicts.{are_all_final, is_failing_in};
 ghost use Rattle.ct_report.specs.Report.{is_good_in, is_unrun_in, listed_with, word_of};
-ghost use Rattle.ct_report.specs.Totals.{AreTotals};
+ghost use Rattle.ct_report.specs.Labels.{HasRoom};
+ghost use Rattle.ct_report.specs.Totals.{AddsToTotals, AreTotals};
 
 use crate::labels::{LabelCounts, count_test};
 use crate::numbers::append_number;
@@ -38,26 +41,50 @@ pub(crate) fn totals_of(
     ensures { IfOk result (λ totals. AreTotals plan.now entries.now plan.now.tests totals) }
 {
     let endings = endings_of(alloc, entries)?;
-    let mut good = 0;
-    let mut unrun = List::new(alloc);
-    let mut failed = List::new(alloc);
-    let mut labelled = BTreeMap::new(alloc);
-    let mut labelled_good = BTreeMap::new(alloc);
+    let mut totals = no_totals(alloc);
     for test in plan.tests.as_slice() {
         let verdict = verdict_by(test, ending_at(&endings, test.number));
-        good = one_more(good, is_good(verdict));
-        push_where(alloc, &mut unrun, is_unrun(verdict), test, verdict)?;
-        push_where(alloc, &mut failed, is_failing(verdict), test, verdict)?;
-        count_test(alloc, &mut labelled, !test.disabled, test)?;
-        count_test(alloc, &mut labelled_good, is_good(verdict), test)?;
+        add_test(alloc, &mut totals, test, verdict)?;
     }
-    Ok(Totals {
-        good,
-        unrun,
-        failed,
-        labelled,
-        labelled_good,
-    })
+    Ok(totals)
+}
+
+/// Makes the totals of no tests.
+fn no_totals(alloc: Global) -> Totals
+    ensures { (plan : PlanParts) (entries : List Entry) → AreTotals plan entries [] result }
+{
+    Totals {
+        good: 0,
+        unrun: List::new(alloc),
+        failed: List::new(alloc),
+        labelled: BTreeMap::new(alloc),
+        labelled_good: BTreeMap::new(alloc),
+    }
+}
+
+/// Counts and lists one test more, which has this verdict.
+fn add_test(
+    alloc: Global,
+    totals: &mut Totals,
+    test: &PlanTest,
+    verdict: Option<Verdict>,
+) -> Result<(), NoMemory>
+    requires good { totals.old.good < 2 ^ 64 - 1 }
+    requires labelled { HasRoom totals.old.labelled }
+    requires labelled_good { HasRoom totals.old.labelled_good }
+    ensures { OnOk result (AddsToTotals test.now verdict totals.old totals.new) }
+{
+    totals.good = one_more(totals.good, is_good(verdict));
+    push_where(alloc, &mut totals.unrun, is_unrun(verdict), test, verdict)?;
+    push_where(
+        alloc,
+        &mut totals.failed,
+        is_failing(verdict),
+        test,
+        verdict,
+    )?;
+    count_test(alloc, &mut totals.labelled, !test.disabled, test)?;
+    count_test(alloc, &mut totals.labelled_good, is_good(verdict), test)
 }
 
 /// Counts the tests that are not disabled.

@@ -32,19 +32,63 @@ pub fn select(
     requires few { length defs.now < 2 ^ 32 - 1 }
     ensures { IfOk result (λ chosen. chosen ≡ chosen_tests defs.now props.now choice.now) }
 {
-    let (defs, props) = (defs.as_slice(), props.as_slice());
-    let count = defs.len() as u32;
-    let names = names_of(alloc, choice)?;
-    let others = others_of(alloc, choice)?;
+    let sets = Sets::of(alloc, choice)?;
     let mut matchers = Matchers::of(alloc, choice)?;
+    choose(
+        alloc,
+        defs.as_slice(),
+        props.as_slice(),
+        choice,
+        &sets,
+        &mut matchers,
+    )
+}
+
+/// The names and the numbers that a choice asks for, kept to be looked up.
+#[derive(Drop)]
+struct Sets<'a> {
+    names: BTreeSet<&'a [u8]>,
+    others: BTreeSet<u32>,
+}
+
+impl<'a> Sets<'a> {
+    /// Collects the names and the numbers.
+    fn of(alloc: Global, choice: &'a Choice) -> Result<Sets<'a>, NoMemory>
+        ensures names { IfOk result (λ sets. HasNames choice.now sets.names) }
+        ensures others { IfOk result (λ sets. HasOthers choice.now sets.others) }
+    {
+        Ok(Sets {
+            names: names_of(alloc, choice)?,
+            others: others_of(alloc, choice)?,
+        })
+    }
+}
+
+/// Chooses the tests, with the sets and the matchers of the choice.
+fn choose<'a>(
+    alloc: Global,
+    defs: &'a [TestDef],
+    props: &[Props],
+    choice: &Choice,
+    sets: &Sets<'a>,
+    matchers: &mut Matchers<'_>,
+) -> Result<List<u32>, NoMemory>
+    requires together { length defs.now ≡ length props.now }
+    requires few { length defs.now < 2 ^ 32 - 1 }
+    requires names { HasNames choice.now sets.now.names }
+    requires others { HasOthers choice.now sets.now.others }
+    requires matchers { AreMatchersOf choice.now matchers.old }
+    ensures { IfOk result (λ chosen. chosen ≡ chosen_tests defs.now props.now choice.now) }
+{
+    let count = defs.len() as u32;
     let mut chosen = List::new(alloc);
     for at in 0..defs.len() {
         let number = at as u32 + 1;
-        let numbered = by_number(choice, &others, count, number);
+        let numbered = by_number(choice, &sets.others, count, number);
         if is_chosen(
             choice,
-            &names,
-            &mut matchers,
+            &sets.names,
+            matchers,
             numbered,
             &defs[at],
             &props[at],

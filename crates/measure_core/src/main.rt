@@ -51,7 +51,12 @@ fn main(rt: HostRuntime) -> anyhow::Result<()> {
 /// Reads the words that the program was started with.
 fn read_words(rt: &(impl AllocGlobal + Env)) -> anyhow::Result<Asked> {
     let words: Vec<String> = env::args(rt)?.skip(1).collect(rt.alloc())?;
-    let [kind, count, shown] = words.as_slice() else {
+    asked_by(words.as_slice())
+}
+
+/// Returns what these words ask for.
+fn asked_by(words: &[String]) -> anyhow::Result<Asked> {
+    let [kind, count, shown] = words else {
         bail!("measure_core wants three words: KIND COUNT times|counts");
     };
     let Some(kind) = Kind::of(kind.as_str()) else {

@@ -35,7 +35,12 @@ fn main(rt: HostRuntime) -> anyhow::Result<()> {
 /// Reads the words that the program was started with.
 fn read_words(rt: &(impl AllocGlobal + Env)) -> anyhow::Result<Asked> {
     let words: Vec<String> = env::args(rt)?.skip(1).collect(rt.alloc())?;
-    let [family, rounds, shown] = words.as_slice() else {
+    asked_by(words.as_slice())
+}
+
+/// Returns what these words ask for.
+fn asked_by(words: &[String]) -> anyhow::Result<Asked> {
+    let [family, rounds, shown] = words else {
         bail!("measure_place wants three words: drawn|hard|one ROUNDS times|counts");
     };
     let Some(family) = Family::of(family.as_str()) else {

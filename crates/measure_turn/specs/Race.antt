@@ -10,6 +10,13 @@ pub record IsFresh (turn : TurnValue) (pass : PassValue) : Type 0 where
   pub idle : pass.taken ≡ None
   pub seen : pass.known.seen ≡ moment [] false
 
+-- the fresh pass of worker 0, which knows that so many passes were made and so many joined into it
+pub record IsFirstPass (turn : TurnValue) (passes joins : ℕ) (pass : PassValue) : Type 0 where
+  pub fresh : IsFresh turn pass
+  pub opener : pass.known.worker ≡ 0
+  pub made : pass.known.made ≡ passes
+  pub joined : length pass.known.notes ≡ joins
+
 -- the pass of worker 0 knows that `count` more passes were made
 abbrev pub with_made : PassValue → ℕ → PassValue
 with_made pass count = record pass { known = record pass.known { made = pass.known.made + count } }

@@ -10,18 +10,73 @@ mod tally;
 mod timing;
 mod turns;
 
+ghost use Rattle.std.specs.Prelude.{◌≤◌, IfOk};
+
 use crate::timing::{Raced, now, since};
 use anyhow::{anyhow, bail};
-use std::env;
-use std::time::Duration;
+use ct_base::NoMemory;
+use std::env::Env;
+use std::io::Print;
+use std::sync::Wait;
+use std::thread::Threads;
+use std::time::{Clock, Duration};
+use std::{env, io};
 
 /// The greatest number of workers of a race.
 const MOST_WORKERS: u32 = 64;
 
+/// What the workers race for.
+#[derive(Clone, Copy)]
+enum Lock {
+    Turn,
+    Mutex,
+}
+
+impl Lock {
+    /// Returns the lock of this name.
+    fn of(name: &str) -> Option<Lock> {
+        match name {
+            "turn" => Some(Lock::Turn),
+            "mutex" => Some(Lock::Mutex),
+            _ => None,
+        }
+    }
+}
+
+/// What the words ask for.
+#[derive(Clone, Copy)]
+struct Asked {
+    lock: Lock,
+    workers: u32,
+    /// How often each worker takes the state.
+    takes: u64,
+    /// Whether the times are printed too.
+    is_timed: bool,
+}
+
 fn main(rt: HostRuntime) -> anyhow::Result<()> {
-    let alloc = rt.alloc();
-    let words: Vec<String> = env::args(&rt)?.skip(1).collect(alloc)?;
-    let [lock, workers, takes, shown] = words.as_slice() else {
+    let asked = read_words(&rt)?;
+    let start = now(&rt);
+    let raced = race(&rt, asked);
+    let whole = since(&rt, start);
+    let raced = raced.map_err(|_| anyhow!("memory was wanting"))?;
+    show(&rt, &raced, whole, asked.is_timed)?;
+    Ok(())
+}
+
+/// Reads the words that the program was started with.
+fn read_words(rt: &(impl AllocGlobal + Env)) -> anyhow::Result<Asked>
+    ensures { IfOk result (λ asked. 1 ≤ asked.workers) }
+{
+    let words: Vec<String> = env::args(rt)?.skip(1).collect(rt.alloc())?;
+    asked_by(words.as_slice())
+}
+
+/// Returns what these words ask for.
+fn asked_by(words: &[String]) -> anyhow::Result<Asked>
+    ensures { IfOk result (λ asked. 1 ≤ asked.workers) }
+{
+    let [lock, workers, takes, shown] = words else {
         bail!("measure_turn wants four words: turn|mutex WORKERS TAKES times|counts");
     };
     let workers: u32 = workers.as_str().parse().unwrap_or(0);
@@ -29,19 +84,36 @@ fn main(rt: HostRuntime) -> anyhow::Result<()> {
         bail!("the number of workers is from 1 to {MOST_WORKERS}");
     }
     let takes: u64 = takes.as_str().parse().unwrap_or(0);
-    let each = takes / u64::from(workers);
-    let start = now(&rt);
-    let raced = match lock.as_str() {
-        "turn" => turns::race(&rt, alloc, workers, each),
-        "mutex" => locks::race(&rt, alloc, workers, each),
-        _ => bail!("the lock is turn or mutex"),
+    let Some(lock) = Lock::of(lock.as_str()) else {
+        bail!("the lock is turn or mutex");
     };
-    let whole = since(&rt, start);
-    let Raced { tally, times } = raced.map_err(|_| anyhow!("memory was wanting"))?;
-    println!(rt; "{} takes", tally.takes)?;
-    if shown.as_str() == "times" {
+    Ok(Asked {
+        lock,
+        workers,
+        takes: takes / u64::from(workers),
+        is_timed: shown.as_str() == "times",
+    })
+}
+
+/// Lets the workers race as they are asked to.
+fn race<R: Threads + Wait + Clock + Sync + AllocGlobal>(
+    rt: &R,
+    asked: Asked,
+) -> Result<Raced, NoMemory>
+    requires { 1 ≤ asked.workers }
+{
+    match asked.lock {
+        Lock::Turn => turns::race(rt, rt.alloc(), asked.workers, asked.takes),
+        Lock::Mutex => locks::race(rt, rt.alloc(), asked.workers, asked.takes),
+    }
+}
+
+/// Prints the counts, and the times where these are asked for.
+fn show(rt: &impl Print, raced: &Raced, whole: Option<Duration>, is_timed: bool) -> io::Result<()> {
+    println!(rt; "{} takes", raced.tally.takes)?;
+    if is_timed {
         println!(rt; "whole {} ns", nanos(whole))?;
-        for time in times.as_slice() {
+        for time in raced.times.as_slice() {
             println!(rt; "worker {} ns", nanos(*time))?;
         }
     }

@@ -1,6 +1,6 @@
-ghost use Rattle.std.specs.Prelude.{◌≡◌, ◌+◌, ◌≤◌, [], length, vec_len, All, IfOk, None};
+ghost use Rattle.std.specs.Prelude.{◌≡◌, ◌+◌, ◌-◌, ◌≤◌, [], length, vec_len, All, IfOk, None};
 ghost use Rattle.std.specs.Thread.{IsSync};
-ghost use Rattle.measure_turn.specs.Race.{IsFresh, HasJoined, with_made};
+ghost use Rattle.measure_turn.specs.Race.{IsFirstPass, IsFresh, HasJoined, with_made};
 
 use crate::tally::Tally;
 use crate::timing::{Raced, now, since};
@@ -18,6 +18,13 @@ struct Ran {
     time: Option<Duration>,
 }
 
+/// The pass of worker 0, into which all others were joined, and how long each worker took.
+#[derive(Drop)]
+struct Joined {
+    pass: Pass,
+    times: Vec<Option<Duration>>,
+}
+
 /// Lets `workers` workers take one state in turn, each `takes` times in a thread of its own.
 ///
 /// The history of the state stays empty.
@@ -31,36 +38,86 @@ pub fn race<R: Threads + Wait + Clock + Sync>(
     ensures history { IfOk result (λ raced. raced.tally.history.entries.items ≡ []) }
     ensures times { IfOk result (λ raced. vec_len raced.times ≡ workers) }
 {
-    let Ok((turn, mut first)) = Turn::open(alloc, Tally::new(alloc), workers) else {
+    let Ok((turn, first)) = Turn::open(alloc, Tally::new(alloc), workers) else {
         return Err(NoMemory);
     };
-    let others = split_off(alloc, &turn, &mut first, workers - 1)?;
-    let shared = &turn;
-    let (ran, others) = join(
+    let joined = race_on(rt, alloc, &turn, first, workers, takes)?;
+    Ok(Raced {
+        tally: turn.close(joined.pass),
+        times: joined.times,
+    })
+}
+
+/// Lets `workers` workers take the state of a turn, and joins their passes into the first.
+fn race_on<R: Threads + Wait + Clock + Sync>(
+    rt: &R,
+    alloc: Global,
+    turn: &Turn<Tally>,
+    mut first: Pass,
+    workers: u32,
+    takes: u64,
+) -> Result<Joined, NoMemory>
+    requires some { (1 ≤ workers) × (workers ≤ turn.now.seats) }
+    requires first { IsFirstPass turn.now 1 0 first }
+    ensures pass { IfOk result (λ joined. IsFirstPass turn.now workers (workers - 1) joined.pass) }
+    ensures times { IfOk result (λ joined. vec_len joined.times ≡ workers) }
+{
+    let others = split_off(alloc, turn, &mut first, workers - 1)?;
+    let (ran, others) = run_beside(rt, turn, first, others, takes);
+    join_ran(alloc, turn, ran, others?)
+}
+
+/// Lets the first worker take the state in a thread of its own, beside the others.
+fn run_beside<R: Threads + Wait + Clock + Sync>(
+    rt: &R,
+    turn: &Turn<Tally>,
+    first: Pass,
+    others: Vec<Pass>,
+    takes: u64,
+) -> (Ran, Result<Vec<Ran>, NoMemory>)
+    requires first { IsFresh turn.now first }
+    requires others { All (IsFresh turn.now) others.items }
+    ensures first { result.0.pass ≡ first }
+    ensures others { IfOk result.1 (λ rans. (vec_len rans ≡ vec_len others)
+        × All (λ ran. IsFresh turn.now ran.pass) rans.items) }
+{
+    join(
         rt,
         move || -> Ran
             requires shared { IsSync R.row }
-            requires fresh { IsFresh shared.now first }
+            requires fresh { IsFresh turn.now first }
             ensures { result.pass ≡ first }
-        { run(rt, shared, first, takes) },
+        { run(rt, turn, first, takes) },
         move || -> Result<Vec<Ran>, NoMemory>
             requires shared { IsSync R.row }
-            requires fresh { All (IsFresh shared.now) others.items }
+            requires fresh { All (IsFresh turn.now) others.items }
             ensures { IfOk result (λ rans. (vec_len rans ≡ vec_len others)
-                × All (λ ran. IsFresh shared.entry.now ran.pass) rans.items) }
-        { run_all(rt, shared, others, takes) },
-    );
+                × All (λ ran. IsFresh turn.entry.now ran.pass) rans.items) }
+        { run_all(rt, turn, others, takes) },
+    )
+}
+
+/// Joins the passes of the others into the one of worker 0, and lists the times of all.
+fn join_ran(
+    alloc: Global,
+    turn: &Turn<Tally>,
+    ran: Ran,
+    others: Vec<Ran>,
+) -> Result<Joined, NoMemory>
+    requires first { IsFirstPass turn.now ran.pass.known.made 0 ran.pass }
+    requires others { All (λ ran. IsFresh turn.now ran.pass) others.items }
+    ensures pass { IfOk result (λ joined.
+        IsFirstPass turn.now ran.pass.known.made (vec_len others) joined.pass) }
+    ensures times { IfOk result (λ joined. vec_len joined.times ≡ 1 + vec_len others) }
+{
     let Ran {
         pass: mut first,
         time,
     } = ran;
-    let mut times = Vec::with_capacity(alloc, workers as usize)?;
+    let mut times = Vec::with_capacity(alloc, others.len().saturating_add(1))?;
     times.push(time)?;
-    join_all(&turn, &mut first, others?, &mut times)?;
-    Ok(Raced {
-        tally: turn.close(first),
-        times,
-    })
+    join_all(turn, &mut first, others, &mut times)?;
+    Ok(Joined { pass: first, times })
 }
 
 /// Makes `count` passes.

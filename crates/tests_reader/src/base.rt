@@ -1,10 +1,11 @@
 //! What files, sinks and ears in memory do, and the small texts of ct_base.
 
+use crate::rows::{is_told, text_of};
 use ct_base::{
     CalmFiles, CalmSink, Collect, Ear, Files, List, MemFiles, MemSink, Name, NoMemory, Pair, Sink,
     join_path, micros, split_list,
 };
-use std::alloc::Global;
+use std::alloc::{AllocError, Global};
 use std::process::Abort;
 use std::test::Fail;
 
@@ -30,27 +31,42 @@ fn three_calls<F: Files>(alloc: Global, files: &mut F, path: &Name) -> (Option<u
     (read, seen, wrote)
 }
 
+/// Compares the bytes that a case leads to with the wanted ones.
+fn are_bytes(rt: &impl Abort, case: &[u8], bytes: &[u8], want: &[u8]) {
+    assert!(rt; bytes == want, "{}: {}", text_of(case), text_of(bytes));
+}
+
 fn holds(rt: &impl Abort, held: Option<&Name>, want: &[u8]) {
     match held {
-        Some(bytes) => assert_eq!(rt; bytes.bytes(), want),
+        Some(name) => are_bytes(rt, b"the path", name.bytes(), want),
         None => panic!(rt; "nothing is held"),
     }
+}
+
+/// The number of the call that fails, what the three calls come to, and what the path then holds.
+type FailingCall = (u64, (Option<usize>, bool, bool), &'static [u8]);
+
+const FAILING_CALLS: [FailingCall; 4] = [
+    (0, (Some(3), true, true), b"xy"),
+    (1, (None, true, true), b"xy"),
+    (2, (Some(3), false, true), b"xy"),
+    (3, (Some(3), true, false), b"new"),
+];
+
+/// Makes files of which one call fails.
+fn failing_files(alloc: Global, number: u64) -> Result<MemFiles, NoMemory> {
+    let mut fail_at = List::new(alloc);
+    fail_at.push(number)?;
+    Ok(MemFiles::new(pairs(alloc)?, fail_at))
 }
 
 #[test]
 fn fails_the_calls_that_are_planned(rt: HostRuntime) -> Result<(), Fail> {
     let path = Name::of(rt.alloc(), b"a")?;
-    for (number, want, left) in [
-        (0, (Some(3), true, true), b"xy".as_slice()),
-        (1, (None, true, true), b"xy"),
-        (2, (Some(3), false, true), b"xy"),
-        (3, (Some(3), true, false), b"new"),
-    ] {
-        let mut fail_at = List::new(rt.alloc());
-        fail_at.push(number)?;
-        let mut files = MemFiles::new(pairs(rt.alloc())?, fail_at);
+    for (number, want, left) in &FAILING_CALLS {
+        let mut files = failing_files(rt.alloc(), *number)?;
         let got = three_calls(rt.alloc(), &mut files, &path);
-        assert_eq!(rt; got, want, "at {number}");
+        assert!(rt; got == *want, "at {number}: {got:?}");
         holds(&rt, files.held(&path), left);
     }
     Ok(())
@@ -61,7 +77,7 @@ fn calm_files_never_fail(rt: HostRuntime) -> Result<(), Fail> {
     let path = Name::of(rt.alloc(), b"a")?;
     let mut files = CalmFiles::new(pairs(rt.alloc())?);
     let got = three_calls(rt.alloc(), &mut files, &path);
-    assert_eq!(rt; got, (Some(3), true, true));
+    assert!(rt; got == (Some(3), true, true), "{got:?}");
     holds(&rt, files.held(&path), b"xy");
     Ok(())
 }
@@ -80,12 +96,16 @@ fn fails_the_puts_that_are_planned(rt: HostRuntime) -> Result<(), Fail> {
     let mut fail_at = List::new(rt.alloc());
     fail_at.push(2)?;
     let mut sink = MemSink::new(rt.alloc(), fail_at);
-    assert_eq!(rt; three_puts(&mut sink), (true, false, true));
-    assert_eq!(rt; sink.written().bytes(), b"onesix".as_slice());
-    let mut calm = CalmSink::new(rt.alloc());
-    assert_eq!(rt; three_puts(&mut calm), (true, true, true));
-    assert_eq!(rt; calm.written().bytes(), b"onetwosix".as_slice());
+    assert!(rt; three_puts(&mut sink) == (true, false, true));
+    are_bytes(&rt, b"the sink", sink.written().bytes(), b"onesix");
     Ok(())
+}
+
+#[test]
+fn calm_sinks_never_fail(rt: HostRuntime) {
+    let mut calm = CalmSink::new(rt.alloc());
+    assert!(rt; three_puts(&mut calm) == (true, true, true));
+    are_bytes(&rt, b"the sink", calm.written().bytes(), b"onetwosix");
 }
 
 fn hear_twice<E: Ear>(ear: &mut E) {
@@ -98,40 +118,57 @@ fn keeps_what_it_hears(rt: HostRuntime) {
     let mut ear = Collect::new(rt.alloc());
     hear_twice(&mut ear);
     assert!(rt; !ear.short());
-    assert_eq!(rt; ear.heard().bytes(), b"one two".as_slice());
+    are_bytes(&rt, b"the ear", ear.heard().bytes(), b"one two");
+}
+
+/// A folder, a name, and the path of both.
+const JOINED: [(&[u8], &[u8], &[u8]); 4] = [
+    (b"a", b"b", b"a/b"),
+    (b".", b"c/d", b"./c/d"),
+    (b"a", b"/b", b"/b"),
+    (b"", b"", b"/"),
+];
+
+fn joined(alloc: Global, dir: &[u8], name: &[u8]) -> Result<Name, NoMemory> {
+    let dir = Name::of(alloc, dir)?;
+    let name = Name::of(alloc, name)?;
+    join_path(alloc, &dir, &name)
 }
 
 #[test]
 fn joins_a_folder_and_a_name(rt: HostRuntime) -> Result<(), Fail> {
-    for (dir, name, want) in [
-        (b"a".as_slice(), b"b".as_slice(), b"a/b".as_slice()),
-        (b".", b"c/d", b"./c/d"),
-        (b"a", b"/b", b"/b"),
-        (b"", b"", b"/"),
-    ] {
-        let dir = Name::of(rt.alloc(), dir)?;
-        let name = Name::of(rt.alloc(), name)?;
-        let path = join_path(rt.alloc(), &dir, &name)?;
-        assert_eq!(rt; path.bytes(), want, "at {name:?}");
+    for (dir, name, want) in &JOINED {
+        let path = joined(rt.alloc(), dir, name)?;
+        are_bytes(&rt, name, path.bytes(), want);
     }
     Ok(())
 }
 
+/// A text, the number of its entries, and the last entry.
+const ENTRIES: [(&[u8], usize, &[u8]); 7] = [
+    (b"a;b", 2, b"b"),
+    (b"", 0, b""),
+    (b";;a;;", 1, b"a"),
+    (b"a\\;b;c", 2, b"c"),
+    (b"a\\\\;b", 1, b"a\\;b"),
+    (b"[a;b]", 2, b"b]"),
+    (b"a\\", 1, b"a\\"),
+];
+
+/// Returns the last entry; empty if there is none.
+fn last_of(entries: &[Name]) -> &[u8] {
+    match entries.last() {
+        Some(entry) => entry.bytes(),
+        None => b"",
+    }
+}
+
 #[test]
 fn splits_a_text_into_entries(rt: HostRuntime) -> Result<(), Fail> {
-    for (text, count, last) in [
-        (b"a;b".as_slice(), 2, b"b".as_slice()),
-        (b"", 0, b""),
-        (b";;a;;", 1, b"a"),
-        (b"a\\;b;c", 2, b"c"),
-        (b"a\\\\;b", 1, b"a\\;b"),
-        (b"[a;b]", 2, b"b]"),
-        (b"a\\", 1, b"a\\"),
-    ] {
+    for (text, count, last) in &ENTRIES {
         let entries = split_list(rt.alloc(), text)?;
-        assert_eq!(rt; entries.len(), count, "at {text:?}");
-        let ending = entries.as_slice().last().map(|entry| entry.bytes());
-        assert_eq!(rt; ending.unwrap_or(b""), last, "at {text:?}");
+        assert!(rt; entries.len() == *count, "at {text:?}");
+        are_bytes(&rt, text, last_of(entries.as_slice()), last);
     }
     Ok(())
 }
@@ -171,14 +208,18 @@ const SECONDS: &str = "\
 0x5 None
 ";
 
+/// Reports the microseconds of a time in seconds, if it is one.
+fn micros_told(alloc: Global, seconds: &str) -> Result<String, AllocError> {
+    let found = micros(seconds.as_bytes());
+    format!(in alloc; "{found:?}")
+}
+
 #[test]
 fn reads_seconds_as_microseconds(rt: HostRuntime) -> Result<(), Fail> {
     for row in SECONDS.lines() {
-        let mut cells = row.split(' ');
-        let text = cells.next().unwrap_or("");
-        let found = micros(text.as_bytes());
-        let told = format!(in rt.alloc(); "{found:?}")?;
-        assert_eq!(rt; Some(told.as_str()), cells.next(), "{row}");
+        let (seconds, want) = row.split_once(' ').unwrap_or((row, ""));
+        let told = micros_told(rt.alloc(), seconds)?;
+        is_told(&rt, row, told.as_str(), want);
     }
     Ok(())
 }

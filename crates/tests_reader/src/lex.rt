@@ -2,7 +2,7 @@
 
 use ct_base::{Blob, NoMemory};
 use ct_lex::{Arg, ArgKind, Call, LexFault, Lexer, Part};
-use std::alloc::Global;
+use std::alloc::{AllocError, Global};
 use std::process::Abort;
 use std::test::Fail;
 
@@ -116,26 +116,29 @@ static BYTES: [Case; 4] = [
 
 fn put_part(out: &mut Blob, part: &Part) -> Result<(), NoMemory> {
     match part {
-        Part::Bytes(bytes) => {
-            out.append(b"'")?;
-            out.append(bytes.bytes())?;
-            out.append(b"'")?;
-        }
-        Part::Ref(name) => {
-            out.append(b"$")?;
-            out.append(name.bytes())?;
-            out.append(b"$")?;
-        }
+        Part::Bytes(bytes) => put_between(out, b"'", bytes.bytes()),
+        Part::Ref(name) => put_between(out, b"$", name.bytes()),
     }
-    Ok(())
+}
+
+/// Appends the bytes with the mark in front of them and behind them.
+fn put_between(out: &mut Blob, mark: &[u8], bytes: &[u8]) -> Result<(), NoMemory> {
+    out.append(mark)?;
+    out.append(bytes)?;
+    out.append(mark)
+}
+
+/// Returns the letter of a kind.
+fn letter_of(kind: ArgKind) -> &'static [u8] {
+    match kind {
+        ArgKind::Bracket => b"B",
+        ArgKind::Quoted => b"Q",
+        ArgKind::Unquoted => b"U",
+    }
 }
 
 fn put_arg(out: &mut Blob, arg: &Arg) -> Result<(), NoMemory> {
-    match arg.kind {
-        ArgKind::Bracket => out.append(b"B")?,
-        ArgKind::Quoted => out.append(b"Q")?,
-        ArgKind::Unquoted => out.append(b"U")?,
-    }
+    out.append(letter_of(arg.kind))?;
     for part in arg.parts.as_slice() {
         put_part(out, part)?;
     }
@@ -143,9 +146,9 @@ fn put_arg(out: &mut Blob, arg: &Arg) -> Result<(), NoMemory> {
 }
 
 fn put_line(alloc: Global, out: &mut Blob, line: u32) -> Result<(), NoMemory> {
+    let digits = line.to_string(alloc)?;
     out.append(b":")?;
-    out.append(line.to_string(alloc)?.as_bytes())?;
-    Ok(())
+    out.append(digits.as_bytes())
 }
 
 fn put_call(alloc: Global, out: &mut Blob, call: &Call) -> Result<(), NoMemory> {
@@ -204,7 +207,7 @@ fn transcript(rt: &impl Abort, alloc: Global, text: &[u8]) -> Result<Blob, NoMem
     Ok(out)
 }
 
-fn check_all(rt: &impl Abort, alloc: Global, cases: &[Case]) -> Result<(), NoMemory> {
+fn check_all(rt: &impl Abort, alloc: Global, cases: &[Case]) -> Result<(), Fail> {
     for (text, want) in cases {
         let got = transcript(rt, alloc, text)?;
         assert!(rt; got.bytes() == *want, "at {text:?}");
@@ -215,8 +218,7 @@ fn check_all(rt: &impl Abort, alloc: Global, cases: &[Case]) -> Result<(), NoMem
 #[test]
 fn reads_commands_and_lines(rt: HostRuntime) -> Result<(), Fail> {
     check_all(&rt, rt.alloc(), &COMMANDS)?;
-    check_all(&rt, rt.alloc(), &COMMENTS)?;
-    Ok(())
+    check_all(&rt, rt.alloc(), &COMMENTS)
 }
 
 #[test]
@@ -224,15 +226,13 @@ fn reads_arguments_of_each_kind(rt: HostRuntime) -> Result<(), Fail> {
     check_all(&rt, rt.alloc(), &BRACKETS)?;
     check_all(&rt, rt.alloc(), &QUOTED)?;
     check_all(&rt, rt.alloc(), &ESCAPES)?;
-    check_all(&rt, rt.alloc(), &REFERENCES)?;
-    Ok(())
+    check_all(&rt, rt.alloc(), &REFERENCES)
 }
 
 #[test]
 fn reads_the_files_of_build_trees(rt: HostRuntime) -> Result<(), Fail> {
     check_all(&rt, rt.alloc(), &FILES)?;
-    check_all(&rt, rt.alloc(), &BYTES)?;
-    Ok(())
+    check_all(&rt, rt.alloc(), &BYTES)
 }
 
 /// How many times the load repeats its piece: 16 MiB together.
@@ -242,21 +242,32 @@ const PIECES: u32 = 131_072;
 const PIECE: &[u8] =
     b"add_test([=[unit one]=] \"/home/u/demo/unit\" --faster a\\;b ${x}y)\n# a comment up to the end of its line\nset_property(a \"b;c\" x)\n\n";
 
-#[test]
-fn reads_sixteen_mebibytes(rt: HostRuntime) -> Result<(), Fail> {
-    let mut text = Vec::new(rt.alloc());
+/// Returns the piece, again and again.
+fn pieces(alloc: Global) -> Result<Vec<u8>, AllocError> {
+    let mut text = Vec::new(alloc);
     for _ in 0..PIECES {
         text.extend_from_slice(PIECE)?;
     }
-    assert_eq!(rt; text.len(), 16 * 1024 * 1024);
-    let mut lexer = Lexer::new(text.as_slice());
+    Ok(text)
+}
+
+/// Reads up to the end of the pieces, and returns the line of the last command.
+fn last_line(alloc: Global, lexer: &mut Lexer) -> Result<u32, LexFault> {
     let mut last = 0;
-    for _ in 0..2 * PIECES {
-        if let Some(call) = lexer.next(rt.alloc())? {
-            last = call.line;
+    for _ in 0..=2 * PIECES {
+        match lexer.next(alloc)? {
+            Some(call) => last = call.line,
+            None => return Ok(last),
         }
     }
-    assert_eq!(rt; last, 4 * PIECES - 1);
-    assert!(rt; matches!(lexer.next(rt.alloc()), Ok(None)));
+    Ok(0)
+}
+
+#[test]
+fn reads_sixteen_mebibytes(rt: HostRuntime) -> Result<(), Fail> {
+    let text = pieces(rt.alloc())?;
+    assert!(rt; text.len() == 16 * 1024 * 1024);
+    let last = last_line(rt.alloc(), &mut Lexer::new(text.as_slice()))?;
+    assert!(rt; last == 4 * PIECES - 1, "{last}");
     Ok(())
 }

@@ -1,7 +1,7 @@
 //! The tests of what reads test files: lists, commands, patterns and whole trees.
 //!
 //! Hands up: nothing. A crate with tests of its own is proved twice, so they stand here.
-//! Read first: a module is named after the crate that it tests.
+//! Read first: `rows.rt`. Each other module is named after the crate that it tests.
 #![tactic(auto)]
 
 #[cfg(test)]
@@ -10,5 +10,7 @@ mod base;
 mod lex;
 #[cfg(test)]
 mod regex;
+#[cfg(test)]
+mod rows;
 #[cfg(test)]
 mod testfile;

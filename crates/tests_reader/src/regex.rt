@@ -1,5 +1,7 @@
 //! Patterns of CMake: what is refused, and what hits.
 
+use crate::rows::is_told;
+use ct_base::NoMemory;
 use ct_regex::{Matcher, Regex, RegexFault, Scan};
 use std::alloc::{AllocError, Global};
 use std::process::Abort;
@@ -141,15 +143,24 @@ fn comes_to(alloc: Global, pattern: &[u8], text: &[u8]) -> Result<bool, RegexFau
     Ok(regex.hit(alloc, text)?)
 }
 
+/// Returns the first cell of a row, and the others.
+fn cell(row: &str) -> (&str, &str) {
+    row.split_once(' ').unwrap_or((row, ""))
+}
+
+/// Reports whether the pattern hits the text, or why it is refused.
+fn told(alloc: Global, pattern: &str, text: &str) -> Result<String, AllocError> {
+    let found = comes_to(alloc, pattern.as_bytes(), text.as_bytes());
+    format!(in alloc; "{found:?}")
+}
+
 /// Compares each row with what its pattern comes to.
 fn check(rt: &impl Abort, alloc: Global, rows: &str) -> Result<(), Fail> {
     for row in rows.lines() {
-        let mut cells = row.split(' ');
-        let pattern = cells.next().unwrap_or("");
-        let text = cells.next().unwrap_or("");
-        let found = comes_to(alloc, pattern.as_bytes(), text.as_bytes());
-        let told = format!(in alloc; "{found:?}")?;
-        assert_eq!(rt; Some(told.as_str()), cells.next(), "{row}");
+        let (pattern, rest) = cell(row);
+        let (text, want) = cell(rest);
+        let told = told(alloc, pattern, text)?;
+        is_told(rt, row, told.as_str(), want);
     }
     Ok(())
 }
@@ -187,12 +198,16 @@ fn agrees(alloc: Global, pattern: &[u8], text: &[u8]) -> Result<bool, RegexFault
 #[test]
 fn says_the_same_of_a_text_in_pieces(rt: HostRuntime) {
     for row in HITS.lines() {
-        let mut cells = row.split(' ');
-        let pattern = cells.next().unwrap_or("");
-        let text = cells.next().unwrap_or("");
+        let (pattern, rest) = cell(row);
+        let (text, _) = cell(rest);
         let found = agrees(rt.alloc(), pattern.as_bytes(), text.as_bytes());
-        assert_eq!(rt; found, Ok(true), "{row}");
+        is_right(&rt, row, &found);
     }
+}
+
+/// Fails unless what a row comes to is `true`.
+fn is_right(rt: &impl Abort, row: &str, found: &Result<bool, RegexFault>) {
+    assert!(rt; *found == Ok(true), "{row}: {found:?}");
 }
 
 /// Each line is a row, with spaces between its cells: a pattern, texts, and of each whether it is hit.
@@ -205,31 +220,40 @@ error error,er,ror,error +--+
 
 /// Tells whether one scan, set back for each text, and one matcher say of each what the row says.
 fn says_of_each(alloc: Global, row: &str) -> Result<bool, RegexFault> {
-    let mut cells = row.split(' ');
-    let regex = Regex::parse(alloc, cells.next().unwrap_or("").as_bytes())?;
-    let texts = cells.next().unwrap_or("");
-    let says = cells.next().unwrap_or("").as_bytes();
-    let mut scan = Scan::new(alloc, &regex)?;
-    let mut matcher = Matcher::new(alloc, &regex)?;
+    let (pattern, rest) = cell(row);
+    let (texts, says) = cell(rest);
+    let regex = Regex::parse(alloc, pattern.as_bytes())?;
+    Ok(both_say(alloc, &regex, texts, says.as_bytes())?)
+}
+
+/// Tells whether a scan and a matcher say of each text what is wanted of it.
+fn both_say(alloc: Global, regex: &Regex, texts: &str, says: &[u8]) -> Result<bool, NoMemory> {
+    let mut scan = Scan::new(alloc, regex)?;
+    let mut matcher = Matcher::new(alloc, regex)?;
     let mut is_right = true;
     for (at, text) in texts.split(',').enumerate() {
-        let text = text.as_bytes();
-        let (front, rest) = text.split_at(text.len() / 2);
-        scan.restart();
-        scan.feed(front);
-        scan.feed(rest);
         let is_hit = says.get(at) == Some(&b'+');
-        is_right &= scan.ended() == is_hit && matcher.hit(text) == is_hit;
-        scan.feed(b"\n");
-        is_right &= !scan.is_decided() || is_hit;
+        is_right &= scan_says(&mut scan, text.as_bytes(), is_hit);
+        is_right &= matcher.hit(text.as_bytes()) == is_hit;
     }
     Ok(is_right)
+}
+
+/// Tells whether a scan, set back for the text, says what is wanted of it.
+fn scan_says(scan: &mut Scan, text: &[u8], is_hit: bool) -> bool {
+    let (front, rest) = text.split_at(text.len() / 2);
+    scan.restart();
+    scan.feed(front);
+    scan.feed(rest);
+    let says = scan.ended() == is_hit;
+    scan.feed(b"\n");
+    says && (!scan.is_decided() || is_hit)
 }
 
 #[test]
 fn says_the_same_once_it_is_set_back(rt: HostRuntime) {
     for row in TEXTS.lines() {
-        assert_eq!(rt; says_of_each(rt.alloc(), row), Ok(true), "{row}");
+        is_right(&rt, row, &says_of_each(rt.alloc(), row));
     }
 }
 
@@ -246,18 +270,26 @@ fn behind_many(alloc: Global, pattern: &[u8], ends: [&[u8]; 2]) -> Result<bool, 
     Ok(scan.ended())
 }
 
+/// A pattern, the two pieces behind the many, and whether it hits them all.
+const BEHIND_MANY: [(&[u8], [&[u8]; 2], bool); 5] = [
+    (b"done$", [b"do", b"ne"], true),
+    (b"^done", [b"do", b"ne"], false),
+    (b"xdo", [b"do", b"ne"], true),
+    (b"error", [b"er", b"ror"], true),
+    (b"error", [b"er", b""], false),
+];
+
 #[test]
 fn finds_what_is_cut_behind_64_mebibytes(rt: HostRuntime) {
-    for (pattern, ends, want) in [
-        (b"done$".as_slice(), [b"do".as_slice(), b"ne"], true),
-        (b"^done", [b"do", b"ne"], false),
-        (b"xdo", [b"do", b"ne"], true),
-        (b"error", [b"er", b"ror"], true),
-        (b"error", [b"er", b""], false),
-    ] {
-        let found = behind_many(rt.alloc(), pattern, ends);
-        assert_eq!(rt; found, Ok(want), "{pattern:?}");
+    for (pattern, ends, want) in &BEHIND_MANY {
+        let found = behind_many(rt.alloc(), pattern, *ends);
+        comes_so(&rt, pattern, &found, *want);
     }
+}
+
+/// Fails unless the pattern is right, and comes to what is wanted.
+fn comes_so(rt: &impl Abort, pattern: &[u8], found: &Result<bool, RegexFault>, want: bool) {
+    assert!(rt; *found == Ok(want), "{pattern:?}: {found:?}");
 }
 
 /// Feeds bytes `a` and `b` as a shift register yields them. Tells whether a scan knows after each
@@ -278,22 +310,30 @@ fn knows_the_ninth(alloc: Global) -> Result<bool, RegexFault> {
 
 #[test]
 fn stays_right_when_it_forgets(rt: HostRuntime) {
-    assert_eq!(rt; knows_the_ninth(rt.alloc()), Ok(true));
+    is_right(&rt, "the ninth byte", &knows_the_ninth(rt.alloc()));
 }
+
+/// A pattern, a text, and whether it hits the text.
+const BYTES: [(&[u8], &[u8], bool); 6] = [
+    (b"^.$", b"\xff", true),
+    (b"[\xfe-\xff]", b"\xff", true),
+    (b"[^\xff]", b"\xff", false),
+    (b".", b"\n", true),
+    (b"a.c", b"a\nc", true),
+    (b"\\n", b"\n", false),
+];
 
 #[test]
 fn takes_bytes_that_are_no_text(rt: HostRuntime) {
-    for (pattern, text, hits) in [
-        (b"^.$".as_slice(), b"\xff".as_slice(), true),
-        (b"[\xfe-\xff]", b"\xff", true),
-        (b"[^\xff]", b"\xff", false),
-        (b".", b"\n", true),
-        (b"a.c", b"a\nc", true),
-        (b"\\n", b"\n", false),
-    ] {
-        let found = comes_to(rt.alloc(), pattern, text);
-        assert_eq!(rt; found, Ok(hits), "{pattern:?} on {text:?}");
+    for (pattern, text, hits) in &BYTES {
+        hits_so(&rt, rt.alloc(), pattern, text, *hits);
     }
+}
+
+/// Compares what the pattern comes to on the text with what is wanted.
+fn hits_so(rt: &impl Abort, alloc: Global, pattern: &[u8], text: &[u8], want: bool) {
+    let found = comes_to(alloc, pattern, text);
+    comes_so(rt, pattern, &found, want);
 }
 
 /// Returns `count` times the byte, and then the tail.
@@ -316,8 +356,8 @@ const LONG: [(u8, usize, &[u8], Result<bool, RegexFault>); 5] = [
 fn keeps_to_its_limits(rt: HostRuntime) -> Result<(), Fail> {
     for (byte, count, tail, want) in &LONG {
         let pattern = run_of(rt.alloc(), *byte, *count, tail)?;
-        let found = comes_to(rt.alloc(), &pattern, b"x");
-        assert_eq!(rt; &found, want, "{count} times {byte}");
+        let is_so = comes_to(rt.alloc(), &pattern, b"x") == *want;
+        assert!(rt; is_so, "{count} times {byte}");
     }
     Ok(())
 }
@@ -337,12 +377,8 @@ fn nested(alloc: Global, depth: usize) -> Result<Vec<u8>, AllocError> {
 fn takes_no_more_than_a_moment(rt: HostRuntime) -> Result<(), Fail> {
     let text = run_of(rt.alloc(), b'a', 300, b"")?;
     let deep = nested(rt.alloc(), 200)?;
-    for (pattern, want) in [
-        (b"(a|a)*b".as_slice(), false),
-        (b"^(a|a)*$", true),
-        (deep.as_slice(), false),
-    ] {
-        assert_eq!(rt; comes_to(rt.alloc(), pattern, &text), Ok(want));
-    }
+    hits_so(&rt, rt.alloc(), b"(a|a)*b", &text, false);
+    hits_so(&rt, rt.alloc(), b"^(a|a)*$", &text, true);
+    hits_so(&rt, rt.alloc(), &deep, &text, false);
     Ok(())
 }

@@ -8,11 +8,11 @@
 
 ghost use Rattle.ct_testfile.specs.Says.{AreBounded};
 
-use ct_base::{CalmFiles, List, MemFiles, Name, NoMemory, Pair, TestDef};
+use crate::rows::{is_told, text_of};
+use ct_base::{CalmFiles, Files, List, MemFiles, Name, NoMemory, Pair, TestDef};
 use ct_testfile::{LIMITS, Limits, ReadFault, read_tree, read_tree_within};
 use std::alloc::{AllocError, Global};
 use std::process::Abort;
-use std::str;
 use std::test::Fail;
 
 const COMMANDS: &str = "\
@@ -153,67 +153,86 @@ fn lines(alloc: Global, text: &str) -> Result<Name, NoMemory> {
     Name::of(alloc, &bytes)
 }
 
-fn text_of(name: &Name) -> &str {
-    str::from_utf8(name.bytes()).unwrap_or("?")
+/// Appends the items of a list, each with a comma behind, and an end.
+fn put_items(told: &mut String, names: &List<Name>, end: &str) -> Result<(), AllocError> {
+    for name in names.as_slice() {
+        write!(told, "{},", text_of(name.bytes()))?;
+    }
+    told.push_str(end)
 }
 
-/// Returns the items of a list, each with a comma behind.
-fn items(alloc: Global, names: &List<Name>) -> Result<String, AllocError> {
+fn put_props(told: &mut String, props: &List<Pair>) -> Result<(), AllocError> {
+    for prop in props.as_slice() {
+        let key = text_of(prop.name.bytes());
+        write!(told, "{key}={},", text_of(prop.value.bytes()))?;
+    }
+    told.push_str("|")
+}
+
+fn put_test(told: &mut String, test: &TestDef) -> Result<(), AllocError> {
+    let dir = text_of(test.dir.bytes());
+    write!(told, "{dir}|{}|", text_of(test.name.bytes()))?;
+    put_items(told, &test.command, "|")?;
+    put_props(told, &test.props)?;
+    put_items(told, &test.dir_labels, "~")
+}
+
+fn tests_told(alloc: Global, tests: &List<TestDef>) -> Result<String, AllocError> {
     let mut told = String::new(alloc);
-    for name in names.as_slice() {
-        told = format!(in alloc; "{told}{},", text_of(name))?;
+    for test in tests.as_slice() {
+        put_test(&mut told, test)?;
     }
     Ok(told)
-}
-
-fn test_told(alloc: Global, test: &TestDef) -> Result<String, AllocError> {
-    let dir = text_of(&test.dir);
-    let name = text_of(&test.name);
-    let command = items(alloc, &test.command)?;
-    let mut told = format!(in alloc; "{dir}|{name}|{command}|")?;
-    for prop in test.props.as_slice() {
-        told = format!(in alloc; "{told}{}={},", text_of(&prop.name), text_of(&prop.value))?;
-    }
-    format!(in alloc; "{told}|{}~", items(alloc, &test.dir_labels)?)
 }
 
 /// Returns what is read of some files, as a row tells it.
-fn told(alloc: Global, read: Result<List<TestDef>, ReadFault>) -> Result<String, AllocError> {
-    let tests = match read {
-        Ok(tests) => tests,
-        Err(fault) => return fault_told(alloc, fault),
-    };
-    let mut told = String::new(alloc);
-    for test in tests.as_slice() {
-        told = format!(in alloc; "{told}{}", test_told(alloc, test)?)?;
+fn told(alloc: Global, read: &Result<List<TestDef>, ReadFault>) -> Result<String, AllocError> {
+    match read {
+        Ok(tests) => tests_told(alloc, tests),
+        Err(fault) => fault_told(alloc, fault),
     }
-    Ok(told)
 }
 
-fn fault_told(alloc: Global, fault: ReadFault) -> Result<String, AllocError> {
+fn fault_told(alloc: Global, fault: &ReadFault) -> Result<String, AllocError> {
     match fault {
         ReadFault::At { file, line, kind } => {
-            if text_of(&file) == TOP {
-                format!(in alloc; "{line} {kind:?}")
-            } else {
-                format!(in alloc; "{}:{line} {kind:?}", text_of(&file))
-            }
+            let file = text_of(file.bytes());
+            let (file, colon) = if file == TOP { ("", "") } else { (file, ":") };
+            format!(in alloc; "{file}{colon}{line} {kind:?}")
         }
-        ReadFault::FilesFailed { path } => format!(in alloc; "failed {}", text_of(&path)),
+        ReadFault::FilesFailed { path } => format!(in alloc; "failed {}", text_of(path.bytes())),
         ReadFault::NoMemory => format!(in alloc; "no memory"),
     }
 }
 
+/// Reads the tree of the folder `.` for a configuration.
+fn read_for<F: Files>(
+    alloc: Global,
+    files: &mut F,
+    config: &str,
+) -> Result<List<TestDef>, ReadFault> {
+    let dir = Name::of(alloc, b".")?;
+    let config = Name::of(alloc, config.as_bytes())?;
+    read_tree(alloc, files, &dir, &config)
+}
+
+/// Returns what is read of the tree of the folder `.` for a configuration.
+fn told_for<F: Files>(alloc: Global, files: &mut F, config: &str) -> Result<String, AllocError> {
+    told(alloc, &read_for(alloc, files, config))
+}
+
+/// Reads the files of a row for a configuration.
+fn read_row(alloc: Global, files: &str, config: &str) -> Result<String, NoMemory> {
+    let mut files = CalmFiles::new(held(alloc, files)?);
+    Ok(told_for(alloc, &mut files, config)?)
+}
+
 /// Reads the files of each row, and compares.
 fn check(rt: &(impl Abort + AllocGlobal), rows: &str) -> Result<(), Fail> {
-    let alloc = rt.alloc();
-    let dir = Name::of(alloc, b".")?;
-    let config = Name::of(alloc, b"")?;
     for row in rows.lines() {
         let (files, want) = row.split_once(" => ").unwrap_or((row, ""));
-        let mut files = CalmFiles::new(held(alloc, files)?);
-        let told = told(alloc, read_tree(alloc, &mut files, &dir, &config))?;
-        assert_eq!(rt; told.as_str(), want, "{row}");
+        let told = read_row(rt.alloc(), files, "")?;
+        is_told(rt, row, told.as_str(), want);
     }
     Ok(())
 }
@@ -238,20 +257,19 @@ fn reads_files_inside_one_another(rt: HostRuntime) -> Result<(), Fail> {
     check(&rt, INNER_FILES)
 }
 
+/// A configuration, and what is then read of `CONFIGURED`.
+const CONFIGURATIONS: [(&str, &str); 4] = [
+    ("Debug", ".|u|/b/Debug/u,||~"),
+    ("dEBUG", ".|u|/b/Debug/u,||~"),
+    ("Release", ".|u|NOT_AVAILABLE,||~"),
+    ("", ".|u|NOT_AVAILABLE,||~"),
+];
+
 #[test]
 fn reads_what_cmake_writes_for_configurations(rt: HostRuntime) -> Result<(), Fail> {
-    let alloc = rt.alloc();
-    let dir = Name::of(alloc, b".")?;
-    for (config, want) in [
-        ("Debug", ".|u|/b/Debug/u,||~"),
-        ("dEBUG", ".|u|/b/Debug/u,||~"),
-        ("Release", ".|u|NOT_AVAILABLE,||~"),
-        ("", ".|u|NOT_AVAILABLE,||~"),
-    ] {
-        let mut files = CalmFiles::new(held(alloc, CONFIGURED)?);
-        let name = Name::of(alloc, config.as_bytes())?;
-        let told = told(alloc, read_tree(alloc, &mut files, &dir, &name))?;
-        assert_eq!(rt; told.as_str(), want, "{config}");
+    for (config, want) in &CONFIGURATIONS {
+        let told = read_row(rt.alloc(), CONFIGURED, config)?;
+        is_told(&rt, config, told.as_str(), want);
     }
     Ok(())
 }
@@ -275,35 +293,54 @@ fn limits_with(limit: &str, most: u16) -> Limits
     limits
 }
 
-fn read_with(
+/// Reads the tree of the folder `.` within these limits.
+fn read_within(
     alloc: Global,
-    files: &str,
+    files: &mut CalmFiles,
     limits: &Limits,
-) -> Result<Result<List<TestDef>, ReadFault>, NoMemory>
+) -> Result<List<TestDef>, ReadFault>
     requires { AreBounded limits.now }
 {
-    let mut files = CalmFiles::new(held(alloc, files)?);
     let dir = Name::of(alloc, b".")?;
     let config = Name::of(alloc, b"")?;
-    Ok(read_tree_within(alloc, &mut files, limits, &dir, &config))
+    read_tree_within(alloc, files, limits, &dir, &config)
+}
+
+/// Returns what is read of the tree of the folder `.` within these limits.
+fn told_within(alloc: Global, files: &mut CalmFiles, limits: &Limits) -> Result<String, AllocError>
+    requires { AreBounded limits.now }
+{
+    told(alloc, &read_within(alloc, files, limits))
+}
+
+/// Tells whether the tree of the folder `.` is read within these limits.
+fn is_read(alloc: Global, files: &mut CalmFiles, limits: &Limits) -> bool
+    requires { AreBounded limits.now }
+{
+    read_within(alloc, files, limits).is_ok()
+}
+
+/// Reads the files of a row with the limit that it names, and with one less.
+fn is_least(rt: &impl Abort, alloc: Global, row: &str) -> Result<(), Fail> {
+    let (given, want) = row.split_once(" => ").unwrap_or((row, ""));
+    let (limit, rest) = given.split_once(' ').unwrap_or((given, ""));
+    let (most, files) = rest.split_once(' ').unwrap_or((rest, ""));
+    let most: u16 = most.parse().unwrap_or(0);
+    let mut files = CalmFiles::new(held(alloc, files)?);
+    assert!(rt;
+        is_read(alloc, &mut files, &limits_with(limit, most)),
+        "{row}"
+    );
+    let below = limits_with(limit, most.saturating_sub(1));
+    let told = told_within(alloc, &mut files, &below)?;
+    is_told(rt, row, told.as_str(), want);
+    Ok(())
 }
 
 #[test]
 fn reads_up_to_each_limit(rt: HostRuntime) -> Result<(), Fail> {
-    let alloc = rt.alloc();
     for row in LIMITED.lines() {
-        let (given, want) = row.split_once(" => ").unwrap_or((row, ""));
-        let mut cells = given.splitn(3, ' ');
-        let limit = cells.next().unwrap_or("");
-        let most: u16 = cells.next().unwrap_or("").parse().unwrap_or(0);
-        let files = cells.next().unwrap_or("");
-        assert!(rt;
-            read_with(alloc, files, &limits_with(limit, most))?.is_ok(),
-            "{row}"
-        );
-        let below = limits_with(limit, most.saturating_sub(1));
-        let told = told(alloc, read_with(alloc, files, &below)?)?;
-        assert_eq!(rt; told.as_str(), want, "{row}");
+        is_least(&rt, rt.alloc(), row)?;
     }
     Ok(())
 }
@@ -315,53 +352,88 @@ fn file(alloc: Global, path: &str, text: &[u8]) -> Result<Pair, NoMemory> {
     })
 }
 
-/// Reads 25 folders of 16,000 tests each, and behind them a folder with this test file.
-fn read_folders(alloc: Global, last: &[u8]) -> Result<Result<List<TestDef>, ReadFault>, NoMemory> {
+/// Returns the text of a test file with 16,000 tests.
+fn many_tests(alloc: Global) -> Result<Vec<u8>, AllocError> {
     let mut tests = Vec::new(alloc);
     for _ in 0..16_000 {
         tests.extend_from_slice(b"add_test(a b)\n")?;
     }
-    let mut held = List::new(alloc);
+    Ok(tests)
+}
+
+/// Returns the text of a test file that reads 25 folders, and behind them another one.
+fn many_folders(alloc: Global) -> Result<String, AllocError> {
     let mut top = String::new(alloc);
     for number in 1..26 {
-        top = format!(in alloc; "{top}subdirs(d{number})\n")?;
-        let path = format!(in alloc; "./d{number}/CTestTestfile.cmake")?;
-        held.push(file(alloc, path.as_str(), &tests)?)?;
+        write!(top, "subdirs(d{number})\n")?;
     }
-    top = format!(in alloc; "{top}subdirs(last)\n")?;
+    top.push_str("subdirs(last)\n")?;
+    Ok(top)
+}
+
+/// Returns the test file of one of the 25 folders.
+fn folder(alloc: Global, number: u32, tests: &[u8]) -> Result<Pair, NoMemory> {
+    let path = format!(in alloc; "./d{number}/CTestTestfile.cmake")?;
+    file(alloc, path.as_str(), tests)
+}
+
+/// Makes 25 folders of 16,000 tests each, and behind them a folder with this test file.
+fn folders(alloc: Global, last: &[u8]) -> Result<List<Pair>, NoMemory> {
+    let tests = many_tests(alloc)?;
+    let top = many_folders(alloc)?;
+    let mut held = List::new(alloc);
+    for number in 1..26 {
+        held.push(folder(alloc, number, &tests)?)?;
+    }
     held.push(file(alloc, TOP, top.as_bytes())?)?;
     held.push(file(alloc, "./last/CTestTestfile.cmake", last)?)?;
-    let dir = Name::of(alloc, b".")?;
-    let config = Name::of(alloc, b"")?;
-    Ok(read_tree(alloc, &mut CalmFiles::new(held), &dir, &config))
+    Ok(held)
+}
+
+/// Reads the 25 folders, and behind them a folder with this test file.
+fn read_folders(alloc: Global, last: &[u8]) -> Result<List<TestDef>, ReadFault> {
+    read_for(alloc, &mut CalmFiles::new(folders(alloc, last)?), "")
 }
 
 #[test]
 fn reads_as_many_tests_as_a_tree_may_have(rt: HostRuntime) -> Result<(), Fail> {
-    let alloc = rt.alloc();
-    let read = read_folders(alloc, b"")?;
-    assert!(rt; read.is_ok_and(|tests| tests.len() == 400_000));
-    let told = told(alloc, read_folders(alloc, b"add_test(a b)")?)?;
-    assert_eq!(rt; told.as_str(), "./last/CTestTestfile.cmake:1 TooManyTests");
+    assert!(rt; read_folders(rt.alloc(), b"")?.len() == 400_000);
+    let told = told(rt.alloc(), &read_folders(rt.alloc(), b"add_test(a b)"))?;
+    is_told(
+        &rt,
+        "one more",
+        told.as_str(),
+        "./last/CTestTestfile.cmake:1 TooManyTests",
+    );
     Ok(())
+}
+
+/// The call that fails, and what is then read.
+const FAILING: [(u64, &str); 3] = [
+    (1, "failed ./CTestTestfile.cmake"),
+    (2, "failed ./a"),
+    (3, "failed ./b"),
+];
+
+/// Makes files of which one call fails.
+fn failing_files(alloc: Global, number: u64) -> Result<MemFiles, NoMemory> {
+    let mut fail_at = List::new(alloc);
+    fail_at.push(number)?;
+    let held = held(alloc, "if(EXISTS a)~endif()~include(b) + ./b: #")?;
+    Ok(MemFiles::new(held, fail_at))
+}
+
+/// Reads files of which one call fails.
+fn read_failing(alloc: Global, number: u64) -> Result<String, NoMemory> {
+    let mut files = failing_files(alloc, number)?;
+    Ok(told_for(alloc, &mut files, "")?)
 }
 
 #[test]
 fn names_the_path_that_the_files_refused(rt: HostRuntime) -> Result<(), Fail> {
-    let alloc = rt.alloc();
-    let dir = Name::of(alloc, b".")?;
-    let config = Name::of(alloc, b"")?;
-    for (number, want) in [
-        (1, "failed ./CTestTestfile.cmake"),
-        (2, "failed ./a"),
-        (3, "failed ./b"),
-    ] {
-        let mut fail_at = List::new(alloc);
-        fail_at.push(number)?;
-        let held = held(alloc, "if(EXISTS a)~endif()~include(b) + ./b: #")?;
-        let mut files = MemFiles::new(held, fail_at);
-        let told = told(alloc, read_tree(alloc, &mut files, &dir, &config))?;
-        assert_eq!(rt; told.as_str(), want);
+    for (number, want) in &FAILING {
+        let told = read_failing(rt.alloc(), *number)?;
+        is_told(&rt, want, told.as_str(), want);
     }
     Ok(())
 }
@@ -369,38 +441,38 @@ fn names_the_path_that_the_files_refused(rt: HostRuntime) -> Result<(), Fail> {
 /// Reads a text as the one test file of a tree.
 fn read_text(alloc: Global, text: Name) -> Result<String, NoMemory> {
     let mut held = List::new(alloc);
-    held.push(Pair {
-        name: Name::of(alloc, TOP.as_bytes())?,
-        value: text,
-    })?;
+    let name = Name::of(alloc, TOP.as_bytes())?;
+    held.push(Pair { name, value: text })?;
     read_held(alloc, held)
 }
 
 fn read_held(alloc: Global, held: List<Pair>) -> Result<String, NoMemory> {
-    let dir = Name::of(alloc, b".")?;
-    let config = Name::of(alloc, b"")?;
     let mut files = CalmFiles::new(held);
-    Ok(told(alloc, read_tree(alloc, &mut files, &dir, &config))?)
+    Ok(told_for(alloc, &mut files, "")?)
 }
 
 /// Reads a command with a value of so many bytes.
 fn read_value(alloc: Global, bytes: u32) -> Result<String, NoMemory> {
+    read_text(alloc, Name::from_vec(setting(alloc, bytes)?))
+}
+
+/// Returns the text of a command with a value of so many bytes.
+fn setting(alloc: Global, bytes: u32) -> Result<Vec<u8>, AllocError> {
     let mut text = Vec::new(alloc);
     text.extend_from_slice(b"set(a ")?;
     for _ in 0..bytes {
         text.push(b'x')?;
     }
     text.push(b')')?;
-    read_text(alloc, Name::from_vec(text))
+    Ok(text)
 }
 
 #[test]
 fn reads_a_value_up_to_its_limit(rt: HostRuntime) -> Result<(), Fail> {
-    let alloc = rt.alloc();
-    for (bytes, want) in [(1_048_576, ""), (1_048_577, "1 TooLong")] {
-        let told = read_value(alloc, bytes)?;
-        assert_eq!(rt; told.as_str(), want, "{bytes}");
-    }
+    let whole = read_value(rt.alloc(), 1_048_576)?;
+    is_told(&rt, "1048576", whole.as_str(), "");
+    let more = read_value(rt.alloc(), 1_048_577)?;
+    is_told(&rt, "1048577", more.as_str(), "1 TooLong");
     Ok(())
 }
 
@@ -409,22 +481,30 @@ fn read_chain(alloc: Global, count: u32) -> Result<String, NoMemory> {
     let mut held = List::new(alloc);
     held.push(file(alloc, TOP, b"include(1)")?)?;
     for number in 1..count {
-        let path = format!(in alloc; "./{number}")?;
-        let text = format!(in alloc; "include({})", number.saturating_add(1))?;
-        held.push(file(alloc, path.as_str(), text.as_bytes())?)?;
+        held.push(link(alloc, number)?)?;
     }
-    let path = format!(in alloc; "./{count}")?;
-    held.push(file(alloc, path.as_str(), b"")?)?;
+    held.push(numbered(alloc, count, b"")?)?;
     read_held(alloc, held)
+}
+
+/// Returns the file with this number, which opens the next one.
+fn link(alloc: Global, number: u32) -> Result<Pair, NoMemory> {
+    let text = format!(in alloc; "include({})", number.saturating_add(1))?;
+    numbered(alloc, number, text.as_bytes())
+}
+
+/// Returns the file with this number.
+fn numbered(alloc: Global, number: u32, text: &[u8]) -> Result<Pair, NoMemory> {
+    let path = format!(in alloc; "./{number}")?;
+    file(alloc, path.as_str(), text)
 }
 
 #[test]
 fn opens_64_files_inside_one_another(rt: HostRuntime) -> Result<(), Fail> {
-    let alloc = rt.alloc();
-    for (behind, want) in [(63, ""), (64, "./63:1 TooDeep")] {
-        let told = read_chain(alloc, behind)?;
-        assert_eq!(rt; told.as_str(), want, "{behind}");
-    }
+    let most = read_chain(rt.alloc(), 63)?;
+    is_told(&rt, "63", most.as_str(), "");
+    let more = read_chain(rt.alloc(), 64)?;
+    is_told(&rt, "64", more.as_str(), "./63:1 TooDeep");
     Ok(())
 }
 
@@ -433,27 +513,33 @@ fn cut(alloc: Global, len: usize) -> Result<Name, NoMemory> {
     Name::of(alloc, GENERATED.as_bytes().get(..len).unwrap_or(b""))
 }
 
+/// Reads the first bytes of the test file that CMake wrote.
+fn read_cut(alloc: Global, len: usize) -> Result<String, NoMemory> {
+    read_text(alloc, cut(alloc, len)?)
+}
+
+/// The last bytes in front of a cut, and what is then read.
+const CUTS: [(&str, &str); 4] = [
+    ("add_test([=[unit", "4 OpenBracket"),
+    ("add_test(", "4 OpenCall"),
+    ("LABELS \"core", "5 OpenString"),
+    ("build\na", "4 OpenCall"),
+];
+
 #[test]
 fn refuses_a_file_that_is_cut(rt: HostRuntime) -> Result<(), Fail> {
-    let alloc = rt.alloc();
-    for (last, want) in [
-        ("add_test([=[unit", "4 OpenBracket"),
-        ("add_test(", "4 OpenCall"),
-        ("LABELS \"core", "5 OpenString"),
-        ("build\na", "4 OpenCall"),
-    ] {
-        let (front, _) = GENERATED.split_once(last).unwrap_or(("", ""));
-        let told = read_text(alloc, cut(alloc, front.len().saturating_add(last.len()))?)?;
-        assert_eq!(rt; told.as_str(), want, "{last}");
+    for (last, want) in &CUTS {
+        let (front, _) = GENERATED.split_once(*last).unwrap_or(("", ""));
+        let told = read_cut(rt.alloc(), front.len().saturating_add(last.len()))?;
+        is_told(&rt, last, told.as_str(), want);
     }
     Ok(())
 }
 
 #[test]
 fn answers_each_beginning_of_a_file(rt: HostRuntime) -> Result<(), Fail> {
-    let alloc = rt.alloc();
     for len in 0..=GENERATED.len() {
-        let told = read_text(alloc, cut(alloc, len)?)?;
+        let told = read_cut(rt.alloc(), len)?;
         assert!(rt; is_answer(told.as_str()), "{len}: {told}");
     }
     Ok(())
@@ -476,20 +562,14 @@ fn doubling(alloc: Global) -> Result<List<Pair>, NoMemory> {
         let name = format!(in alloc; "f{number}")?;
         held.push(including(alloc, name.as_str(), number + 1)?)?;
     }
-    held.push(Pair {
-        name: Name::of(alloc, b"./f21")?,
-        value: Name::of(alloc, b"")?,
-    })?;
+    held.push(file(alloc, "./f21", b"")?)?;
     Ok(held)
 }
 
 fn including(alloc: Global, name: &str, next: u32) -> Result<Pair, NoMemory> {
     let path = format!(in alloc; "./{name}")?;
     let text = format!(in alloc; "include(\"f{next}\")\ninclude(\"f{next}\")\n")?;
-    Ok(Pair {
-        name: Name::of(alloc, path.as_bytes())?,
-        value: Name::of(alloc, text.as_bytes())?,
-    })
+    file(alloc, path.as_str(), text.as_bytes())
 }
 
 #[test]
@@ -499,13 +579,17 @@ fn refuses_files_that_double(rt: HostRuntime) -> Result<(), Fail> {
     Ok(())
 }
 
+/// Reads a file of so many line feeds.
+fn read_feeds(alloc: Global, len: usize) -> Result<String, NoMemory> {
+    let feeds = vec![in alloc; b'\n'; len]?;
+    read_text(alloc, Name::from_vec(feeds))
+}
+
 #[test]
 fn reads_line_feeds_up_to_the_limit_of_a_file(rt: HostRuntime) -> Result<(), Fail> {
-    for (len, want) in [(16_777_217usize, "0 TooLong"), (16_777_216, "")] {
-        let mut feeds = Vec::new(rt.alloc());
-        feeds.resize(len, b'\n')?;
-        let told = read_text(rt.alloc(), Name::from_vec(feeds))?;
-        assert_eq!(rt; told.as_str(), want, "{len}");
-    }
+    let more = read_feeds(rt.alloc(), 16_777_217)?;
+    is_told(&rt, "16777217", more.as_str(), "0 TooLong");
+    let most = read_feeds(rt.alloc(), 16_777_216)?;
+    is_told(&rt, "16777216", most.as_str(), "");
     Ok(())
 }

@@ -156,8 +156,8 @@ fn check_run(rt: &impl Abort, alloc: Global, row: &str) -> Result<(), NoMemory> 
     let (run, rest) = rest.split_once(" => ").unwrap_or((rest, ""));
     let (new, log) = rest.split_once(" =>").unwrap_or((rest, ""));
     let record = record_of(rt, alloc, run)?;
-    leaves_costs(rt, alloc, &record, old, new)?;
-    leaves_log(rt, alloc, &record, log.trim_start())
+    leaves_costs(rt, alloc, &record, old, new, row)?;
+    leaves_log(rt, alloc, &record, log.trim_start(), row)
 }
 
 /// Checks the cost data that a run leaves.
@@ -167,19 +167,26 @@ fn leaves_costs(
     past: &Record,
     old: &str,
     new: &str,
+    row: &str,
 ) -> Result<(), NoMemory>
     requires { are_all_final past.now.plan past.now.history.entries.items ≡ true }
 {
     let text = text_after(alloc, past, old)?;
-    says(rt, alloc, &text, MARK, new, old)
+    says(rt, alloc, &text, MARK, new, row)
 }
 
 /// Checks the log of failed tests that a run leaves.
-fn leaves_log(rt: &impl Abort, alloc: Global, past: &Record, log: &str) -> Result<(), NoMemory>
+fn leaves_log(
+    rt: &impl Abort,
+    alloc: Global,
+    past: &Record,
+    log: &str,
+    row: &str,
+) -> Result<(), NoMemory>
     requires { are_all_final past.now.plan past.now.history.entries.items ≡ true }
 {
     let text = log_of(alloc, past)?;
-    says(rt, alloc, &text, "", log, log)
+    says(rt, alloc, &text, "", log, row)
 }
 
 /// Returns the text of the cost data that a run leaves.

@@ -4,7 +4,7 @@ ghost use Rattle.std.specs.Prelude.{◌≡◌, ◌==◌, ℕ, All, IfOk, IfSome,
 ghost use Rattle.std.specs.Bool.{OnTrue};
 ghost use Rattle.std.specs.List.{list_all, list_any};
 ghost use Rattle.ct_alloc.specs.Free.{used_at};
-ghost use Rattle.ct_alloc.specs.Placement.{AreDistinct, same_resource};
+ghost use Rattle.ct_alloc.specs.Placement.{AreDistinct, SomeFits, same_resource};
 ghost use Rattle.ct_history.specs.Plan.{AllAscend, IsAscendingFrom, IsPlaceable, IsSound, has_sound_links, has_sound_processors, is_before_rank, is_fixed_cause, enabled, test_at as planned_test};
 
 use ct_alloc::Free;
@@ -108,14 +108,19 @@ pub fn queued(
 pub fn cards(alloc: Global, slots: &[u32]) -> Result<List<Resource>, NoMemory> {
     let mut cards = List::new(alloc);
     for (at, slots) in slots.iter().enumerate() {
-        let id = at.to_string(alloc)?;
-        cards.push(Resource {
-            kind: Name::of(alloc, b"gpus")?,
-            id: Name::of(alloc, id.as_bytes())?,
-            slots: *slots,
-        })?;
+        cards.push(card(alloc, at, *slots)?)?;
     }
     Ok(cards)
+}
+
+/// Makes a card with this place as its id.
+fn card(alloc: Global, at: usize, slots: u32) -> Result<Resource, NoMemory> {
+    let id = at.to_string(alloc)?;
+    Ok(Resource {
+        kind: Name::of(alloc, b"gpus")?,
+        id: Name::of(alloc, id.as_bytes())?,
+        slots,
+    })
 }
 
 /// Makes needs of one kind with these slots.
@@ -343,7 +348,15 @@ fn is_placeable(
         return Ok(true);
     }
     let free = unused(alloc, resources)?;
-    Ok(free.place(alloc, &test.needs)?.is_some())
+    has_room(alloc, &free, &test.needs)
+}
+
+/// Tells whether needs can be placed on resources of which nothing is used.
+fn has_room(alloc: Global, free: &Free, needs: &List<Need>) -> Result<bool, NoMemory>
+    requires unused { (place : ℕ) → used_at free.now place ≡ 0 }
+    ensures { IfOk result (λ yes. OnTrue yes (SomeFits free.now.resources needs.now (λ place. 0))) }
+{
+    Ok(free.place(alloc, needs)?.is_some())
 }
 
 /// Tells whether each test that is not disabled stands in the queue once.

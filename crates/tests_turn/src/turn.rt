@@ -1,10 +1,10 @@
 //! The turn over a core: two passes in one thread, and workers in threads of their own.
 
-ghost use Rattle.std.specs.Prelude.{◌≡◌, IfSome, [], false, Some, None};
+ghost use Rattle.std.specs.Prelude.{◌≡◌, ◌≤◌, IfSome, [], false, Some, None};
 ghost use Rattle.std.specs.Thread.{IsSync};
 ghost use Rattle.ct_turn.specs.Pass.{idle_pass};
 ghost use Rattle.ct_turn.specs.Seen.{has_seen, held_start};
-ghost use Rattle.tests_turn.specs.Held.{HasWorked, held_behind, open_start_of_ticket};
+ghost use Rattle.tests_turn.specs.Held.{HasWorked, IsKeeper, IsOfWorker, held_behind, open_start_of_ticket};
 
 use ct_base::{List, NoMemory};
 use ct_core::{Core, Next, Ticket};
@@ -87,38 +87,75 @@ fn work<R: Wait>(rt: &R, turn: &Turn<Core>, mut pass: Pass, worker: u32) -> Pass
 fn play<R: Wait + Abort>(rt: &R, alloc: Global, core: Core) -> Option<Core>
     requires new { (core.entries ≡ []) × (core.aborted ≡ false) }
 {
-    let Ok((turn, mut first)) = Turn::open(alloc, core, 2) else {
-        return None;
-    };
-    let mut second = turn.split(&mut first);
-    let ticket = match ask(rt, &turn, &mut first, 0) {
+    let (turn, mut first) = open(alloc, core, 2)?;
+    play_on(rt, &turn, &mut first);
+    Some(turn.close(first))
+}
+
+/// Opens a turn with a core in which nothing has happened.
+fn open(alloc: Global, core: Core, seats: u32) -> Option<(Turn<Core>, Pass)>
+    requires seats { 1 ≤ seats }
+    requires new { (core.entries ≡ []) × (core.aborted ≡ false) }
+    ensures { IfSome result (λ opened. (opened.0.seats ≡ seats)
+        × IsKeeper opened.0 1 0 opened.1) }
+{
+    Turn::open(alloc, core, seats).ok()
+}
+
+/// Makes a second pass on a turn, takes the steps of both, and joins the second into the first.
+fn play_on<R: Wait + Abort>(rt: &R, turn: &Turn<Core>, first: &mut Pass)
+    requires seats { 2 ≤ turn.now.seats }
+    requires first { IsKeeper turn.now 1 0 first.old }
+    ensures { IsKeeper turn.now 2 1 first.new }
+{
+    let mut second = turn.split(first);
+    let ticket = start(rt, turn, first);
+    wait(rt, turn, &mut second);
+    finish(rt, turn, first, ticket, passed());
+    turn.join(first, second);
+}
+
+/// Lets worker 0 start a test.
+fn start<R: Wait + Abort>(rt: &R, turn: &Turn<Core>, pass: &mut Pass) -> Ticket
+    requires turn { pass.old.turn ≡ turn.now.id }
+    requires worker { pass.old.known.worker ≡ 0 }
+    requires idle { (pass.old.taken ≡ None) × (held_start pass.old.known ≡ None) }
+    ensures pass { pass.new ≡
+        idle_pass pass.old.turn (has_seen pass.old.known pass.new.known.seen) }
+    ensures held { held_start pass.new.known ≡ Some (open_start_of_ticket result) }
+{
+    match ask(rt, turn, pass, 0) {
         Next::Start(ticket) => ticket,
         Next::Settled(_) | Next::Wait | Next::Done | Next::Aborted | Next::NoMemory => {
             panic!(rt; "test 1 did not start")
         }
-    };
-    match ask(rt, &turn, &mut second, 1) {
+    }
+}
+
+/// Lets worker 1 ask what it has to do. Where it is given a test, it ends it.
+fn wait<R: Wait + Abort>(rt: &R, turn: &Turn<Core>, pass: &mut Pass)
+    requires turn { pass.old.turn ≡ turn.now.id }
+    requires worker { pass.old.known.worker ≡ 1 }
+    requires idle { (pass.old.taken ≡ None) × (held_start pass.old.known ≡ None) }
+    ensures pass { pass.new ≡
+        idle_pass pass.old.turn (has_seen pass.old.known pass.new.known.seen) }
+    ensures held { held_start pass.new.known ≡ None }
+{
+    match ask(rt, turn, pass, 1) {
         Next::Wait => {}
-        Next::Start(ticket) => finish(rt, &turn, &mut second, ticket, passed()),
+        Next::Start(ticket) => finish(rt, turn, pass, ticket, passed()),
         Next::Settled(_) | Next::Done | Next::Aborted | Next::NoMemory => {
             panic!(rt; "the other worker did not wait")
         }
     }
-    finish(rt, &turn, &mut first, ticket, passed());
-    turn.join(&mut first, second);
-    Some(turn.close(first))
 }
 
 /// Runs two workers in threads of their own.
 fn run_two<R: Threads + Wait + Sync>(rt: &R, alloc: Global, core: Core) -> Option<Core>
     requires new { (core.entries ≡ []) × (core.aborted ≡ false) }
 {
-    let Ok((turn, mut first)) = Turn::open(alloc, core, 2) else {
-        return None;
-    };
-    let second = turn.split(&mut first);
-    let (mut first, second) = work_both(rt, &turn, first, second, 0, 1);
-    turn.join(&mut first, second);
+    let (turn, first) = open(alloc, core, 2)?;
+    let first = work_by_two(rt, &turn, first);
     Some(turn.close(first))
 }
 
@@ -126,38 +163,74 @@ fn run_two<R: Threads + Wait + Sync>(rt: &R, alloc: Global, core: Core) -> Optio
 fn run_four<R: Threads + Wait + Sync>(rt: &R, alloc: Global, core: Core) -> Option<Core>
     requires new { (core.entries ≡ []) × (core.aborted ≡ false) }
 {
-    let Ok((turn, mut first)) = Turn::open(alloc, core, 4) else {
-        return None;
-    };
+    let (turn, first) = open(alloc, core, 4)?;
+    let first = work_by_four(rt, &turn, first);
+    Some(turn.close(first))
+}
+
+/// Lets the worker of the first pass and one more work, and joins their passes.
+fn work_by_two<R: Threads + Wait + Sync>(rt: &R, turn: &Turn<Core>, mut first: Pass) -> Pass
+    requires seats { 2 ≤ turn.now.seats }
+    requires first { IsKeeper turn.now 1 0 first }
+    ensures { IsKeeper turn.now 2 1 result }
+{
+    let second = turn.split(&mut first);
+    let (mut first, second) = work_both(rt, turn, first, second, 0, 1);
+    turn.join(&mut first, second);
+    first
+}
+
+/// Lets the worker of the first pass and three more work, and joins their passes.
+fn work_by_four<R: Threads + Wait + Sync>(rt: &R, turn: &Turn<Core>, mut first: Pass) -> Pass
+    requires seats { 4 ≤ turn.now.seats }
+    requires first { IsKeeper turn.now 1 0 first }
+    ensures { IsKeeper turn.now 4 3 result }
+{
     let second = turn.split(&mut first);
     let third = turn.split(&mut first);
     let fourth = turn.split(&mut first);
-    let shared = &turn;
-    let ((mut first, second), (third, fourth)) = join(
-        rt,
-        move || -> (Pass, Pass)
-            requires shared { IsSync R.row }
-            requires turn { (first.turn ≡ shared.now.id) × (second.turn ≡ shared.now.id) }
-            requires workers { (first.known.worker ≡ 0) × (second.known.worker ≡ 1) }
-            requires idle { (first.taken ≡ None) × (second.taken ≡ None) }
-            requires held { (held_start first.known ≡ None) × (held_start second.known ≡ None) }
-            ensures first { HasWorked first result.0 }
-            ensures second { HasWorked second result.1 }
-        { work_both(rt, shared, first, second, 0, 1) },
-        move || -> (Pass, Pass)
-            requires shared { IsSync R.row }
-            requires turn { (third.turn ≡ shared.now.id) × (fourth.turn ≡ shared.now.id) }
-            requires workers { (third.known.worker ≡ 2) × (fourth.known.worker ≡ 3) }
-            requires idle { (third.taken ≡ None) × (fourth.taken ≡ None) }
-            requires held { (held_start third.known ≡ None) × (held_start fourth.known ≡ None) }
-            ensures first { HasWorked third result.0 }
-            ensures second { HasWorked fourth result.1 }
-        { work_both(rt, shared, third, fourth, 2, 3) },
-    );
+    let ((mut first, second), (third, fourth)) = work_all(rt, turn, first, second, third, fourth);
     turn.join(&mut first, second);
     turn.join(&mut first, third);
     turn.join(&mut first, fourth);
-    Some(turn.close(first))
+    first
+}
+
+/// Lets four workers work, two beside the two others.
+fn work_all<R: Threads + Wait + Sync>(
+    rt: &R,
+    turn: &Turn<Core>,
+    first: Pass,
+    second: Pass,
+    third: Pass,
+    fourth: Pass,
+) -> ((Pass, Pass), (Pass, Pass))
+    requires first { IsOfWorker turn.now 0 first }
+    requires second { IsOfWorker turn.now 1 second }
+    requires third { IsOfWorker turn.now 2 third }
+    requires fourth { IsOfWorker turn.now 3 fourth }
+    ensures first { HasWorked first result.0.0 }
+    ensures second { HasWorked second result.0.1 }
+    ensures third { HasWorked third result.1.0 }
+    ensures fourth { HasWorked fourth result.1.1 }
+{
+    join(
+        rt,
+        move || -> (Pass, Pass)
+            requires shared { IsSync R.row }
+            requires first { IsOfWorker turn.now 0 first }
+            requires second { IsOfWorker turn.now 1 second }
+            ensures first { HasWorked first result.0 }
+            ensures second { HasWorked second result.1 }
+        { work_both(rt, turn, first, second, 0, 1) },
+        move || -> (Pass, Pass)
+            requires shared { IsSync R.row }
+            requires third { IsOfWorker turn.now 2 third }
+            requires fourth { IsOfWorker turn.now 3 fourth }
+            ensures first { HasWorked third result.0 }
+            ensures second { HasWorked fourth result.1 }
+        { work_both(rt, turn, third, fourth, 2, 3) },
+    )
 }
 
 fn work_both<R: Threads + Wait + Sync>(

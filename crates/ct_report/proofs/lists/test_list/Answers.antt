@@ -61,48 +61,6 @@ returns-in_err-put_tests-clause-each g c =
     let first = one_line old one heading (Ok tt) (subst (λ (t : List ℕ). Puts t old one (Ok tt)) named c.in_ok-put.ensures.puts) (subst (λ (t : List ℕ). PutsEach (t ∷ []) old one (Ok tt)) named c.in_ok-put.ensures.each) in
     rw gave ((middle-fails heading middle ending old one two fault first (record { bytes = c.in_err-put_tests.ensures.text; each = c.in_err-put_tests.ensures.each })).each)
 
-pub returns-in_err-put_total-clause-text : goal.returns-in_err-put_total-clause-text
-returns-in_err-put_total-clause-text g c =
-    let old = g.S.Sink.tells c.args.sink.now in
-    let one = g.S.Sink.tells c.put.new.self in
-    let heading = project_line c.args.dir.now in
-    let middle = map test_entry c.args.tests.now in
-    let ending = codes "\n" ∷ total_line (enabled_count c.args.tests.now) ∷ [] in
-    let named : c.bytes.result.now ≡ heading = search rules in
-    let two = g.S.Sink.tells c.put_tests.new.sink in
-    let new = g.S.Sink.tells c.put_total.new.sink in
-    let fault = c.in_err-put_total.field-0.0 in
-    let gave : c.from_residual-in_err-put_total.result ≡ Err fault = search rules in
-    let first = one_line old one heading (Ok tt) (subst (λ (t : List ℕ). Puts t old one (Ok tt)) named c.in_ok-put.ensures.puts) (subst (λ (t : List ℕ). PutsEach (t ∷ []) old one (Ok tt)) named c.in_ok-put.ensures.each) in
-    let second : PutsLines middle one two (Ok tt) = record { bytes = c.in_ok-put_tests.ensures.text; each = c.in_ok-put_tests.ensures.each } in
-    let total : c.bytes-2.result.now ≡ total_line (enabled_count c.args.tests.now) = search rules in
-    let third : PutsLines ending two new (Err fault) = record {
-      bytes = subst (λ (t : List ℕ). Puts (text_of (codes "\n" ∷ t ∷ [])) two new (Err fault)) total c.in_err-put_total.ensures.text;
-      each = subst (λ (t : List ℕ). PutsEach (codes "\n" ∷ t ∷ []) two new (Err fault)) total c.in_err-put_total.ensures.each;
-    } in
-    rw gave ((ending-put heading middle ending old one two new (Err fault) first second third).bytes)
-
-pub returns-in_err-put_total-clause-each : goal.returns-in_err-put_total-clause-each
-returns-in_err-put_total-clause-each g c =
-    let old = g.S.Sink.tells c.args.sink.now in
-    let one = g.S.Sink.tells c.put.new.self in
-    let heading = project_line c.args.dir.now in
-    let middle = map test_entry c.args.tests.now in
-    let ending = codes "\n" ∷ total_line (enabled_count c.args.tests.now) ∷ [] in
-    let named : c.bytes.result.now ≡ heading = search rules in
-    let two = g.S.Sink.tells c.put_tests.new.sink in
-    let new = g.S.Sink.tells c.put_total.new.sink in
-    let fault = c.in_err-put_total.field-0.0 in
-    let gave : c.from_residual-in_err-put_total.result ≡ Err fault = search rules in
-    let first = one_line old one heading (Ok tt) (subst (λ (t : List ℕ). Puts t old one (Ok tt)) named c.in_ok-put.ensures.puts) (subst (λ (t : List ℕ). PutsEach (t ∷ []) old one (Ok tt)) named c.in_ok-put.ensures.each) in
-    let second : PutsLines middle one two (Ok tt) = record { bytes = c.in_ok-put_tests.ensures.text; each = c.in_ok-put_tests.ensures.each } in
-    let total : c.bytes-2.result.now ≡ total_line (enabled_count c.args.tests.now) = search rules in
-    let third : PutsLines ending two new (Err fault) = record {
-      bytes = subst (λ (t : List ℕ). Puts (text_of (codes "\n" ∷ t ∷ [])) two new (Err fault)) total c.in_err-put_total.ensures.text;
-      each = subst (λ (t : List ℕ). PutsEach (codes "\n" ∷ t ∷ []) two new (Err fault)) total c.in_err-put_total.ensures.each;
-    } in
-    rw gave ((ending-put heading middle ending old one two new (Err fault) first second third).each)
-
 pub returns-clause-text : goal.returns-clause-text
 returns-clause-text g c =
     let old = g.S.Sink.tells c.args.sink.now in
@@ -116,11 +74,11 @@ returns-clause-text g c =
     let first = one_line old one heading (Ok tt) (subst (λ (t : List ℕ). Puts t old one (Ok tt)) named c.in_ok-put.ensures.puts) (subst (λ (t : List ℕ). PutsEach (t ∷ []) old one (Ok tt)) named c.in_ok-put.ensures.each) in
     let second : PutsLines middle one two (Ok tt) = record { bytes = c.in_ok-put_tests.ensures.text; each = c.in_ok-put_tests.ensures.each } in
     let total : c.bytes-2.result.now ≡ total_line (enabled_count c.args.tests.now) = search rules in
-    let third : PutsLines ending two new (Ok tt) = record {
-      bytes = subst (λ (t : List ℕ). Puts (text_of (codes "\n" ∷ t ∷ [])) two new (Ok tt)) total c.in_ok-put_total.ensures.text;
-      each = subst (λ (t : List ℕ). PutsEach (codes "\n" ∷ t ∷ []) two new (Ok tt)) total c.in_ok-put_total.ensures.each;
+    let third : PutsLines ending two new c.put_total.result = record {
+      bytes = subst (λ (t : List ℕ). Puts (text_of (codes "\n" ∷ t ∷ [])) two new c.put_total.result) total c.put_total.ensures.text;
+      each = subst (λ (t : List ℕ). PutsEach (codes "\n" ∷ t ∷ []) two new c.put_total.result) total c.put_total.ensures.each;
     } in
-    (ending-put heading middle ending old one two new (Ok tt) first second third).bytes
+    (ending-put heading middle ending old one two new c.put_total.result first second third).bytes
 
 pub returns-clause-each : goal.returns-clause-each
 returns-clause-each g c =
@@ -135,8 +93,8 @@ returns-clause-each g c =
     let first = one_line old one heading (Ok tt) (subst (λ (t : List ℕ). Puts t old one (Ok tt)) named c.in_ok-put.ensures.puts) (subst (λ (t : List ℕ). PutsEach (t ∷ []) old one (Ok tt)) named c.in_ok-put.ensures.each) in
     let second : PutsLines middle one two (Ok tt) = record { bytes = c.in_ok-put_tests.ensures.text; each = c.in_ok-put_tests.ensures.each } in
     let total : c.bytes-2.result.now ≡ total_line (enabled_count c.args.tests.now) = search rules in
-    let third : PutsLines ending two new (Ok tt) = record {
-      bytes = subst (λ (t : List ℕ). Puts (text_of (codes "\n" ∷ t ∷ [])) two new (Ok tt)) total c.in_ok-put_total.ensures.text;
-      each = subst (λ (t : List ℕ). PutsEach (codes "\n" ∷ t ∷ []) two new (Ok tt)) total c.in_ok-put_total.ensures.each;
+    let third : PutsLines ending two new c.put_total.result = record {
+      bytes = subst (λ (t : List ℕ). Puts (text_of (codes "\n" ∷ t ∷ [])) two new c.put_total.result) total c.put_total.ensures.text;
+      each = subst (λ (t : List ℕ). PutsEach (codes "\n" ∷ t ∷ []) two new c.put_total.result) total c.put_total.ensures.each;
     } in
-    (ending-put heading middle ending old one two new (Ok tt) first second third).each
+    (ending-put heading middle ending old one two new c.put_total.result first second third).each

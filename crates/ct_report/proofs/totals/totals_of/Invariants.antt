@@ -3,4 +3,4 @@ use Rattle.ct_report.specs.Totals.{AreTotals}
 use Rattle.ct_report.proofs.totals.totals_of.Given as goal
 
 abbrev pub invariant-loop-test : goal.invariant-loop-test
-invariant-loop-test l = AreTotals l.plan l.entries (take l.test-index l.test-items) (record { good = l.good; unrun = l.unrun; failed = l.failed; labelled = l.labelled; labelled_good = l.labelled_good })
+invariant-loop-test l = AreTotals l.plan l.entries (take l.test-index l.test-items) l.totals

@@ -1,0 +1,7 @@
+use Rattle.std.proofs.Common.{◌≡◌, ◌++◌, take}
+use Rattle.ct_journal_text.specs.declared.lines.JournalLine.TheVariants as Line
+use Rattle.ct_journal_text.specs.Journal.{full_line, entry_lines}
+use Rattle.ct_journal_text.proofs.writer.append_journal.Given as goal
+
+abbrev pub invariant-loop-entry : goal.invariant-loop-entry
+invariant-loop-entry l = l.text ≡ l.fn.text ++ full_line Line.First ++ entry_lines (take l.entry-index l.entries)
