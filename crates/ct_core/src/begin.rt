@@ -7,6 +7,7 @@ ghost use Rattle.ct_core.specs.Waiting.{AreSettleable, IsQueued};
 ghost use Rattle.ct_history.specs.Plan.{IsAscendingFrom, IsSound, test_at};
 ghost use Rattle.ct_queue.specs.Marks.{is_marked};
 
+use crate::both::both;
 use crate::bunches::{KeyPlace, bunches_of, keys_of};
 use crate::followers::followers;
 use crate::in_use::{InUse, nothing};
@@ -31,8 +32,8 @@ impl Parts {
             return Err(NoMemory);
         }
         let waiting = FirstWaiting::of(alloc, plan)?;
-        let first = FirstOfTests::of(alloc, plan)?;
-        let in_use = nothing(alloc, plan)?;
+        let kept = both(waiting, FirstOfTests::of(alloc, plan))?;
+        let ((waiting, first), in_use) = both(kept, nothing(alloc, plan))?;
         Ok(joined(plan, waiting, first, in_use))
     }
 }

@@ -25,11 +25,22 @@ pub(crate) enum KeyPlace {
 pub(crate) fn keys_of(alloc: Global, plan: &PlanParts) -> Result<Vec<Option<KeyPlace>>, NoMemory>
     requires { IsAscendingFrom 1 (map (λ t. t.number) plan.now.tests) }
 {
-    let tests = plan.tests.as_slice();
-    let counts = LockCounts::of(alloc, tests)?;
+    let mut counts = LockCounts::none(alloc);
+    choose_keys(alloc, plan, &mut counts)
+}
+
+/// Counts the locks of the plan's tests, and chooses the key of each test of the queue by these counts.
+fn choose_keys(
+    alloc: Global,
+    plan: &PlanParts,
+    counts: &mut LockCounts,
+) -> Result<Vec<Option<KeyPlace>>, NoMemory>
+    requires { IsAscendingFrom 1 (map (λ t. t.number) plan.now.tests) }
+{
+    counts.add_each(alloc, plan.tests.as_slice())?;
     let mut keys = Vec::new(alloc);
     for number in plan.queue.as_slice() {
-        keys.push(key_of(&counts, tests, *number))?;
+        keys.push(key_of(counts, plan.tests.as_slice(), *number))?;
     }
     Ok(keys)
 }
@@ -42,16 +53,20 @@ struct LockCounts {
 }
 
 impl LockCounts {
-    /// Counts the locks of these tests.
-    fn of(alloc: Global, tests: &[PlanTest]) -> Result<LockCounts, NoMemory> {
-        let mut counts = LockCounts {
+    /// Makes the counts before any lock is counted.
+    fn none(alloc: Global) -> LockCounts {
+        LockCounts {
             alone: IndexMap::new(alloc),
             shared: IndexMap::new(alloc),
-        };
-        for test in tests {
-            counts.add(alloc, test)?;
         }
-        Ok(counts)
+    }
+
+    /// Adds the locks of these tests.
+    fn add_each(&mut self, alloc: Global, tests: &[PlanTest]) -> Result<(), NoMemory> {
+        for test in tests {
+            self.add(alloc, test)?;
+        }
+        Ok(())
     }
 
     /// Adds the locks of one more test.
@@ -157,9 +172,25 @@ pub(crate) fn bunches_of(
     ensures { IfOk result (AreBunchesOf plan.now keys.now) }
 {
     let mut known = IndexMap::new(alloc);
+    list_bunches(alloc, plan, keys, lines, &mut known)
+}
+
+/// Lists the bunch of each test of the queue; those with a key become known by it.
+fn list_bunches(
+    alloc: Global,
+    plan: &PlanParts,
+    keys: &[Option<KeyPlace>],
+    lines: &List<u32>,
+    known: &mut IndexMap<Vec<u8>, u32>,
+) -> Result<List<u32>, NoMemory>
+    requires ascends { IsAscendingFrom 1 (map (λ t. t.number) plan.now.tests) }
+    requires few { length plan.now.queue < 2 ^ 32 }
+    requires lines { AreLinesOf plan.now lines.now }
+    ensures { IfOk result (AreBunchesOf plan.now keys.now) }
+{
     let mut bunches = List::new(alloc);
     for (place, line) in lines.as_slice().iter().enumerate() {
-        let bunch = bunch_of(alloc, plan, keys, &mut known, *line, place as u32)?;
+        let bunch = bunch_of(alloc, plan, keys, known, *line, place as u32)?;
         bunches.push(bunch)?;
     }
     Ok(bunches)

@@ -5,6 +5,7 @@ ghost use Rattle.ct_history.specs.History.{placed_slots};
 ghost use Rattle.ct_core.specs.Slots.{given_resources, used_of};
 ghost use Rattle.ct_core.specs.InUse.{CanGive, CanTake, GivesBack, HasFreeFor, HasTaken, IsInUse, Takes, has_room_beside, is_closed, is_excluded_beside, is_locked};
 
+use crate::both::both;
 use crate::locks::{Locks, none_held};
 use crate::sharers::{Sharers, none_share};
 use ct_alloc::{Free, Placement};
@@ -33,13 +34,16 @@ pub(crate) struct InUse {
 pub(crate) fn nothing(alloc: Global, plan: &PlanParts) -> Result<InUse, NoMemory>
     ensures { IfOk result (λ in_use. IsInUse plan.now [] in_use) }
 {
+    let locks = none_held(alloc, plan.tests.as_slice())?;
+    let known = both(locks, none_share(alloc, plan.tests.as_slice()))?;
+    let ((locks, sharers), free) = both(known, all_free(alloc, plan))?;
     Ok(InUse {
         processors: 0,
         open_count: 0,
         serial: false,
-        locks: none_held(alloc, plan.tests.as_slice())?,
-        sharers: none_share(alloc, plan.tests.as_slice())?,
-        free: all_free(alloc, plan)?,
+        locks,
+        sharers,
+        free,
     })
 }
 

@@ -6,6 +6,7 @@
 #![tactic(auto)]
 
 mod begin;
+mod both;
 mod bunches;
 mod choice;
 mod followers;

@@ -19,9 +19,22 @@ pub(crate) fn lines_of(alloc: Global, plan: &PlanParts) -> Result<List<u32>, NoM
     ensures { IfOk result (AreLinesOf plan.now) }
 {
     let mut known = IndexMap::new(alloc);
+    list_lines(alloc, plan, &mut known)
+}
+
+/// Lists the line of each test of the queue; each becomes known by the text of its demand.
+fn list_lines(
+    alloc: Global,
+    plan: &PlanParts,
+    known: &mut IndexMap<Vec<u8>, u32>,
+) -> Result<List<u32>, NoMemory>
+    requires ascends { IsAscendingFrom 1 (map (λ t. t.number) plan.now.tests) }
+    requires few { length plan.now.queue < 2 ^ 32 }
+    ensures { IfOk result (AreLinesOf plan.now) }
+{
     let mut lines = List::new(alloc);
     for place in 0..plan.queue.len() {
-        let line = line_of(alloc, plan, &mut known, place as u32)?;
+        let line = line_of(alloc, plan, known, place as u32)?;
         lines.push(line)?;
     }
     Ok(lines)

@@ -166,7 +166,12 @@ impl Core {
         ensures within { StaysWithin self.plan self.entries }
         ensures order { FollowsQueue self.plan self.entries }
     {
-        let Run { plan, history, .. } = self.run;
+        let Run {
+            plan,
+            history,
+            parts,
+        } = self.run;
+        drop(parts);
         (plan, history)
     }
 

@@ -1,6 +1,6 @@
 use Rattle.std.proofs.Common.{◌≡◌, ℕ, ◌<◌, All, length, map, take}
 use Rattle.ct_core.specs.Lines.{demand_at, demand_of_test}
-use Rattle.ct_core.proofs.lines.lines_of.Given as goal
+use Rattle.ct_core.proofs.lines.list_lines.Given as goal
 
 abbrev pub invariant-loop-place : goal.invariant-loop-place
 invariant-loop-place l = record {

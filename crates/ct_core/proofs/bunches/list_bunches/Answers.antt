@@ -2,7 +2,7 @@ use Rattle.std.proofs.Common.{◌≡◌, ◌∙◌, ◌+◌, ◌<◌, ℕ, List,
 use Rattle.ct_core.specs.Lines.{demand_at}
 use Rattle.ct_core.proofs.BunchLemmas.{AreBunchesTo, bunches_all, bunches_more}
 use Rattle.ct_core.proofs.LineLemmas.{line_demand, lines_as_many}
-use Rattle.ct_core.proofs.bunches.bunches_of.Goals as goal
+use Rattle.ct_core.proofs.bunches.list_bunches.Goals as goal
 
 pub bunch_of-requires-clause-alike : goal.bunch_of-requires-clause-alike
 bunch_of-requires-clause-alike c =

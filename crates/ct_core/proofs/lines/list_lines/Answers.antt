@@ -2,7 +2,7 @@ use Rattle.std.proofs.Common.{◌∙◌, ◌<◌, ℕ, List, All, ap, length, ma
 use Rattle.std.proofs.lemmas.List.Elements.{All-push}
 use Rattle.ct_core.specs.Lines.{demand_at}
 use Rattle.ct_core.proofs.LineLemmas.{lines_more}
-use Rattle.ct_core.proofs.lines.lines_of.Goals as goal
+use Rattle.ct_core.proofs.lines.list_lines.Goals as goal
 
 pub loop-place-preserved : goal.loop-place-preserved
 loop-place-preserved c =
