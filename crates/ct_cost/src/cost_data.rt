@@ -1,13 +1,16 @@
-ghost use Rattle.std.specs.Prelude.{◌≡◌, IfOk, true};
+ghost use Rattle.std.specs.Prelude.{◌≡◌, ◌++◌, IfOk, OnOk, true, codes, flat_map, fold, map};
 ghost use Rattle.ct_history.specs.Verdicts.{are_all_final};
+ghost use Rattle.ct_cost.specs.CostLine.{with_new_name};
+ghost use Rattle.ct_cost.specs.Endings.{after_ending, with_failed};
+ghost use Rattle.ct_cost.specs.After.{after_test, failed_tests, passed_tests};
+ghost use Rattle.ct_cost.specs.Text.{cost_line_text, failed_text};
 ghost use Rattle.ct_cost.specs.Costs.{cost_of_name, costs_after, costs_in, costs_text, failed_last};
 
 use crate::lines::Lines;
-use crate::log::failed_names;
 use crate::names::Names;
 use crate::reading::Reading;
 use ct_base::{Blob, Name, NoMemory};
-use ct_history::{History, Plan, endings_of};
+use ct_history::{Endings, History, Plan, PlanTest, endings_of};
 use std::alloc::Global;
 
 /// What earlier runs tell: what the tests cost, and which of them failed last time.
@@ -61,11 +64,38 @@ impl CostData {
         requires ended { are_all_final plan.now history.now.entries.items ≡ true }
         ensures { IfOk result (λ costs. costs ≡ costs_after plan.now history.now.entries.items self.now) }
     {
+        let mut costs = CostData {
+            lines: self.lines.copy()?,
+            failed: Names::new(alloc),
+        };
+        costs.add_run(alloc, plan, history)?;
+        Ok(costs)
+    }
+
+    /// Counts one more run of each test that passed, and adds the names of those that failed.
+    fn add_run(&mut self, alloc: Global, plan: &Plan, history: &History) -> Result<(), NoMemory>
+        requires ended { are_all_final plan.now history.now.entries.items ≡ true }
+        ensures lines { OnOk result (self.new.lines
+            ≡ fold (after_test history.now.entries.items) self.old.lines (passed_tests plan.now history.now.entries.items)) }
+        ensures failed { OnOk result (self.new.failed
+            ≡ fold with_new_name self.old.failed (map (λ t. t.name) (failed_tests plan.now history.now.entries.items))) }
+    {
         let endings = endings_of(alloc, history.entries.as_slice())?;
-        let tests = plan.parts().tests.as_slice();
-        let lines = self.lines.after_tests(alloc, tests, &endings)?;
-        let failed = failed_names(alloc, tests, &endings)?;
-        Ok(CostData { lines, failed })
+        self.add_tests(alloc, plan.parts().tests.as_slice(), &endings)
+    }
+
+    /// Counts tests by how they ended.
+    fn add_tests(
+        &mut self,
+        alloc: Global,
+        tests: &[PlanTest],
+        endings: &Endings,
+    ) -> Result<(), NoMemory>
+        ensures lines { OnOk result (self.new.lines ≡ fold (after_ending endings.now) self.old.lines tests.now) }
+        ensures failed { OnOk result (self.new.failed ≡ fold (with_failed endings.now) self.old.failed tests.now) }
+    {
+        self.lines.add_tests(alloc, tests, endings)?;
+        self.failed.add_failed(alloc, tests, endings)
     }
 
     /// Writes the text of version 2 that `read` reads, with durations as seconds with six decimals.
@@ -73,9 +103,17 @@ impl CostData {
         ensures { IfOk result (λ text. text ≡ costs_text self.now) }
     {
         let mut text = Blob::of(alloc, b"version 2\n")?;
-        self.lines.append_to(alloc, &mut text)?;
-        text.append(b"---\n")?;
-        text.append(self.failed.text(alloc)?.bytes())?;
+        self.append_to(alloc, &mut text)?;
         Ok(text)
+    }
+
+    /// Puts the lines, and behind `---` the failed names, behind the text.
+    fn append_to(&self, alloc: Global, text: &mut Blob) -> Result<(), NoMemory>
+        ensures { OnOk result (text.new
+            ≡ text.old ++ flat_map cost_line_text self.now.lines ++ codes "---\n" ++ flat_map failed_text self.now.failed) }
+    {
+        self.lines.append_to(alloc, text)?;
+        text.append(b"---\n")?;
+        self.failed.append_to(text)
     }
 }

@@ -111,6 +111,5 @@ fn append_next(alloc: Global, text: &mut Blob, micros: u64) -> Result<(), NoMemo
     ensures { OnOk result (text.new ≡ text.old ++ next_text micros) }
 {
     text.append(b",")?;
-    append_seconds(alloc, text, micros)?;
-    Ok(())
+    append_seconds(alloc, text, micros)
 }

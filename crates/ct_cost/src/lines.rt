@@ -7,7 +7,7 @@ ghost use Rattle.ct_cost.specs.Endings.{after_ending};
 
 use crate::durations::Durations;
 use crate::endings::passed_micros;
-use crate::line::{Line, Version, line_in};
+use crate::line::{Version, line_in};
 use crate::texts::append_line;
 use ct_base::{Blob, NoMemory};
 use ct_history::{Endings, PlanTest, ending_at};
@@ -55,34 +55,31 @@ impl Lines {
     }
 
     /// Replaces the durations of a name, or adds them behind the others where the name has none.
-    fn with(self, alloc: Global, name: &[u8], durations: Durations) -> Result<Lines, NoMemory>
-        ensures { IfOk result (λ lines. lines ≡ with_line_of self (line_for name.now durations)) }
+    fn add(&mut self, alloc: Global, name: &[u8], durations: Durations) -> Result<(), NoMemory>
+        ensures { OnOk result (self.new ≡ with_line_of self.old (line_for name.now durations)) }
     {
-        let Lines {
-            durations: mut entries,
-        } = self;
-        entries.insert(Vec::from_slice(alloc, name)?, durations)?;
-        Ok(Lines { durations: entries })
+        self.durations
+            .insert(Vec::from_slice(alloc, name)?, durations)?;
+        Ok(())
     }
 
     /// Reads one more line. It is passed over where it is no line of
     /// cost data, or its name has a line.
-    pub(crate) fn with_line(
-        self,
+    pub(crate) fn add_line(
+        &mut self,
         alloc: Global,
         version: Version,
         text: &[u8],
-    ) -> Result<Lines, NoMemory>
-        ensures { IfOk result (λ lines. lines ≡ with_read self (line_read version text.now)) }
+    ) -> Result<(), NoMemory>
+        ensures { OnOk result (self.new ≡ with_read self.old (line_read version text.now)) }
     {
         let Some(line) = line_in(alloc, version, text)? else {
-            return Ok(self);
+            return Ok(());
         };
         if self.durations(line.name).is_some() {
-            return Ok(self);
+            return Ok(());
         }
-        let Line { name, durations } = line;
-        self.with(alloc, name, durations)
+        self.add(alloc, line.name, line.durations)
     }
 
     fn durations_or_none(&self, alloc: Global, name: &[u8]) -> Result<Durations, NoMemory>
@@ -95,15 +92,15 @@ impl Lines {
     }
 
     /// Counts one more run of a name.
-    fn with_run(self, alloc: Global, name: &[u8], micros: u64) -> Result<Lines, NoMemory>
-        ensures { IfOk result (λ lines. lines ≡ run_counted self name.now micros) }
+    fn add_run(&mut self, alloc: Global, name: &[u8], micros: u64) -> Result<(), NoMemory>
+        ensures { OnOk result (self.new ≡ run_counted self.old name.now micros) }
     {
         let mut durations = self.durations_or_none(alloc, name)?;
         durations.push(micros)?;
-        self.with(alloc, name, durations)
+        self.add(alloc, name, durations)
     }
 
-    fn copy(&self) -> Result<Lines, NoMemory>
+    pub(crate) fn copy(&self) -> Result<Lines, NoMemory>
         ensures { IfOk result (λ lines. lines ≡ self.now) }
     {
         Ok(Lines {
@@ -112,33 +109,20 @@ impl Lines {
     }
 
     /// Counts one more run for the name of each test that passed, in order.
-    pub(crate) fn after_tests(
-        &self,
+    pub(crate) fn add_tests(
+        &mut self,
         alloc: Global,
         tests: &[PlanTest],
         endings: &Endings,
-    ) -> Result<Lines, NoMemory>
-        ensures { IfOk result (λ lines. lines ≡ fold (after_ending endings.now) self.now tests.now) }
+    ) -> Result<(), NoMemory>
+        ensures { OnOk result (self.new ≡ fold (after_ending endings.now) self.old tests.now) }
     {
-        let mut lines = self.copy()?;
         for test in tests {
-            lines = lines.after_test(alloc, test, endings)?;
+            if let Some(micros) = passed_micros(test, ending_at(endings, test.number)) {
+                self.add_run(alloc, test.name.bytes(), micros)?;
+            }
         }
-        Ok(lines)
-    }
-
-    fn after_test(
-        self,
-        alloc: Global,
-        test: &PlanTest,
-        endings: &Endings,
-    ) -> Result<Lines, NoMemory>
-        ensures { IfOk result (λ lines. lines ≡ after_ending endings.now self test.now) }
-    {
-        match passed_micros(test, ending_at(endings, test.number)) {
-            Some(micros) => self.with_run(alloc, test.name.bytes(), micros),
-            None => Ok(self),
-        }
+        Ok(())
     }
 
     /// Puts each line behind the text.

@@ -1,10 +1,9 @@
-ghost use Rattle.std.specs.Prelude.{◌≡◌, [], true, IfOk, OnOk, flat_map, fold, ◌++◌};
+ghost use Rattle.std.specs.Prelude.{◌≡◌, true, IfOk, OnOk, flat_map, ◌++◌};
 ghost use Rattle.ct_history.specs.Verdicts.{are_all_final};
 ghost use Rattle.ct_cost.specs.After.{failed_log_text, logged};
-ghost use Rattle.ct_cost.specs.Endings.{log_by, with_failed};
+ghost use Rattle.ct_cost.specs.Endings.{log_by};
 
 use crate::endings::fails_by;
-use crate::names::Names;
 use crate::texts::append_number;
 use ct_base::{Blob, NoMemory};
 use ct_history::{Endings, History, Plan, PlanTest, ending_at, endings_of};
@@ -49,28 +48,8 @@ fn append_failed(
 fn append_logged(alloc: Global, text: &mut Blob, test: &PlanTest) -> Result<(), NoMemory>
     ensures { OnOk result (text.new ≡ text.old ++ logged test.now) }
 {
-    let mut line = Blob::new(alloc);
-    append_number(alloc, &mut line, u64::from(test.number))?;
-    line.append(b":")?;
-    line.append(test.name.bytes())?;
-    line.append(b"\n")?;
-    text.append(line.bytes())?;
-    Ok(())
-}
-
-/// Returns the names of the tests of the failing class, in order and without repeats.
-pub(crate) fn failed_names(
-    alloc: Global,
-    tests: &[PlanTest],
-    endings: &Endings,
-) -> Result<Names, NoMemory>
-    ensures { IfOk result (λ names. names ≡ fold (with_failed endings.now) [] tests.now) }
-{
-    let mut names = Names::new(alloc);
-    for test in tests {
-        if fails_by(test, ending_at(endings, test.number)) {
-            names = names.with(alloc, test.name.bytes())?;
-        }
-    }
-    Ok(names)
+    append_number(alloc, text, u64::from(test.number))?;
+    text.append(b":")?;
+    text.append(test.name.bytes())?;
+    text.append(b"\n")
 }

@@ -1,10 +1,13 @@
-ghost use Rattle.std.specs.Prelude.{◌≡◌, [], IfOk, flat_map};
+ghost use Rattle.std.specs.Prelude.{◌≡◌, ◌++◌, [], OnOk, flat_map, fold};
 ghost use Rattle.ct_cost.specs.CostLine.{with_new_name};
 ghost use Rattle.ct_cost.specs.Text.{failed_text};
 ghost use Rattle.ct_cost.specs.Kept.{with_named};
+ghost use Rattle.ct_cost.specs.Endings.{with_failed};
 ghost use Rattle.ct_base.specs.Names.{is_among};
 
+use crate::endings::fails_by;
 use ct_base::{Blob, NoMemory};
+use ct_history::{Endings, PlanTest, ending_at};
 use indexmap::IndexSet;
 use std::alloc::Global;
 use std::marker::Model;
@@ -40,33 +43,49 @@ impl Names {
     }
 
     /// Adds a name behind the others, unless it is among them.
-    pub(crate) fn with(self, alloc: Global, name: &[u8]) -> Result<Names, NoMemory>
-        ensures { IfOk result (λ names. names ≡ with_new_name self name.now) }
+    fn add(&mut self, alloc: Global, name: &[u8]) -> Result<(), NoMemory>
+        ensures { OnOk result (self.new ≡ with_new_name self.old name.now) }
     {
-        let Names { mut names } = self;
-        names.insert(Vec::from_slice(alloc, name)?)?;
-        Ok(Names { names })
+        self.names.insert(Vec::from_slice(alloc, name)?)?;
+        Ok(())
     }
 
     /// Reads one more line. It is passed over where it is empty.
-    pub(crate) fn with_line(self, alloc: Global, line: &[u8]) -> Result<Names, NoMemory>
-        ensures { IfOk result (λ names. names ≡ with_named self line.now) }
+    pub(crate) fn add_line(&mut self, alloc: Global, line: &[u8]) -> Result<(), NoMemory>
+        ensures { OnOk result (self.new ≡ with_named self.old line.now) }
     {
         if line.is_empty() {
-            return Ok(self);
+            return Ok(());
         }
-        self.with(alloc, line)
+        self.add(alloc, line)
     }
 
-    /// Writes each name as a line.
-    pub(crate) fn text(&self, alloc: Global) -> Result<Blob, NoMemory>
-        ensures { IfOk result (λ text. text ≡ flat_map failed_text self.now) }
+    /// Adds the names of the tests of the failing class, in order.
+    pub(crate) fn add_failed(
+        &mut self,
+        alloc: Global,
+        tests: &[PlanTest],
+        endings: &Endings,
+    ) -> Result<(), NoMemory>
+        ensures { OnOk result (self.new ≡ fold (with_failed endings.now) self.old tests.now) }
     {
-        let mut text = Blob::new(alloc);
-        for name in self.names.iter() {
+        for test in tests {
+            if fails_by(test, ending_at(endings, test.number)) {
+                self.add(alloc, test.name.bytes())?;
+            }
+        }
+        Ok(())
+    }
+
+    /// Puts each name behind the text, as a line.
+    pub(crate) fn append_to(&self, text: &mut Blob) -> Result<(), NoMemory>
+        ensures { OnOk result (text.new ≡ text.old ++ flat_map failed_text self.now) }
+    {
+        let names = self.names.as_slice();
+        for name in names {
             text.append(name.as_slice())?;
             text.append(b"\n")?;
         }
-        Ok(text)
+        Ok(())
     }
 }

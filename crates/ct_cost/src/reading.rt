@@ -1,4 +1,4 @@
-ghost use Rattle.std.specs.Prelude.{◌≡◌, IfOk, fold};
+ghost use Rattle.std.specs.Prelude.{◌≡◌, IfOk, OnOk, fold};
 ghost use Rattle.ct_cost.specs.Text.{ends_line, is_divider as divides, is_mark as marks, lines_in};
 ghost use Rattle.ct_cost.specs.Reading.{after_line, after_lines, parts_from, unread};
 
@@ -26,9 +26,23 @@ impl Reading {
     {
         let end = part_len(text, b'\n');
         if is_mark(&text[..end]) {
-            return Reading::new(alloc, Version::Two).with_lines(alloc, text, end + 1);
+            return Reading::of_lines(alloc, Version::Two, text, end + 1);
         }
-        Reading::new(alloc, Version::One).with_lines(alloc, text, 0)
+        Reading::of_lines(alloc, Version::One, text, 0)
+    }
+
+    /// Reads the lines of a version from a place on.
+    fn of_lines(
+        alloc: Global,
+        version: Version,
+        text: &[u8],
+        start: usize,
+    ) -> Result<Reading, NoMemory>
+        ensures { IfOk result (λ reading. reading ≡ fold after_line (unread version) (parts_from ends_line text.now start)) }
+    {
+        let mut reading = Reading::new(alloc, version);
+        reading.add_lines(alloc, text, start)?;
+        Ok(reading)
     }
 
     fn new(alloc: Global, version: Version) -> Reading
@@ -43,53 +57,30 @@ impl Reading {
     }
 
     /// Reads the lines from a place on.
-    fn with_lines(self, alloc: Global, text: &[u8], start: usize) -> Result<Reading, NoMemory>
-        ensures { IfOk result (λ reading. reading ≡ fold after_line self (parts_from ends_line text.now start)) }
+    fn add_lines(&mut self, alloc: Global, text: &[u8], start: usize) -> Result<(), NoMemory>
+        ensures { OnOk result (self.new ≡ fold after_line self.old (parts_from ends_line text.now start)) }
     {
-        let mut reading = self;
         let mut at = start;
         while at <= text.len() {
             let end = at + part_len(&text[at..], b'\n');
-            reading = reading.with(alloc, &text[at..end])?;
+            self.add_line(alloc, &text[at..end])?;
             at = end + 1;
         }
-        Ok(reading)
+        Ok(())
     }
 
     /// Reads one more line.
-    fn with(self, alloc: Global, line: &[u8]) -> Result<Reading, NoMemory>
-        ensures { IfOk result (λ reading. reading ≡ after_line self line.now) }
+    fn add_line(&mut self, alloc: Global, line: &[u8]) -> Result<(), NoMemory>
+        ensures { OnOk result (self.new ≡ after_line self.old line.now) }
     {
-        let Reading {
-            version,
-            lines,
-            failed,
-            is_behind,
-        } = self;
-        if is_behind {
-            let failed = failed.with_line(alloc, line)?;
-            return Ok(Reading {
-                version,
-                lines,
-                failed,
-                is_behind,
-            });
+        if self.is_behind {
+            return self.failed.add_line(alloc, line);
         }
         if is_divider(line) {
-            return Ok(Reading {
-                version,
-                lines,
-                failed,
-                is_behind: true,
-            });
+            self.is_behind = true;
+            return Ok(());
         }
-        let lines = lines.with_line(alloc, version, line)?;
-        Ok(Reading {
-            version,
-            lines,
-            failed,
-            is_behind,
-        })
+        self.lines.add_line(alloc, self.version, line)
     }
 }
 

@@ -11,8 +11,7 @@ pub(crate) fn append_number(alloc: Global, text: &mut Blob, number: u64) -> Resu
     ensures { OnOk result (text.new ≡ text.old ++ decimal number) }
 {
     let digits = number.to_string(alloc)?;
-    text.append(digits.as_bytes())?;
-    Ok(())
+    text.append(digits.as_bytes())
 }
 
 /// Puts a line of cost data behind the text.
@@ -27,8 +26,7 @@ pub(crate) fn append_line(
     text.append(name)?;
     text.append(b" ")?;
     durations.append_to(alloc, text)?;
-    text.append(b"\n")?;
-    Ok(())
+    text.append(b"\n")
 }
 
 /// Puts microseconds behind the text, as seconds with six decimals.
@@ -45,8 +43,7 @@ pub(crate) fn append_seconds(alloc: Global, text: &mut Blob, micros: u64) -> Res
         digit(rest, 100),
         digit(rest, 10),
         digit(rest, 1),
-    ])?;
-    Ok(())
+    ])
 }
 
 /// Returns the digit of a number at a decimal place.

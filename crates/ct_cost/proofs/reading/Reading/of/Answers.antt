@@ -1,6 +1,5 @@
-use Rattle.std.proofs.Common.{◌≡◌, ◌+◌, ◌∙◌, ap, sym, true, false, take, fold}
-use Rattle.ct_cost.specs.Text.{ends_line, is_mark}
-use Rattle.ct_cost.specs.Reading.{after_line, parts_from}
+use Rattle.std.proofs.Common.{◌≡◌, ◌∙◌, sym, true, false, take}
+use Rattle.ct_cost.specs.Text.{is_mark}
 use Rattle.ct_cost.proofs.ReadingLemmas.{reads_one, reads_two}
 use Rattle.ct_cost.proofs.reading.Reading.of.Goals as goal
 
@@ -9,13 +8,13 @@ returns-then-is_mark c =
     let text = c.args.text.now in
     let n = c.part_len-end.result in
     let marked : is_mark (take n text) ≡ true = sym c.is_mark.ensures ∙ c.if-is_mark.true in
-    let same = ap (λ new. fold after_line new (parts_from ends_line text (n + 1))) c.new.ensures ∙ reads_two text n c.part_len-end.ensures.is marked in
-    rw (← same) c.with_lines.ensures
+    let same = reads_two text n c.part_len-end.ensures.is marked in
+    rw (← same) c.of_lines.ensures
 
 pub returns : goal.returns
 returns c =
     let text = c.args.text.now in
     let n = c.part_len-end.result in
     let unmarked : is_mark (take n text) ≡ false = sym c.is_mark.ensures ∙ c.if-is_mark.false in
-    let same = ap (λ new. fold after_line new (parts_from ends_line text 0)) c.new-2.ensures ∙ reads_one text n c.part_len-end.ensures.is unmarked in
-    rw (← same) c.with_lines-2.ensures
+    let same = reads_one text n c.part_len-end.ensures.is unmarked in
+    rw (← same) c.of_lines-2.ensures

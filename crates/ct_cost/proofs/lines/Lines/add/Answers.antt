@@ -2,7 +2,7 @@ use Rattle.std.proofs.Common.{ap, ◌∙◌, map}
 use Rattle.ct_cost.specs.CostLine.{with_line}
 use Rattle.ct_cost.specs.Kept.{kept_line, line_for}
 use Rattle.ct_cost.proofs.KeptLemmas.{lines-insert_entry}
-use Rattle.ct_cost.proofs.lines.Lines.with.Goals as goal
+use Rattle.ct_cost.proofs.lines.Lines.add.Goals as goal
 
 pub returns : goal.returns
 returns c =

@@ -1,7 +1,7 @@
 use Rattle.std.proofs.Common.{ap, ◌∙◌, map}
 use Rattle.ct_cost.specs.CostLine.{with_new_name}
 use Rattle.ct_cost.proofs.KeptLemmas.{names-insert_key}
-use Rattle.ct_cost.proofs.names.Names.with.Goals as goal
+use Rattle.ct_cost.proofs.names.Names.add.Goals as goal
 
 pub returns : goal.returns
 returns c =

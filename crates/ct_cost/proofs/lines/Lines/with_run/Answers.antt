@@ -1,7 +1,0 @@
-use Rattle.ct_cost.proofs.KeptLemmas.{run-line}
-use Rattle.ct_cost.proofs.lines.Lines.with_run.Goals as goal
-
-pub returns : goal.returns
-returns c =
-    let same = run-line c.args.self c.args.name.now c.args.micros c.in_ok-durations.durations c.push.new.self c.in_ok-durations.ensures c.in_ok-push.ensures in
-    rw (← same) c.with.ensures
