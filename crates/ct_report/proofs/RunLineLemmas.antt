@@ -1,5 +1,5 @@
 -- What the lines of a run need, with one entry more.
-use Rattle.std.proofs.Common.{◌≡◌, ◌∙◌, sym, ap, subst, Bool, true, false, ℕ, zero, suc, ◌+◌, ◌-◌, ◌^◌, ◌<◌, ◌≤◌, min, inl, inr, List, [], ◌∷◌, ◌++◌, length, length-append, get_or, take, map, arith, refl, eqb-true}
+use Rattle.std.proofs.Common.{◌≡◌, ◌∙◌, sym, ap, subst, Bool, true, false, ℕ, zero, suc, ◌+◌, ◌-◌, ◌^◌, ◌<◌, min, inl, inr, List, [], ◌∷◌, ◌++◌, length, length-append, get_or, take, map, arith, refl, eqb-true}
 use Rattle.std.specs.Prelude.{Option, Some, None, IsSome, ◌==◌, cond, if◌then◌else◌, slice_get, slice_set, sum_by}
 use Rattle.std.proofs.lemmas.Bool.{cases_Bool}
 use Rattle.std.proofs.lemmas.Bool.Decides.{nat_tests}

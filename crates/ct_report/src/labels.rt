@@ -6,7 +6,7 @@ ghost use Rattle.std.specs.BTreeSet.{insert_key};
 ghost use Rattle.ct_report.specs.Labels.{CountsLabel, CountsLabels, CountsTest, HasRoom, count_at, kept_labels};
 ghost use Rattle.ct_report.specs.Report.{in_order, label_line, labels_in_order};
 
-use crate::numbers::append_number;
+use crate::numbers::append_number_and;
 use ct_base::{Blob, List, Name, NoMemory};
 use ct_history::PlanTest;
 use std::alloc::Global;
@@ -135,9 +135,7 @@ fn label_line(alloc: Global, label: &Name, good: usize, all: usize) -> Result<Bl
 {
     let mut text = Blob::of(alloc, label.bytes())?;
     text.append(b" = ")?;
-    append_number(alloc, &mut text, good as u128)?;
-    text.append(b"/")?;
-    append_number(alloc, &mut text, all as u128)?;
-    text.append(b"\n")?;
+    append_number_and(alloc, &mut text, good as u128, b"/")?;
+    append_number_and(alloc, &mut text, all as u128, b"\n")?;
     Ok(text)
 }

@@ -4,7 +4,7 @@ ghost use Rattle.ct_report.specs.Lists.{enabled_count, label_entry, label_list, 
 ghost use Rattle.ct_report.specs.Report.{text_of};
 
 use crate::labels::in_order;
-use crate::numbers::append_number;
+use crate::numbers::append_number_and;
 use crate::puts::put_lines;
 use crate::report::project_line;
 use ct_base::{Blob, List, Name, NoMemory, Sink, SinkFault};
@@ -68,9 +68,16 @@ fn label_lines(alloc: Global, labels: &[Name]) -> Result<List<Blob>, NoMemory>
     ensures { IfOk result (λ lines. lines ≡ label_list labels.now) }
 {
     let ordered = in_order(alloc, labels)?;
+    lines_with_heading(alloc, ordered.as_slice())
+}
+
+/// Writes the heading of these labels, and the line of each.
+fn lines_with_heading(alloc: Global, labels: &[Name]) -> Result<List<Blob>, NoMemory>
+    ensures { IfOk result (λ lines. lines ≡ labels_heading labels.now ∷ map label_entry labels.now) }
+{
     let mut lines = List::new(alloc);
-    lines.push(Blob::of(alloc, labels_heading(ordered.as_slice()))?)?;
-    push_labels(alloc, &mut lines, ordered.as_slice())?;
+    lines.push(Blob::of(alloc, labels_heading(labels))?)?;
+    push_labels(alloc, &mut lines, labels)?;
     Ok(lines)
 }
 
@@ -130,8 +137,7 @@ fn test_entry(alloc: Global, test: &ListedTest<'_>) -> Result<Blob, NoMemory>
     ensures { IfOk result (λ text. text ≡ test_entry test.now) }
 {
     let mut text = Blob::of(alloc, b"  Test #")?;
-    append_number(alloc, &mut text, u128::from(test.number))?;
-    text.append(b": ")?;
+    append_number_and(alloc, &mut text, u128::from(test.number), b": ")?;
     text.append(test.name.bytes())?;
     text.append(entry_end(test.disabled))?;
     Ok(text)
@@ -153,7 +159,6 @@ fn total_line(alloc: Global, count: usize) -> Result<Blob, NoMemory>
     ensures { IfOk result (λ text. text ≡ total_line count) }
 {
     let mut text = Blob::of(alloc, b"Total Tests: ")?;
-    append_number(alloc, &mut text, count as u128)?;
-    text.append(b"\n")?;
+    append_number_and(alloc, &mut text, count as u128, b"\n")?;
     Ok(text)
 }

@@ -1,4 +1,4 @@
-ghost use Rattle.std.specs.Prelude.{◌≡◌, ◌++◌, IfOk, OnOk, decimal};
+ghost use Rattle.std.specs.Prelude.{◌≡◌, ◌++◌, OnOk, decimal};
 ghost use Rattle.ct_report.specs.Report.{seconds_text};
 
 use ct_base::{Blob, NoMemory};
@@ -26,14 +26,11 @@ pub(crate) fn append_number_and(
     text.append(bytes)
 }
 
-/// Writes microseconds as seconds with two digits of hundredths, rounded down.
-pub(crate) fn seconds_text(alloc: Global, micros: u64) -> Result<Blob, NoMemory>
-    ensures { IfOk result (λ text. text ≡ seconds_text micros) }
+/// Puts microseconds behind the text, as seconds with two digits of hundredths, rounded down.
+pub(crate) fn append_seconds(alloc: Global, text: &mut Blob, micros: u64) -> Result<(), NoMemory>
+    ensures { OnOk result (text.new ≡ text.old ++ seconds_text micros) }
 {
-    let mut text = Blob::new(alloc);
-    append_number(alloc, &mut text, u128::from(micros / 1_000_000))?;
-    text.append(b".")?;
+    append_number_and(alloc, text, u128::from(micros / 1_000_000), b".")?;
     let hundredths = (micros / 10_000 % 100) as u8;
-    text.append(&[b'0' + hundredths / 10, b'0' + hundredths % 10])?;
-    Ok(text)
+    text.append(&[b'0' + hundredths / 10, b'0' + hundredths % 10])
 }

@@ -1,11 +1,11 @@
-ghost use Rattle.std.specs.Prelude.{◌≡◌, ◌<◌, ◌^◌, length, map, IfOk};
+ghost use Rattle.std.specs.Prelude.{◌≡◌, ◌<◌, ◌^◌, ◌++◌, codes, decimal, length, map, IfOk, OnOk};
 ghost use Rattle.ct_history.specs.Plan.{IsAscendingFrom, test_at as planned_test};
-ghost use Rattle.ct_report.specs.Report.{micros_by, micros_of, test_line, verdict_line};
+ghost use Rattle.ct_report.specs.Report.{micros_by, micros_of, seconds_text, test_line, verdict_line, verdict_text};
 ghost use Rattle.ct_report.specs.RunLines.{numbered_line};
 
-use crate::numbers::{append_number, seconds_text};
+use crate::numbers::{append_number_and, append_seconds};
 use crate::totals::count_enabled;
-use crate::verdict_texts::verdict_text;
+use crate::verdict_texts::append_verdict;
 use ct_base::{Blob, NoMemory};
 use ct_history::{Entry, PlanParts, PlanTest, test_at, verdict};
 use ct_verdict::Verdict;
@@ -90,19 +90,43 @@ pub(crate) fn numbered_line(
     ensures { IfOk result (λ text. text ≡ numbered_line tests.now test.now verdict numbers) }
 {
     let mut text = Blob::new(alloc);
-    append_number(alloc, &mut text, u128::from(numbers.place))?;
-    text.append(b"/")?;
-    append_number(alloc, &mut text, numbers.enabled as u128)?;
-    text.append(b" Test #")?;
-    append_number(alloc, &mut text, u128::from(test.number))?;
-    text.append(b": ")?;
-    text.append(test.name.bytes())?;
-    text.append(b" ... ")?;
-    text.append(verdict_text(alloc, tests, verdict)?.bytes())?;
-    text.append(b" ")?;
-    text.append(seconds_text(alloc, numbers.micros)?.bytes())?;
-    text.append(b" sec\n")?;
+    append_place(alloc, &mut text, test, numbers.place, numbers.enabled)?;
+    append_end(alloc, &mut text, tests, verdict, numbers.micros)?;
     Ok(text)
+}
+
+/// Puts a test's place among the tests that are not disabled, its number and its name behind the text.
+fn append_place(
+    alloc: Global,
+    text: &mut Blob,
+    test: &PlanTest,
+    place: u32,
+    enabled: usize,
+) -> Result<(), NoMemory>
+    ensures { OnOk result (text.new ≡ text.old ++ decimal place ++ codes "/" ++ decimal enabled ++ codes " Test #" ++ decimal test.now.number ++ codes ": " ++ test.now.name ++ codes " ... ") }
+{
+    append_number_and(alloc, text, u128::from(place), b"/")?;
+    append_number_and(alloc, text, enabled as u128, b" Test #")?;
+    append_number_and(alloc, text, u128::from(test.number), b": ")?;
+    text.append(test.name.bytes())?;
+    text.append(b" ... ")
+}
+
+/// Puts a verdict and the seconds of a test, which end its line, behind the text.
+fn append_end(
+    alloc: Global,
+    text: &mut Blob,
+    tests: &[PlanTest],
+    verdict: Verdict,
+    micros: u64,
+) -> Result<(), NoMemory>
+    requires { IsAscendingFrom 1 (map (λ t. t.number) tests.now) }
+    ensures { OnOk result (text.new ≡ text.old ++ verdict_text tests.now verdict ++ codes " " ++ seconds_text micros ++ codes " sec\n") }
+{
+    append_verdict(alloc, text, tests, verdict)?;
+    text.append(b" ")?;
+    append_seconds(alloc, text, micros)?;
+    text.append(b" sec\n")
 }
 
 /// Adds up the microseconds of a test's Ends. A greater sum counts as `MOST_MICROS`.

@@ -1,4 +1,4 @@
-ghost use Rattle.std.specs.Prelude.{◌≡◌, ◌+◌, ◌<◌, ◌-◌, ◌^◌, ◌++◌, ◌∷◌, [], length, true, IfOk, List, OnOk, if◌then◌else◌};
+ghost use Rattle.std.specs.Prelude.{◌≡◌, ◌+◌, ◌<◌, ◌-◌, ◌^◌, ◌++◌, ◌∷◌, [], codes, length, true, IfOk, List, OnOk, if◌then◌else◌};
 ghost use Rattle.ct_history.specs.declared.history.Entry.{Entry};
 ghost use Rattle.ct_history.specs.declared.plan.PlanParts.{PlanParts};
 ghost use Rattle.ct_history.specs.Plan.{enabled};
@@ -8,9 +8,9 @@ ghost use Rattle.ct_report.specs.Labels.{HasRoom};
 ghost use Rattle.ct_report.specs.Totals.{AddsToTotals, AreTotals};
 
 use crate::labels::{LabelCounts, count_test};
-use crate::numbers::append_number;
+use crate::numbers::append_number_and;
 use crate::verdict_texts::verdict_word;
-use ct_base::{Blob, List, NoMemory};
+use ct_base::{Blob, List, Name, NoMemory};
 use ct_history::{Entry, PlanParts, PlanTest, ending_at, endings_of, verdict_by};
 use ct_verdict::{Cause, Verdict};
 use std::alloc::Global;
@@ -145,13 +145,19 @@ fn listed_line(alloc: Global, test: &PlanTest, verdict: Option<Verdict>) -> Resu
     ensures { IfOk result (λ text. text ≡ listed_with test.now verdict) }
 {
     let mut text = Blob::of(alloc, b"\t")?;
-    append_number(alloc, &mut text, u128::from(test.number))?;
-    text.append(b" - ")?;
-    text.append(test.name.bytes())?;
-    text.append(b" (")?;
-    text.append(word_of(verdict))?;
-    text.append(b")\n")?;
+    append_number_and(alloc, &mut text, u128::from(test.number), b" - ")?;
+    append_with_word(&mut text, &test.name, word_of(verdict))?;
     Ok(text)
+}
+
+/// Puts a name and a word in parentheses, which end a line, behind the text.
+fn append_with_word(text: &mut Blob, name: &Name, word: &[u8]) -> Result<(), NoMemory>
+    ensures { OnOk result (text.new ≡ text.old ++ name.now ++ codes " (" ++ word.now ++ codes ")\n") }
+{
+    text.append(name.bytes())?;
+    text.append(b" (")?;
+    text.append(word)?;
+    text.append(b")\n")
 }
 
 fn word_of(verdict: Option<Verdict>) -> &'static [u8]

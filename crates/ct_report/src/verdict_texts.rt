@@ -1,4 +1,4 @@
-ghost use Rattle.std.specs.Prelude.{◌≡◌, [], map, IfOk};
+ghost use Rattle.std.specs.Prelude.{◌≡◌, ◌++◌, [], map, OnOk};
 ghost use Rattle.ct_history.specs.Plan.{IsAscendingFrom, test_at as planned_test};
 ghost use Rattle.ct_report.specs.Report.{cause_text, cause_word, name_of, verdict_text, verdict_word};
 
@@ -9,67 +9,75 @@ use ct_history::PlanTest;
 use ct_verdict::{Cause, Verdict};
 use std::alloc::Global;
 
-/// Writes a verdict as it stands in the line of its test.
-pub(crate) fn verdict_text(
+/// Puts a verdict behind the text, as it stands in the line of its test.
+pub(crate) fn append_verdict(
     alloc: Global,
+    text: &mut Blob,
     tests: &[PlanTest],
     verdict: Verdict,
-) -> Result<Blob, NoMemory>
+) -> Result<(), NoMemory>
     requires { IsAscendingFrom 1 (map (λ t. t.number) tests.now) }
-    ensures { IfOk result (λ text. text ≡ verdict_text tests.now verdict) }
+    ensures { OnOk result (text.new ≡ text.old ++ verdict_text tests.now verdict) }
 {
     match verdict {
-        Verdict::Passed => Blob::of(alloc, b"Passed"),
-        Verdict::Failed => Blob::of(alloc, b"***Failed"),
-        Verdict::Timeout => Blob::of(alloc, b"***Timeout"),
-        Verdict::Exception => Blob::of(alloc, b"***Exception"),
-        Verdict::Skipped => Blob::of(alloc, b"***Skipped"),
-        Verdict::NotRun(cause) => not_run_text(alloc, tests, cause),
-        Verdict::Disabled => Ok(Blob::new(alloc)),
+        Verdict::Passed => text.append(b"Passed"),
+        Verdict::Failed => text.append(b"***Failed"),
+        Verdict::Timeout => text.append(b"***Timeout"),
+        Verdict::Exception => text.append(b"***Exception"),
+        Verdict::Skipped => text.append(b"***Skipped"),
+        Verdict::NotRun(cause) => append_not_run(alloc, text, tests, cause),
+        Verdict::Disabled => Ok(()),
     }
 }
 
-fn not_run_text(alloc: Global, tests: &[PlanTest], cause: Cause) -> Result<Blob, NoMemory>
+fn append_not_run(
+    alloc: Global,
+    text: &mut Blob,
+    tests: &[PlanTest],
+    cause: Cause,
+) -> Result<(), NoMemory>
     requires { IsAscendingFrom 1 (map (λ t. t.number) tests.now) }
-    ensures { IfOk result (λ text. text ≡ verdict_text tests.now (Verdict.NotRun cause)) }
+    ensures { OnOk result (text.new ≡ text.old ++ verdict_text tests.now (Verdict.NotRun cause)) }
 {
-    let mut text = Blob::of(alloc, b"***Not Run (")?;
-    text.append(cause_text(alloc, tests, cause)?.bytes())?;
-    text.append(b")")?;
-    Ok(text)
+    text.append(b"***Not Run (")?;
+    append_cause(alloc, text, tests, cause)?;
+    text.append(b")")
 }
 
-fn cause_text(alloc: Global, tests: &[PlanTest], cause: Cause) -> Result<Blob, NoMemory>
+fn append_cause(
+    alloc: Global,
+    text: &mut Blob,
+    tests: &[PlanTest],
+    cause: Cause,
+) -> Result<(), NoMemory>
     requires { IsAscendingFrom 1 (map (λ t. t.number) tests.now) }
-    ensures { IfOk result (λ text. text ≡ cause_text tests.now cause) }
+    ensures { OnOk result (text.new ≡ text.old ++ cause_text tests.now cause) }
 {
     match cause {
-        Cause::Unstarted => Blob::of(alloc, b"Unable to start"),
-        Cause::Lacks(place) => required_text(alloc, place),
-        Cause::Fixture(setup) => fixture_text(alloc, tests, setup),
-        Cause::NotAvailable => Blob::of(alloc, b"Not available"),
-        Cause::BadOperation(_) => Blob::of(alloc, b"Bad environment"),
-        Cause::Insufficient => Blob::of(alloc, b"Insufficient resources"),
-        Cause::Stopped => Blob::of(alloc, b"Stopped"),
-        Cause::Memory => Blob::of(alloc, b"Out of memory"),
+        Cause::Unstarted => text.append(b"Unable to start"),
+        Cause::Lacks(place) => append_required(alloc, text, place),
+        Cause::Fixture(setup) => append_fixture(text, tests, setup),
+        Cause::NotAvailable => text.append(b"Not available"),
+        Cause::BadOperation(_) => text.append(b"Bad environment"),
+        Cause::Insufficient => text.append(b"Insufficient resources"),
+        Cause::Stopped => text.append(b"Stopped"),
+        Cause::Memory => text.append(b"Out of memory"),
     }
 }
 
-fn required_text(alloc: Global, place: u32) -> Result<Blob, NoMemory>
-    ensures { IfOk result (λ text. text ≡ cause_text [] (Cause.Lacks place)) }
+fn append_required(alloc: Global, text: &mut Blob, place: u32) -> Result<(), NoMemory>
+    ensures { OnOk result (text.new ≡ text.old ++ cause_text [] (Cause.Lacks place)) }
 {
-    let mut text = Blob::of(alloc, b"Required file ")?;
-    append_number(alloc, &mut text, u128::from(place))?;
-    Ok(text)
+    text.append(b"Required file ")?;
+    append_number(alloc, text, u128::from(place))
 }
 
-fn fixture_text(alloc: Global, tests: &[PlanTest], setup: u32) -> Result<Blob, NoMemory>
+fn append_fixture(text: &mut Blob, tests: &[PlanTest], setup: u32) -> Result<(), NoMemory>
     requires { IsAscendingFrom 1 (map (λ t. t.number) tests.now) }
-    ensures { IfOk result (λ text. text ≡ cause_text tests.now (Cause.Fixture setup)) }
+    ensures { OnOk result (text.new ≡ text.old ++ cause_text tests.now (Cause.Fixture setup)) }
 {
-    let mut text = Blob::of(alloc, b"Fixture ")?;
-    text.append(name_of(tests, setup))?;
-    Ok(text)
+    text.append(b"Fixture ")?;
+    text.append(name_of(tests, setup))
 }
 
 fn name_of(tests: &[PlanTest], number: u32) -> &[u8]
