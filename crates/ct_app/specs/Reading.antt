@@ -75,7 +75,8 @@ InputsAsk invocation path =
 -- what is read for a run is at this path: in the tree of test files, or an input of the plan beside them
 abbrev pub RunAsks : Option Held → Invocation → List ℕ → Type 0
 RunAsks told invocation path =
-    IfSome told (λ held. TreeAsks held invocation.wanted.dir invocation.config path) ⊎ InputsAsk invocation path
+    IfSome told (λ held. TreeAsks held invocation.wanted.dir invocation.config path)
+    ⊎ InputsAsk invocation path
 
 -- a test file is refused; or all test files are read, and the first test with a bad property is refused
 abbrev pub RefusesReading : Option Held → Invocation → Refusal → Type 0
