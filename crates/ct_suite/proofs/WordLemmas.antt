@@ -1,6 +1,6 @@
 -- What the readers of words keep, case by case.
-use Rattle.std.proofs.Common.{◌≡◌, ℕ, Bool, true, false, cond, bytes_eq, List, [], ◌∷◌, ◌++◌, map, Option, Some, None, option_map, refl, sym, ap, ◌∙◌, ◌||◌, append_assoc, append-nil, slice_get, take, drop, length, fold, ◌-◌, ◌<◌, arith}
-use Rattle.std.proofs.lemmas.List.{map_push, take_all}
+use Rattle.std.proofs.Common.{◌≡◌, ℕ, Bool, true, false, cond, bytes_eq, List, [], ◌∷◌, ◌++◌, map, Option, Some, None, option_map, refl, sym, ap, ◌∙◌, ◌||◌, append_assoc, append-nil, slice_get, get_or, take, drop, length, fold, ◌+◌, ◌-◌, ◌<◌, arith}
+use Rattle.std.proofs.lemmas.List.{flat_map_more, map_push, take_all, take_more}
 use Rattle.std.specs.List.{list_any, flat_map, join_with_byte}
 use Rattle.std.specs.declared.vec.Vec.{Vec}
 use Rattle.indexmap.specs.IndexSet.{insert_key}
@@ -14,6 +14,14 @@ pub join_with_byte-flat_map : (byte : ℕ) (first : List ℕ) (rest : List (List
 join_with_byte-flat_map byte first [] = sym (append-nil first)
 join_with_byte-flat_map byte first (next ∷ rest) =
     ap (λ joined. first ++ (byte ∷ joined)) (join_with_byte-flat_map byte next rest)
+
+-- what one more item adds goes behind what those before it add
+pub flat_map-next : {X A : Type 0} (f : X → List A) (front : List A) (xs : List X) (i : ℕ) (x : X) (now next : List A) → i < length xs → x ≡ get_or xs i x → now ≡ front ++ flat_map f (take i xs) → next ≡ now ++ f x → next ≡ front ++ flat_map f (take (i + 1) xs)
+flat_map-next f front xs i x now next within is so_far made =
+    made
+    ∙ ap (λ items. items ++ f x) so_far
+    ∙ flat_map_more f front (take i xs) x
+    ∙ ap (λ items. front ++ flat_map f items) (ap (λ item. take i xs ++ item ∷ []) is ∙ sym (take_more xs i x within))
 
 module _ {Z : Type 0} where
   any-keys : (name : List ℕ) (keys : List (Vec ℕ Z)) → list_any (λ (key : Vec ℕ Z). bytes_eq name key.items) keys ≡ list_any (bytes_eq name) (map (λ (key : Vec ℕ Z). key.items) keys)

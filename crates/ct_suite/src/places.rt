@@ -32,9 +32,7 @@ impl KeyPlaces {
     {
         match self {
             KeyPlaces::One(first) => {
-                let mut both = Vec::with_capacity(alloc, 2)?;
-                both.push(*first)?;
-                both.push(place)?;
+                let both = Vec::from_slice(alloc, &[*first, place])?;
                 *self = KeyPlaces::Many(both);
                 Ok(())
             }
@@ -67,10 +65,7 @@ pub(crate) fn note_place(
         ≡ (if bytes_eq asked key.now then places_by_key places.old.entries asked ++ place ∷ [] else places_by_key places.old.entries asked)) }
 {
     match places.get_mut(key) {
-        Some(here) => {
-            here.add(alloc, place)?;
-            Ok(())
-        }
+        Some(here) => here.add(alloc, place),
         None => {
             places.insert(Vec::from_slice(alloc, key)?, KeyPlaces::One(place))?;
             Ok(())

@@ -54,6 +54,13 @@ impl Props {
         if self.recent.len() <= MOST_RECENT {
             return Ok(());
         }
+        self.key_recent(alloc)
+    }
+
+    /// Puts the properties that were set last among those that are kept by their keys.
+    fn key_recent(&mut self, alloc: Global) -> Result<(), NoMemory>
+        ensures { OnOk result (self.new ≡ self.old) }
+    {
         let mut keyed = match self.keyed.take() {
             Some(keyed) => keyed,
             None => Box::new(alloc, IndexMap::new(alloc))?,
@@ -111,14 +118,18 @@ fn put(keyed: &mut Keyed, pair: Pair) -> Result<(), NoMemory>
 fn pairs_of(alloc: Global, props: Keyed) -> Result<List<Pair>, NoMemory>
     ensures { IfOk result (λ pairs. pairs ≡ map prop_of props.entries) }
 {
-    let mut pairs = List::from_vec(Vec::with_capacity(alloc, props.len())?);
-    for (key, value) in props {
-        pairs.push(Pair {
-            name: Name::from_vec(key),
-            value,
-        })?;
+    let pairs: Vec<Pair> = props.into_iter().map(pair_of).collect(alloc)?;
+    Ok(List::from_vec(pairs))
+}
+
+fn pair_of(entry: (Vec<u8>, Name)) -> Pair
+    ensures { result ≡ prop_of entry }
+{
+    let (key, value) = entry;
+    Pair {
+        name: Name::from_vec(key),
+        value,
     }
-    Ok(pairs)
 }
 
 /// Returns the properties that are left after setting these in turn. Each one is looked up among
@@ -180,10 +191,16 @@ pub(crate) fn copied(alloc: Global, pairs: &[Pair]) -> Result<List<Pair>, NoMemo
 {
     let mut copies = Vec::with_capacity(alloc, pairs.len())?;
     for pair in pairs {
-        copies.push(Pair {
-            name: pair.name.copy(alloc)?,
-            value: pair.value.copy(alloc)?,
-        })?;
+        copies.push(copy_of(alloc, pair)?)?;
     }
     Ok(List::from_vec(copies))
+}
+
+fn copy_of(alloc: Global, pair: &Pair) -> Result<Pair, NoMemory>
+    ensures { IfOk result (λ copy. copy ≡ pair.now) }
+{
+    Ok(Pair {
+        name: pair.name.copy(alloc)?,
+        value: pair.value.copy(alloc)?,
+    })
 }

@@ -137,12 +137,19 @@ impl Suite {
             by_name: _,
             by_dir: _,
         } = Box::into_inner(kept);
-        let mut defs = List::from_vec(Vec::with_capacity(alloc, tests.len())?);
-        for test in tests {
-            defs.push(test.define(alloc)?)?;
-        }
-        Ok(defs)
+        defs_of(alloc, tests)
     }
+}
+
+/// Returns the definitions of tests.
+fn defs_of(alloc: Global, tests: Vec<OpenTest>) -> Result<List<TestDef>, NoMemory>
+    ensures { IfOk result (λ defs. defs ≡ map def_of tests.items) }
+{
+    let mut defs = List::from_vec(Vec::with_capacity(alloc, tests.len())?);
+    for test in tests {
+        defs.push(test.define(alloc)?)?;
+    }
+    Ok(defs)
 }
 
 /// Sets properties of the tests at these places. The last test takes them without a copy.

@@ -1,6 +1,6 @@
-ghost use Rattle.std.specs.Prelude.{◌≡◌, ◌++◌, [], ◌-◌, ◌^◌, min, ◌∷◌, fold, flat_map, option_map, IfOk, OnOk};
+ghost use Rattle.std.specs.Prelude.{◌≡◌, ◌++◌, [], ◌-◌, ◌^◌, min, ◌∷◌, fold, flat_map, map, option_map, IfOk, OnOk};
 ghost use Rattle.std.specs.Vec.Iter.{into_iter_items};
-ghost use Rattle.ct_suite.specs.Tests.{is_labels, label_bytes, labels_of, prop_bytes};
+ghost use Rattle.ct_suite.specs.Tests.{is_labels, label_bytes, labels_in, labels_of, prop_bytes};
 ghost use Rattle.ct_suite.specs.Words.{is_properties, list_value, names_and_pairs, pairs_behind, pairs_of};
 ghost use Rattle.ct_suite.specs.Entries.{taken_apart, with_new};
 ghost use Rattle.ct_suite.specs.Values.{texts};
@@ -97,11 +97,26 @@ pub fn distinct(alloc: Global, names: List<Name>) -> Result<List<Name>, NoMemory
         return Ok(names);
     }
     let mut seen = IndexSet::new(alloc);
+    insert_each(&mut seen, names)?;
+    names_in(alloc, seen)
+}
+
+/// Adds names to a set.
+fn insert_each(seen: &mut IndexSet<Vec<u8>>, names: List<Name>) -> Result<(), NoMemory>
+    ensures { OnOk result (map (λ key. key.items) seen.new.keys ≡ fold with_new (map (λ key. key.items) seen.old.keys) names) }
+{
     for name in names.into_vec() {
         seen.insert(name.into_vec())?;
     }
-    let distinct: Vec<Name> = seen.into_iter().map(Name::from_vec).collect(alloc)?;
-    Ok(List::from_vec(distinct))
+    Ok(())
+}
+
+/// Returns the names of a set.
+fn names_in(alloc: Global, seen: IndexSet<Vec<u8>>) -> Result<List<Name>, NoMemory>
+    ensures { IfOk result (λ names. names ≡ map (λ key. key.items) seen.keys) }
+{
+    let names: Vec<Name> = seen.into_iter().map(Name::from_vec).collect(alloc)?;
+    Ok(List::from_vec(names))
 }
 
 /// Counts the bytes of the values of properties, at most 2^64 - 1.
@@ -138,21 +153,22 @@ pub fn label_bytes(props: &[Pair]) -> u64
 pub fn labels_of(alloc: Global, props: &[Pair]) -> Result<List<Name>, NoMemory>
     ensures { IfOk result (λ labels. labels ≡ labels_of props.now) }
 {
-    let mut labels = List::new(alloc);
+    let mut labels = Vec::new(alloc);
     for prop in props {
-        if is_labels(prop) {
-            push_all(&mut labels, split_list(alloc, prop.value.bytes())?)?;
-        }
+        append_labels(alloc, &mut labels, prop)?;
     }
-    Ok(labels)
+    Ok(List::from_vec(labels))
 }
 
-fn push_all(labels: &mut List<Name>, more: List<Name>) -> Result<(), NoMemory>
-    ensures { OnOk result (labels.new ≡ labels.old ++ more) }
+/// Appends the labels that a property of a folder adds.
+fn append_labels(alloc: Global, labels: &mut Vec<Name>, prop: &Pair) -> Result<(), NoMemory>
+    ensures { OnOk result (labels.new.items ≡ labels.old.items ++ labels_in prop.now) }
 {
-    for label in more.into_vec() {
-        labels.push(label)?;
+    if !is_labels(prop) {
+        return Ok(());
     }
+    let mut more = split_list(alloc, prop.value.bytes())?.into_vec();
+    labels.append(&mut more)?;
     Ok(())
 }
 

@@ -1,12 +1,13 @@
 use Rattle.std.proofs.Common.{sym, refl}
+use Rattle.std.proofs.lemmas.Result.{on_ok_weaker}
 use Rattle.ct_suite.specs.declared.places.KeyPlaces.TheVariants.{One}
 use Rattle.ct_suite.proofs.PlaceLemmas.{places_in-first, places_in-more}
 use Rattle.ct_suite.proofs.places.note_place.Goals as goal
 
-pub returns-in_ok-add-in-Some : goal.returns-in_ok-add-in-Some
-returns-in_ok-add-in-Some c =
+pub returns-in-Some : goal.returns-in-Some
+returns-in-Some c =
     let pushed = c.add.new.self in
-    λ asked. places_in-more c.args.places.now.entries (c.get_mut.follows.lender pushed).entries asked c.args.key.now c.in-Some.here.now pushed c.args.place (c.get_mut.follows.holds pushed).0 (sym c.in-Some.ensures.value) c.in_ok-add-in-Some.ensures
+    on_ok_weaker c.add.result (λ more asked. places_in-more c.args.places.now.entries (c.get_mut.follows.lender pushed).entries asked c.args.key.now c.in-Some.here.now pushed c.args.place (c.get_mut.follows.holds pushed).0 (sym c.in-Some.ensures.value) more) c.add.ensures
 
 pub returns-in_ok-insert-in-None : goal.returns-in_ok-insert-in-None
 returns-in_ok-insert-in-None c =

@@ -26,6 +26,15 @@ take_run-requires-clause-inner c =
     let run = rw take_rest at c.inner_len-inner.ensures in
     rw take_rest (run-inner (drop c.loop-at.at c.args.piece.now) c.inner_len-inner.result run.count)
 
+pub loop-at-preserved-then-inner-eq0 : goal.loop-at-preserved-then-inner-eq0
+loop-at-preserved-then-inner-eq0 c =
+    let piece = c.args.piece.now in
+    let i = c.loop-at.at in record {
+      fits = omega (arith, c.loop-at-test.true);
+      counted = c.in_ok-take_byte.ensures.counted;
+      same = stands-on c.args.self.now c.loop-at.self c.take_byte.new.self piece (drop i piece) (slice_index piece i ∷ []) (drop (i + 1) piece) (drop_more piece i 0 c.loop-at-test.true) c.loop-at.invariant.same c.in_ok-take_byte.ensures.taken;
+    }
+
 pub loop-at-preserved : goal.loop-at-preserved
 loop-at-preserved c =
     let piece = c.args.piece.now in
