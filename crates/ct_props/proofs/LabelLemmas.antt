@@ -1,10 +1,13 @@
 -- Labels that are gathered one by one are the labels of the whole list, each once.
-use Rattle.std.proofs.Common.{ℕ, ◌≡◌, Bool, true, false, not, ◌||◌, ◌&&◌, List, [], ◌∷◌, ◌++◌, filter, refl, sym, ap, ◌∙◌, bytes_eq, cond}
+use Rattle.std.proofs.Common.{ℕ, ◌≡◌, Bool, true, false, not, ◌||◌, ◌&&◌, List, [], ◌∷◌, ◌++◌, filter, map, refl, sym, ap, ◌∙◌, bytes_eq, cond}
 use Rattle.std.specs.List.{list_any}
 use Rattle.std.proofs.lemmas.List.{append_assoc, append-nil}
 use Rattle.std.proofs.lemmas.List.Folds.{list_any-append}
 use Rattle.std.proofs.lemmas.Slice.Eq.{bytes_eq-Decides}
 use Rattle.std.proofs.lemmas.Bool.{not-false}
+use Rattle.std.specs.declared.vec.Vec.{Vec}
+use Rattle.indexmap.specs.IndexSet.{insert_key}
+use Rattle.ct_base.proofs.KeyLemmas.{put_behind}
 use Rattle.ct_props.specs.Values.{distinct}
 use Rattle.ct_props.specs.Labels.{with_label, with_labels}
 
@@ -62,3 +65,14 @@ filter-all (name ∷ names) = ap (λ l. name ∷ l) (filter-all names)
 -- names that are gathered in two pieces, from no label, are the distinct names of both
 pub each_once : (one two : List (List ℕ)) → with_labels (with_labels [] one) two ≡ distinct (one ++ two)
 each_once one two = in_pieces [] one two ∙ gathered [] (one ++ two) ∙ filter-all (distinct (one ++ two))
+
+module _ {Z : Type 0} where
+  any-keys : (name : List ℕ) (keys : List (Vec ℕ Z)) → list_any (λ (key : Vec ℕ Z). bytes_eq name key.items) keys ≡ list_any (bytes_eq name) (map (λ (key : Vec ℕ Z). key.items) keys)
+  any-keys name [] = refl
+  any-keys name (key ∷ keys) = ap (λ more. bytes_eq name key.items || more) (any-keys name keys)
+
+  -- a name that is put into the set of labels is one more label, if it is new
+  pub with_label-insert_key : (keys : List (Vec ℕ Z)) (key : Vec ℕ Z) → map (λ (k : Vec ℕ Z). k.items) (insert_key (λ (one other : Vec ℕ Z). bytes_eq one.items other.items) keys key) ≡ with_label (map (λ (k : Vec ℕ Z). k.items) keys) key.items
+  with_label-insert_key keys key =
+      put_behind keys key (list_any (λ (k : Vec ℕ Z). bytes_eq key.items k.items) keys)
+      ∙ ap (λ is. cond is (map (λ (k : Vec ℕ Z). k.items) keys) (map (λ (k : Vec ℕ Z). k.items) keys ++ key.items ∷ [])) (any-keys key.items keys)

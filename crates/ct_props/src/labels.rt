@@ -1,11 +1,11 @@
-ghost use Rattle.std.specs.Prelude.{◌≡◌, ◌++◌, bytes_eq, IfOk, OnOk};
-ghost use Rattle.std.specs.List.{list_any};
+ghost use Rattle.std.specs.Prelude.{◌≡◌, ◌++◌, IfOk, OnOk, map};
 ghost use Rattle.ct_base.specs.Entries.{entries_of};
 ghost use Rattle.ct_props.specs.Values.{distinct, text_of_key};
-ghost use Rattle.ct_props.specs.Labels.{with_label, with_labels};
+ghost use Rattle.ct_props.specs.Labels.{with_labels};
 
 use crate::lists::entries;
 use ct_base::{List, Name, NoMemory, Pair};
+use indexmap::IndexSet;
 use std::alloc::Global;
 
 /// Returns the labels of a test and then those of its folder, each once, at its first place.
@@ -19,26 +19,51 @@ pub fn labels(
     ensures { IfOk result (λ names. names ≡ distinct (entries_of (text_of_key props.now key.now) ++ of_dir.now)) }
 {
     let own = entries(alloc, props, key)?;
-    let mut labels = List::new(alloc);
-    push_new(alloc, &mut labels, own.as_slice())?;
-    push_new(alloc, &mut labels, of_dir)?;
-    Ok(labels)
+    let mut labels = IndexSet::new(alloc);
+    add_both(alloc, &mut labels, own, of_dir)?;
+    names_in(alloc, labels)
 }
 
-/// Adds each of these names behind the labels, unless it is among them.
-fn push_new(alloc: Global, labels: &mut List<Name>, names: &[Name]) -> Result<(), NoMemory>
-    ensures { OnOk result (labels.new ≡ with_labels labels.old names.now) }
+/// Adds the labels of a test and then those of its folder.
+fn add_both(
+    alloc: Global,
+    labels: &mut IndexSet<Vec<u8>>,
+    own: List<Name>,
+    of_dir: &[Name],
+) -> Result<(), NoMemory>
+    ensures { OnOk result (map (λ label. label.items) labels.new.keys
+        ≡ with_labels (with_labels (map (λ label. label.items) labels.old.keys) own) of_dir.now) }
 {
-    for name in names {
-        if !is_among(labels.as_slice(), name) {
-            labels.push(name.copy(alloc)?)?;
-        }
+    add_each(labels, own)?;
+    add_copies(alloc, labels, of_dir)
+}
+
+/// Adds each of these names, unless it is among the labels.
+fn add_each(labels: &mut IndexSet<Vec<u8>>, names: List<Name>) -> Result<(), NoMemory>
+    ensures { OnOk result (map (λ label. label.items) labels.new.keys
+        ≡ with_labels (map (λ label. label.items) labels.old.keys) names) }
+{
+    for name in names.into_vec() {
+        labels.insert(name.into_vec())?;
     }
     Ok(())
 }
 
-fn is_among(labels: &[Name], name: &Name) -> bool
-    ensures { result ≡ list_any (bytes_eq name.now) labels.now }
+/// Adds a copy of each of these names, unless it is among the labels.
+fn add_copies(alloc: Global, labels: &mut IndexSet<Vec<u8>>, names: &[Name]) -> Result<(), NoMemory>
+    ensures { OnOk result (map (λ label. label.items) labels.new.keys
+        ≡ with_labels (map (λ label. label.items) labels.old.keys) names.now) }
 {
-    labels.iter().any(|label| name.is(label))
+    for name in names {
+        labels.insert(Vec::from_slice(alloc, name.bytes())?)?;
+    }
+    Ok(())
+}
+
+/// Returns the labels that were added, in their order.
+fn names_in(alloc: Global, labels: IndexSet<Vec<u8>>) -> Result<List<Name>, NoMemory>
+    ensures { IfOk result (λ names. names ≡ map (λ label. label.items) labels.keys) }
+{
+    let names: Vec<Name> = labels.into_iter().map(Name::from_vec).collect(alloc)?;
+    Ok(List::from_vec(names))
 }
