@@ -31,8 +31,10 @@ pub fn run(rt: HostRuntime, args: &[String]) -> Result<Check, BeginFault>
 pub fn exit_code<F: Drop, S: Drop>(begun: Result<Checked<F, S>, BeginFault>) -> ExitCode
     ensures { exit_status result ≡ status_of_check begun }
 {
-    ExitCode::from(match begun {
+    let status = match &begun {
         Ok(checked) => checked.status,
         Err(fault) => fault.status(),
-    })
+    };
+    drop(begun);
+    ExitCode::from(status)
 }

@@ -37,8 +37,10 @@ pub fn run<R: Threads + Wait + Sync>(
 pub fn exit_code<S: Drop>(begun: Result<Loaded<S>, BeginFault>) -> ExitCode
     ensures { exit_status result ≡ status_of_load begun }
 {
-    ExitCode::from(match begun {
+    let status = match &begun {
         Ok(loaded) => loaded.status,
         Err(fault) => fault.status(),
-    })
+    };
+    drop(begun);
+    ExitCode::from(status)
 }

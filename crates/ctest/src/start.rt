@@ -52,8 +52,10 @@ pub fn exit_code<F: Drop, G: Drop, S: Drop>(
 ) -> ExitCode
     ensures { exit_status result ≡ status_of_run begun }
 {
-    ExitCode::from(match begun {
+    let status = match &begun {
         Ok(finished) => finished.status,
         Err(fault) => fault.status(),
-    })
+    };
+    drop(begun);
+    ExitCode::from(status)
 }

@@ -36,7 +36,9 @@ pub(crate) fn report_on<G: Gate + Send + Drop>(
     requires { 0 < vec_len gates }
 {
     let ran = run_on(rt, call, gates)?;
-    status_told(rt.alloc(), ran.status, &ran.sink)
+    let told = status_told(rt.alloc(), ran.status, &ran.sink);
+    drop(ran);
+    told
 }
 
 /// Reports a status and what was written.
@@ -81,7 +83,9 @@ fn run_one<F: Fn(Global, &Ran) -> Result<String, NoMemory>>(
     requires { F.IsAlwaysCallable report.now }
 {
     let ran = run(rt, call)?;
-    compare(rt, call, &ran, report)
+    let compared = compare(rt, call, &ran, report);
+    drop(ran);
+    compared
 }
 
 /// Compares the report of a run with the wanted text of its call.

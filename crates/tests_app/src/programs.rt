@@ -173,7 +173,9 @@ fn report<G: Gate + Send + Drop>(
     let mut gates = Vec::new(rt.alloc());
     gates.push(gate).map_err(AllocError::from)?;
     let ran = run_on(rt, call, gates)?;
-    told(rt.alloc(), &ran)
+    let told = told(rt.alloc(), &ran);
+    drop(ran);
+    told
 }
 
 /// Tells how a run came out, what happened and what was written.

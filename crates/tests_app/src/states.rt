@@ -84,7 +84,10 @@ fn open(rt: &impl Machine, call: &Call<'_>) -> Result<State<MemSink>, Fail>
 /// Compares what was written, and the history behind it, with the wanted text of a call.
 fn close(rt: &impl Machine, call: &Call<'_>, state: State<MemSink>) -> Result<(), Fail> {
     let (core, sink) = state.into_parts();
-    compare(rt, call, core.history(), &sink)
+    let compared = compare(rt, call, core.history(), &sink);
+    drop(core);
+    drop(sink);
+    compared
 }
 
 /// Compares what was written, and a history behind it, with the wanted text of a call.

@@ -134,7 +134,15 @@ ctest: ./CTestTestfile.cmake:1: unknown command
 
 /// Checks a journal, and reports the status and what was written.
 fn report(alloc: Global, call: &Call<'_>) -> Result<String, NoMemory> {
-    let Checked { status, sink, .. } = &checked(alloc, call)?;
+    let checked = checked(alloc, call)?;
+    let told = told(alloc, &checked);
+    drop(checked);
+    told
+}
+
+/// Tells the status of a check, and what was written.
+fn told(alloc: Global, checked: &Checked<MemFiles, MemSink>) -> Result<String, NoMemory> {
+    let Checked { status, sink, .. } = checked;
     Ok(format!(in alloc; "status {status}\n{}", written(sink))?)
 }
 

@@ -269,7 +269,9 @@ pub(crate) fn run_as_told(rt: &impl Machine, table: &str) -> Result<(), Fail> {
 /// Makes a call, and reports its ending.
 fn report(rt: &impl Machine, call: &Call<'_>) -> Result<String, NoMemory> {
     let ran = run(rt, call, 1)?;
-    ending(rt.alloc(), &ran)
+    let ended = ending(rt.alloc(), &ran);
+    drop(ran);
+    ended
 }
 
 #[test]
