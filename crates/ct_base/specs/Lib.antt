@@ -5,3 +5,4 @@ pub mod Entries
 pub mod Seconds
 pub mod Memory
 pub mod Names
+pub mod NameSets

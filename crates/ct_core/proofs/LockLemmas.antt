@@ -33,13 +33,13 @@ pub known_still : {V : Type 0} (now before : Option V) (held : V) (is : Bool) �
 known_still now before held true same there = ap is_some same ∙ sym (there refl)
 known_still now before held false same there = ap is_some same
 
-pub held_now : {V : Type 0} (d : V) (now before : Option V) (held : V) (is : Bool) → now ≡ cond is (Some held) before → unwrap_or now d ≡ cond is held (unwrap_or before d)
-held_now {V} d now before held true same = ap (λ (o : Option V). unwrap_or o d) same
-held_now {V} d now before held false same = ap (λ (o : Option V). unwrap_or o d) same
+pub held_now : {V W : Type 0} (part : V → W) (d : V) (now before : Option V) (held : V) (is : Bool) → now ≡ cond is (Some held) before → part (unwrap_or now d) ≡ cond is (part held) (part (unwrap_or before d))
+held_now {V} part d now before held true same = ap (λ (o : Option V). part (unwrap_or o d)) same
+held_now {V} part d now before held false same = ap (λ (o : Option V). part (unwrap_or o d)) same
 
-pub none_still : {V : Type 0} (d : V) (now before : Option V) (is : Bool) → now ≡ cond is (Some d) before → unwrap_or before d ≡ d → unwrap_or now d ≡ d
-none_still {V} d now before true same none = ap (λ (o : Option V). unwrap_or o d) same
-none_still {V} d now before false same none = ap (λ (o : Option V). unwrap_or o d) same ∙ none
+pub none_still : {V W : Type 0} (part : V → W) (d : V) (now before : Option V) (is : Bool) → now ≡ cond is (Some d) before → part (unwrap_or before d) ≡ part d → part (unwrap_or now d) ≡ part d
+none_still {V} part d now before true same none = ap (λ (o : Option V). part (unwrap_or o d)) same
+none_still {V} part d now before false same none = ap (λ (o : Option V). part (unwrap_or o d)) same ∙ none
 
 -- one more lock is held, or one is held no longer
 pub held_more : (now before among is : Bool) → now ≡ cond is true (before || among) → now ≡ (before || (among || is))

@@ -21,13 +21,23 @@ among_at names at name lt is =
 
 module _ (seen : List ℕ → Bool) (name asked : List ℕ) where
   -- a name that was seen before changes nothing
-  pub seen_again : seen name ≡ true → one_if (seen asked || bytes_eq asked name) ≡ one_if (seen asked)
+  pub seen_again : seen name ≡ true → (seen asked || bytes_eq asked name) ≡ seen asked
   seen_again again = elim (cases_Bool (bytes_eq asked name)) [
     | inl same ↦
         let here : seen asked ≡ true = ap seen ((bytes_eq-Decides asked name).0 same) ∙ again in
-        ap (λ (b : Bool). one_if (b || bytes_eq asked name)) here ∙ sym (ap one_if here)
-    | inr other ↦ ap (λ (b : Bool). one_if (seen asked || b)) other ∙ ap one_if (or-false (seen asked))
+        ap (λ (b : Bool). b || bytes_eq asked name) here ∙ sym here
+    | inr other ↦ ap (λ (b : Bool). seen asked || b) other ∙ or-false (seen asked)
   ]
+
+-- a name whose mark is taken away, beside those whose marks were
+pub mark_less : (marked seen is : Bool) → (seen ≡ true → marked ≡ false) → (seen || is) ≡ true → cond is false marked ≡ false
+mark_less marked seen true unmarked among = refl
+mark_less marked seen false unmarked among = unmarked (sym (or-false seen) ∙ among)
+
+-- a count that is set to what it is
+pub set_again : (cur : List ℕ → ℕ) (name asked : List ℕ) (is : Bool) → bytes_eq asked name ≡ is → cond is (cur name) (cur asked) ≡ cur asked
+set_again cur name asked true same = ap cur (sym ((bytes_eq-Decides asked name).0 same))
+set_again cur name asked false other = refl
 
 module _ (seen : List ℕ → Bool) (cur old : List ℕ → ℕ) (name : List ℕ) (fresh : seen name ≡ false) where
   -- a name that was not seen before counts one test more

@@ -1,6 +1,6 @@
-ghost use Rattle.std.specs.Prelude.{◌≡◌, ℕ, ◌+◌, ◌-◌, ◌<◌, ◌≤◌, ◌^◌, ◌||◌, true, List, IfOk, OnOk, bytes_eq, if◌then◌else◌};
+ghost use Rattle.std.specs.Prelude.{◌≡◌, ℕ, ◌+◌, ◌-◌, ◌<◌, ◌≤◌, ◌^◌, ◌||◌, true, false, List, IfOk, OnOk, bytes_eq, if◌then◌else◌};
 ghost use Rattle.std.specs.List.{list_any, list_all};
-ghost use Rattle.ct_core.specs.Sharers.{sharers_of, counts_sharers, is_shared, one_if};
+ghost use Rattle.ct_core.specs.Sharers.{sharers_of, count_of, counts_sharers, is_marked, is_shared, one_if};
 ghost use Rattle.ct_base.specs.Names.{is_among};
 
 use ct_base::{Name, NoMemory};
@@ -11,8 +11,21 @@ use std::alloc::Global;
 /// The locks that the tests of a plan share, and how many open tests share each.
 #[derive(Drop)]
 pub(crate) struct Sharers {
-    counts: IndexMap<Vec<u8>, u64>,
+    counts: IndexMap<Vec<u8>, Count>,
 }
+
+/// How many open tests share a lock. The mark tells that the list which is counted has named the lock
+/// already, since a test counts once, however often it names a lock.
+#[derive(Clone, Copy)]
+struct Count {
+    tests: u64,
+    marked: bool,
+}
+
+const NO_TEST: Count = Count {
+    tests: 0,
+    marked: false,
+};
 
 /// Makes the counts of the locks that these tests share: 0 for each.
 pub(crate) fn none_share(alloc: Global, tests: &[PlanTest]) -> Result<Sharers, NoMemory>
@@ -33,7 +46,7 @@ impl Sharers {
     pub(crate) fn is_shared(&self, name: &Name) -> bool
         ensures { result ≡ is_shared self.now name.now }
     {
-        self.count(name) > 0
+        self.count(name).tests > 0
     }
 
     /// Counts one test more for each of these locks, which the test shares.
@@ -43,11 +56,11 @@ impl Sharers {
         ensures counted { (name : List ℕ) → counts_sharers self.new name ≡ counts_sharers self.old name }
         ensures more { (name : List ℕ) → sharers_of self.new name ≡ sharers_of self.old name + one_if (is_among name names.now) }
     {
-        for at in 0..names.len() {
-            let name = &names[at];
-            if !is_among(name, &names[..at]) {
-                let count = self.count(name) + 1;
-                self.set(name, count);
+        self.unmark(names);
+        for name in names {
+            let count = self.count(name);
+            if !count.marked {
+                self.set(name, count.tests + 1, true);
             }
         }
     }
@@ -59,32 +72,47 @@ impl Sharers {
         ensures counted { (name : List ℕ) → counts_sharers self.new name ≡ counts_sharers self.old name }
         ensures fewer { (name : List ℕ) → sharers_of self.new name ≡ sharers_of self.old name - one_if (is_among name names.now) }
     {
-        for at in 0..names.len() {
-            let name = &names[at];
-            if !is_among(name, &names[..at]) {
-                let count = self.count(name) - 1;
-                self.set(name, count);
+        self.unmark(names);
+        for name in names {
+            let count = self.count(name);
+            if !count.marked {
+                self.set(name, count.tests - 1, true);
             }
         }
     }
 
-    fn count(&self, name: &Name) -> u64
-        ensures { result ≡ sharers_of self.now name.now }
+    /// Takes the marks of these locks away.
+    fn unmark(&mut self, names: &[Name])
+        requires { list_all (counts_sharers self.old) names.now ≡ true }
+        ensures counted { (name : List ℕ) → counts_sharers self.new name ≡ counts_sharers self.old name }
+        ensures kept { (name : List ℕ) → sharers_of self.new name ≡ sharers_of self.old name }
+        ensures unmarked { (name : List ℕ) → is_among name names.now ≡ true → is_marked self.new name ≡ false }
     {
-        match self.counts.get(name.bytes()) {
-            Some(count) => *count,
-            None => 0,
+        for name in names {
+            let tests = self.count(name).tests;
+            self.set(name, tests, false);
         }
     }
 
-    fn set(&mut self, name: &Name, count: u64)
+    fn count(&self, name: &Name) -> Count
+        ensures { result ≡ count_of self.now name.now }
+    {
+        match self.counts.get(name.bytes()) {
+            Some(count) => *count,
+            None => NO_TEST,
+        }
+    }
+
+    fn set(&mut self, name: &Name, tests: u64, marked: bool)
         requires { counts_sharers self.old name.now ≡ true }
         ensures counted { (asked : List ℕ) → counts_sharers self.new asked ≡ counts_sharers self.old asked }
         ensures set { (asked : List ℕ) → sharers_of self.new asked
-            ≡ (if bytes_eq asked name.now then count else sharers_of self.old asked) }
+            ≡ (if bytes_eq asked name.now then tests else sharers_of self.old asked) }
+        ensures marked { (asked : List ℕ) → is_marked self.new asked
+            ≡ (if bytes_eq asked name.now then marked else is_marked self.old asked) }
     {
         if let Some(here) = self.counts.get_mut(name.bytes()) {
-            *here = count;
+            *here = Count { tests, marked };
         }
     }
 
@@ -105,13 +133,7 @@ impl Sharers {
         ensures none { OnOk result ((asked : List ℕ) → sharers_of self.new asked ≡ 0) }
     {
         self.counts
-            .insert(Vec::from_slice(alloc, name.bytes())?, 0)?;
+            .insert(Vec::from_slice(alloc, name.bytes())?, NO_TEST)?;
         Ok(())
     }
-}
-
-fn is_among(name: &Name, others: &[Name]) -> bool
-    ensures { result ≡ is_among name.now others.now }
-{
-    others.iter().any(|other| name.is(other))
 }

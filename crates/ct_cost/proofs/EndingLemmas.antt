@@ -10,7 +10,8 @@ use Rattle.ct_history.specs.declared.history.Entry.{Entry}
 use Rattle.ct_history.specs.Endings.{ending_at, last_seen, AreEndings}
 use Rattle.ct_history.specs.Verdicts.{verdict_in, is_final_in, is_passed_verdict, is_failing_in}
 use Rattle.ct_history.proofs.EndingLemmas.{final_verdict}
-use Rattle.ct_cost.specs.CostLine.{CostLine, with_new_name}
+use Rattle.ct_base.specs.Names.{with_new_name}
+use Rattle.ct_cost.specs.CostLine.{CostLine}
 use Rattle.ct_cost.specs.After.{counted_micros, after_test, logged}
 use Rattle.ct_cost.specs.Endings.{passed_micros, fails_by, after_passed, after_ending, with_failed, log_by}
 

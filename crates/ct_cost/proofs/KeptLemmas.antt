@@ -1,17 +1,13 @@
 -- Lines and names that are kept by their names, and what contracts see of them.
-use Rattle.std.proofs.Common.{◌≡◌, ℕ, Bool, true, false, cond, bytes_eq, List, [], ◌∷◌, ◌++◌, map, Option, Some, None, option_map, IfSome, is_some, refl, sym, ap, ◌∙◌, ◌||◌}
-use Rattle.std.specs.List.{list_any, AllZip}
+use Rattle.std.proofs.Common.{◌≡◌, ℕ, Bool, true, false, cond, bytes_eq, List, [], ◌∷◌, ◌++◌, map, Option, Some, None, option_map, IfSome, is_some, refl, sym, ap, ◌∙◌}
+use Rattle.std.specs.List.{AllZip}
 use Rattle.std.specs.Option.{option_map_or}
 use Rattle.std.specs.Map.{lookup}
 use Rattle.std.specs.declared.vec.Vec.{Vec}
-use Rattle.std.proofs.lemmas.List.{map_push}
 use Rattle.std.proofs.lemmas.Slice.Eq.{bytes_eq-Decides}
 use Rattle.indexmap.specs.IndexMap.{insert_entry}
-use Rattle.indexmap.specs.IndexSet.{insert_key}
-use Rattle.ct_cost.specs.CostLine.{CostLine, last_durations, line_of, with_line, with_new_name, with_run, unrun, after_run}
+use Rattle.ct_cost.specs.CostLine.{CostLine, last_durations, line_of, with_line, with_run, unrun, after_run}
 use Rattle.ct_cost.specs.Kept.{line_for, kept_line, durations_of, with_read}
-use Rattle.ct_base.specs.Names.{is_among}
-use Rattle.ct_base.proofs.KeyLemmas.{put_behind}
 
 module _ {Z : Type 0} where
   durations_by : (entry : Vec ℕ Z × List ℕ) (name : List ℕ) (found : Option (List ℕ)) (lines : List CostLine) → found ≡ option_map durations_of (line_of lines name) → (is : Bool)
@@ -36,17 +32,6 @@ module _ {Z : Type 0} where
   lines-insert_entry [] key durations = refl
   lines-insert_entry (entry ∷ entries) key durations =
       insert_by entry entries (insert_entry (λ (one other : Vec ℕ Z). bytes_eq one.items other.items) entries key durations) key durations (lines-insert_entry entries key durations) (bytes_eq key.items entry.0.items) refl
-
-  -- a name among those that are kept
-  pub is_among-keys : (name : List ℕ) (keys : List (Vec ℕ Z)) → list_any (λ (key : Vec ℕ Z). bytes_eq name key.items) keys ≡ is_among name (map (λ (key : Vec ℕ Z). key.items) keys)
-  is_among-keys name [] = refl
-  is_among-keys name (key ∷ keys) = ap (λ more. bytes_eq name key.items || more) (is_among-keys name keys)
-
-  -- a name that is put in
-  pub names-insert_key : (keys : List (Vec ℕ Z)) (key : Vec ℕ Z) → map (λ (k : Vec ℕ Z). k.items) (insert_key (λ (one other : Vec ℕ Z). bytes_eq one.items other.items) keys key) ≡ with_new_name (map (λ (k : Vec ℕ Z). k.items) keys) key.items
-  names-insert_key keys key =
-      put_behind keys key (list_any (λ (k : Vec ℕ Z). bytes_eq key.items k.items) keys)
-      ∙ ap (λ is. cond is (map (λ (k : Vec ℕ Z). k.items) keys) (map (λ (k : Vec ℕ Z). k.items) keys ++ key.items ∷ [])) (is_among-keys key.items keys)
 
 none_left : (is : Bool) (first : CostLine) (found : Option CostLine) → is_some (cond is (Some first) found) ≡ false → (is ≡ false) × (is_some found ≡ false)
 none_left true first found none = cc

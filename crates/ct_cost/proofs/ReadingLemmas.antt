@@ -6,7 +6,8 @@ use Rattle.ct_cost.specs.declared.line.Version.{Version}
 use Rattle.ct_cost.specs.declared.line.Version.TheVariants.{One, Two}
 use Rattle.ct_cost.specs.declared.reading.Reading.{Reading}
 use Rattle.ct_cost.specs.declared.cost_data.CostData.{CostData}
-use Rattle.ct_cost.specs.CostLine.{CostLine, with_new_line, with_new_name}
+use Rattle.ct_base.specs.Names.{with_new_name}
+use Rattle.ct_cost.specs.CostLine.{CostLine, with_new_line}
 use Rattle.ct_cost.proofs.PlaceLemmas.{next_part, within}
 use Rattle.ct_cost.specs.Text.{ends_line, is_divider, is_mark, is_named, line_in, lines_in}
 use Rattle.ct_cost.specs.Costs.{costs_from, costs_by}

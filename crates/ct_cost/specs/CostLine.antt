@@ -4,7 +4,7 @@
 use Rattle.std.specs.Prelude.{ℕ, ◌-◌, max, List, [], ◌∷◌, ◌++◌, drop, length, find, bytes_eq, Option, is_some, option_and_then, fold, if◌then◌else◌}
 use Rattle.std.specs.List.{reduce}
 use Rattle.std.specs.Option.{option_map_or}
-use Rattle.ct_base.specs.Names.{is_among}
+use Rattle.ct_base.specs.Names.{with_new_name}
 
 -- what is known of a name: how long its last attempts that passed took, in microseconds, oldest first
 pub record CostLine : Type 0 where
@@ -40,10 +40,6 @@ with_line (first ∷ lines) line =
 -- the lines with this one behind them, unless its name has a line
 abbrev pub with_new_line : List CostLine → CostLine → List CostLine
 with_new_line lines line = if is_some (line_of lines line.name) then lines else lines ++ line ∷ []
-
--- the names with this one behind them, unless it is among them
-abbrev pub with_new_name : List (List ℕ) → List ℕ → List (List ℕ)
-with_new_name names name = if is_among name names then names else names ++ name ∷ []
 
 -- each of these names once, at its first place
 abbrev pub each_once : List (List ℕ) → List (List ℕ)

@@ -5,7 +5,8 @@ use Rattle.ct_history.specs.declared.plan.PlanTest.{PlanTest}
 use Rattle.ct_history.specs.Endings.{ending_at, verdict_by}
 use Rattle.ct_history.specs.Verdicts.{is_passed_verdict, is_failing_in}
 use Rattle.indexmap.specs.IndexMap.{IndexMap}
-use Rattle.ct_cost.specs.CostLine.{CostLine, after_run, with_new_name}
+use Rattle.ct_base.specs.Names.{with_new_name}
+use Rattle.ct_cost.specs.CostLine.{CostLine, after_run}
 use Rattle.ct_cost.specs.After.{counted_micros, logged}
 
 -- the microseconds that a test counts for, if it passed, by how it ended

@@ -2,7 +2,8 @@
 use Rattle.std.specs.Prelude.{ℕ, List, Option, Some, None, if◌then◌else◌}
 use Rattle.std.specs.declared.vec.Vec.{Vec}
 use Rattle.ct_cost.specs.declared.line.Line.{Line}
-use Rattle.ct_cost.specs.CostLine.{CostLine, with_new_line, with_new_name}
+use Rattle.ct_base.specs.Names.{with_new_name}
+use Rattle.ct_cost.specs.CostLine.{CostLine, with_new_line}
 use Rattle.ct_cost.specs.Text.{is_named}
 
 -- the line of a name with these durations

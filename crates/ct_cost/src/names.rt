@@ -1,9 +1,8 @@
 ghost use Rattle.std.specs.Prelude.{◌≡◌, ◌++◌, [], OnOk, flat_map, fold};
-ghost use Rattle.ct_cost.specs.CostLine.{with_new_name};
 ghost use Rattle.ct_cost.specs.Text.{failed_text};
 ghost use Rattle.ct_cost.specs.Kept.{with_named};
 ghost use Rattle.ct_cost.specs.Endings.{with_failed};
-ghost use Rattle.ct_base.specs.Names.{is_among};
+ghost use Rattle.ct_base.specs.Names.{is_among, with_new_name};
 
 use crate::endings::fails_by;
 use ct_base::{Blob, NoMemory};

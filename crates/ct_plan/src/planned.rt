@@ -2,10 +2,9 @@ ghost use Rattle.std.specs.Prelude.{◌≡◌, ◌<◌, ◌≤◌, ◌^◌, All,
 ghost use Rattle.std.specs.Option.{option_copied};
 ghost use Rattle.ct_plan.specs.Linked.{AreLinked, IsUnused, lent, test_from};
 ghost use Rattle.ct_plan.specs.Planned.{ArePlaceable, IsFixed, IsFixedBy, is_not_available as stands_for_none, own_cause as cause_of_words, rules_of, without as names_without};
-ghost use Rattle.ct_base.specs.Names.{is_among};
 
 use ct_alloc::Free;
-use ct_base::{List, Name, Need, NoMemory, TestDef};
+use ct_base::{List, Name, Need, NoMemory, TestDef, name_set};
 use ct_env::bad_operation;
 use ct_graph::Links;
 use ct_history::PlanTest;
@@ -81,19 +80,14 @@ pub(crate) fn copy_names(alloc: Global, names: &[Name]) -> Result<List<Name>, No
 fn without(alloc: Global, locks: &[Name], names: &[Name]) -> Result<List<Name>, NoMemory>
     ensures { IfOk result (λ copies. copies ≡ names_without locks.now names.now) }
 {
+    let held = name_set(alloc, locks)?;
     let mut copies = List::new(alloc);
     for name in names {
-        if !is_among(name, locks) {
+        if !held.contains(&name.bytes()) {
             copies.push(name.copy(alloc)?)?;
         }
     }
     Ok(copies)
-}
-
-fn is_among(name: &Name, others: &[Name]) -> bool
-    ensures { result ≡ is_among name.now others.now }
-{
-    others.iter().any(|other| name.is(other))
 }
 
 pub(crate) fn copy_needs(alloc: Global, needs: &[Need]) -> Result<List<Need>, NoMemory>

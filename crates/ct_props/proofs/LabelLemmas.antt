@@ -1,15 +1,12 @@
 -- Labels that are gathered one by one are the labels of the whole list, each once.
-use Rattle.std.proofs.Common.{ℕ, ◌≡◌, Bool, true, false, not, ◌||◌, ◌&&◌, List, [], ◌∷◌, ◌++◌, filter, map, refl, sym, ap, ◌∙◌, bytes_eq, cond}
+use Rattle.std.proofs.Common.{ℕ, ◌≡◌, Bool, true, false, not, ◌||◌, ◌&&◌, List, [], ◌∷◌, ◌++◌, filter, fold, refl, sym, ap, ◌∙◌, bytes_eq, cond}
 use Rattle.std.specs.List.{list_any}
 use Rattle.std.proofs.lemmas.List.{append_assoc, append-nil}
 use Rattle.std.proofs.lemmas.List.Folds.{list_any-append}
 use Rattle.std.proofs.lemmas.Slice.Eq.{bytes_eq-Decides}
 use Rattle.std.proofs.lemmas.Bool.{not-false}
-use Rattle.std.specs.declared.vec.Vec.{Vec}
-use Rattle.indexmap.specs.IndexSet.{insert_key}
-use Rattle.ct_base.proofs.KeyLemmas.{put_behind}
+use Rattle.ct_base.specs.Names.{with_new_name}
 use Rattle.ct_props.specs.Values.{distinct}
-use Rattle.ct_props.specs.Labels.{with_label, with_labels}
 
 -- a name is not among the labels
 abbrev is_new : List (List ℕ) → List ℕ → Bool
@@ -40,7 +37,7 @@ neither false true = refl
 neither false false = refl
 
 -- labels gathered behind others, with one name in front
-gathered-by : (labels : List (List ℕ)) (name : List ℕ) (names : List (List ℕ)) (has : Bool) → ((others : List (List ℕ)) → with_labels others names ≡ others ++ filter (is_new others) (distinct names)) → list_any (bytes_eq name) labels ≡ has → with_labels (cond has labels (labels ++ name ∷ [])) names ≡ labels ++ cond (not has) (name ∷ filter (is_new labels) (filter (λ x. not (bytes_eq x name)) (distinct names))) (filter (is_new labels) (filter (λ x. not (bytes_eq x name)) (distinct names)))
+gathered-by : (labels : List (List ℕ)) (name : List ℕ) (names : List (List ℕ)) (has : Bool) → ((others : List (List ℕ)) → fold with_new_name others names ≡ others ++ filter (is_new others) (distinct names)) → list_any (bytes_eq name) labels ≡ has → fold with_new_name (cond has labels (labels ++ name ∷ [])) names ≡ labels ++ cond (not has) (name ∷ filter (is_new labels) (filter (λ x. not (bytes_eq x name)) (distinct names))) (filter (is_new labels) (filter (λ x. not (bytes_eq x name)) (distinct names)))
 gathered-by labels name names true before is =
     let drops : (x : List ℕ) → not (bytes_eq x name) ≡ false → is_new labels x ≡ false = λ x e. ap (is_new labels) ((bytes_eq-Decides x name).0 (not-false (bytes_eq x name) e)) ∙ ap not is in
     before labels ∙ ap (λ l. labels ++ l) (sym (filter-implied (λ x. not (bytes_eq x name)) (is_new labels) (distinct names) drops))
@@ -49,30 +46,19 @@ gathered-by labels name names false before is =
     before (labels ++ name ∷ []) ∙ append_assoc labels (name ∷ []) (filter (is_new (labels ++ name ∷ [])) (distinct names)) ∙ ap (λ l. labels ++ (name ∷ l)) (filter-both (λ x. not (bytes_eq x name)) (is_new labels) (is_new (labels ++ name ∷ [])) (distinct names) are)
 
 -- labels that are gathered behind others
-gathered : (labels names : List (List ℕ)) → with_labels labels names ≡ labels ++ filter (is_new labels) (distinct names)
+gathered : (labels names : List (List ℕ)) → fold with_new_name labels names ≡ labels ++ filter (is_new labels) (distinct names)
 gathered labels [] = sym (append-nil labels)
 gathered labels (name ∷ names) = gathered-by labels name names (list_any (bytes_eq name) labels) (λ others. gathered others names) refl
 
 -- names that are gathered in two pieces are gathered at once
-pub in_pieces : (labels one two : List (List ℕ)) → with_labels (with_labels labels one) two ≡ with_labels labels (one ++ two)
+pub in_pieces : (labels one two : List (List ℕ)) → fold with_new_name (fold with_new_name labels one) two ≡ fold with_new_name labels (one ++ two)
 in_pieces labels [] two = refl
-in_pieces labels (name ∷ one) two = in_pieces (with_label labels name) one two
+in_pieces labels (name ∷ one) two = in_pieces (with_new_name labels name) one two
 
 filter-all : (names : List (List ℕ)) → filter (is_new []) names ≡ names
 filter-all [] = refl
 filter-all (name ∷ names) = ap (λ l. name ∷ l) (filter-all names)
 
 -- names that are gathered in two pieces, from no label, are the distinct names of both
-pub each_once : (one two : List (List ℕ)) → with_labels (with_labels [] one) two ≡ distinct (one ++ two)
+pub each_once : (one two : List (List ℕ)) → fold with_new_name (fold with_new_name [] one) two ≡ distinct (one ++ two)
 each_once one two = in_pieces [] one two ∙ gathered [] (one ++ two) ∙ filter-all (distinct (one ++ two))
-
-module _ {Z : Type 0} where
-  any-keys : (name : List ℕ) (keys : List (Vec ℕ Z)) → list_any (λ (key : Vec ℕ Z). bytes_eq name key.items) keys ≡ list_any (bytes_eq name) (map (λ (key : Vec ℕ Z). key.items) keys)
-  any-keys name [] = refl
-  any-keys name (key ∷ keys) = ap (λ more. bytes_eq name key.items || more) (any-keys name keys)
-
-  -- a name that is put into the set of labels is one more label, if it is new
-  pub with_label-insert_key : (keys : List (Vec ℕ Z)) (key : Vec ℕ Z) → map (λ (k : Vec ℕ Z). k.items) (insert_key (λ (one other : Vec ℕ Z). bytes_eq one.items other.items) keys key) ≡ with_label (map (λ (k : Vec ℕ Z). k.items) keys) key.items
-  with_label-insert_key keys key =
-      put_behind keys key (list_any (λ (k : Vec ℕ Z). bytes_eq key.items k.items) keys)
-      ∙ ap (λ is. cond is (map (λ (k : Vec ℕ Z). k.items) keys) (map (λ (k : Vec ℕ Z). k.items) keys ++ key.items ∷ [])) (any-keys key.items keys)

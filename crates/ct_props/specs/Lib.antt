@@ -4,4 +4,3 @@ pub mod Numbered
 pub mod Refusal
 pub mod PropsOf
 pub mod FirstRefused
-pub mod Labels

@@ -1,7 +1,7 @@
-ghost use Rattle.std.specs.Prelude.{◌≡◌, ◌++◌, IfOk, OnOk, map};
+ghost use Rattle.std.specs.Prelude.{◌≡◌, ◌++◌, IfOk, OnOk, fold, map};
 ghost use Rattle.ct_base.specs.Entries.{entries_of};
+ghost use Rattle.ct_base.specs.Names.{with_new_name};
 ghost use Rattle.ct_props.specs.Values.{distinct, text_of_key};
-ghost use Rattle.ct_props.specs.Labels.{with_labels};
 
 use crate::lists::entries;
 use ct_base::{List, Name, NoMemory, Pair};
@@ -32,7 +32,7 @@ fn add_both(
     of_dir: &[Name],
 ) -> Result<(), NoMemory>
     ensures { OnOk result (map (λ label. label.items) labels.new.keys
-        ≡ with_labels (with_labels (map (λ label. label.items) labels.old.keys) own) of_dir.now) }
+        ≡ fold with_new_name (fold with_new_name (map (λ label. label.items) labels.old.keys) own) of_dir.now) }
 {
     add_each(labels, own)?;
     add_copies(alloc, labels, of_dir)
@@ -41,7 +41,7 @@ fn add_both(
 /// Adds each of these names, unless it is among the labels.
 fn add_each(labels: &mut IndexSet<Vec<u8>>, names: List<Name>) -> Result<(), NoMemory>
     ensures { OnOk result (map (λ label. label.items) labels.new.keys
-        ≡ with_labels (map (λ label. label.items) labels.old.keys) names) }
+        ≡ fold with_new_name (map (λ label. label.items) labels.old.keys) names) }
 {
     for name in names.into_vec() {
         labels.insert(name.into_vec())?;
@@ -52,7 +52,7 @@ fn add_each(labels: &mut IndexSet<Vec<u8>>, names: List<Name>) -> Result<(), NoM
 /// Adds a copy of each of these names, unless it is among the labels.
 fn add_copies(alloc: Global, labels: &mut IndexSet<Vec<u8>>, names: &[Name]) -> Result<(), NoMemory>
     ensures { OnOk result (map (λ label. label.items) labels.new.keys
-        ≡ with_labels (map (λ label. label.items) labels.old.keys) names.now) }
+        ≡ fold with_new_name (map (λ label. label.items) labels.old.keys) names.now) }
 {
     for name in names {
         labels.insert(Vec::from_slice(alloc, name.bytes())?)?;

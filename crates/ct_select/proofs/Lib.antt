@@ -1,4 +1,3 @@
 mod StrideLemmas
 mod ChosenLemmas
-mod NameLemmas
 mod MatcherLemmas

@@ -1,7 +1,7 @@
 ghost use Rattle.std.specs.Prelude.{IfOk};
-ghost use Rattle.ct_select.specs.Names.{AreNames, HasNames};
+ghost use Rattle.ct_select.specs.Names.{HasNames};
 
-use ct_base::{Name, NoMemory};
+use ct_base::{NoMemory, name_set};
 use ct_props::Choice;
 use std::alloc::Global;
 use std::collections::BTreeSet;
@@ -11,17 +11,7 @@ pub(crate) fn names_of(alloc: Global, choice: &Choice) -> Result<BTreeSet<&[u8]>
     ensures { IfOk result (λ names. HasNames choice.now names) }
 {
     match &choice.only {
-        Some(only) => set_of(alloc, only.as_slice()),
+        Some(only) => name_set(alloc, only.as_slice()),
         None => Ok(BTreeSet::new(alloc)),
     }
-}
-
-fn set_of(alloc: Global, only: &[Name]) -> Result<BTreeSet<&[u8]>, NoMemory>
-    ensures { IfOk result (λ names. AreNames only.now names) }
-{
-    let mut names = BTreeSet::new(alloc);
-    for name in only {
-        names.insert(name.bytes())?;
-    }
-    Ok(names)
 }

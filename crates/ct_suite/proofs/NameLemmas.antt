@@ -6,9 +6,10 @@ use Rattle.std.proofs.lemmas.Bool.{false≢true, or_parts}
 use Rattle.std.proofs.lemmas.List.Sums.{fold_more, sum_by-cons, sum_by_more}
 use Rattle.std.proofs.lemmas.Slice.Eq.{bytes_eq-Decides}
 use Rattle.ct_base.specs.declared.defs.TestDef.{TestDef}
+use Rattle.ct_base.specs.Names.{with_new_name}
 use Rattle.ct_base.proofs.NameLemmas.{bytes_eq_comm}
 use Rattle.ct_suite.specs.Tests.{is_one_of_names, each_where, has_name_of}
-use Rattle.ct_suite.specs.Entries.{with_new, of_name, name_count}
+use Rattle.ct_suite.specs.Entries.{of_name, name_count}
 
 -- no name stands twice
 abbrev pub Distinct : List (List ℕ) → Type 0
@@ -37,8 +38,8 @@ among-same : (names : List (List ℕ)) (one other : List ℕ) → bytes_eq one o
 among-same names one other e = ap (is_one_of_names names) ((bytes_eq-Decides one other).0 e)
 
 -- one more name, which may be among the others already
-among-with_new : (names : List (List ℕ)) (name asked : List ℕ) → is_one_of_names (with_new names name) asked ≡ (is_one_of_names names asked || bytes_eq name asked)
-among-with_new names name asked = by (list_any (bytes_eq name) names) refl
+among-with_new_name : (names : List (List ℕ)) (name asked : List ℕ) → is_one_of_names (with_new_name names name) asked ≡ (is_one_of_names names asked || bytes_eq name asked)
+among-with_new_name names name asked = by (list_any (bytes_eq name) names) refl
   where
     found : (here known : Bool) → (here ≡ true → known ≡ true) → known ≡ (known || here)
     found true true f = refl
@@ -50,19 +51,19 @@ among-with_new names name asked = by (list_any (bytes_eq name) names) refl
     by true is = found (bytes_eq name asked) (is_one_of_names names asked) (λ e. sym (among-same names name asked e) ∙ sym (known-among names name) ∙ is)
     by false is = among-append names (name ∷ []) asked ∙ ap (λ rest. is_one_of_names names asked || rest) (or-false (bytes_eq name asked))
 
-among-fold : (known names : List (List ℕ)) (asked : List ℕ) → is_one_of_names (fold with_new known names) asked ≡ (is_one_of_names known asked || is_one_of_names names asked)
+among-fold : (known names : List (List ℕ)) (asked : List ℕ) → is_one_of_names (fold with_new_name known names) asked ≡ (is_one_of_names known asked || is_one_of_names names asked)
 among-fold known [] asked = or-false (is_one_of_names known asked)
   where
     or-false : (a : Bool) → a ≡ (a || false)
     or-false true = refl
     or-false false = refl
 among-fold known (name ∷ names) asked =
-    among-fold (with_new known name) names asked
-    ∙ ap (λ a. a || is_one_of_names names asked) (among-with_new known name asked)
+    among-fold (with_new_name known name) names asked
+    ∙ ap (λ a. a || is_one_of_names names asked) (among-with_new_name known name asked)
     ∙ or_assoc (is_one_of_names known asked) (bytes_eq name asked) (is_one_of_names names asked)
 
 -- the distinct names of a list are the names of the list
-pub among-distinct : (names : List (List ℕ)) (asked : List ℕ) → is_one_of_names (fold with_new [] names) asked ≡ is_one_of_names names asked
+pub among-distinct : (names : List (List ℕ)) (asked : List ℕ) → is_one_of_names (fold with_new_name [] names) asked ≡ is_one_of_names names asked
 among-distinct names asked = among-fold [] names asked
 
 Distinct-push : (names : List (List ℕ)) (name : List ℕ) → Distinct names → is_one_of_names names name ≡ false → Distinct (names ++ name ∷ [])
@@ -75,16 +76,16 @@ Distinct-push (first ∷ names) name distinct absent =
     none false true e f = f
     none false false e f = refl
 
-Distinct-with_new : (names : List (List ℕ)) (name : List ℕ) → Distinct names → Distinct (with_new names name)
-Distinct-with_new names name distinct = by (list_any (bytes_eq name) names) refl
+Distinct-with_new_name : (names : List (List ℕ)) (name : List ℕ) → Distinct names → Distinct (with_new_name names name)
+Distinct-with_new_name names name distinct = by (list_any (bytes_eq name) names) refl
   where
     by : (is : Bool) → list_any (bytes_eq name) names ≡ is → Distinct (cond is names (names ++ name ∷ []))
     by true is = distinct
     by false is = Distinct-push names name distinct (sym (known-among names name) ∙ is)
 
-pub Distinct-fold : (known names : List (List ℕ)) → Distinct known → Distinct (fold with_new known names)
+pub Distinct-fold : (known names : List (List ℕ)) → Distinct known → Distinct (fold with_new_name known names)
 Distinct-fold known [] distinct = distinct
-Distinct-fold known (name ∷ names) distinct = Distinct-fold (with_new known name) names (Distinct-with_new known name distinct)
+Distinct-fold known (name ∷ names) distinct = Distinct-fold (with_new_name known name) names (Distinct-with_new_name known name distinct)
 
 -- the tests are changed for one name after the other
 module _ (change : TestDef → TestDef) (kept : (test : TestDef) → (change test).name ≡ test.name) where
@@ -113,10 +114,10 @@ each-same one other change same (test ∷ tests) =
     λ i. cond (same test.name i) (change test) test ∷ each-same one other change same tests i
 
 -- changing the tests for each distinct name in turn changes each test that has one of the names
-pub each-distinct : (change : TestDef → TestDef) → ((test : TestDef) → (change test).name ≡ test.name) → (names : List (List ℕ)) (tests : List TestDef) → fold (of_name change) tests (fold with_new [] names) ≡ each_where (has_name_of names) change tests
+pub each-distinct : (change : TestDef → TestDef) → ((test : TestDef) → (change test).name ≡ test.name) → (names : List (List ℕ)) (tests : List TestDef) → fold (of_name change) tests (fold with_new_name [] names) ≡ each_where (has_name_of names) change tests
 each-distinct change kept names tests =
-    each-of_names change kept (fold with_new [] names) tests (Distinct-fold [] names tt)
-    ∙ each-same (fold with_new [] names) names change (among-distinct names) tests
+    each-of_names change kept (fold with_new_name [] names) tests (Distinct-fold [] names tt)
+    ∙ each-same (fold with_new_name [] names) names change (among-distinct names) tests
 
 count-none : (tests : List TestDef) → count_by (has_name_of []) tests ≡ 0
 count-none [] = refl
@@ -151,10 +152,10 @@ count-same one other same (test ∷ tests) =
     ∙ sym (sum_by-cons (λ t. cond (has_name_of other t) 1 0) test tests)
 
 -- the tests that have one of the names, counted name by name
-pub count-distinct : (names : List (List ℕ)) (tests : List TestDef) → sum_by (name_count tests) (fold with_new [] names) ≡ count_by (has_name_of names) tests
+pub count-distinct : (names : List (List ℕ)) (tests : List TestDef) → sum_by (name_count tests) (fold with_new_name [] names) ≡ count_by (has_name_of names) tests
 count-distinct names tests =
-    count-of_names (fold with_new [] names) tests (Distinct-fold [] names tt)
-    ∙ count-same (fold with_new [] names) names (among-distinct names) tests
+    count-of_names (fold with_new_name [] names) tests (Distinct-fold [] names tt)
+    ∙ count-same (fold with_new_name [] names) names (among-distinct names) tests
 
 -- one more number is added, up to the greatest number
 pub capped-more : {X : Type 0} (f : X → ℕ) (xs : List X) (i : ℕ) (x : X) (count now more most : ℕ) → i < length xs → x ≡ get_or xs i x → more ≡ f x → count ≡ min (sum_by f (take i xs)) most → now ≡ min (count + more) most → now ≡ min (sum_by f (take (i + 1) xs)) most

@@ -1,13 +1,10 @@
 -- What the readers of words keep, case by case.
-use Rattle.std.proofs.Common.{◌≡◌, ℕ, Bool, true, false, cond, bytes_eq, List, [], ◌∷◌, ◌++◌, map, Option, Some, None, option_map, refl, sym, ap, ◌∙◌, ◌||◌, append_assoc, append-nil, slice_get, get_or, take, drop, length, fold, ◌+◌, ◌-◌, ◌<◌, arith}
-use Rattle.std.proofs.lemmas.List.{flat_map_more, map_push, take_all, take_more}
-use Rattle.std.specs.List.{list_any, flat_map, join_with_byte}
-use Rattle.std.specs.declared.vec.Vec.{Vec}
-use Rattle.indexmap.specs.IndexSet.{insert_key}
+use Rattle.std.proofs.Common.{◌≡◌, ℕ, Bool, true, false, cond, List, [], ◌∷◌, ◌++◌, Option, Some, None, option_map, refl, sym, ap, ◌∙◌, append_assoc, append-nil, slice_get, get_or, take, drop, length, fold, ◌+◌, ◌-◌, ◌<◌, arith}
+use Rattle.std.proofs.lemmas.List.{flat_map_more, take_all, take_more}
+use Rattle.std.specs.List.{flat_map, join_with_byte}
 use Rattle.ct_base.specs.declared.defs.Pair.{Pair}
-use Rattle.ct_base.proofs.KeyLemmas.{put_behind}
+use Rattle.ct_base.specs.Names.{with_new_name}
 use Rattle.ct_suite.specs.Words.{names_and_pairs, pairs_of, is_properties, list_value}
-use Rattle.ct_suite.specs.Entries.{with_new}
 
 -- joined values are the first value, and then each other one behind the byte
 pub join_with_byte-flat_map : (byte : ℕ) (first : List ℕ) (rest : List (List ℕ)) → join_with_byte byte (first ∷ rest) ≡ first ++ flat_map (λ value. byte ∷ value) rest
@@ -23,19 +20,8 @@ flat_map-next f front xs i x now next within is so_far made =
     ∙ flat_map_more f front (take i xs) x
     ∙ ap (λ items. front ++ flat_map f items) (ap (λ item. take i xs ++ item ∷ []) is ∙ sym (take_more xs i x within))
 
-module _ {Z : Type 0} where
-  any-keys : (name : List ℕ) (keys : List (Vec ℕ Z)) → list_any (λ (key : Vec ℕ Z). bytes_eq name key.items) keys ≡ list_any (bytes_eq name) (map (λ (key : Vec ℕ Z). key.items) keys)
-  any-keys name [] = refl
-  any-keys name (key ∷ keys) = ap (λ more. bytes_eq name key.items || more) (any-keys name keys)
-
-  -- inserting a key into a set adds it if it is new
-  pub with_new-insert_key : (keys : List (Vec ℕ Z)) (key : Vec ℕ Z) → map (λ (k : Vec ℕ Z). k.items) (insert_key (λ (one other : Vec ℕ Z). bytes_eq one.items other.items) keys key) ≡ with_new (map (λ (k : Vec ℕ Z). k.items) keys) key.items
-  with_new-insert_key keys key =
-      put_behind keys key (list_any (λ (k : Vec ℕ Z). bytes_eq key.items k.items) keys)
-      ∙ ap (λ is. cond is (map (λ (k : Vec ℕ Z). k.items) keys) (map (λ (k : Vec ℕ Z). k.items) keys ++ key.items ∷ [])) (any-keys key.items keys)
-
 -- fewer than two names are all different
-pub few_distinct : (names : List (List ℕ)) → length names < 2 → names ≡ fold with_new [] names
+pub few_distinct : (names : List (List ℕ)) → length names < 2 → names ≡ fold with_new_name [] names
 few_distinct [] few = refl
 few_distinct (name ∷ []) few = refl
 few_distinct (name ∷ next ∷ names) few = absurd (omega (arith, few))

@@ -1,6 +1,5 @@
 -- What contracts see of tests and variables that are kept by their keys.
-use Rattle.std.specs.Prelude.{ℕ, zero, suc, ◌+◌, ◌≡◌, bytes_eq, List, [], ◌∷◌, ◌++◌, map, count_by, Option, Some, None, if◌then◌else◌}
-use Rattle.std.specs.List.{list_any}
+use Rattle.std.specs.Prelude.{ℕ, zero, suc, ◌+◌, ◌≡◌, bytes_eq, List, [], ◌∷◌, map, count_by, Option, Some, None, if◌then◌else◌}
 use Rattle.std.specs.declared.vec.Vec.{Vec}
 use Rattle.ct_base.specs.declared.defs.TestDef.{TestDef}
 use Rattle.ct_suite.specs.Values.{Variable}
@@ -67,10 +66,6 @@ changed_at change (place ∷ places) xs = changed_at change places (changed chan
 abbrev pub taken_apart : List (List ℕ) → Option (List ℕ × List (List ℕ))
 taken_apart [] = None
 taken_apart (first ∷ rest) = Some (first, rest)
-
--- the names with one more at the end, if it is not among them yet
-abbrev pub with_new : List (List ℕ) → List ℕ → List (List ℕ)
-with_new names name = if list_any (bytes_eq name) names then names else names ++ name ∷ []
 
 -- the tests, with each test of that name changed
 abbrev pub of_name : (TestDef → TestDef) → List TestDef → List ℕ → List TestDef

@@ -2,7 +2,8 @@ ghost use Rattle.std.specs.Prelude.{◌≡◌, ◌++◌, [], ◌-◌, ◌^◌, m
 ghost use Rattle.std.specs.Vec.Iter.{into_iter_items};
 ghost use Rattle.ct_suite.specs.Tests.{is_labels, label_bytes, labels_in, labels_of, prop_bytes};
 ghost use Rattle.ct_suite.specs.Words.{is_properties, list_value, names_and_pairs, pairs_behind, pairs_of};
-ghost use Rattle.ct_suite.specs.Entries.{taken_apart, with_new};
+ghost use Rattle.ct_base.specs.Names.{with_new_name};
+ghost use Rattle.ct_suite.specs.Entries.{taken_apart};
 ghost use Rattle.ct_suite.specs.Values.{texts};
 
 use crate::value::Value;
@@ -91,7 +92,7 @@ fn is_properties(value: &Name) -> bool
 /// Keeps the first of the names that are equal.
 #[tactic(auto, using(crate::proofs::WordLemmas::few_distinct))]
 pub fn distinct(alloc: Global, names: List<Name>) -> Result<List<Name>, NoMemory>
-    ensures { IfOk result (λ distinct. distinct ≡ fold with_new [] names) }
+    ensures { IfOk result (λ distinct. distinct ≡ fold with_new_name [] names) }
 {
     if names.len() < 2 {
         return Ok(names);
@@ -103,7 +104,7 @@ pub fn distinct(alloc: Global, names: List<Name>) -> Result<List<Name>, NoMemory
 
 /// Adds names to a set.
 fn insert_each(seen: &mut IndexSet<Vec<u8>>, names: List<Name>) -> Result<(), NoMemory>
-    ensures { OnOk result (map (λ key. key.items) seen.new.keys ≡ fold with_new (map (λ key. key.items) seen.old.keys) names) }
+    ensures { OnOk result (map (λ key. key.items) seen.new.keys ≡ fold with_new_name (map (λ key. key.items) seen.old.keys) names) }
 {
     for name in names.into_vec() {
         seen.insert(name.into_vec())?;

@@ -1,7 +1,8 @@
-use Rattle.std.proofs.Common.{ap, sym, ◌∙◌, map, take, [], ◌∷◌, ◌++◌}
+use Rattle.std.proofs.Common.{ap, fold, sym, ◌∙◌, map, take, [], ◌∷◌, ◌++◌}
 use Rattle.std.proofs.lemmas.List.{take_more}
-use Rattle.ct_props.specs.Labels.{with_label, with_labels}
-use Rattle.ct_props.proofs.LabelLemmas.{in_pieces, with_label-insert_key}
+use Rattle.ct_base.specs.Names.{with_new_name}
+use Rattle.ct_base.proofs.KeyLemmas.{with_new_name-keys}
+use Rattle.ct_props.proofs.LabelLemmas.{in_pieces}
 use Rattle.ct_props.proofs.labels.add_copies.Goals as goal
 
 pub loop-name-preserved : goal.loop-name-preserved
@@ -11,7 +12,7 @@ loop-name-preserved c =
     let at = c.loop-name.name-index in
     let name = c.name-item.result in
     ap (map (λ key. key.items)) c.in_ok-insert.ensures.keys
-    ∙ with_label-insert_key c.loop-name.labels.keys c.in_ok-from_slice.field-0
-    ∙ (λ i. with_label (c.loop-name.invariant i) ((c.in_ok-from_slice.ensures.items ∙ c.bytes.ensures) i))
+    ∙ with_new_name-keys c.loop-name.labels.keys c.in_ok-from_slice.field-0
+    ∙ (λ i. with_new_name (c.loop-name.invariant i) ((c.in_ok-from_slice.ensures.items ∙ c.bytes.ensures) i))
     ∙ in_pieces before (take at names) (name ∷ [])
-    ∙ ap (with_labels before) (ap (λ item. take at names ++ item ∷ []) c.name-item.is ∙ sym (take_more names at name c.loop-name-test.true))
+    ∙ ap (fold with_new_name before) (ap (λ item. take at names ++ item ∷ []) c.name-item.is ∙ sym (take_more names at name c.loop-name-test.true))

@@ -1,6 +1,6 @@
-use Rattle.std.proofs.Common.{◌≡◌, map}
-use Rattle.ct_props.specs.Labels.{with_labels}
+use Rattle.std.proofs.Common.{◌≡◌, fold, map}
+use Rattle.ct_base.specs.Names.{with_new_name}
 use Rattle.ct_props.proofs.labels.add_each.Given as goal
 
 abbrev pub invariant-loop-name : goal.invariant-loop-name
-invariant-loop-name l = map (λ label. label.items) l.labels.keys ≡ with_labels (map (λ label. label.items) l.initial.labels.keys) l.yielded
+invariant-loop-name l = map (λ label. label.items) l.labels.keys ≡ fold with_new_name (map (λ label. label.items) l.initial.labels.keys) l.yielded

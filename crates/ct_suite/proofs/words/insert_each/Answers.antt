@@ -1,12 +1,12 @@
 use Rattle.std.proofs.Common.{ap, sym, ◌∙◌, map}
 use Rattle.std.proofs.lemmas.List.Sums.{fold_push}
-use Rattle.ct_suite.specs.Entries.{with_new}
-use Rattle.ct_suite.proofs.WordLemmas.{with_new-insert_key}
+use Rattle.ct_base.specs.Names.{with_new_name}
+use Rattle.ct_base.proofs.KeyLemmas.{with_new_name-keys}
 use Rattle.ct_suite.proofs.words.insert_each.Goals as goal
 
 pub loop-name-preserved : goal.loop-name-preserved
 loop-name-preserved c =
     ap (map (λ key. key.items)) c.in_ok-insert.ensures.keys
-    ∙ with_new-insert_key c.loop-name.seen.keys c.into_vec.result
-    ∙ (λ i. with_new (c.loop-name.invariant i) (c.into_vec.ensures i))
-    ∙ sym (fold_push with_new (map (λ key. key.items) c.args.seen.now.keys) c.loop-name.yielded c.in-Some.name)
+    ∙ with_new_name-keys c.loop-name.seen.keys c.into_vec.result
+    ∙ (λ i. with_new_name (c.loop-name.invariant i) (c.into_vec.ensures i))
+    ∙ sym (fold_push with_new_name (map (λ key. key.items) c.args.seen.now.keys) c.loop-name.yielded c.in-Some.name)

@@ -1,4 +1,4 @@
-use Rattle.std.proofs.Common.{◌∙◌, ◌||◌, bytes_eq, false, is_some, ap}
+use Rattle.std.proofs.Common.{◌∙◌, ◌||◌, Bool, bytes_eq, false, is_some, ap}
 use Rattle.ct_core.specs.Locks.{noted_for}
 use Rattle.ct_core.proofs.LockLemmas.{updated, known_more, none_still}
 use Rattle.ct_core.proofs.locks.Locks.know.Goals as goal
@@ -16,4 +16,4 @@ returns-clause-none c = λ asked.
     let old = c.args.self.now.held in
     let now = c.insert.new.self in
     let name = c.in_ok-from_slice.field-0.items in
-    none_still false (noted_for now asked) (noted_for old asked) (bytes_eq asked name) (updated old now name false c.in_ok-insert.ensures.updates asked) (c.requires asked)
+    none_still (λ (held : Bool). held) false (noted_for now asked) (noted_for old asked) (bytes_eq asked name) (updated old now name false c.in_ok-insert.ensures.updates asked) (c.requires asked)

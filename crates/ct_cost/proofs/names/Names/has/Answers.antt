@@ -1,5 +1,5 @@
 use Rattle.std.proofs.Common.{ap, ◌∙◌}
-use Rattle.ct_cost.proofs.KeptLemmas.{is_among-keys}
+use Rattle.ct_base.proofs.KeyLemmas.{is_among-keys}
 use Rattle.ct_cost.proofs.names.Names.has.Goals as goal
 use Rattle.ct_base.specs.Names.{is_among}
 
