@@ -21,8 +21,8 @@ abbrev pub sharers_of : Sharers → List ℕ → ℕ
 sharers_of sharers name = (count_of sharers name).tests
 
 -- the list that is counted has named the lock
-abbrev pub is_marked : Sharers → List ℕ → Bool
-is_marked sharers name = (count_of sharers name).marked
+abbrev pub has_mark : Sharers → List ℕ → Bool
+has_mark sharers name = (count_of sharers name).marked
 
 -- some open test shares the lock
 abbrev pub is_shared : Sharers → List ℕ → Bool

@@ -1,6 +1,6 @@
 ghost use Rattle.std.specs.Prelude.{◌≡◌, ℕ, ◌+◌, ◌-◌, ◌<◌, ◌≤◌, ◌^◌, ◌||◌, true, false, List, IfOk, OnOk, bytes_eq, if◌then◌else◌};
 ghost use Rattle.std.specs.List.{list_any, list_all};
-ghost use Rattle.ct_core.specs.Sharers.{sharers_of, count_of, counts_sharers, is_marked, is_shared, one_if};
+ghost use Rattle.ct_core.specs.Sharers.{sharers_of, count_of, counts_sharers, has_mark, is_shared, one_if};
 ghost use Rattle.ct_base.specs.Names.{is_among};
 
 use ct_base::{Name, NoMemory};
@@ -86,7 +86,7 @@ impl Sharers {
         requires { list_all (counts_sharers self.old) names.now ≡ true }
         ensures counted { (name : List ℕ) → counts_sharers self.new name ≡ counts_sharers self.old name }
         ensures kept { (name : List ℕ) → sharers_of self.new name ≡ sharers_of self.old name }
-        ensures unmarked { (name : List ℕ) → is_among name names.now ≡ true → is_marked self.new name ≡ false }
+        ensures unmarked { (name : List ℕ) → is_among name names.now ≡ true → has_mark self.new name ≡ false }
     {
         for name in names {
             let tests = self.count(name).tests;
@@ -108,8 +108,8 @@ impl Sharers {
         ensures counted { (asked : List ℕ) → counts_sharers self.new asked ≡ counts_sharers self.old asked }
         ensures set { (asked : List ℕ) → sharers_of self.new asked
             ≡ (if bytes_eq asked name.now then tests else sharers_of self.old asked) }
-        ensures marked { (asked : List ℕ) → is_marked self.new asked
-            ≡ (if bytes_eq asked name.now then marked else is_marked self.old asked) }
+        ensures marked { (asked : List ℕ) → has_mark self.new asked
+            ≡ (if bytes_eq asked name.now then marked else has_mark self.old asked) }
     {
         if let Some(here) = self.counts.get_mut(name.bytes()) {
             *here = Count { tests, marked };

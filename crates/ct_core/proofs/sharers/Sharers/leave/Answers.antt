@@ -4,7 +4,7 @@ use Rattle.ct_base.specs.Names.{is_among}
 use Rattle.ct_base.proofs.TruthLemmas.{true_where}
 use Rattle.ct_core.specs.declared.sharers.Count.{Count}
 use Rattle.ct_core.specs.declared.sharers.Sharers.{Sharers}
-use Rattle.ct_core.specs.Sharers.{counts_sharers, is_marked, one_if, sharers_of}
+use Rattle.ct_core.specs.Sharers.{counts_sharers, has_mark, one_if, sharers_of}
 use Rattle.ct_core.proofs.SharerLemmas.{among_at, count_less, seen_again, seen_more}
 use Rattle.ct_core.proofs.sharers.Sharers.leave.Goals.{else-not-count, then-not-count}
 use Rattle.ct_core.proofs.sharers.Sharers.leave.Goals as goal
@@ -40,9 +40,9 @@ loop-name-preserved c =
                 (ap (λ (n : Count). n.tests - 1) c.count-count.ensures) asked (sharers_of w.set.new.self asked) (w.set.ensures.set asked)
                 ∙ ap (λ b. sharers_of old asked - one_if b) (sym (more asked));
             marked = λ asked within.
-                ap (λ (s : Sharers). is_marked s asked) w.self-is
+                ap (λ (s : Sharers). has_mark s asked) w.self-is
                 ∙ w.set.ensures.marked asked
-                ∙ true_where (bytes_eq asked name) (is_marked cur asked)
+                ∙ true_where (bytes_eq asked name) (has_mark cur asked)
                 ∙ ap (λ b. b || bytes_eq asked name) (c.loop-name.invariant.marked asked within)
                 ∙ sym (more asked);
           }
@@ -56,6 +56,6 @@ loop-name-preserved c =
                 ∙ c.loop-name.invariant.changed asked
                 ∙ ap (λ b. sharers_of old asked - one_if b) (sym (same asked));
             marked = λ asked within.
-                ap (λ (s : Sharers). is_marked s asked) w.self-is ∙ c.loop-name.invariant.marked asked within ∙ sym (same asked);
+                ap (λ (s : Sharers). has_mark s asked) w.self-is ∙ c.loop-name.invariant.marked asked within ∙ sym (same asked);
           }
     ]

@@ -2,7 +2,7 @@ use Rattle.std.proofs.Common.{◌∙◌, bytes_eq, cond, is_some, sym, ap}
 use Rattle.std.proofs.lemmas.Slice.Eq.{bytes_eq-Decides}
 use Rattle.ct_core.specs.declared.sharers.Count.{Count}
 use Rattle.ct_core.specs.Locks.{noted_for}
-use Rattle.ct_core.specs.Sharers.{is_marked, no_test, sharers_of}
+use Rattle.ct_core.specs.Sharers.{has_mark, no_test, sharers_of}
 use Rattle.ct_core.proofs.LockLemmas.{updated, known_still, held_now}
 use Rattle.ct_core.proofs.sharers.Sharers.set.Goals as goal
 
@@ -34,4 +34,4 @@ returns-in-Some-clause-marked c = λ asked.
     let name = c.bytes.result.now in
     let updates = (c.get_mut.follows.holds count).3 (ap is_some (sym c.in-Some.ensures.value)) in
     held_now (λ (of : Count). of.marked) no_test (noted_for now asked) (noted_for old asked) count (bytes_eq asked name) (updated old now name count updates asked)
-    ∙ ap (λ bytes. cond (bytes_eq asked bytes) c.args.marked (is_marked c.args.self.now asked)) c.bytes.ensures
+    ∙ ap (λ bytes. cond (bytes_eq asked bytes) c.args.marked (has_mark c.args.self.now asked)) c.bytes.ensures

@@ -1,6 +1,6 @@
 use Rattle.std.proofs.Common.{◌∙◌, ap, refl, bytes_eq, cond, sym, take, true}
 use Rattle.ct_core.specs.declared.sharers.Count.{Count}
-use Rattle.ct_core.specs.Sharers.{is_marked, sharers_of}
+use Rattle.ct_core.specs.Sharers.{has_mark, sharers_of}
 use Rattle.ct_core.proofs.SharerLemmas.{mark_less, seen_more, set_again}
 use Rattle.ct_core.proofs.sharers.Sharers.unmark.Goals as goal
 use Rattle.ct_base.specs.Names.{is_among}
@@ -21,5 +21,5 @@ loop-name-preserved c =
           ∙ c.loop-name.invariant.kept asked;
       unmarked = λ asked among.
           c.set.ensures.marked asked
-          ∙ mark_less (is_marked before asked) (is_among asked (take at names)) (bytes_eq asked name) (c.loop-name.invariant.unmarked asked) (sym (more asked) ∙ among);
+          ∙ mark_less (has_mark before asked) (is_among asked (take at names)) (bytes_eq asked name) (c.loop-name.invariant.unmarked asked) (sym (more asked) ∙ among);
     }
