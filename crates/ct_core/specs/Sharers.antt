@@ -1,6 +1,6 @@
 -- The locks that the tests of a plan share, and how many open tests share each. This project's own.
 use Rattle.std.specs.Prelude.{ℕ, Bool, false, List, is_some, nat_lt, unwrap_or, if◌then◌else◌}
-use Rattle.ct_core.specs.declared.sharers.Count.{Count}
+use Rattle.ct_core.specs.declared.sharers.SharerCount.{SharerCount}
 use Rattle.ct_core.specs.declared.sharers.Sharers.{Sharers}
 use Rattle.ct_core.specs.Locks.{noted_for}
 
@@ -9,11 +9,11 @@ abbrev pub counts_sharers : Sharers → List ℕ → Bool
 counts_sharers sharers name = is_some (noted_for sharers.counts name)
 
 -- what is counted for a lock that no test of the plan shares
-abbrev pub no_test : Count
+abbrev pub no_test : SharerCount
 no_test = record { tests = 0; marked = false }
 
 -- what is counted for the lock
-abbrev pub count_of : Sharers → List ℕ → Count
+abbrev pub count_of : Sharers → List ℕ → SharerCount
 count_of sharers name = unwrap_or (noted_for sharers.counts name) no_test
 
 -- how many open tests share the lock

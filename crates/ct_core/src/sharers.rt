@@ -11,18 +11,18 @@ use std::alloc::Global;
 /// The locks that the tests of a plan share, and how many open tests share each.
 #[derive(Drop)]
 pub(crate) struct Sharers {
-    counts: IndexMap<Vec<u8>, Count>,
+    counts: IndexMap<Vec<u8>, SharerCount>,
 }
 
 /// How many open tests share a lock. The mark tells that the list which is counted has named the lock
 /// already, since a test counts once, however often it names a lock.
 #[derive(Clone, Copy)]
-struct Count {
+struct SharerCount {
     tests: u64,
     marked: bool,
 }
 
-const NO_TEST: Count = Count {
+const NO_TEST: SharerCount = SharerCount {
     tests: 0,
     marked: false,
 };
@@ -94,7 +94,7 @@ impl Sharers {
         }
     }
 
-    fn count(&self, name: &Name) -> Count
+    fn count(&self, name: &Name) -> SharerCount
         ensures { result ≡ count_of self.now name.now }
     {
         match self.counts.get(name.bytes()) {
@@ -112,7 +112,7 @@ impl Sharers {
             ≡ (if bytes_eq asked name.now then marked else has_mark self.old asked) }
     {
         if let Some(here) = self.counts.get_mut(name.bytes()) {
-            *here = Count { tests, marked };
+            *here = SharerCount { tests, marked };
         }
     }
 

@@ -1,5 +1,5 @@
 use Rattle.std.proofs.Common.{◌∙◌, ap, refl, bytes_eq, cond, sym, take, true}
-use Rattle.ct_core.specs.declared.sharers.Count.{Count}
+use Rattle.ct_core.specs.declared.sharers.SharerCount.{SharerCount}
 use Rattle.ct_core.specs.Sharers.{has_mark, sharers_of}
 use Rattle.ct_core.proofs.SharerLemmas.{mark_less, seen_more, set_again}
 use Rattle.ct_core.proofs.sharers.Sharers.unmark.Goals as goal
@@ -16,7 +16,7 @@ loop-name-preserved c =
       counted = λ asked. c.set.ensures.counted asked ∙ c.loop-name.invariant.counted asked;
       kept = λ asked.
           c.set.ensures.set asked
-          ∙ ap (λ tests. cond (bytes_eq asked name) tests (sharers_of before asked)) (ap (λ (n : Count). n.tests) c.count-tests.ensures)
+          ∙ ap (λ tests. cond (bytes_eq asked name) tests (sharers_of before asked)) (ap (λ (n : SharerCount). n.tests) c.count-tests.ensures)
           ∙ set_again (sharers_of before) name asked (bytes_eq asked name) refl
           ∙ c.loop-name.invariant.kept asked;
       unmarked = λ asked among.
