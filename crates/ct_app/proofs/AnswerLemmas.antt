@@ -14,7 +14,7 @@ use Rattle.ct_app.specs.declared.outcome.Outcome.{Outcome}
 use Rattle.ct_app.specs.declared.outcome.Outcome.TheVariants.{Completed, Listed, Usage, Refused, FilesFault, OutputFault, Memory}
 use Rattle.ct_app.specs.declared.outcome.Refusal.{Refusal}
 use Rattle.ct_app.specs.Calls.{IsReadFault, IsUnrun, IsUsage, PutsOrFails, Tries, sides}
-use Rattle.ct_app.specs.Reading.{RunAsks}
+use Rattle.ct_app.specs.Reading.{RunFailsAt}
 use Rattle.ct_app.specs.Runs.{AnswersRun, HasRunWith, IsCompleted, IsCutOff, IsRefusal, IsReported, IsRun, IsShort, IsShortRun, IsUnwritten, RanWith}
 use Rattle.ct_app.specs.Ends.{Ends, RunLeaves, TellsEnd, Told}
 use Rattle.ct_app.specs.Outcome.{fault_line, fault_status}
@@ -101,7 +101,7 @@ module _ (words : List (List ℕ)) (env : List Pair) (files files_now : FilesTel
       line_told (fault_line names (Refused refusal)) (Refused refusal) outcome status refl unput told.0 told.1 (λ puts. (record { names = names; refused = late; line = puts }, refl)) (λ puts. record { names = names; refused = late; line = puts })
   told_answer (Err (FilesFault path)) outcome status (inl run) told = write_fault_told path outcome status run told.0 told.1
   told_answer (Err (FilesFault path)) outcome status (inr (fault, unput)) told =
-      let late_fault : IsReadFault (sides words env files files_now gates gates_now sink now plan history) RunAsks path = record { invocation = fault.invocation; words = fault.words; asked = fault.asked; files = fault.files; unrun = unrun_late fault.unrun } in
+      let late_fault : IsReadFault (sides words env files files_now gates gates_now sink now plan history) RunFailsAt path = record { invocation = fault.invocation; words = fault.words; due = fault.due; files = fault.files; unrun = unrun_late fault.unrun } in
       line_told (fault_line [] (FilesFault path)) (FilesFault path) outcome status refl unput told.0 told.1 (λ puts. (inl (late_fault, puts), refl)) (λ puts. (late_fault, puts))
   told_answer (Err OutputFault) outcome status (inl run) told =
       let cut = ran_late (λ i p es. RunLeaves (sides words env files files_now gates gates_now sink mid plan history) i p es (Err OutputFault)) (λ i p es. IsCutOff p es sink now × FilesStay files files_now) (λ i p es was. (subst (λ (t : SinkTell). IsCutOff p es sink t) (sym told.0.1) was.0, was.1)) run in

@@ -31,7 +31,7 @@ use Rattle.ct_app.specs.Answers.{Answers}
 use Rattle.ct_app.specs.Calls.{IsReadFault, IsUndeclared, IsUnreadable, IsUsage, Sides}
 use Rattle.ct_app.specs.Complete.{Completes, CompletesList, CompletesRun, IsListable, IsRunnable, IsUnfailed}
 use Rattle.ct_app.specs.Lists.{AnswersList}
-use Rattle.ct_app.specs.Reading.{AskFor, IsSource, ListAsks, RefusesReading, RunAsks}
+use Rattle.ct_app.specs.Reading.{AskFor, IsSource, ListFailsAt, RefusesReading, RunFailsAt}
 use Rattle.ct_app.specs.Rerun.{AreOnly, choice_for}
 use Rattle.ct_app.specs.RunFiles.{FilesStay}
 use Rattle.ct_app.specs.Runs.{AnswersRun, HasRunWith, IsCutOff, IsRefusal, IsUnplannable, IsUnwritten, RanWith}
@@ -130,7 +130,7 @@ module _ (s : Sides) (can : IsListable s) where
   list_by Listed status answer calm = inl refl
   list_by (Usage word kind) status answer calm = absurd (usage_never word kind answer.0)
   list_by (Refused refusal) status answer calm = absurd (unreadable_never refusal answer.0)
-  list_by (FilesFault path) status answer calm = absurd (read_fault_never calm ListAsks path answer.0)
+  list_by (FilesFault path) status answer calm = absurd (read_fault_never calm ListFailsAt path answer.0)
   list_by OutputFault status answer calm = absurd (calm.sink (answer.0.holds.bytes.cause.failed refl))
   list_by Memory status answer calm = inr refl
 
@@ -215,7 +215,7 @@ module _ (s : Sides) (can : IsRunnable s) where
   ran_never P never run = run_none s.plan s.history (RanWith s P) (λ p es was. never was.invocation p es was.holds) run
 
   files_fault_never : IsUnfailed s → (path : List ℕ) (status : ℕ) → AnswersRun s (FilesFault path) status → ⊥
-  files_fault_never calm path status (inl fault, is) = read_fault_never s listable calm RunAsks path fault.0
+  files_fault_never calm path status (inl fault, is) = read_fault_never s listable calm RunFailsAt path fault.0
   files_fault_never calm path status (inr run, is) = ran_never (λ i. IsUnwritten s path) (λ i p es was. calm.files was.0.1.rose) run
 
   run_by : (outcome : Outcome) (status : ℕ) → AnswersRun s outcome status → IsUnfailed s → (outcome ≡ Completed) ⊎ (outcome ≡ Memory)

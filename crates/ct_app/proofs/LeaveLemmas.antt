@@ -164,6 +164,6 @@ module _ (words : List (List ℕ)) (env : List Pair) (invocation : Invocation) (
         files = bad.files;
         unrun = unrun_so;
       }))
-  unread_unrun (FilesFault path) unread = record { invocation = invocation; words = asked; asked = unread.0; files = unread.1; unrun = unrun_so }
+  unread_unrun (FilesFault path) unread = record { invocation = invocation; words = asked; due = unread.0; files = unread.1; unrun = unrun_so }
   unread_unrun OutputFault unread = absurd unread
   unread_unrun Memory unread = (unrun_so, unread)

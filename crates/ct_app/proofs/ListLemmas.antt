@@ -14,10 +14,10 @@ use Rattle.ct_app.specs.declared.outcome.Outcome.{Outcome}
 use Rattle.ct_app.specs.declared.outcome.Outcome.TheVariants.{Completed, Listed, Usage, Refused, FilesFault, OutputFault, Memory}
 use Rattle.ct_app.specs.declared.props.Tests.{Tests}
 use Rattle.ct_app.specs.Calls.{IsReadFault, IsUnreadable, IsUnrun, IsUsage, PutsOrFails, ThenLine, Tries, list_sides, sides}
-use Rattle.ct_app.specs.Ends.{EndsList, IsReadList, IsUnread, ListEnds, Tells, TellsEnd, Told, listed_as}
+use Rattle.ct_app.specs.Ends.{EndsList, IsReadList, IsUnreadList, ListEnds, Tells, TellsEnd, Told, listed_as}
 use Rattle.ct_app.specs.Lists.{AnswersList, HasList, IsShortList, asked_lines}
 use Rattle.ct_app.specs.Outcome.{fault_line, fault_status}
-use Rattle.ct_app.specs.Reading.{AskFor, ListAsks}
+use Rattle.ct_app.specs.Reading.{AskFor, ListFailsAt}
 use Rattle.ct_app.specs.Rerun.{choice_for}
 use Rattle.ct_app.proofs.AnswerLemmas.{tried}
 
@@ -49,14 +49,14 @@ module _ (words : List (List ℕ)) (invocation : Invocation) (asked : AskFor wor
       by (Err Sinks.NoMemory) put = (unrun, read.read.files, inr (has (λ lines. PutsLines lines sink sink_now (Err Sinks.NoMemory)) put))
 
 -- a list whose tests were not read ends with the outcome of the reading
-pub unread_list : (words : List (List ℕ)) (invocation : Invocation) (asked : AskFor words invocation) (files files_now : FilesTell) (sink : SinkTell) (outcome : Outcome) → IsUnread invocation files files_now outcome → ListEnds (list_sides words files files_now sink sink) outcome
+pub unread_list : (words : List (List ℕ)) (invocation : Invocation) (asked : AskFor words invocation) (files files_now : FilesTell) (sink : SinkTell) (outcome : Outcome) → IsUnreadList invocation files files_now outcome → ListEnds (list_sides words files files_now sink sink) outcome
 unread_list words invocation asked files files_now sink Completed unread = absurd unread
 unread_list words invocation asked files files_now sink Listed unread = absurd unread
 unread_list words invocation asked files files_now sink (Usage word kind) unread = absurd unread
 unread_list words invocation asked files files_now sink (Refused refusal) unread =
     (record { invocation = invocation; words = asked; refused = unread.0; files = unread.1; unrun = record { no_plan = refl; no_history = refl; unasked = refl } }, refl)
 unread_list words invocation asked files files_now sink (FilesFault path) unread =
-    (record { invocation = invocation; words = asked; asked = unread.0; files = unread.1; unrun = record { no_plan = refl; no_history = refl; unasked = refl } }, refl)
+    (record { invocation = invocation; words = asked; due = unread.0; files = unread.1; unrun = record { no_plan = refl; no_history = refl; unasked = refl } }, refl)
 unread_list words invocation asked files files_now sink OutputFault unread = absurd unread
 unread_list words invocation asked files files_now sink Memory unread = (record { no_plan = refl; no_history = refl; unasked = refl }, unread, inl refl)
 
@@ -99,7 +99,7 @@ module _ (words : List (List ℕ)) (env : List Pair) (files files_now : FilesTel
       let refused : IsUnreadable (sides words env files files_now gates gates_now sink now plan history) refusal = record { invocation = ends.0.invocation; words = ends.0.words; refused = ends.0.refused; files = ends.0.files; unrun = unrun } in
       line_listed (Refused refusal) outcome status ends.1 told status_is (λ puts. (refused, puts, refl)) (λ puts. (refused, puts))
   list_answer (FilesFault path) outcome status ends told status_is =
-      let fault : IsReadFault (sides words env files files_now gates gates_now sink now plan history) ListAsks path = record { invocation = ends.0.invocation; words = ends.0.words; asked = ends.0.asked; files = ends.0.files; unrun = unrun } in
+      let fault : IsReadFault (sides words env files files_now gates gates_now sink now plan history) ListFailsAt path = record { invocation = ends.0.invocation; words = ends.0.words; due = ends.0.due; files = ends.0.files; unrun = unrun } in
       line_listed (FilesFault path) outcome status ends.1 told status_is (λ puts. (fault, puts, refl)) (λ puts. (fault, puts))
   list_answer OutputFault outcome status ends told status_is =
       answer_as OutputFault outcome status told.0 status_is (list_late (λ lines. PutsLines lines sink mid (Err Sinks.Failed)) (λ lines. PutsLines lines sink now (Err Sinks.Failed)) (λ lines put. subst (λ (t : SinkTell). PutsLines lines sink t (Err Sinks.Failed)) (sym told.1) put) ends, refl)

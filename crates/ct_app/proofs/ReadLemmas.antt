@@ -21,9 +21,9 @@ use Rattle.ct_app.specs.declared.outcome.SpecRefusal.{SpecRefusal}
 use Rattle.ct_app.specs.declared.props.Tests.{Tests}
 use Rattle.ct_app.specs.declared.spec_file.SpecFileFault.{SpecFileFault}
 use Rattle.ct_app.specs.declared.spec_file.SpecFileFault.TheVariants as Named
-use Rattle.ct_app.specs.Ends.{HasTests, IsReadFolder, IsReadList, IsUnread, IsUnreadFolder}
+use Rattle.ct_app.specs.Ends.{HasTests, IsReadFolder, IsReadList, IsUnread, IsUnreadFolder, IsUnreadList}
 use Rattle.ct_app.specs.Outcome.{outcome_of, outcome_of_file, outcome_of_spec}
-use Rattle.ct_app.specs.Reading.{ListAsks, RefusesSpec, RunAsks}
+use Rattle.ct_app.specs.Reading.{AreTestsRead, InputsFailAt, RefusesSpec}
 use Rattle.ct_app.specs.Rerun.{AreOnly, ReadsOnly, last_failed, names_in_text}
 use Rattle.ct_app.specs.RunFiles.{FilesStay, ReadsCosts, costs_of, costs_path, last_costs, log_path}
 use Rattle.ct_app.specs.SpecFile.{AreLent, ReadsSpec, RefusesFile, declared_in}
@@ -36,7 +36,7 @@ pub unread_tree : (invocation : Invocation) (before now : FilesTell) (fault : Re
 unread_tree invocation before now (Read.At file line kind) outcome is refused asks cause kept =
     subst (λ (o : Outcome). IsUnread invocation before now o) (sym is) (refused, record { held = kept; unrefused = cause.unrefused; unfailed = cause.unfailed })
 unread_tree invocation before now (Read.FilesFailed path) outcome is refused asks cause kept =
-    subst (λ (o : Outcome). IsUnread invocation before now o) (sym is) (inl asks, record { held = kept; told = cause.told; last = cause.failed.last; rose = cause.failed.rose })
+    subst (λ (o : Outcome). IsUnread invocation before now o) (sym is) (asks, record { held = kept; told = cause.told; last = cause.failed.last; rose = cause.failed.rose })
 unread_tree invocation before now Read.NoMemory outcome is refused asks cause kept =
     subst (λ (o : Outcome). IsUnread invocation before now o) (sym is) (record { held = kept; unrefused = cause.unrefused; unfailed = cause.unfailed })
 
@@ -109,7 +109,7 @@ module _ (invocation : Invocation) (before : FilesTell) where
   -- the cost data was not read
   pub unread_costs : (behind now : FilesTell) (lent : Option (List Resource)) (fault : RunFileFault) (outcome : Outcome) → outcome ≡ outcome_of_file fault → ReadsSpec invocation.spec_file before behind (Ok lent) → ReadsCosts invocation.wanted.dir behind now (Err fault) → AreUnreadInputs invocation before now outcome
   unread_costs behind now lent (Fault.Failed path) outcome is named fails =
-      subst (λ (o : Outcome). AreUnreadInputs invocation before now o) (sym is) (inr (inl fails.0), fails_then SameHeld SameHeld SameHeld same_then_same path before behind now named.1 fails.1)
+      subst (λ (o : Outcome). AreUnreadInputs invocation before now o) (sym is) (inr ((lent, named.0), inl fails.0), fails_then SameHeld SameHeld SameHeld same_then_same path before behind now named.1 fails.1)
   unread_costs behind now lent Fault.NoMemory outcome is named stays =
       subst (λ (o : Outcome). AreUnreadInputs invocation before now o) (sym is) (then_stay before behind now named.1 stays)
 
@@ -117,7 +117,7 @@ module _ (invocation : Invocation) (before : FilesTell) where
   pub unread_log : (behind beyond now : FilesTell) (lent : Option (List Resource)) (costs : CostData) (fault : RunFileFault) (outcome : Outcome) → outcome ≡ outcome_of_file fault → ReadsSpec invocation.spec_file before behind (Ok lent) → ReadsCosts invocation.wanted.dir behind beyond (Ok costs) → ReadsOnly invocation.rerun invocation.wanted.dir beyond now (Err fault) → AreUnreadInputs invocation before now outcome
   unread_log behind beyond now lent costs (Fault.Failed path) outcome is named last fails =
       subst (λ (o : Outcome). AreUnreadInputs invocation before now o) (sym is)
-      (inr (inr (fails.0, fails.1)), fails_then SameHeld SameHeld SameHeld same_then_same path before beyond now (then_stay before behind beyond named.1 last.1) fails.2)
+      (inr ((lent, named.0), inr (fails.0, fails.1)), fails_then SameHeld SameHeld SameHeld same_then_same path before beyond now (then_stay before behind beyond named.1 last.1) fails.2)
   unread_log behind beyond now lent costs Fault.NoMemory outcome is named last stays =
       subst (λ (o : Outcome). AreUnreadInputs invocation before now o) (sym is) (then_stay before beyond now (then_stay before behind beyond named.1 last.1) stays)
 
@@ -138,12 +138,15 @@ module _ (invocation : Invocation) (before between : FilesTell) (tests : Tests) 
     limits = same_only invocation.rerun invocation.wanted.dir only before.held between.held read.files.held log.0;
   }
 
-  -- the log was not read, so the tests of the list were not
-  pub unread_only : (now : FilesTell) (fault : RunFileFault) (outcome : Outcome) → outcome ≡ outcome_of_file fault → ReadsOnly invocation.rerun invocation.wanted.dir between now (Err fault) → IsUnread invocation before now outcome
+  are_read : AreTestsRead before.held invocation
+  are_read = (tests.defs, tests.props, read.read)
+
+  -- the log was not read, so what the list needs was not
+  pub unread_only : (now : FilesTell) (fault : RunFileFault) (outcome : Outcome) → outcome ≡ outcome_of_file fault → ReadsOnly invocation.rerun invocation.wanted.dir between now (Err fault) → IsUnreadList invocation before now outcome
   unread_only now (Fault.Failed path) outcome is fails =
-      subst (λ (o : Outcome). IsUnread invocation before now o) (sym is) (inr (fails.0, fails.1), fails_then SameHeld SameHeld SameHeld same_then_same path before between now read.files fails.2)
+      subst (λ (o : Outcome). IsUnreadList invocation before now o) (sym is) (inr (are_read, fails.0, fails.1), fails_then SameHeld SameHeld SameHeld same_then_same path before between now read.files fails.2)
   unread_only now Fault.NoMemory outcome is stays =
-      subst (λ (o : Outcome). IsUnread invocation before now o) (sym is) (then_stay before between now read.files stays)
+      subst (λ (o : Outcome). IsUnreadList invocation before now o) (sym is) (then_stay before between now read.files stays)
 
   same_spec_refused : (refusal : Refusal) → RefusesSpec between.held invocation refusal → RefusesSpec before.held invocation refusal
   same_spec_refused (TestFile file line kind) refused = absurd refused
@@ -151,6 +154,10 @@ module _ (invocation : Invocation) (before between : FilesTell) (tests : Tests) 
   same_spec_refused (Spec why) refused = same_refused invocation.spec_file why before.held between.held read.files.held refused
   same_spec_refused (Cycle tests) refused = absurd refused
   same_spec_refused TooManyEdges refused = absurd refused
+
+  same_inputs : (path : List ℕ) → InputsFailAt between.held invocation path → InputsFailAt before.held invocation path
+  same_inputs path (inl named) = inl named
+  same_inputs path (inr behind) = inr ((behind.0.0, same_lent invocation.spec_file behind.0.0 before.held between.held read.files.held behind.0.1), behind.1)
 
   -- what a plan needs beside the tests was not read, so the folder was not, for the same reason
   pub unread_inputs : (now : FilesTell) (outcome : Outcome) → AreUnreadInputs invocation between now outcome → IsUnreadFolder invocation before now outcome
@@ -160,14 +167,19 @@ module _ (invocation : Invocation) (before between : FilesTell) (tests : Tests) 
   unread_inputs now (Refused refusal) unread =
       inr (record { tests = tests; read = read.read; refused = same_spec_refused refusal unread.0; files = then_stay before between now read.files unread.1 })
   unread_inputs now (FilesFault path) unread =
-      (inr unread.0, fails_then SameHeld SameHeld SameHeld same_then_same path before between now read.files unread.1)
+      (inr (are_read, same_inputs path unread.0), fails_then SameHeld SameHeld SameHeld same_then_same path before between now read.files unread.1)
   unread_inputs now OutputFault unread = absurd unread
   unread_inputs now Memory unread = then_stay before between now read.files unread
 
--- what is asked for a list is asked for a run too
-list_asks : (told : Option Held) (invocation : Invocation) (path : List ℕ) → ListAsks told invocation path → RunAsks told invocation path
-list_asks told invocation path (inl tree) = inl tree
-list_asks told invocation path (inr log) = inr (inr (inr log))
+-- where the tests of a list were not read, what it needs was not read, for the same reason
+pub unread_listed : (invocation : Invocation) (before now : FilesTell) (outcome : Outcome) → IsUnread invocation before now outcome → IsUnreadList invocation before now outcome
+unread_listed invocation before now Completed unread = unread
+unread_listed invocation before now Listed unread = unread
+unread_listed invocation before now (Usage word kind) unread = unread
+unread_listed invocation before now (Refused refusal) unread = unread
+unread_listed invocation before now (FilesFault path) unread = (inl unread.0, unread.1)
+unread_listed invocation before now OutputFault unread = unread
+unread_listed invocation before now Memory unread = unread
 
 -- where the tests of a folder were not read, the folder was not read, for the same reason
 pub unread_tests : (invocation : Invocation) (before now : FilesTell) (outcome : Outcome) → IsUnread invocation before now outcome → IsUnreadFolder invocation before now outcome
@@ -175,6 +187,6 @@ unread_tests invocation before now Completed unread = unread
 unread_tests invocation before now Listed unread = unread
 unread_tests invocation before now (Usage word kind) unread = unread
 unread_tests invocation before now (Refused refusal) unread = inl unread
-unread_tests invocation before now (FilesFault path) unread = (list_asks before.held invocation path unread.0, unread.1)
+unread_tests invocation before now (FilesFault path) unread = (inl unread.0, unread.1)
 unread_tests invocation before now OutputFault unread = unread
 unread_tests invocation before now Memory unread = unread

@@ -101,12 +101,12 @@ pub record IsUndeclared (s : Sides) (refusal : Refusal) : Type 0 where
   pub files : FilesStay s.files.before s.files.after
   pub unrun : IsUnrun s
 
--- reading failed at this path, which is one of what is read for the call; each path holds what it held,
--- and nothing was run
-pub record IsReadFault (s : Sides) (Asks : Option Held → Invocation → List ℕ → Type 0) (path : List ℕ)
+-- reading failed at this path, where it may fail for the call: what is read in front of it was read and not
+-- refused. Each path holds what it held, and nothing was run.
+pub record IsReadFault (s : Sides) (FailsAt : Option Held → Invocation → List ℕ → Type 0) (path : List ℕ)
     : Type 0 where
   pub invocation : Invocation
   pub words : AskFor s.words invocation
-  pub asked : Asks s.files.before.held invocation path
+  pub due : FailsAt s.files.before.held invocation path
   pub files : FilesFail path SameHeld s.files.before s.files.after
   pub unrun : IsUnrun s

@@ -5,6 +5,7 @@ use Rattle.ct_base.specs.declared.defs.TestDef.{TestDef}
 use Rattle.ct_base.specs.declared.sink.SinkFault.{SinkFault}
 use Rattle.ct_base.specs.declared.sink.SinkFault.TheVariants as Sinks
 use Rattle.ct_base.specs.Outside.{FilesTell, SameHeld, SinkTell}
+use Rattle.ct_testfile.specs.Asks.{TreeAsks}
 use Rattle.ct_history.specs.declared.plan.PlanParts.{PlanParts}
 use Rattle.ct_history.specs.declared.history.Entry.{Entry}
 use Rattle.ct_history.specs.declared.history.History.{History}
@@ -22,7 +23,7 @@ use Rattle.ct_app.specs.Calls.{IsReadFault, IsUnreadable, IsUnrun, IsUsage, Puts
 use Rattle.ct_app.specs.Runs.{HasRunWith, IsCutOff, IsCutShort, IsGivenUp, FilesAreLeft, IsRefusal, IsReported, IsWriteFault}
 use Rattle.ct_app.specs.Lists.{HasList}
 use Rattle.ct_app.specs.Outcome.{fault_line, fault_status, names_at, outcome_of_sink, status_of}
-use Rattle.ct_app.specs.Reading.{AreRead, AskFor, ListAsks, RefusesReading, RefusesSpec, RunAsks}
+use Rattle.ct_app.specs.Reading.{AreRead, AskFor, ListFailsAt, RefusesReading, RefusesSpec, RunFailsAt}
 use Rattle.ct_app.specs.Rerun.{AreOnly}
 use Rattle.ct_app.specs.RunFiles.{FilesFail, FilesServe, FilesStay, IsWritten, Leaves, LeavesPart, LeavesTorn, last_costs}
 use Rattle.ct_app.specs.SpecFile.{AreLent}
@@ -34,13 +35,9 @@ history_entries history = history.entries.items
 -- how the run of a plan ended: complete, with a fault of the sink, or out of memory
 abbrev pub PlanEnds : PlanParts → List Entry → SinkTell → SinkTell → Result (Unit {0}) Outcome → Type 0
 PlanEnds plan entries before now (Ok done) = IsReported plan entries before now
-PlanEnds plan entries before now (Err Completed) = ⊥
-PlanEnds plan entries before now (Err Listed) = ⊥
-PlanEnds plan entries before now (Err (Usage word kind)) = ⊥
-PlanEnds plan entries before now (Err (Refused refusal)) = ⊥
-PlanEnds plan entries before now (Err (FilesFault path)) = ⊥
 PlanEnds plan entries before now (Err OutputFault) = IsCutOff plan entries before now
 PlanEnds plan entries before now (Err Memory) = IsGivenUp plan entries before now
+PlanEnds plan entries before now ended = ⊥
 
 -- success, or the outcome that a fault of the sink means
 abbrev pub ended_as : Result (Unit {0}) SinkFault → Result (Unit {0}) Outcome
@@ -53,13 +50,10 @@ ended_as (Err fault) = Err (outcome_of_sink fault)
 -- - the run ended early with a fault of the sink or out of memory, and the files stay
 abbrev pub RunLeaves : Sides → Invocation → PlanParts → List Entry → Result ℕ Outcome → Type 0
 RunLeaves s invocation plan entries (Ok status) = IsReported plan entries s.sink.before s.sink.after × FilesAreLeft s plan entries × (status ≡ status_of invocation.empty_is_error plan entries)
-RunLeaves s invocation plan entries (Err Completed) = ⊥
-RunLeaves s invocation plan entries (Err Listed) = ⊥
-RunLeaves s invocation plan entries (Err (Usage word kind)) = ⊥
-RunLeaves s invocation plan entries (Err (Refused refusal)) = ⊥
 RunLeaves s invocation plan entries (Err (FilesFault path)) = IsWriteFault s path plan entries × IsReported plan entries s.sink.before s.sink.after
 RunLeaves s invocation plan entries (Err OutputFault) = IsCutOff plan entries s.sink.before s.sink.after × FilesStay s.files.before s.files.after
 RunLeaves s invocation plan entries (Err Memory) = IsCutShort s plan entries s.sink.after
+RunLeaves s invocation plan entries ended = ⊥
 
 -- what became of the files of a run with this end. A complete run wrote them, unless a write failed or memory
 -- ran out. A run that ended early left them as they were, and keeps its outcome.
@@ -68,13 +62,9 @@ abbrev pub EndsWithFiles : PlanParts
     → Type 0
 EndsWithFiles plan entries costs before now (Err outcome) ended = (ended ≡ Err outcome) × (now ≡ before)
 EndsWithFiles plan entries costs before now (Ok done) (Ok left) = FilesServe (Leaves plan entries costs) before now
-EndsWithFiles plan entries costs before now (Ok done) (Err Completed) = ⊥
-EndsWithFiles plan entries costs before now (Ok done) (Err Listed) = ⊥
-EndsWithFiles plan entries costs before now (Ok done) (Err (Usage word kind)) = ⊥
-EndsWithFiles plan entries costs before now (Ok done) (Err (Refused refusal)) = ⊥
 EndsWithFiles plan entries costs before now (Ok done) (Err (FilesFault path)) = IsWritten plan entries path × FilesFail path (LeavesTorn plan entries path costs) before now
-EndsWithFiles plan entries costs before now (Ok done) (Err OutputFault) = ⊥
 EndsWithFiles plan entries costs before now (Ok done) (Err Memory) = FilesServe (LeavesPart plan entries costs) before now
+EndsWithFiles plan entries costs before now (Ok done) ended = ⊥
 
 -- the status of a complete run, or the outcome of one that ended early
 abbrev pub with_status : Bool → PlanParts → List Entry → Result (Unit {0}) Outcome → Result ℕ Outcome
@@ -90,15 +80,20 @@ pub record HasTests (invocation : Invocation) (before now : FilesTell) (tests : 
 -- why the tests were not read: a test file or a property is refused, the files failed at a path,
 -- or memory ran out
 abbrev pub IsUnread : Invocation → FilesTell → FilesTell → Outcome → Type 0
-IsUnread invocation before now Completed = ⊥
-IsUnread invocation before now Listed = ⊥
-IsUnread invocation before now (Usage word kind) = ⊥
 IsUnread invocation before now (Refused refusal) =
     RefusesReading before.held invocation refusal × FilesStay before now
 IsUnread invocation before now (FilesFault path) =
-    ListAsks before.held invocation path × FilesFail path SameHeld before now
-IsUnread invocation before now OutputFault = ⊥
+    IfSome before.held (λ held. TreeAsks held invocation.wanted.dir invocation.config path)
+    × FilesFail path SameHeld before now
 IsUnread invocation before now Memory = FilesStay before now
+IsUnread invocation before now outcome = ⊥
+
+-- why what a list needs was not read: a test file or a property is refused, the files failed at a path, or
+-- memory ran out
+abbrev pub IsUnreadList : Invocation → FilesTell → FilesTell → Outcome → Type 0
+IsUnreadList invocation before now (FilesFault path) =
+    ListFailsAt before.held invocation path × FilesFail path SameHeld before now
+IsUnreadList invocation before now outcome = IsUnread invocation before now outcome
 
 -- the tests that an invocation asks for were read, the file that declares the resources is refused,
 -- and the files stay
@@ -114,7 +109,7 @@ abbrev pub IsUnreadFolder : Invocation → FilesTell → FilesTell → Outcome �
 IsUnreadFolder invocation before now (Refused refusal) =
     IsUnread invocation before now (Refused refusal) ⊎ HasBadSpec invocation before now refusal
 IsUnreadFolder invocation before now (FilesFault path) =
-    RunAsks before.held invocation path × FilesFail path SameHeld before now
+    RunFailsAt before.held invocation path × FilesFail path SameHeld before now
 IsUnreadFolder invocation before now outcome = IsUnread invocation before now outcome
 
 -- the tests of a list were read, and the names that the list is limited to, if any
@@ -146,14 +141,11 @@ IsUnplanned defs Plans.NoMemory names ended = ended ≡ Err Memory
 
 -- nothing was run, and this outcome says why; the tests of a cycle have these names
 abbrev pub EndsUnrun : Sides → List (List ℕ) → Result ℕ Outcome → Type 0
-EndsUnrun s names (Ok status) = ⊥
-EndsUnrun s names (Err Completed) = ⊥
-EndsUnrun s names (Err Listed) = ⊥
 EndsUnrun s names (Err (Usage word kind)) = IsUsage s word kind
 EndsUnrun s names (Err (Refused refusal)) = IsRefusal s refusal names
-EndsUnrun s names (Err (FilesFault path)) = IsReadFault s RunAsks path
-EndsUnrun s names (Err OutputFault) = ⊥
+EndsUnrun s names (Err (FilesFault path)) = IsReadFault s RunFailsAt path
 EndsUnrun s names (Err Memory) = IsUnrun s × FilesStay s.files.before s.files.after
+EndsUnrun s names ended = ⊥
 
 -- how a run ended before the line of its outcome is put: a plan was run, or none was made and nothing was put
 abbrev pub Ends : Sides → List (List ℕ) → Result ℕ Outcome → Type 0
@@ -177,7 +169,7 @@ ListEnds s Completed = ⊥
 ListEnds s Listed = HasList s (λ lines. PutsLines lines s.sink.before s.sink.after (Ok tt))
 ListEnds s (Usage word kind) = IsUsage s word kind × (s.sink.after ≡ s.sink.before)
 ListEnds s (Refused refusal) = IsUnreadable s refusal × (s.sink.after ≡ s.sink.before)
-ListEnds s (FilesFault path) = IsReadFault s ListAsks path × (s.sink.after ≡ s.sink.before)
+ListEnds s (FilesFault path) = IsReadFault s ListFailsAt path × (s.sink.after ≡ s.sink.before)
 ListEnds s OutputFault = HasList s (λ lines. PutsLines lines s.sink.before s.sink.after (Err Sinks.Failed))
 ListEnds s Memory =
     IsUnrun s

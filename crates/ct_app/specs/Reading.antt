@@ -1,6 +1,7 @@
 -- What the words of a call ask for, what is read for it, and what is refused.
 -- Source: CMake manual, ctest(1), Options, Run Tests. What is refused is this project's choice.
 use Rattle.std.specs.Prelude.{◌≡◌, ◌⊎◌, ℕ, ◌<◌, ◌≤◌, Bool, true, false, List, Option, Some, Result, Ok, Err, IfSome}
+use Rattle.ct_base.specs.declared.defs.Resource.{Resource}
 use Rattle.ct_base.specs.declared.defs.TestDef.{TestDef}
 use Rattle.ct_base.specs.Outside.{Held}
 use Rattle.ct_testfile.specs.declared.fault.ReadFault.TheVariants as Read
@@ -58,25 +59,37 @@ pub record IsSource (told : Option Held) (invocation : Invocation) (source : Sou
   pub resources : AreLent told invocation.spec_file source.resources
   pub costs : IfSome told (λ held. source.costs ≡ last_costs invocation.wanted.dir held)
 
--- what is read for a list is at this path: in the tree of test files, or with --rerun-failed the log
-abbrev pub ListAsks : Option Held → Invocation → List ℕ → Type 0
-ListAsks told invocation path =
-    IfSome told (λ held. TreeAsks held invocation.wanted.dir invocation.config path)
-    ⊎ ((invocation.rerun ≡ true) × (path ≡ log_path invocation.wanted.dir))
+-- the tests of the folder are read, with their properties
+abbrev pub AreTestsRead : Option Held → Invocation → Type 0
+AreTestsRead told invocation =
+    (defs : List TestDef) × (props : List Props) × AreRead told invocation defs props
 
--- an input of a plan beside the tests is read at this path: the specification that is named, the cost data,
--- or with --rerun-failed the log
-abbrev pub InputsAsk : Invocation → List ℕ → Type 0
-InputsAsk invocation path =
+-- the specification that is named is accepted, or none is named
+abbrev pub IsSpecAccepted : Option Held → Invocation → Type 0
+IsSpecAccepted told invocation = (lent : Option (List Resource)) × AreLent told invocation.spec_file lent
+
+-- reading for a list may fail at this path: in the tree of test files; or, where the tests are read, at the log
+-- for --rerun-failed
+abbrev pub ListFailsAt : Option Held → Invocation → List ℕ → Type 0
+ListFailsAt told invocation path =
+    IfSome told (λ held. TreeAsks held invocation.wanted.dir invocation.config path)
+    ⊎ (AreTestsRead told invocation × (invocation.rerun ≡ true) × (path ≡ log_path invocation.wanted.dir))
+
+-- reading the inputs of a plan beside the tests may fail at this path: at the specification that is named; or,
+-- where it is accepted, at the cost data, or at the log for --rerun-failed
+abbrev pub InputsFailAt : Option Held → Invocation → List ℕ → Type 0
+InputsFailAt told invocation path =
     (invocation.spec_file ≡ Some path)
-    ⊎ (path ≡ costs_path invocation.wanted.dir)
-    ⊎ ((invocation.rerun ≡ true) × (path ≡ log_path invocation.wanted.dir))
+    ⊎ (IsSpecAccepted told invocation
+    × ((path ≡ costs_path invocation.wanted.dir)
+    ⊎ ((invocation.rerun ≡ true) × (path ≡ log_path invocation.wanted.dir))))
 
--- what is read for a run is at this path: in the tree of test files, or an input of the plan beside them
-abbrev pub RunAsks : Option Held → Invocation → List ℕ → Type 0
-RunAsks told invocation path =
+-- reading for a run may fail at this path: in the tree of test files; or, where the tests are read, at an input
+-- of the plan beside them
+abbrev pub RunFailsAt : Option Held → Invocation → List ℕ → Type 0
+RunFailsAt told invocation path =
     IfSome told (λ held. TreeAsks held invocation.wanted.dir invocation.config path)
-    ⊎ InputsAsk invocation path
+    ⊎ (AreTestsRead told invocation × InputsFailAt told invocation path)
 
 -- a test file is refused; or all test files are read, and the first test with a bad property is refused
 abbrev pub RefusesReading : Option Held → Invocation → Refusal → Type 0
@@ -86,25 +99,18 @@ RefusesReading told invocation (Prop test key kind) =
     (defs : List TestDef)
     × IfSome told (λ held. tree_of held invocation.wanted.dir invocation.config ≡ Ok defs)
     × RefusesFirst defs test key kind
-RefusesReading told invocation (Spec why) = ⊥
-RefusesReading told invocation (Cycle tests) = ⊥
-RefusesReading told invocation TooManyEdges = ⊥
+RefusesReading told invocation refusal = ⊥
 
 -- the file that declares the resources is refused
 abbrev pub RefusesSpec : Option Held → Invocation → Refusal → Type 0
-RefusesSpec told invocation (TestFile file line kind) = ⊥
-RefusesSpec told invocation (Prop test key kind) = ⊥
 RefusesSpec told invocation (Spec why) = RefusesFile told invocation.spec_file why
-RefusesSpec told invocation (Cycle tests) = ⊥
-RefusesSpec told invocation TooManyEdges = ⊥
+RefusesSpec told invocation refusal = ⊥
 
 -- the tests have no plan: some of them make a cycle and have these names, or the edge count is too great
 abbrev pub RefusesPlan : Source → Refusal → List (List ℕ) → Type 0
-RefusesPlan source (TestFile file line kind) names = ⊥
-RefusesPlan source (Prop test key kind) names = ⊥
-RefusesPlan source (Spec why) names = ⊥
 RefusesPlan source (Cycle tests) names =
     (edge_count source ≤ most_edges)
     × (is_cycle (members_before source) tests ≡ true)
     × (names ≡ names_at source.defs tests)
 RefusesPlan source TooManyEdges names = most_edges < edge_count source
+RefusesPlan source refusal names = ⊥

@@ -22,7 +22,7 @@ use Rattle.ct_worker.specs.Gates.{AreAsked, are_below, had_memory}
 use Rattle.ct_app.specs.Stops.{StopsSo}
 use Rattle.ct_app.specs.Tests.{terms_from}
 use Rattle.ct_app.specs.Outcome.{fault_line, status_of}
-use Rattle.ct_app.specs.Reading.{AskFor, IsSource, RefusesPlan, RunAsks}
+use Rattle.ct_app.specs.Reading.{AskFor, IsSource, RefusesPlan, RunFailsAt}
 use Rattle.ct_app.specs.RunFiles.{FilesFail, FilesServe, FilesStay, IsWritten, Leaves, LeavesPart, LeavesTorn, WithLast}
 use Rattle.ct_app.specs.Calls.{IsReadFault, IsUndeclared, IsUnreadable, IsUnrun, IsUsage, PutsOrFails, Sides, ThenLine, Tries}
 
@@ -120,28 +120,22 @@ IsCutShort s plan entries middle =
 
 -- memory ran out without a plan: for the line of this outcome; or, with Memory, for a step before any line
 abbrev pub IsShort : Sides → Outcome → Type 0
-IsShort s Completed = ⊥
-IsShort s Listed = ⊥
 IsShort s (Usage word kind) = IsUsage s word kind × PutsLines (fault_line [] (Usage word kind) ∷ []) s.sink.before s.sink.after (Err Sinks.NoMemory)
 IsShort s (Refused refusal) = TellsRefusal s refusal (λ line. PutsLines (line ∷ []) s.sink.before s.sink.after (Err Sinks.NoMemory))
-IsShort s (FilesFault path) = IsReadFault s RunAsks path × PutsLines (fault_line [] (FilesFault path) ∷ []) s.sink.before s.sink.after (Err Sinks.NoMemory)
-IsShort s OutputFault = ⊥
+IsShort s (FilesFault path) = IsReadFault s RunFailsAt path × PutsLines (fault_line [] (FilesFault path) ∷ []) s.sink.before s.sink.after (Err Sinks.NoMemory)
 IsShort s Memory = IsUnrun s × FilesStay s.files.before s.files.after × Tries (fault_line [] Memory) s.sink.before s.sink.after
+IsShort s outcome = ⊥
 
 -- memory ran out with a plan: for the line of a write that failed; or, with Memory,
 -- in the run or for its files
 abbrev pub IsShortRun : Sides → Outcome → PlanParts → List Entry → Type 0
-IsShortRun s Completed plan entries = ⊥
-IsShortRun s Listed plan entries = ⊥
-IsShortRun s (Usage word kind) plan entries = ⊥
-IsShortRun s (Refused refusal) plan entries = ⊥
 IsShortRun s (FilesFault path) plan entries =
     IsWriteFault s path plan entries
     × ThenLine (IsReported plan entries s.sink.before) (λ middle.
     PutsLines (fault_line [] (FilesFault path) ∷ []) middle s.sink.after (Err Sinks.NoMemory))
-IsShortRun s OutputFault plan entries = ⊥
 IsShortRun s Memory plan entries =
     ThenLine (IsCutShort s plan entries) (λ middle. Tries (fault_line [] Memory) middle s.sink.after)
+IsShortRun s outcome plan entries = ⊥
 
 -- a run was completed: it was reported, its files were written, and this is the status of the run
 pub record IsCompleted
@@ -164,6 +158,6 @@ AnswersRun s Completed status = HasRunWith s (IsCompleted s status)
 AnswersRun s Listed status = ⊥
 AnswersRun s (Usage word kind) status = IsUsage s word kind × PutsOrFails (fault_line [] (Usage word kind)) s.sink.before s.sink.after × (status ≡ 1)
 AnswersRun s (Refused refusal) status = TellsRefusal s refusal (λ line. PutsOrFails line s.sink.before s.sink.after) × (status ≡ 2)
-AnswersRun s (FilesFault path) status = ((IsReadFault s RunAsks path × PutsOrFails (fault_line [] (FilesFault path)) s.sink.before s.sink.after) ⊎ HasRunWith s (λ invocation. IsUnwritten s path)) × (status ≡ 3)
+AnswersRun s (FilesFault path) status = ((IsReadFault s RunFailsAt path × PutsOrFails (fault_line [] (FilesFault path)) s.sink.before s.sink.after) ⊎ HasRunWith s (λ invocation. IsUnwritten s path)) × (status ≡ 3)
 AnswersRun s OutputFault status = HasRunWith s (λ invocation plan entries. IsCutOff plan entries s.sink.before s.sink.after × FilesStay s.files.before s.files.after) × (status ≡ 4)
 AnswersRun s Memory status = ((outcome : Outcome) × (IsShort s outcome ⊎ HasRunWith s (λ invocation. IsShortRun s outcome))) × (status ≡ 5)

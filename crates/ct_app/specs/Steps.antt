@@ -12,7 +12,7 @@ use Rattle.ct_app.specs.declared.outcome.Outcome.{Outcome}
 use Rattle.ct_app.specs.declared.outcome.Outcome.TheVariants.{Refused, FilesFault, Memory}
 use Rattle.ct_app.specs.declared.run_files.RunFileFault.{RunFileFault}
 use Rattle.ct_app.specs.Ends.{IsUnplanned}
-use Rattle.ct_app.specs.Reading.{InputsAsk, RefusesSpec}
+use Rattle.ct_app.specs.Reading.{InputsFailAt, RefusesSpec}
 use Rattle.ct_app.specs.Rerun.{AreOnly}
 use Rattle.ct_app.specs.RunFiles.{FilesFail, FilesStay, WritesText, costs_path, last_costs, log_path}
 use Rattle.ct_app.specs.SpecFile.{AreLent}
@@ -34,7 +34,7 @@ abbrev pub AreUnreadInputs : Invocation → FilesTell → FilesTell → Outcome 
 AreUnreadInputs invocation before now (Refused refusal) =
     RefusesSpec before.held invocation refusal × FilesStay before now
 AreUnreadInputs invocation before now (FilesFault path) =
-    InputsAsk invocation path × FilesFail path SameHeld before now
+    InputsFailAt before.held invocation path × FilesFail path SameHeld before now
 AreUnreadInputs invocation before now Memory = FilesStay before now
 AreUnreadInputs invocation before now outcome = ⊥
 

@@ -11,8 +11,8 @@ use Rattle.ct_props.specs.Numbered.{at_number}
 use Rattle.ct_plan.specs.Source.{Source}
 use Rattle.ct_worker.specs.Gates.{Terms}
 use Rattle.ct_app.specs.declared.outcome.Outcome.{Outcome}
-use Rattle.ct_app.specs.declared.outcome.Outcome.TheVariants.{Completed, Listed, Usage, Refused, FilesFault, OutputFault, Memory}
-use Rattle.ct_app.specs.declared.outcome.Refusal.TheVariants.{TestFile, Prop, Spec, Cycle, TooManyEdges}
+use Rattle.ct_app.specs.declared.outcome.Outcome.TheVariants.{Refused, Memory}
+use Rattle.ct_app.specs.declared.outcome.Refusal.TheVariants.{Prop}
 
 -- the terms of a run's attempts: its own environment, the tests and properties of the source, and the time
 -- limit of a test without a limit of its own. Slots are lent where the source has resources.
@@ -43,28 +43,12 @@ pub record RefusesFirst (defs : List TestDef) (test : ℕ) (key : List ℕ) (kin
 
 -- the outcome refuses the least refused property of this test, or is Memory, which may come at any time
 abbrev pub RefusesTest : ℕ → TestDef → Outcome → Type 0
-RefusesTest number def Completed = ⊥
-RefusesTest number def Listed = ⊥
-RefusesTest number def (Usage word kind) = ⊥
-RefusesTest number def (Refused (TestFile file line kind)) = ⊥
 RefusesTest number def (Refused (Prop test key kind)) = (test ≡ number) × IsLeastRefused def.props key kind
-RefusesTest number def (Refused (Spec why)) = ⊥
-RefusesTest number def (Refused (Cycle tests)) = ⊥
-RefusesTest number def (Refused TooManyEdges) = ⊥
-RefusesTest number def (FilesFault path) = ⊥
-RefusesTest number def OutputFault = ⊥
 RefusesTest number def Memory = ⊤
+RefusesTest number def outcome = ⊥
 
 -- the outcome refuses the first test with a refused property, or is Memory, which may come at any time
 abbrev pub RefusesTests : List TestDef → Outcome → Type 0
-RefusesTests defs Completed = ⊥
-RefusesTests defs Listed = ⊥
-RefusesTests defs (Usage word kind) = ⊥
-RefusesTests defs (Refused (TestFile file line kind)) = ⊥
 RefusesTests defs (Refused (Prop test key kind)) = RefusesFirst defs test key kind
-RefusesTests defs (Refused (Spec why)) = ⊥
-RefusesTests defs (Refused (Cycle tests)) = ⊥
-RefusesTests defs (Refused TooManyEdges) = ⊥
-RefusesTests defs (FilesFault path) = ⊥
-RefusesTests defs OutputFault = ⊥
 RefusesTests defs Memory = ⊤
+RefusesTests defs outcome = ⊥

@@ -1,5 +1,5 @@
 ghost use Rattle.std.specs.Prelude.{◌≡◌, IfOk, IfErr};
-ghost use Rattle.ct_app.specs.Ends.{HasTests, IsReadList, IsUnread};
+ghost use Rattle.ct_app.specs.Ends.{HasTests, IsReadList, IsUnread, IsUnreadList};
 ghost use Rattle.ct_app.specs.Outcome.{name_there, names_at as names_of};
 ghost use Rattle.ct_props.specs.Numbered.{at_number as stands_at};
 
@@ -40,14 +40,14 @@ pub(crate) struct ListFolder {
 }
 
 /// Reads the tests of a list, and the names that the list is limited to, if any.
-#[tactic(auto, using(crate::proofs::ReadLemmas::read_listed, crate::proofs::ReadLemmas::unread_only))]
+#[tactic(auto, using(crate::proofs::ReadLemmas::read_listed, crate::proofs::ReadLemmas::unread_listed, crate::proofs::ReadLemmas::unread_only))]
 pub(crate) fn read_listed<F: Files>(
     alloc: Global,
     files: &mut F,
     invocation: &Invocation,
 ) -> Result<ListFolder, Outcome>
     ensures ok { IfOk result (λ folder. IsReadList invocation.now (F.tells files.old) (F.tells files.new) folder.tests folder.only) }
-    ensures err { IfErr result (IsUnread invocation.now (F.tells files.old) (F.tells files.new)) }
+    ensures err { IfErr result (IsUnreadList invocation.now (F.tells files.old) (F.tells files.new)) }
 {
     let tests = read_tests(alloc, files, invocation)?;
     let only = read_only(alloc, files, invocation.rerun, &invocation.wanted.dir)?;

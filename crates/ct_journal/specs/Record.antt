@@ -8,7 +8,8 @@ use Rattle.ct_journal_text.specs.Journal.{journal_of}
 use Rattle.ct_journal_text.specs.Found.{IsAccepted}
 use Rattle.ct_app.specs.declared.outcome.Outcome.{Outcome}
 use Rattle.ct_app.specs.declared.outcome.Outcome.TheVariants as Ran
-use Rattle.ct_app.specs.Outcome.{fault_line}
+use Rattle.ct_app.specs.Ends.{Told}
+use Rattle.ct_app.specs.Outcome.{fault_line, fault_status}
 use Rattle.ct_app.specs.RunFiles.{FilesFail, FilesServe, FilesStay}
 use Rattle.ct_app.specs.Calls.{BeforeAfter, IsUnrun, Sides, Tries, sides}
 use Rattle.ct_app.specs.Answers.{Answers}
@@ -109,16 +110,15 @@ pub record RecordsRun (s : Sides) (path : List ℕ) (words : List (List ℕ)) (e
       IsJournalEnd (run_end path end.outcome s.history files s.files.after sink s.sink.after) end.journal
   pub status : end.status ≡ status_after end.run_status end.journal
 
--- how a call without any word ends: its first word lacks
-abbrev pub unnamed_end : CallEnd
-unnamed_end = record { outcome = Ran.Usage 1 NoValue; run_status = 1; journal = NoRun; status = 1 }
-
--- there is no word: nothing was run, no call was made on the files, and the line of the lack was tried
+-- there is no word: its lack is told, as a call of `ctest_main` tells a word that is refused, and the status is
+-- that of what is told. Nothing was run, no journal was written, and no call was made on the files.
 pub record IsUnnamed (s : Sides) (end : CallEnd) : Type 0 where
-  pub is : end ≡ unnamed_end
+  pub told : Told [] (Ran.Usage 1 NoValue) end.outcome s.sink.before s.sink.after
+  pub run_status : end.run_status ≡ fault_status end.outcome
+  pub journal : end.journal ≡ NoRun
+  pub status : end.status ≡ fault_status end.outcome
   pub files : s.files.after ≡ s.files.before
   pub unrun : IsUnrun s
-  pub line : Tries (fault_line [] (Ran.Usage 1 NoValue)) s.sink.before s.sink.after
 
 -- what a call with these words did: the first word is the path of the journal, the others are those of the run
 abbrev pub RecordsFor : List (List ℕ) → Sides → CallEnd → Type 0

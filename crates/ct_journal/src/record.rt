@@ -2,8 +2,8 @@ ghost use Rattle.std.specs.Prelude.{◌≡◌, ◌<◌, ◌-◌, ◌^◌, ⊤, [
 ghost use Rattle.std.specs.Option.{option_copied};
 ghost use Rattle.ct_args.specs.declared.usage.UsageKind.TheVariants.{NoValue};
 ghost use Rattle.ct_app.specs.Calls.{Tries, sides};
-ghost use Rattle.ct_app.specs.Ends.{history_entries};
-ghost use Rattle.ct_app.specs.Outcome.{fault_line};
+ghost use Rattle.ct_app.specs.Ends.{Told, history_entries};
+ghost use Rattle.ct_app.specs.Outcome.{fault_line, fault_status};
 ghost use Rattle.ct_app.specs.Reading.{ask_for_list};
 ghost use Rattle.ct_app.specs.Run.{OthersStay};
 ghost use Rattle.ct_app.specs.declared.outcome.Outcome.TheVariants as Ran;
@@ -84,10 +84,10 @@ pub fn record_main<R: Threads + Wait + Sync, F: Files, G: Gate + Send, S: Sink +
 {
     match words {
         [] => {
-            let outcome = miss_path(alloc, &mut sink);
+            let (outcome, status) = miss_path(alloc, &mut sink);
             let finished = Finished {
                 outcome,
-                status: 1,
+                status,
                 plan: None,
                 history: None,
                 files,
@@ -125,14 +125,13 @@ fn end_call<F, G, S>(finished: Finished<F, G, S>, journal: JournalEnd) -> Record
     }
 }
 
-/// Tries the line of a call without any word, and returns its outcome.
-fn miss_path<S: Sink>(alloc: Global, sink: &mut S) -> Outcome
-    ensures outcome { result ≡ Ran.Usage 1 NoValue }
-    ensures line { Tries (fault_line [] (Ran.Usage 1 NoValue)) (S.tells sink.old) (S.tells sink.new) }
+/// Puts the line of a call without any word, and returns its outcome and status.
+fn miss_path<S: Sink>(alloc: Global, sink: &mut S) -> (Outcome, u8)
+    ensures told { Told [] (Ran.Usage 1 NoValue) result.0 (S.tells sink.old) (S.tells sink.new) }
+    ensures status { result.1 ≡ fault_status result.0 }
 {
     let kind = UsageKind::NoValue;
-    let _told = tell_outcome(alloc, sink, &[], Outcome::Usage { word: 1, kind });
-    Outcome::Usage { word: 1, kind }
+    tell_outcome(alloc, sink, &[], Outcome::Usage { word: 1, kind })
 }
 
 /// Writes the journal of a run that was completed, and tries the line of a fault.

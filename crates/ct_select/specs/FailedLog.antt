@@ -2,9 +2,12 @@
 -- ctest's.
 -- That the number is not looked at, and that other lines are passed over, is this project's choice.
 use Rattle.std.specs.Prelude.{ℕ, ◌+◌, ◌&&◌, not, List, take, drop, length, filter_map, Option, Some, None, ◌==◌, if◌then◌else◌}
-use Rattle.std.specs.List.{position}
+use Rattle.std.specs.List.{position, slice_split}
 use Rattle.ct_base.specs.Seconds.{is_numeral}
-use Rattle.ct_cost.specs.Text.{lines_in}
+
+-- the byte behind a line of a log: a line feed
+abbrev pub log_line_end : ℕ
+log_line_end = 10
 
 -- the byte `:`
 abbrev pub number_end : ℕ
@@ -22,6 +25,6 @@ name_behind line (Some at) =
 abbrev pub name_in : List ℕ → Option (List ℕ)
 name_in line = name_behind line (position (λ byte. byte == number_end) line)
 
--- the names in the lines of a log, in order
+-- the names in the lines of a log, in order. Behind a line feed at the end stands an empty line, without a name.
 abbrev pub failed_in : List ℕ → List (List ℕ)
-failed_in log = filter_map name_in (lines_in log)
+failed_in log = filter_map name_in (slice_split (λ byte. byte == log_line_end) log)

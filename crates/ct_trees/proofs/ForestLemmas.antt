@@ -26,7 +26,7 @@ use Rattle.ct_app.specs.Reading.{AreRead, RefusesReading}
 use Rattle.ct_app.proofs.ChangeLemmas.{stays}
 use Rattle.ct_plan.specs.declared.whole.Tree.{Tree}
 use Rattle.ct_trees.specs.Planning.{AddsTree, HasNoTree, HasTree, LackPlans, LackTree}
-use Rattle.ct_trees.specs.Trees.{AreFirstTrees, AreTrees, HaveTrees, IsOverfull, IsReadTree, IsTreeIn, IsUnplannedTree, RefusesTree, StopsAtTree, TreeReads, invocation_for, most_tree_tests, plans_of}
+use Rattle.ct_trees.specs.Trees.{AreFirstTrees, AreTrees, HaveTrees, IsOverfull, IsReadTree, IsTreeIn, IsUnplannedTree, RefusesTree, StopsAtTree, TreeFailsAt, invocation_for, most_tree_tests, plans_of}
 use Rattle.ct_app.proofs.ReadLemmas.{then_stay}
 use Rattle.ct_trees.proofs.TreeLemmas.{same_told, then_fail}
 
@@ -125,10 +125,11 @@ same_refuses invocation lent count dir refusal names before between same (inl (i
 same_refuses invocation lent count dir refusal names before between same (inl (inr over)) = inl (inr (same_overfull invocation count dir refusal before between same over))
 same_refuses invocation lent count dir refusal names before between same (inr bad) = inr (same_unplanned invocation lent count dir refusal names before between same bad)
 
-same_asked : (invocation : Invocation) (dir path : List ℕ) (before between : Option Held) → Becomes before between SameHeld → TreeReads between invocation dir path → TreeReads before invocation dir path
-same_asked invocation dir path before between same (inl (inl asks)) = inl (inl (same_told (λ (held : Held). TreeAsks held dir invocation.config path) before between same asks))
-same_asked invocation dir path before between same (inl (inr log)) = inl (inr log)
-same_asked invocation dir path before between same (inr costs) = inr costs
+same_fault : (invocation : Invocation) (count : ℕ) (dir path : List ℕ) (before between : Option Held) → Becomes before between SameHeld → TreeFailsAt between invocation count dir path → TreeFailsAt before invocation count dir path
+same_fault invocation count dir path before between same (inl asks) = inl (same_told (λ (held : Held). TreeAsks held dir invocation.config path) before between same asks)
+same_fault invocation count dir path before between same (inr behind) =
+    let are = behind.0 in
+    inr ((are.0, are.1, same_read (invocation_for invocation dir) are.0 are.1 before between same are.2, are.3), behind.1)
 
 -- what is said of a tree by its own invocation is said of it by the invocation of all trees
 module _ (told : Option Held) (invocation : Invocation) (dir : List ℕ) where
@@ -191,7 +192,7 @@ module _ (invocation own : Invocation) (lent : Option (List Resource)) (before b
       by_outcome (Refused refusal) bad =
           (stops_at behind (λ n d. RefusesTree before.held invocation lent n d refusal names) (same_refuses invocation lent count dir refusal names before.held between.held so_far.stay.held (own_refuses between.held invocation dir lent count refusal names bad.0)), then_stay before between now so_far.stay bad.1)
       by_outcome (FilesFault path) bad =
-          (stops_at behind (λ n d. TreeReads before.held invocation d path) (same_asked invocation dir path before.held between.held so_far.stay.held bad.0), then_fail path before between now so_far.stay bad.1)
+          (stops_at behind (λ n d. TreeFailsAt before.held invocation n d path) (same_fault invocation count dir path before.held between.held so_far.stay.held bad.0), then_fail path before between now so_far.stay bad.1)
       by_outcome OutputFault bad = absurd bad
       by_outcome Memory bad = ((trees, first_trees (dir ∷ behind)), then_stay before between now so_far.stay bad)
 
@@ -256,7 +257,7 @@ module _ (invocation : Invocation) (dirs : List (List ℕ)) (before between now 
   lacks_plan plans names (Refused refusal) bad =
       (record { lent = lent; declared = named.0; stops = same_stop invocation lent dirs plans (length plans) _ _ before.held between.held named.1.held (λ n dir. same_refuses invocation lent n dir refusal names before.held between.held named.1.held) bad.0 }, then_stay before between now named.1 bad.1)
   lacks_plan plans names (FilesFault path) bad =
-      (record { lent = lent; declared = named.0; stops = same_stop invocation lent dirs plans (length plans) _ _ before.held between.held named.1.held (λ n dir. same_asked invocation dir path before.held between.held named.1.held) bad.0 }, then_fail path before between now named.1 bad.1)
+      (record { lent = lent; declared = named.0; stops = same_stop invocation lent dirs plans (length plans) _ _ before.held between.held named.1.held (λ n dir. same_fault invocation n dir path before.held between.held named.1.held) bad.0 }, then_fail path before between now named.1 bad.1)
   lacks_plan plans names OutputFault bad = absurd bad
   lacks_plan plans names Memory bad =
       (inr (record { lent = lent; declared = named.0; trees = bad.0.0; are = same_first invocation lent dirs plans bad.0.0 before.held between.held named.1.held bad.0.1 }), then_stay before between now named.1 bad.1)

@@ -56,10 +56,10 @@ overfull_folder invocation before now count tests outcome read (inr memory) =
     subst (λ (o : Outcome). IsUnreadTree invocation before now count o) (sym memory) read.files
 
 -- the cost data of the tree was not read
-pub uncosted_folder : (invocation : Invocation) (before between now : FilesTell) (count : ℕ) (tests : Tests) (fault : RunFileFault) (outcome : Outcome) → HasTests invocation before between tests → outcome ≡ outcome_of_file fault → ReadsCosts invocation.wanted.dir between now (Err fault) → IsUnreadTree invocation before now count outcome
-uncosted_folder invocation before between now count tests (Fault.Failed path) outcome read is fails =
-    subst (λ (o : Outcome). IsUnreadTree invocation before now count o) (sym is) (inr fails.0, then_fail path before between now read.files fails.1)
-uncosted_folder invocation before between now count tests Fault.NoMemory outcome read is stays =
+pub uncosted_folder : (invocation : Invocation) (before between now : FilesTell) (count : ℕ) (tests : Tests) (fault : RunFileFault) (outcome : Outcome) → HasTests invocation before between tests → count + length tests.defs ≤ most_tree_tests → outcome ≡ outcome_of_file fault → ReadsCosts invocation.wanted.dir between now (Err fault) → IsUnreadTree invocation before now count outcome
+uncosted_folder invocation before between now count tests (Fault.Failed path) outcome read few is fails =
+    subst (λ (o : Outcome). IsUnreadTree invocation before now count o) (sym is) (inr ((tests.defs, tests.props, read.read, few), fails.0), then_fail path before between now read.files fails.1)
+uncosted_folder invocation before between now count tests Fault.NoMemory outcome read few is stays =
     subst (λ (o : Outcome). IsUnreadTree invocation before now count o) (sym is) (then_stay before between now read.files stays)
 
 -- the tests and the cost data of the tree were read

@@ -14,7 +14,7 @@ use Rattle.ct_app.specs.Reading.{RefusesSpec}
 use Rattle.ct_app.specs.RunFiles.{FilesFail, FilesStay, last_costs}
 use Rattle.ct_plan.specs.declared.whole.Tree.{Tree}
 use Rattle.ct_trees.specs.declared.planning.TreeFolder.{TreeFolder}
-use Rattle.ct_trees.specs.Trees.{AreFirstTrees, HaveFirstTrees, IsTreeIn, RefusesTreeTests, RefusesTree, StopsAtTree, StopsReading, TreeReads, most_tree_tests}
+use Rattle.ct_trees.specs.Trees.{AreFirstTrees, HaveFirstTrees, IsTreeIn, RefusesTreeTests, RefusesTree, StopsAtTree, StopsReading, TreeFailsAt, most_tree_tests}
 
 -- the tests of a tree are refused for their number, or memory ran out
 abbrev pub RefusesNumber : ℕ → List ℕ → Outcome → Type 0
@@ -35,7 +35,7 @@ abbrev pub IsUnreadTree : Invocation → FilesTell → FilesTell → ℕ → Out
 IsUnreadTree invocation before now count (Refused refusal) =
     RefusesTreeTests before.held invocation count invocation.wanted.dir refusal × FilesStay before now
 IsUnreadTree invocation before now count (FilesFault path) =
-    TreeReads before.held invocation invocation.wanted.dir path × FilesFail path SameHeld before now
+    TreeFailsAt before.held invocation count invocation.wanted.dir path × FilesFail path SameHeld before now
 IsUnreadTree invocation before now count Memory = FilesStay before now
 IsUnreadTree invocation before now count other = ⊥
 
@@ -53,7 +53,7 @@ abbrev pub HasNoTree : Invocation
 HasNoTree invocation lent before now count names (Refused refusal) =
     RefusesTree before.held invocation lent count invocation.wanted.dir refusal names × FilesStay before now
 HasNoTree invocation lent before now count names (FilesFault path) =
-    TreeReads before.held invocation invocation.wanted.dir path × FilesFail path SameHeld before now
+    TreeFailsAt before.held invocation count invocation.wanted.dir path × FilesFail path SameHeld before now
 HasNoTree invocation lent before now count names Memory = FilesStay before now
 HasNoTree invocation lent before now count names other = ⊥
 
@@ -77,7 +77,7 @@ LackTree invocation lent dirs before now plans names (Refused refusal) =
     × FilesStay before now
 LackTree invocation lent dirs before now plans names (FilesFault path) =
     StopsAtTree before.held invocation lent dirs plans (length plans)
-    (λ count dir. TreeReads before.held invocation dir path)
+    (λ count dir. TreeFailsAt before.held invocation count dir path)
     × FilesFail path SameHeld before now
 LackTree invocation lent dirs before now plans names Memory =
     ((trees : List Tree) × AreFirstTrees before.held invocation lent dirs plans trees) × FilesStay before now
@@ -99,6 +99,6 @@ LackPlans invocation dirs before now plans None names (FilesFault path) =
     (plans ≡ []) × (invocation.spec_file ≡ Some path) × FilesFail path SameHeld before now
 LackPlans invocation dirs before now plans (Some place) names (FilesFault path) =
     StopsReading before.held invocation dirs plans place
-    (λ lent count dir. TreeReads before.held invocation dir path)
+    (λ lent count dir. TreeFailsAt before.held invocation count dir path)
     × FilesFail path SameHeld before now
 LackPlans invocation dirs before now plans place names other = ⊥

@@ -5,6 +5,7 @@ use Rattle.ct_base.specs.declared.defs.Resource.{Resource}
 use Rattle.ct_base.specs.declared.defs.TestDef.{TestDef}
 use Rattle.ct_base.specs.Outside.{Held}
 use Rattle.ct_testfile.specs.declared.fault.ReadKind.TheVariants.{TooManyTests}
+use Rattle.ct_testfile.specs.Asks.{TreeAsks}
 use Rattle.ct_testfile.specs.Commands.{test_file}
 use Rattle.ct_props.specs.declared.props.Props.{Props}
 use Rattle.ct_cost.specs.declared.cost_data.CostData.{CostData}
@@ -18,7 +19,7 @@ use Rattle.ct_plan.specs.Source.{Source, edge_count, source}
 use Rattle.ct_plan.specs.Whole.{defined_in}
 use Rattle.ct_app.specs.declared.outcome.Refusal.{Refusal}
 use Rattle.ct_app.specs.declared.outcome.Refusal.TheVariants.{TestFile}
-use Rattle.ct_app.specs.Reading.{AreRead, ListAsks, RefusesPlan, RefusesReading}
+use Rattle.ct_app.specs.Reading.{AreRead, RefusesPlan, RefusesReading}
 use Rattle.ct_app.specs.RunFiles.{costs_path, last_costs}
 use Rattle.ct_app.specs.SpecFile.{AreLent}
 use Rattle.ct_plan.specs.declared.whole.Tree.{Tree}
@@ -109,10 +110,20 @@ RefusesTree told invocation lent count dir refusal names =
     RefusesTreeTests told invocation count dir refusal
     ⊎ IsUnplannedTree told invocation lent count dir refusal names
 
--- what is read for the tree in this folder is at this path: in its tree of test files, or its cost data
-abbrev pub TreeReads : Option Held → Invocation → List ℕ → List ℕ → Type 0
-TreeReads told invocation dir path =
-    ListAsks told (invocation_for invocation dir) path ⊎ (path ≡ costs_path dir)
+-- the tests of the tree in this folder are read, and are not too many behind those of other trees
+abbrev pub AreFewRead : Option Held → Invocation → ℕ → List ℕ → Type 0
+AreFewRead told invocation count dir =
+    (defs : List TestDef)
+    × (props : List Props)
+    × AreRead told (invocation_for invocation dir) defs props
+    × (count + length defs ≤ most_tree_tests)
+
+-- reading for the tree in this folder, behind so many tests of other trees, may fail at this path: in its tree
+-- of test files; or, where its tests are read and are not too many, at its cost data
+abbrev pub TreeFailsAt : Option Held → Invocation → ℕ → List ℕ → List ℕ → Type 0
+TreeFailsAt told invocation count dir path =
+    IfSome told (λ held. TreeAsks held dir invocation.config path)
+    ⊎ (AreFewRead told invocation count dir × (path ≡ costs_path dir))
 
 -- the trees in the first folders were read and planned, and these are their plans
 pub record AreFirstTrees

@@ -148,6 +148,25 @@ Test project .
 The following tests FAILED:
 \t1 - x_NOT_BUILT (Not Run)
 Errors while running CTest
+=== the tests of a program are listed
+---
+include(\"/b/x_include.cmake\")
+--- /b/x_include.cmake
+if(EXISTS \"/b/x_tests.cmake\")
+include(\"/b/x_tests.cmake\")
+else()
+add_test(x_NOT_BUILT x_NOT_BUILT)
+endif()
+--- /b/x_tests.cmake
+add_test([=[S.A]=] /b/x [==[--gtest_filter=S.A]==])
+set_tests_properties([=[S.A]=] PROPERTIES WORKING_DIRECTORY [==[/b]==])
+set(x_TESTS [==[S.A]==])
+>>>
+status 0, asked 1, unstarted 0
+Test project .
+1/1 Test #1: S.A ... Passed 0.00 sec
+
+100% tests passed, 0 tests failed out of 1
 === patterns in the output count before exit codes, and a timeout before them
 told 1 3 0 all done
 told 2 timeout 0 all done

@@ -8,12 +8,11 @@ use std::test::Fail;
 
 /// Runs with a specification.
 const RUNS: &str = "
-=== a test that fits, and one that fits nowhere
+=== a test that fits nowhere, and one that asks for nothing
 ---
 add_test(big p)
 add_test(ok p)
 set_tests_properties(big PROPERTIES RESOURCE_GROUPS gpus:8)
-set_tests_properties(ok PROPERTIES RESOURCE_GROUPS gpus:4)
 --- r.json
 {\"version\":{\"major\":1,\"minor\":0},\"local\":[{
   \"gpus\":[{\"id\":\"0\",\"slots\":2},{\"id\":\"1\",\"slots\":4},{\"id\":\"2\",\"slots\":2},{\"id\":\"3\"}],
