@@ -1,7 +1,7 @@
 ghost use Rattle.std.specs.Prelude.{◌≡◌, ◌<◌, true, sum_by};
 ghost use Rattle.ct_alloc.specs.Packing.{CannotPack, one_from, reaching, rooms};
 
-/// Tells whether no packing exists by this bound: for some size, the sizes
+/// Returns whether no packing exists by this bound: for some size, the sizes
 /// that are not smaller are too many for the cards, or take too many slots.
 pub fn is_overfull(free: &[u32], sizes: &[u32]) -> bool
     ensures { result ≡ true → CannotPack free.now sizes.now }
@@ -14,7 +14,7 @@ pub fn is_overfull(free: &[u32], sizes: &[u32]) -> bool
     false
 }
 
-/// Tells whether the sizes of at least `least` are too many for
+/// Returns whether the sizes of at least `least` are too many for
 /// the cards, or take too many slots; then no packing exists.
 fn is_overfull_from(free: &[u32], sizes: &[u32], least: u32) -> bool
     ensures { result ≡ true → CannotPack free.now sizes.now }

@@ -161,7 +161,7 @@ impl Free {
         Ok(Placement { picks })
     }
 
-    /// Tells whether a placement fits beside what is used now.
+    /// Returns whether a placement fits beside what is used now.
     pub fn fits(&self, placement: &Placement) -> bool
         requires there { are_there self.now.resources placement.now.picks ≡ true }
         ensures { result ≡ fits_beside self.now.resources (used_at self.now) placement.now.picks }
@@ -176,7 +176,7 @@ impl Free {
         true
     }
 
-    /// Tells whether the resource of a pick has room for all the picks on it.
+    /// Returns whether the resource of a pick has room for all the picks on it.
     fn has_room(&self, pick: &Pick, picks: &[Pick]) -> bool
         ensures { result ≡ nat_le (slots_at pick.now.resource picks.now) (free_at self.now pick.now.resource) }
     {
@@ -339,7 +339,7 @@ fn copy_of(alloc: Global, resource: &Resource) -> Result<Resource, NoMemory>
     })
 }
 
-/// Tells whether picks take at most this many slots of the resource at a place.
+/// Returns whether picks take at most this many slots of the resource at a place.
 fn take_at_most(picks: &[Pick], place: usize, most: u32) -> bool
     ensures { result ≡ nat_le (slots_at place picks.now) most }
 {

@@ -12,4 +12,4 @@ mod pack;
 mod placement;
 
 pub use free::Free;
-pub use placement::{Pick, Placement};
+pub use placement::{Pick, Placement, copy_placement};

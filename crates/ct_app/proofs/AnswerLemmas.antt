@@ -16,7 +16,7 @@ use Rattle.ct_app.specs.declared.outcome.Refusal.{Refusal}
 use Rattle.ct_app.specs.Calls.{IsReadFault, IsUnrun, IsUsage, PutsOrFails, Tries, sides}
 use Rattle.ct_app.specs.Reading.{RunFailsAt}
 use Rattle.ct_app.specs.Runs.{AnswersRun, HasRunWith, IsCompleted, IsCutOff, IsRefusal, IsReported, IsRun, IsShort, IsShortRun, IsUnwritten, RanWith}
-use Rattle.ct_app.specs.Ends.{Ends, RunLeaves, TellsEnd, Told}
+use Rattle.ct_app.specs.Ends.{Ends, RunLeaves, ReportsEnd, PutsFault}
 use Rattle.ct_app.specs.Outcome.{fault_line, fault_status}
 use Rattle.ct_app.specs.RunFiles.{FilesStay}
 
@@ -60,11 +60,11 @@ module _ (words : List (List ℕ)) (env : List Pair) (files files_now : FilesTel
       subst (λ (n : ℕ). AnswersRun (sides words env files files_now gates gates_now sink now plan history) outcome n) (sym status_is) (subst (λ (x : Outcome). AnswersRun (sides words env files files_now gates gates_now sink now plan history) x (fault_status x)) (sym is) answer)
 
   -- an outcome whose line is put at once, without a report before it
-  line_told : (line : List ℕ) (o outcome : Outcome) (status : ℕ) → line ≡ fault_line names o → mid ≡ sink → Told names o outcome mid now → status ≡ fault_status outcome → (PutsOrFails line sink now → AnswersRun (sides words env files files_now gates gates_now sink now plan history) o (fault_status o)) → (PutsLines (line ∷ []) sink now (Err Sinks.NoMemory) → IsShort (sides words env files files_now gates gates_now sink now plan history) o) → AnswersRun (sides words env files files_now gates gates_now sink now plan history) outcome status
+  line_told : (line : List ℕ) (o outcome : Outcome) (status : ℕ) → line ≡ fault_line names o → mid ≡ sink → PutsFault names o outcome mid now → status ≡ fault_status outcome → (PutsOrFails line sink now → AnswersRun (sides words env files files_now gates gates_now sink now plan history) o (fault_status o)) → (PutsLines (line ∷ []) sink now (Err Sinks.NoMemory) → IsShort (sides words env files files_now gates gates_now sink now plan history) o) → AnswersRun (sides words env files files_now gates gates_now sink now plan history) outcome status
   line_told line o outcome status line_is unput (inl (is, puts)) status_is answers short = at o outcome status is status_is (answers (subst (λ (l : List ℕ). PutsOrFails l sink now) (sym line_is) (subst (λ (t : SinkTell). PutsOrFails (fault_line names o) t now) unput puts)))
   line_told line o outcome status line_is unput (inr (is, puts)) status_is answers short = at Memory outcome status is status_is ((o, inl (short (subst (λ (l : List ℕ). PutsLines (l ∷ []) sink now (Err Sinks.NoMemory)) (sym line_is) (subst (λ (t : SinkTell). PutsLines (fault_line names o ∷ []) t now (Err Sinks.NoMemory)) unput puts)))), refl)
 
-  memory_tried : (outcome : Outcome) → Told names Memory outcome mid now → (outcome ≡ Memory) × Tries (fault_line [] Memory) mid now
+  memory_tried : (outcome : Outcome) → PutsFault names Memory outcome mid now → (outcome ≡ Memory) × Tries (fault_line [] Memory) mid now
   memory_tried outcome (inl (is, puts)) = (is, tried (fault_line [] Memory) mid now puts)
   memory_tried outcome (inr (is, puts)) = (is, (Err Sinks.NoMemory, puts))
 
@@ -76,13 +76,13 @@ module _ (words : List (List ℕ)) (env : List Pair) (files files_now : FilesTel
       inr (inr (record { invocation = was.invocation; words = was.words; source = was.source; read = was.read; refused = was.refused; files = was.files; unrun = unrun_late was.unrun }))
 
   -- a write failed after the report
-  write_fault_told : (path : List ℕ) (outcome : Outcome) (status : ℕ) → HasRunWith (sides words env files files_now gates gates_now sink mid plan history) (λ i p es. RunLeaves (sides words env files files_now gates gates_now sink mid plan history) i p es (Err (FilesFault path))) → Told names (FilesFault path) outcome mid now → status ≡ fault_status outcome → AnswersRun (sides words env files files_now gates gates_now sink now plan history) outcome status
+  write_fault_told : (path : List ℕ) (outcome : Outcome) (status : ℕ) → HasRunWith (sides words env files files_now gates gates_now sink mid plan history) (λ i p es. RunLeaves (sides words env files files_now gates gates_now sink mid plan history) i p es (Err (FilesFault path))) → PutsFault names (FilesFault path) outcome mid now → status ≡ fault_status outcome → AnswersRun (sides words env files files_now gates gates_now sink now plan history) outcome status
   write_fault_told path outcome status run (inl (is, puts)) status_is =
       at (FilesFault path) outcome status is status_is (inr (ran_late (λ i p es. RunLeaves (sides words env files files_now gates gates_now sink mid plan history) i p es (Err (FilesFault path))) (λ i. IsUnwritten (sides words env files files_now gates gates_now sink now plan history) path) (λ i p es was. (was.0, record { middle = mid; first = was.1; line = puts })) run), refl)
   write_fault_told path outcome status run (inr (is, puts)) status_is =
       at Memory outcome status is status_is ((FilesFault path, inr (ran_late (λ i p es. RunLeaves (sides words env files files_now gates gates_now sink mid plan history) i p es (Err (FilesFault path))) (λ i. IsShortRun (sides words env files files_now gates gates_now sink now plan history) (FilesFault path)) (λ i p es was. (was.0, record { middle = mid; first = was.1; line = puts })) run)), refl)
 
-  pub told_answer : (ended : Result ℕ Outcome) (outcome : Outcome) (status : ℕ) → Ends (sides words env files files_now gates gates_now sink mid plan history) names ended → TellsEnd names ended outcome status mid now → AnswersRun (sides words env files files_now gates gates_now sink now plan history) outcome status
+  pub told_answer : (ended : Result ℕ Outcome) (outcome : Outcome) (status : ℕ) → Ends (sides words env files files_now gates gates_now sink mid plan history) names ended → ReportsEnd names ended outcome status mid now → AnswersRun (sides words env files files_now gates gates_now sink now plan history) outcome status
   told_answer (Ok st) outcome status (inl run) (is, status_is, unput) =
       let reports = ran_late (λ i p es. RunLeaves (sides words env files files_now gates gates_now sink mid plan history) i p es (Ok st)) (IsCompleted (sides words env files files_now gates gates_now sink now plan history) st) (λ i p es was. record { reported = subst (λ (t : SinkTell). IsReported p es sink t) (sym unput) was.0; left = was.1; is = was.2 }) run in
       subst (λ (n : ℕ). AnswersRun (sides words env files files_now gates gates_now sink now plan history) outcome n) (sym status_is) (subst (λ (x : Outcome). AnswersRun (sides words env files files_now gates gates_now sink now plan history) x st) (sym is) reports)

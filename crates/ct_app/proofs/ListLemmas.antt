@@ -14,7 +14,7 @@ use Rattle.ct_app.specs.declared.outcome.Outcome.{Outcome}
 use Rattle.ct_app.specs.declared.outcome.Outcome.TheVariants.{Completed, Listed, Usage, Refused, FilesFault, OutputFault, Memory}
 use Rattle.ct_app.specs.declared.props.Tests.{Tests}
 use Rattle.ct_app.specs.Calls.{IsReadFault, IsUnreadable, IsUnrun, IsUsage, PutsOrFails, ThenLine, Tries, list_sides, sides}
-use Rattle.ct_app.specs.Ends.{EndsList, IsReadList, IsUnreadList, ListEnds, Tells, TellsEnd, Told, listed_as}
+use Rattle.ct_app.specs.Ends.{EndsList, IsReadList, IsUnreadList, ListEnds, ReportsFault, ReportsEnd, PutsFault, listed_as}
 use Rattle.ct_app.specs.Lists.{AnswersList, HasList, IsShortList, asked_lines}
 use Rattle.ct_app.specs.Outcome.{fault_line, fault_status}
 use Rattle.ct_app.specs.Reading.{AskFor, ListFailsAt}
@@ -80,15 +80,15 @@ module _ (words : List (List ℕ)) (env : List Pair) (files files_now : FilesTel
   answer_as o outcome status is status_is answer =
       subst (λ (n : ℕ). AnswersList (sides words env files files_now gates gates_now sink now plan history) outcome n) (sym status_is) (subst (λ (x : Outcome). AnswersList (sides words env files files_now gates gates_now sink now plan history) x (fault_status x)) (sym is) answer)
 
-  line_listed : (o outcome : Outcome) (status : ℕ) → mid ≡ sink → Told [] o outcome mid now → status ≡ fault_status outcome → (PutsOrFails (fault_line [] o) sink now → AnswersList (sides words env files files_now gates gates_now sink now plan history) o (fault_status o)) → (PutsLines (fault_line [] o ∷ []) sink now (Err Sinks.NoMemory) → IsShortList (sides words env files files_now gates gates_now sink now plan history) o) → AnswersList (sides words env files files_now gates gates_now sink now plan history) outcome status
+  line_listed : (o outcome : Outcome) (status : ℕ) → mid ≡ sink → PutsFault [] o outcome mid now → status ≡ fault_status outcome → (PutsOrFails (fault_line [] o) sink now → AnswersList (sides words env files files_now gates gates_now sink now plan history) o (fault_status o)) → (PutsLines (fault_line [] o ∷ []) sink now (Err Sinks.NoMemory) → IsShortList (sides words env files files_now gates gates_now sink now plan history) o) → AnswersList (sides words env files files_now gates gates_now sink now plan history) outcome status
   line_listed o outcome status unput (inl (is, puts)) status_is answers short = answer_as o outcome status is status_is (answers (subst (λ (t : SinkTell). PutsOrFails (fault_line [] o) t now) unput puts))
   line_listed o outcome status unput (inr (is, puts)) status_is answers short = answer_as Memory outcome status is status_is ((o, short (subst (λ (t : SinkTell). PutsLines (fault_line [] o ∷ []) t now (Err Sinks.NoMemory)) unput puts)), refl)
 
-  memory_listed : (outcome : Outcome) → Told [] Memory outcome mid now → (outcome ≡ Memory) × Tries (fault_line [] Memory) mid now
+  memory_listed : (outcome : Outcome) → PutsFault [] Memory outcome mid now → (outcome ≡ Memory) × Tries (fault_line [] Memory) mid now
   memory_listed outcome (inl (is, puts)) = (is, tried (fault_line [] Memory) mid now puts)
   memory_listed outcome (inr (is, puts)) = (is, (Err Sinks.NoMemory, puts))
 
-  pub list_answer : (o outcome : Outcome) (status : ℕ) → ListEnds (list_sides words files files_now sink mid) o → Tells [] o outcome mid now → status ≡ fault_status outcome → AnswersList (sides words env files files_now gates gates_now sink now plan history) outcome status
+  pub list_answer : (o outcome : Outcome) (status : ℕ) → ListEnds (list_sides words files files_now sink mid) o → ReportsFault [] o outcome mid now → status ≡ fault_status outcome → AnswersList (sides words env files files_now gates gates_now sink now plan history) outcome status
   list_answer Completed outcome status ends told status_is = absurd ends
   list_answer Listed outcome status ends told status_is =
       answer_as Listed outcome status told.0 status_is (list_late (λ lines. PutsLines lines sink mid (Ok tt)) (λ lines. PutsLines lines sink now (Ok tt)) (λ lines put. subst (λ (t : SinkTell). PutsLines lines sink t (Ok tt)) (sym told.1) put) ends, refl)
@@ -111,6 +111,6 @@ module _ (words : List (List ℕ)) (env : List Pair) (files files_now : FilesTel
       answer_as Memory outcome status tries.0 status_is
       ((Memory, (unrun, stay, inr (list_late (λ lines. PutsLines lines sink mid (Err Sinks.NoMemory)) (λ lines. ThenLine (λ middle. PutsLines lines sink middle (Err Sinks.NoMemory)) (λ middle. Tries (fault_line [] Memory) middle now)) (λ lines put. record { middle = mid; first = put; line = tries.1 }) has))), refl)
 
-  pub list_told : (names : List (List ℕ)) (ended : Result ℕ Outcome) (outcome : Outcome) (status : ℕ) → EndsList (list_sides words files files_now sink mid) names ended → TellsEnd names ended outcome status mid now → AnswersList (sides words env files files_now gates gates_now sink now plan history) outcome status
+  pub list_told : (names : List (List ℕ)) (ended : Result ℕ Outcome) (outcome : Outcome) (status : ℕ) → EndsList (list_sides words files files_now sink mid) names ended → ReportsEnd names ended outcome status mid now → AnswersList (sides words env files files_now gates gates_now sink now plan history) outcome status
   list_told names (Ok st) outcome status ends told = absurd ends
-  list_told names (Err o) outcome status ends told = list_answer o outcome status ends.0 (subst (λ (ns : List (List ℕ)). Tells ns o outcome mid now) ends.1 told.0) told.1
+  list_told names (Err o) outcome status ends told = list_answer o outcome status ends.0 (subst (λ (ns : List (List ℕ)). ReportsFault ns o outcome mid now) ends.1 told.0) told.1

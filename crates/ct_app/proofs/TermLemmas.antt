@@ -14,7 +14,7 @@ use Rattle.ct_history.specs.History.{Running}
 use Rattle.ct_core.specs.declared.gate.Request.{Request}
 use Rattle.ct_core.specs.declared.gate.Told.{Told}
 use Rattle.ct_core.specs.Gate.{GateTell}
-use Rattle.ct_worker.specs.Gates.{AreAsked, AreRequests, IsAsked, IsRequestOf, SawAllTold, SawTold, Sends, Terms, placement_told}
+use Rattle.ct_worker.specs.Gates.{AreAsked, AreRequests, IsAsked, IsRequestOf, SawAllTold, SawTold, Sends, Terms, placement_shown}
 use Rattle.ct_app.specs.declared.props.Tests.{Tests}
 use Rattle.ct_app.specs.Tests.{without_links}
 use Rattle.ct_app.proofs.SourceLemmas.{mapped_at}
@@ -28,7 +28,7 @@ linked_at : (P Q : Props → Type 0) → ((own : Props) → P (without_links own
 linked_at P Q turn props number is = some_linked P Q turn (at_number props number) (subst (λ (found : Option Props). IsSomeAnd found P) (mapped_at without_links props number) is)
 
 -- links play no part in what a program is told and in what its variables hold
-same_told : (lends : Bool) (own : Props) (placement : Option Placement) → placement_told lends (without_links own) placement ≡ placement_told lends own placement
+same_told : (lends : Bool) (own : Props) (placement : Option Placement) → placement_shown lends (without_links own) placement ≡ placement_shown lends own placement
 same_told lends own None = refl
 same_told lends own (Some placement) = refl
 
@@ -45,7 +45,7 @@ module _ (base : List Pair) (defs : List TestDef) (props : List Props) (limit : 
 
   request_of : (def : TestDef) (run : Running) (request : Request) (own : Props) → IsRequestOf (by bare) def (without_links own) run request → IsRequestOf (by props) def own run request
   request_of def run request own is = record {
-    env = subst (λ (given : Option Placement). IsEnvironment base own given request.env) (same_told lends own run.placement) (environment base own (placement_told lends (without_links own) run.placement) request.env is.env);
+    env = subst (λ (given : Option Placement). IsEnvironment base own given request.env) (same_told lends own run.placement) (environment base own (placement_shown lends (without_links own) run.placement) request.env is.env);
     is = is.is;
   }
 

@@ -101,7 +101,7 @@ pub record IsUndeclared (s : Sides) (refusal : Refusal) : Type 0 where
   pub files : FilesStay s.files.before s.files.after
   pub unrun : IsUnrun s
 
--- reading failed at this path, where it may fail for the call: what is read in front of it was read and not
+-- reading failed at this path, where it may fail for the call: what the files hold in front of it is not
 -- refused. Each path holds what it held, and nothing was run.
 pub record IsReadFault (s : Sides) (FailsAt : Option Held → Invocation → List ℕ → Type 0) (path : List ℕ)
     : Type 0 where

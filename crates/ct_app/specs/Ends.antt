@@ -1,4 +1,4 @@
--- How a call ended, before its outcome is told. This project's own.
+-- How a call ended, before its outcome is reported. This project's own.
 use Rattle.std.specs.Prelude.{◌≡◌, ◌⊎◌, ℕ, ◌-◌, ◌^◌, ◌<◌, Bool, List, [], ◌∷◌, length, Option, Result, Ok, Err, IfSome}
 use Rattle.ct_base.specs.declared.defs.Resource.{Resource}
 use Rattle.ct_base.specs.declared.defs.TestDef.{TestDef}
@@ -49,9 +49,13 @@ ended_as (Err fault) = Err (outcome_of_sink fault)
 -- - the run is complete, and a write of a file failed, or memory ran out for the files;
 -- - the run ended early with a fault of the sink or out of memory, and the files stay
 abbrev pub RunLeaves : Sides → Invocation → PlanParts → List Entry → Result ℕ Outcome → Type 0
-RunLeaves s invocation plan entries (Ok status) = IsReported plan entries s.sink.before s.sink.after × FilesAreLeft s plan entries × (status ≡ status_of invocation.empty_is_error plan entries)
-RunLeaves s invocation plan entries (Err (FilesFault path)) = IsWriteFault s path plan entries × IsReported plan entries s.sink.before s.sink.after
-RunLeaves s invocation plan entries (Err OutputFault) = IsCutOff plan entries s.sink.before s.sink.after × FilesStay s.files.before s.files.after
+RunLeaves s invocation plan entries (Ok status) =
+    IsReported plan entries s.sink.before s.sink.after × FilesAreLeft s plan entries
+    × (status ≡ status_of invocation.empty_is_error plan entries)
+RunLeaves s invocation plan entries (Err (FilesFault path)) =
+    IsWriteFault s path plan entries × IsReported plan entries s.sink.before s.sink.after
+RunLeaves s invocation plan entries (Err OutputFault) =
+    IsCutOff plan entries s.sink.before s.sink.after × FilesStay s.files.before s.files.after
 RunLeaves s invocation plan entries (Err Memory) = IsCutShort s plan entries s.sink.after
 RunLeaves s invocation plan entries ended = ⊥
 
@@ -61,9 +65,12 @@ abbrev pub EndsWithFiles : PlanParts
     → List Entry → CostData → FilesTell → FilesTell → Result (Unit {0}) Outcome → Result (Unit {0}) Outcome
     → Type 0
 EndsWithFiles plan entries costs before now (Err outcome) ended = (ended ≡ Err outcome) × (now ≡ before)
-EndsWithFiles plan entries costs before now (Ok done) (Ok left) = FilesServe (Leaves plan entries costs) before now
-EndsWithFiles plan entries costs before now (Ok done) (Err (FilesFault path)) = IsWritten plan entries path × FilesFail path (LeavesTorn plan entries path costs) before now
-EndsWithFiles plan entries costs before now (Ok done) (Err Memory) = FilesServe (LeavesPart plan entries costs) before now
+EndsWithFiles plan entries costs before now (Ok done) (Ok left) =
+    FilesServe (Leaves plan entries costs) before now
+EndsWithFiles plan entries costs before now (Ok done) (Err (FilesFault path)) =
+    IsWritten plan entries path × FilesFail path (LeavesTorn plan entries path costs) before now
+EndsWithFiles plan entries costs before now (Ok done) (Err Memory) =
+    FilesServe (LeavesPart plan entries costs) before now
 EndsWithFiles plan entries costs before now (Ok done) ended = ⊥
 
 -- the status of a complete run, or the outcome of one that ended early
@@ -188,22 +195,23 @@ EndsList s names (Ok status) = ⊥
 EndsList s names (Err outcome) = ListEnds s outcome × (names ≡ [])
 
 -- the line of an outcome was put or its put failed,
--- or memory ran out for the line and the outcome told is Memory
-abbrev pub Told : List (List ℕ) → Outcome → Outcome → SinkTell → SinkTell → Type 0
-Told names outcome told before now =
-    ((told ≡ outcome) × PutsOrFails (fault_line names outcome) before now)
-    ⊎ ((told ≡ Memory) × PutsLines (fault_line names outcome ∷ []) before now (Err Sinks.NoMemory))
+-- or memory ran out for the line and the outcome answered is Memory
+abbrev pub PutsFault : List (List ℕ) → Outcome → Outcome → SinkTell → SinkTell → Type 0
+PutsFault names outcome answered before now =
+    ((answered ≡ outcome) × PutsOrFails (fault_line names outcome) before now)
+    ⊎ ((answered ≡ Memory) × PutsLines (fault_line names outcome ∷ []) before now (Err Sinks.NoMemory))
 
--- how a call tells an outcome. Where the sink has failed or a list was put, it puts no line and returns the
--- outcome. Else it puts the line, as in `Told`.
-abbrev pub Tells : List (List ℕ) → Outcome → Outcome → SinkTell → SinkTell → Type 0
-Tells names OutputFault told before now = (told ≡ OutputFault) × (now ≡ before)
-Tells names Listed told before now = (told ≡ Listed) × (now ≡ before)
-Tells names outcome told before now = Told names outcome told before now
+-- how a call reports an outcome. Where the sink has failed or a list was put, it puts no line and answers
+-- the outcome. Else it puts the line, as in `PutsFault`.
+abbrev pub ReportsFault : List (List ℕ) → Outcome → Outcome → SinkTell → SinkTell → Type 0
+ReportsFault names OutputFault answered before now = (answered ≡ OutputFault) × (now ≡ before)
+ReportsFault names Listed answered before now = (answered ≡ Listed) × (now ≡ before)
+ReportsFault names outcome answered before now = PutsFault names outcome answered before now
 
--- how a call tells its end: Completed with the status of the run and no line, or else the outcome that is
--- told, with the status of that outcome
-abbrev pub TellsEnd : List (List ℕ) → Result ℕ Outcome → Outcome → ℕ → SinkTell → SinkTell → Type 0
-TellsEnd names (Ok status) outcome told before now = (outcome ≡ Completed) × (told ≡ status) × (now ≡ before)
-TellsEnd names (Err fault) outcome told before now =
-    Tells names fault outcome before now × (told ≡ fault_status outcome)
+-- how a call reports its end: Completed with the status of the run and no line, or else the outcome that is
+-- answered, with the status of that outcome
+abbrev pub ReportsEnd : List (List ℕ) → Result ℕ Outcome → Outcome → ℕ → SinkTell → SinkTell → Type 0
+ReportsEnd names (Ok status) outcome answered before now =
+    (outcome ≡ Completed) × (answered ≡ status) × (now ≡ before)
+ReportsEnd names (Err fault) outcome answered before now =
+    ReportsFault names fault outcome before now × (answered ≡ fault_status outcome)

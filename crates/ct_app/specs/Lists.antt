@@ -74,19 +74,39 @@ pub record HasList (s : Sides) (P : List (List ℕ) → Type 0) : Type 0 where
 -- memory ran out for a list: for the line of this outcome; or, with Memory,
 -- before any line or behind a beginning of the list
 abbrev pub IsShortList : Sides → Outcome → Type 0
-IsShortList s (Usage word kind) = IsUsage s word kind × PutsLines (fault_line [] (Usage word kind) ∷ []) s.sink.before s.sink.after (Err Sinks.NoMemory)
-IsShortList s (Refused refusal) = IsUnreadable s refusal × PutsLines (fault_line [] (Refused refusal) ∷ []) s.sink.before s.sink.after (Err Sinks.NoMemory)
-IsShortList s (FilesFault path) = IsReadFault s ListFailsAt path × PutsLines (fault_line [] (FilesFault path) ∷ []) s.sink.before s.sink.after (Err Sinks.NoMemory)
-IsShortList s Memory = IsUnrun s × FilesStay s.files.before s.files.after × (Tries (fault_line [] Memory) s.sink.before s.sink.after ⊎ HasList s (λ lines. ThenLine (λ middle. PutsLines lines s.sink.before middle (Err Sinks.NoMemory)) (λ middle. Tries (fault_line [] Memory) middle s.sink.after)))
+IsShortList s (Usage word kind) =
+    IsUsage s word kind
+    × PutsLines (fault_line [] (Usage word kind) ∷ []) s.sink.before s.sink.after (Err Sinks.NoMemory)
+IsShortList s (Refused refusal) =
+    IsUnreadable s refusal
+    × PutsLines (fault_line [] (Refused refusal) ∷ []) s.sink.before s.sink.after (Err Sinks.NoMemory)
+IsShortList s (FilesFault path) =
+    IsReadFault s ListFailsAt path
+    × PutsLines (fault_line [] (FilesFault path) ∷ []) s.sink.before s.sink.after (Err Sinks.NoMemory)
+IsShortList s Memory =
+    IsUnrun s × FilesStay s.files.before s.files.after
+    × (Tries (fault_line [] Memory) s.sink.before s.sink.after
+    ⊎ HasList s (λ lines.
+    ThenLine
+    (λ middle. PutsLines lines s.sink.before middle (Err Sinks.NoMemory))
+    (λ middle. Tries (fault_line [] Memory) middle s.sink.after)))
 IsShortList s outcome = ⊥
 
 -- what each outcome and status of a list means. In each case what the files hold stays, and no plan is made
 -- or refused. Memory alone may come at any time.
 abbrev pub AnswersList : Sides → Outcome → ℕ → Type 0
 AnswersList s Completed status = ⊥
-AnswersList s Listed status = HasList s (λ lines. PutsLines lines s.sink.before s.sink.after (Ok tt)) × (status ≡ 0)
-AnswersList s (Usage word kind) status = IsUsage s word kind × PutsOrFails (fault_line [] (Usage word kind)) s.sink.before s.sink.after × (status ≡ 1)
-AnswersList s (Refused refusal) status = IsUnreadable s refusal × PutsOrFails (fault_line [] (Refused refusal)) s.sink.before s.sink.after × (status ≡ 2)
-AnswersList s (FilesFault path) status = IsReadFault s ListFailsAt path × PutsOrFails (fault_line [] (FilesFault path)) s.sink.before s.sink.after × (status ≡ 3)
-AnswersList s OutputFault status = HasList s (λ lines. PutsLines lines s.sink.before s.sink.after (Err Sinks.Failed)) × (status ≡ 4)
+AnswersList s Listed status =
+    HasList s (λ lines. PutsLines lines s.sink.before s.sink.after (Ok tt)) × (status ≡ 0)
+AnswersList s (Usage word kind) status =
+    IsUsage s word kind × PutsOrFails (fault_line [] (Usage word kind)) s.sink.before s.sink.after
+    × (status ≡ 1)
+AnswersList s (Refused refusal) status =
+    IsUnreadable s refusal × PutsOrFails (fault_line [] (Refused refusal)) s.sink.before s.sink.after
+    × (status ≡ 2)
+AnswersList s (FilesFault path) status =
+    IsReadFault s ListFailsAt path × PutsOrFails (fault_line [] (FilesFault path)) s.sink.before s.sink.after
+    × (status ≡ 3)
+AnswersList s OutputFault status =
+    HasList s (λ lines. PutsLines lines s.sink.before s.sink.after (Err Sinks.Failed)) × (status ≡ 4)
 AnswersList s Memory status = ((outcome : Outcome) × IsShortList s outcome) × (status ≡ 5)

@@ -21,7 +21,7 @@ use Rattle.ct_history.specs.Verdicts.{is_failing_in, is_over, is_passed_verdict,
 use Rattle.ct_history.specs.Rules.{cause_behind}
 use Rattle.ct_history.specs.Legal.{has_failing}
 
--- the verdicts of the first `count` attempts of a test, where `seen` tells what is seen of each attempt
+-- the verdicts of the first `count` attempts of a test, where `seen` gives what is seen of each attempt
 abbrev pub first_verdicts : Rules → (ℕ → Seen) → ℕ → List Verdict
 first_verdicts rules seen count = map (λ attempt. verdict_of rules (seen attempt)) (range_with_len 1 count)
 
@@ -36,7 +36,7 @@ abbrev pub meant_of_attempts : Repeat → Rules → (ℕ → Seen) → Option Ve
 meant_of_attempts repeat rules seen =
     option_map (λ attempt. verdict_of rules (seen attempt)) (last_attempt repeat rules seen)
 
--- the least setup of a test that is not meant to pass, where `meant` tells the verdict of each setup;
+-- the least setup of a test that is not meant to pass, where `meant` gives the verdict of each setup;
 -- `setups` ascends
 abbrev pub first_unpassed_setup : (ℕ → Option Verdict) → PlanTest → Option ℕ
 first_unpassed_setup meant t = find (λ s. not (is_passed_verdict (meant s))) t.setups
@@ -46,7 +46,7 @@ first_unpassed_setup meant t = find (λ s. not (is_passed_verdict (meant s))) t.
 abbrev pub meant_cause : (ℕ → Option Verdict) → PlanTest → Option Cause
 meant_cause meant t = cause_behind (first_unpassed_setup meant t) t.fixed
 
--- the verdict that a test is meant to have, where `meant` tells the verdict of each setup.
+-- the verdict that a test is meant to have, where `meant` gives the verdict of each setup.
 -- It is Disabled, else NotRun for its meant cause, else the verdict of its last attempt.
 abbrev pub meant_by_setups : Repeat → (ℕ → ℕ → Seen) → (ℕ → Option Verdict) → Option PlanTest → Option Verdict
 meant_by_setups repeat seen meant None = None
@@ -62,7 +62,7 @@ meant_within plan seen zero number = None
 meant_within plan seen (suc steps) number =
     meant_by_setups plan.repeat seen (meant_within plan seen steps) (test_at plan.tests number)
 
--- the verdict that the test with this number is meant to have, where `seen` tells what is seen of each
+-- the verdict that the test with this number is meant to have, where `seen` gives what is seen of each
 -- attempt. Setups make no cycle, so a chain of setups has at most as many steps as there are tests.
 abbrev pub meant_verdict : PlanParts → (ℕ → ℕ → Seen) → ℕ → Option Verdict
 meant_verdict plan seen number = meant_within plan seen (length plan.tests) number
@@ -71,14 +71,14 @@ meant_verdict plan seen number = meant_within plan seen (length plan.tests) numb
 abbrev pub is_meant_to_fail : PlanParts → (ℕ → ℕ → Seen) → Bool
 is_meant_to_fail plan seen = list_any (λ t. is_failing_in (meant_verdict plan seen t.number)) plan.tests
 
--- where the entry ends an attempt, it saw what `seen` tells of this attempt
+-- where the entry ends an attempt, it saw what `seen` gives of this attempt
 abbrev pub IsSeen : (ℕ → ℕ → Seen) → Entry → Type 0
 IsSeen seen (Start t a w placement) = ⊤
 IsSeen seen (End t a w ended) = ended ≡ seen t a
 IsSeen seen (Settle t cause) = ⊤
 IsSeen seen Stop = ⊤
 
--- each End among the entries saw what `seen` tells of its attempt
+-- each End among the entries saw what `seen` gives of its attempt
 abbrev pub AreSeen : (ℕ → ℕ → Seen) → List Entry → Type 0
 AreSeen seen [] = ⊤
 AreSeen seen (entry ∷ entries) = IsSeen seen entry × AreSeen seen entries

@@ -19,7 +19,7 @@ pub record HaveSameTexts (plan : PlanParts) (one other : List Entry) : Type 0 wh
   pub costs : (before : CostData) → costs_after plan one before ≡ costs_after plan other before
   pub log : failed_log_text plan one ≡ failed_log_text plan other
 
--- this history has the same texts as each other legal history in which each test is final and `seen` tells
+-- this history has the same texts as each other legal history in which each test is final and `seen` gives
 -- what was seen of each attempt
 abbrev pub HasMeantTexts : PlanParts → (ℕ → ℕ → Seen) → List Entry → Type 0
 HasMeantTexts plan seen entries =

@@ -55,6 +55,6 @@ abbrev pub HasNoPlan : List (List ℕ) → FilesTell → FilesTell → List (Lis
 HasNoPlan words before now names outcome =
     (sink : SinkTell) → EndsUnrun (list_sides words before now sink sink) names (Err outcome)
 
--- the same, with some names
+-- the words have no plan, and this outcome says why, as for a run; the tests of a cycle have some names
 abbrev pub HasSomeReason : List (List ℕ) → FilesTell → FilesTell → Outcome → Type 0
 HasSomeReason words before now outcome = (names : List (List ℕ)) × HasNoPlan words before now names outcome

@@ -68,15 +68,15 @@ AreTestsRead told invocation =
 abbrev pub IsSpecAccepted : Option Held → Invocation → Type 0
 IsSpecAccepted told invocation = (lent : Option (List Resource)) × AreLent told invocation.spec_file lent
 
--- reading for a list may fail at this path: in the tree of test files; or, where the tests are read, at the log
--- for --rerun-failed
+-- reading for a list may fail at this path: in the tree of test files; or, where the tests are read, at the
+-- log for --rerun-failed
 abbrev pub ListFailsAt : Option Held → Invocation → List ℕ → Type 0
 ListFailsAt told invocation path =
     IfSome told (λ held. TreeAsks held invocation.wanted.dir invocation.config path)
     ⊎ (AreTestsRead told invocation × (invocation.rerun ≡ true) × (path ≡ log_path invocation.wanted.dir))
 
--- reading the inputs of a plan beside the tests may fail at this path: at the specification that is named; or,
--- where it is accepted, at the cost data, or at the log for --rerun-failed
+-- reading the inputs of a plan beside the tests may fail at this path: at the specification that is named;
+-- or, where it is accepted, at the cost data, or at the log for --rerun-failed
 abbrev pub InputsFailAt : Option Held → Invocation → List ℕ → Type 0
 InputsFailAt told invocation path =
     (invocation.spec_file ≡ Some path)
@@ -84,8 +84,8 @@ InputsFailAt told invocation path =
     × ((path ≡ costs_path invocation.wanted.dir)
     ⊎ ((invocation.rerun ≡ true) × (path ≡ log_path invocation.wanted.dir))))
 
--- reading for a run may fail at this path: in the tree of test files; or, where the tests are read, at an input
--- of the plan beside them
+-- reading for a run may fail at this path: in the tree of test files; or, where the tests are read, at an
+-- input of the plan beside them
 abbrev pub RunFailsAt : Option Held → Invocation → List ℕ → Type 0
 RunFailsAt told invocation path =
     IfSome told (λ held. TreeAsks held invocation.wanted.dir invocation.config path)

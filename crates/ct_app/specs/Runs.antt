@@ -94,7 +94,7 @@ abbrev pub IsRefusal : Sides → Refusal → List (List ℕ) → Type 0
 IsRefusal s refusal names = IsUnreadable s refusal ⊎ (IsUndeclared s refusal ⊎ IsUnplannable s refusal names)
 
 -- a refusal came, and `Line` holds of its line, which names the tests of a cycle
-pub record TellsRefusal (s : Sides) (refusal : Refusal) (Line : List ℕ → Type 0) : Type 0 where
+pub record ReportsRefusal (s : Sides) (refusal : Refusal) (Line : List ℕ → Type 0) : Type 0 where
   pub names : List (List ℕ)
   pub refused : IsRefusal s refusal names
   pub line : Line (fault_line names (Refused refusal))
@@ -120,10 +120,17 @@ IsCutShort s plan entries middle =
 
 -- memory ran out without a plan: for the line of this outcome; or, with Memory, for a step before any line
 abbrev pub IsShort : Sides → Outcome → Type 0
-IsShort s (Usage word kind) = IsUsage s word kind × PutsLines (fault_line [] (Usage word kind) ∷ []) s.sink.before s.sink.after (Err Sinks.NoMemory)
-IsShort s (Refused refusal) = TellsRefusal s refusal (λ line. PutsLines (line ∷ []) s.sink.before s.sink.after (Err Sinks.NoMemory))
-IsShort s (FilesFault path) = IsReadFault s RunFailsAt path × PutsLines (fault_line [] (FilesFault path) ∷ []) s.sink.before s.sink.after (Err Sinks.NoMemory)
-IsShort s Memory = IsUnrun s × FilesStay s.files.before s.files.after × Tries (fault_line [] Memory) s.sink.before s.sink.after
+IsShort s (Usage word kind) =
+    IsUsage s word kind
+    × PutsLines (fault_line [] (Usage word kind) ∷ []) s.sink.before s.sink.after (Err Sinks.NoMemory)
+IsShort s (Refused refusal) =
+    ReportsRefusal s refusal (λ line. PutsLines (line ∷ []) s.sink.before s.sink.after (Err Sinks.NoMemory))
+IsShort s (FilesFault path) =
+    IsReadFault s RunFailsAt path
+    × PutsLines (fault_line [] (FilesFault path) ∷ []) s.sink.before s.sink.after (Err Sinks.NoMemory)
+IsShort s Memory =
+    IsUnrun s × FilesStay s.files.before s.files.after
+    × Tries (fault_line [] Memory) s.sink.before s.sink.after
 IsShort s outcome = ⊥
 
 -- memory ran out with a plan: for the line of a write that failed; or, with Memory,
@@ -156,8 +163,20 @@ IsUnwritten s path plan entries =
 abbrev pub AnswersRun : Sides → Outcome → ℕ → Type 0
 AnswersRun s Completed status = HasRunWith s (IsCompleted s status)
 AnswersRun s Listed status = ⊥
-AnswersRun s (Usage word kind) status = IsUsage s word kind × PutsOrFails (fault_line [] (Usage word kind)) s.sink.before s.sink.after × (status ≡ 1)
-AnswersRun s (Refused refusal) status = TellsRefusal s refusal (λ line. PutsOrFails line s.sink.before s.sink.after) × (status ≡ 2)
-AnswersRun s (FilesFault path) status = ((IsReadFault s RunFailsAt path × PutsOrFails (fault_line [] (FilesFault path)) s.sink.before s.sink.after) ⊎ HasRunWith s (λ invocation. IsUnwritten s path)) × (status ≡ 3)
-AnswersRun s OutputFault status = HasRunWith s (λ invocation plan entries. IsCutOff plan entries s.sink.before s.sink.after × FilesStay s.files.before s.files.after) × (status ≡ 4)
-AnswersRun s Memory status = ((outcome : Outcome) × (IsShort s outcome ⊎ HasRunWith s (λ invocation. IsShortRun s outcome))) × (status ≡ 5)
+AnswersRun s (Usage word kind) status =
+    IsUsage s word kind × PutsOrFails (fault_line [] (Usage word kind)) s.sink.before s.sink.after
+    × (status ≡ 1)
+AnswersRun s (Refused refusal) status =
+    ReportsRefusal s refusal (λ line. PutsOrFails line s.sink.before s.sink.after) × (status ≡ 2)
+AnswersRun s (FilesFault path) status =
+    ((IsReadFault s RunFailsAt path
+    × PutsOrFails (fault_line [] (FilesFault path)) s.sink.before s.sink.after)
+    ⊎ HasRunWith s (λ invocation. IsUnwritten s path))
+    × (status ≡ 3)
+AnswersRun s OutputFault status =
+    HasRunWith s (λ invocation plan entries. IsCutOff plan entries s.sink.before s.sink.after
+    × FilesStay s.files.before s.files.after)
+    × (status ≡ 4)
+AnswersRun s Memory status =
+    ((outcome : Outcome) × (IsShort s outcome ⊎ HasRunWith s (λ invocation. IsShortRun s outcome)))
+    × (status ≡ 5)

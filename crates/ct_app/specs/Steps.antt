@@ -45,7 +45,7 @@ IsUnplannedSource source names outcome =
     × IsPlanAnswer most_edges source (Err fault)
     × IsUnplanned source.defs fault names (Err outcome)
 
--- a log was written, if it names a test, and the result tells whether it does; or the write failed, or memory
+-- a log was written, if it names a test, and the result says whether it does; or the write failed, or memory
 -- ran out for it and each path holds what it held
 abbrev pub WritesLog : List ℕ → List ℕ → FilesTell → FilesTell → Result Bool RunFileFault → Type 0
 WritesLog dir [] before now result = (result ≡ Ok false) × (now ≡ before)

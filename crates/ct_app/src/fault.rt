@@ -1,5 +1,5 @@
 ghost use Rattle.std.specs.Prelude.{◌≡◌, ◌∷◌, ◌++◌, [], codes, decimal, IfOk, OnOk};
-ghost use Rattle.ct_app.specs.Ends.{Tells, TellsEnd};
+ghost use Rattle.ct_app.specs.Ends.{ReportsFault, ReportsEnd};
 ghost use Rattle.ct_app.specs.Outcome.{arrows_to, cycle_text, fault_line, fault_status, kind_text, outcome_text, prop_text, refusal_text, spec_fault_text, spec_text, usage_text};
 ghost use Rattle.ct_report.specs.PutLines.{PutsLines};
 
@@ -16,17 +16,17 @@ use std::alloc::Global;
 /// `names` are the names of the tests of a cycle.
 ///
 /// Source: this project's choice.
-pub fn tell<S: Sink>(
+pub fn report_end<S: Sink>(
     alloc: Global,
     sink: &mut S,
     names: &[Name],
     ended: Result<u8, Outcome>,
 ) -> (Outcome, u8)
-    ensures { TellsEnd names.now ended result.0 result.1 (S.tells sink.old) (S.tells sink.new) }
+    ensures { ReportsEnd names.now ended result.0 result.1 (S.tells sink.old) (S.tells sink.new) }
 {
     match ended {
         Ok(status) => (Outcome::Completed, status),
-        Err(outcome) => tell_outcome(alloc, sink, names, outcome),
+        Err(outcome) => report_outcome(alloc, sink, names, outcome),
     }
 }
 
@@ -36,24 +36,24 @@ pub fn tell<S: Sink>(
 /// line, the outcome is Memory. `names` are the names of the tests of a cycle.
 ///
 /// Source: this project's choice.
-pub fn tell_outcome<S: Sink>(
+pub fn report_outcome<S: Sink>(
     alloc: Global,
     sink: &mut S,
     names: &[Name],
     outcome: Outcome,
 ) -> (Outcome, u8)
-    ensures told { Tells names.now outcome result.0 (S.tells sink.old) (S.tells sink.new) }
+    ensures told { ReportsFault names.now outcome result.0 (S.tells sink.old) (S.tells sink.new) }
     ensures status { result.1 ≡ fault_status result.0 }
 {
-    let told = tell_fault(alloc, sink, names, outcome);
+    let told = report_fault(alloc, sink, names, outcome);
     let status = status(&told);
     (told, status)
 }
 
 /// Puts the line of an outcome but Completed, and returns the outcome, or Memory where memory ran
 /// out for the line.
-fn tell_fault<S: Sink>(alloc: Global, sink: &mut S, names: &[Name], outcome: Outcome) -> Outcome
-    ensures { Tells names.now outcome result (S.tells sink.old) (S.tells sink.new) }
+fn report_fault<S: Sink>(alloc: Global, sink: &mut S, names: &[Name], outcome: Outcome) -> Outcome
+    ensures { ReportsFault names.now outcome result (S.tells sink.old) (S.tells sink.new) }
 {
     match outcome {
         Outcome::OutputFault => return Outcome::OutputFault,

@@ -206,7 +206,7 @@ fn leave_files<F: Files>(
     Ok(status(empty_is_error, plan.parts(), failed))
 }
 
-/// Returns the status of a complete run: 8 where the run failed, else 0. `failed` tells whether a
+/// Returns the status of a complete run: 8 where the run failed, else 0. `failed` says whether a
 /// test failed.
 ///
 /// Source: CMake manual, ctest(1), Description.
@@ -220,7 +220,7 @@ fn status(empty_is_error: bool, plan: &PlanParts, failed: bool) -> u8
     }
 }
 
-/// Tells whether a complete run failed: a test failed, or there is no test and that is an error.
+/// Returns whether a complete run failed: a test failed, or there is no test and that is an error.
 ///
 /// Source: CMake manual, ctest(1), --no-tests.
 fn is_failed(empty_is_error: bool, plan: &PlanParts, failed: bool) -> bool

@@ -3,7 +3,7 @@
 //!
 //! Hands up: `ctest_main`, which does all that the program does, `list_main`, which lists alone, and
 //! `plan_main`, which makes the plan of a run alone. For calls of other crates: the steps `read_tests`,
-//! `read_spec`, `read_costs`, `why_unplanned`, `run_pool`, `write_files`, `tell` and `tell_outcome`.
+//! `read_spec`, `read_costs`, `why_unplanned`, `run_pool`, `write_files`, `report_end` and `report_outcome`.
 //! Read first: `specs/Reading.antt`, `specs/SpecFile.antt`, `specs/Run.antt`, `specs/Stops.antt`,
 //! `specs/RunFiles.antt`, `specs/Rerun.antt`, `specs/Answers.antt`, `specs/Lists.antt`,
 //! `specs/Complete.antt`, then `top.rt`, and the steps of a call: `words.rt`, `reading.rt`,
@@ -27,7 +27,7 @@ mod words;
 pub use ct_args::UsageKind;
 pub use ct_props::PropKind;
 pub use ct_spec::SpecFault;
-pub use fault::{tell, tell_outcome};
+pub use fault::{report_end, report_outcome};
 pub use outcome::{Finished, Listed, Outcome, Refusal, SpecRefusal};
 pub use planning::{Unplanned, hand_out_sound, plan_main, plan_words, unread, why_unplanned};
 pub use props::Tests;

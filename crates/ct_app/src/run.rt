@@ -22,7 +22,7 @@ pub struct PoolRun<G, S> {
     pub core: Core,
     pub gates: Vec<G>,
     pub sink: S,
-    /// Whether all lines were put; `NoMemory` also tells that memory ran out for an attempt.
+    /// Whether all lines were put; `NoMemory` also says that memory ran out for an attempt.
     pub put: Result<(), SinkFault>,
 }
 
@@ -66,7 +66,7 @@ pub(crate) fn run<R: Threads + Wait + Sync, G: Gate + Send, S: Sink + Send>(
     }
 }
 
-/// Puts the header and, for a plan without tests, its line; tells whether there are tests.
+/// Puts the header and, for a plan without tests, its line; returns whether there are tests.
 fn begin<S: Sink>(alloc: Global, core: &Core, sink: &mut S) -> Result<bool, SinkFault>
     ensures { BeginsReport core.now.plan (S.tells sink.old) (S.tells sink.new) result }
 {

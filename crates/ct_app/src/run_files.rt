@@ -124,7 +124,7 @@ fn text_after(
     after.text(alloc)
 }
 
-/// Writes the log of the failed tests, if it names a test, and tells whether it does.
+/// Writes the log of the failed tests, if it names a test, and returns whether it does.
 fn write_log<F: Files>(
     alloc: Global,
     files: &mut F,

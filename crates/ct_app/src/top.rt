@@ -8,7 +8,7 @@ ghost use Rattle.ct_app.specs.MeantRuns.{AnswersAsMeant};
 ghost use Rattle.ct_app.specs.Reading.{ask_for_list};
 ghost use Rattle.ct_app.specs.Run.{OthersStay};
 
-use crate::fault::{tell, tell_outcome};
+use crate::fault::{report_end, report_outcome};
 use crate::folder::Ran;
 use crate::words::{list_words, run_words};
 use crate::{Finished, Listed};
@@ -69,7 +69,7 @@ pub fn ctest_main<R: Threads + Wait + Sync, F: Files, G: Gate + Send, S: Sink + 
         gates,
         mut sink,
     } = run_words(rt, alloc, words, env, &mut files, gates, sink);
-    let (outcome, status) = tell(alloc, &mut sink, names.as_slice(), ended);
+    let (outcome, status) = report_end(alloc, &mut sink, names.as_slice(), ended);
     Finished {
         outcome,
         status,
@@ -100,7 +100,7 @@ pub fn list_main<F: Files, S: Sink>(
     ensures complete { CompletesList (list_sides words.now (F.tells files) (F.tells result.files) (S.tells sink) (S.tells result.sink)) result.outcome }
 {
     let outcome = list_words(alloc, words, &mut files, &mut sink);
-    let (outcome, status) = tell_outcome(alloc, &mut sink, &[], outcome);
+    let (outcome, status) = report_outcome(alloc, &mut sink, &[], outcome);
     Listed {
         outcome,
         status,

@@ -53,7 +53,7 @@ pub enum CommandOption {
 }
 
 impl CommandOption {
-    /// Tells whether the option takes a value.
+    /// Returns whether the option takes a value.
     pub fn takes_value(self) -> bool
         ensures { result ≡ takes_a_value self }
     {

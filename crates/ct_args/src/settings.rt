@@ -155,7 +155,7 @@ impl Settings {
         }
     }
 
-    /// Tells whether the slot of an option is full.
+    /// Returns whether the slot of an option is full.
     fn is_full(&self, option: CommandOption) -> bool
         ensures { result ≡ is_slot_full (slots_of_settings self.now) option }
     {

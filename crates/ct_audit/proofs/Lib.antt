@@ -1,5 +1,4 @@
-pub mod PlaceLemmas
 pub mod CourseLemmas
 pub mod FailingLemmas
 pub mod RuleLemmas
-pub mod TellLemmas
+pub mod AuditedLemmas

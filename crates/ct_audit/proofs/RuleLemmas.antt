@@ -16,7 +16,7 @@ use Rattle.ct_history.specs.Rules.{cause_behind, first_unpassed, follows_finals,
 use Rattle.ct_history.specs.Legal.{is_allowed, is_next_attempt, is_stop_due, same_cause, settles, starts}
 use Rattle.ct_audit.specs.Course.{course_in}
 use Rattle.ct_audit.specs.Seen.{cause_by, follows_by, has_failed_by, is_allowed_by, is_pending_by, may_start_by, next_attempt, settles_by, starts_by, unpassed_by, verdict_in_course, verdict_by_lookup, verdict_by_number}
-use Rattle.ct_audit.specs.Tells.{HasShortAttempt}
+use Rattle.ct_audit.specs.Audited.{HasShortAttempt}
 use Rattle.ct_audit.proofs.CourseLemmas.{next_is, verdict_is}
 use Rattle.ct_audit.proofs.FailingLemmas.{has_failed_in}
 

@@ -37,7 +37,7 @@ course_in entries test = record {
 abbrev pub untouched : Course
 untouched = record { settled = None; ended = None }
 
--- how a test has fared, as a map tells it
+-- how a test has fared, by a map
 abbrev pub course_at : {S : Type 0} → IndexMap ℕ Course S → ℕ → Course
 course_at courses test = unwrap_or (get nat_eq courses test) untouched
 

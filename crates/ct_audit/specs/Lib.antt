@@ -2,4 +2,4 @@
 pub mod Course
 pub mod Places
 pub mod Seen
-pub mod Tells
+pub mod Audited

@@ -68,12 +68,12 @@ abbrev pub verdict_in_course : Repeat → List Running → (ℕ → Course) → 
 verdict_in_course repeat starts courses t =
     verdict_of_course repeat t (opens t.number starts) (courses t.number)
 
--- the same, of the test that was looked up
+-- the verdict, by the open starts and the courses, of the test that was looked up, if it was found
 abbrev pub verdict_by_lookup : Repeat → List Running → (ℕ → Course) → Option PlanTest → Option Verdict
 verdict_by_lookup repeat starts courses None = None
 verdict_by_lookup repeat starts courses (Some t) = verdict_in_course repeat starts courses t
 
--- the same, of the test with this number
+-- the verdict, by the open starts and the courses, of the test with this number, if there is one
 abbrev pub verdict_by_number : PlanParts → List Running → (ℕ → Course) → ℕ → Option Verdict
 verdict_by_number plan starts courses number =
     verdict_by_lookup plan.repeat starts courses (test_at plan.tests number)

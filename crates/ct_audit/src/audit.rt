@@ -6,7 +6,7 @@ ghost use Rattle.ct_history.specs.Plan.{IsSound};
 ghost use Rattle.ct_audit.specs.Seen.{test_of_entry};
 ghost use Rattle.ct_audit.specs.Course as Fared;
 ghost use Rattle.ct_audit.specs.Course.{runs};
-ghost use Rattle.ct_audit.specs.Tells.{HasShortAttempt, Marks, TellsHistory, are_all_final_by, is_any_open, is_at_end, is_idle_by, with_failure};
+ghost use Rattle.ct_audit.specs.Audited.{HasShortAttempt, Marks, IsAuditOf, are_all_final_by, is_any_open, is_at_end, is_idle_by, with_failure};
 
 use crate::course::{Courses, note_course};
 use crate::open_start::{OpenStart, close};
@@ -36,7 +36,7 @@ pub struct Audit {
 impl Audit {
     /// Makes the audit of a history without entries.
     pub fn new(alloc: Global, plan: &Plan) -> Audit
-        ensures { TellsHistory plan.now [] result }
+        ensures { IsAuditOf plan.now [] result }
     {
         let _ = plan;
         Audit {
@@ -48,23 +48,23 @@ impl Audit {
         }
     }
 
-    /// Tells whether an entry is allowed behind the entries that were noted.
+    /// Returns whether an entry is allowed behind the entries that were noted.
     pub fn allows(&self, plan: &Plan, entry: &Entry) -> bool
-        ensures { (front : List Entry) → TellsHistory plan.now front self.now → result ≡ is_allowed plan.now front entry.now }
+        ensures { (front : List Entry) → IsAuditOf plan.now front self.now → result ≡ is_allowed plan.now front entry.now }
     {
         self.allows_for(plan.parts(), entry)
     }
 
-    /// Tells whether each test is final, nothing is open, and no Stop is due.
+    /// Returns whether each test is final, nothing is open, and no Stop is due.
     pub fn is_at_end(&self, plan: &Plan) -> bool
-        ensures { (front : List Entry) → TellsHistory plan.now front self.now → result ≡ is_at_end plan.now front }
+        ensures { (front : List Entry) → IsAuditOf plan.now front self.now → result ≡ is_at_end plan.now front }
     {
         self.is_at_end_for(plan.parts())
     }
 
     /// Notes an entry that is allowed.
     pub fn note(&mut self, plan: &Plan, entry: Entry) -> Result<(), NoMemory>
-        ensures { (front : List Entry) → TellsHistory plan.now front self.old → is_allowed plan.now front entry ≡ true → OnOk result (TellsHistory plan.now (front ++ entry ∷ []) self.new) }
+        ensures { (front : List Entry) → IsAuditOf plan.now front self.old → is_allowed plan.now front entry ≡ true → OnOk result (IsAuditOf plan.now (front ++ entry ∷ []) self.new) }
     {
         self.note_for(plan.parts(), entry)?;
         Ok(())
@@ -72,7 +72,7 @@ impl Audit {
 
     fn allows_for(&self, plan: &PlanParts, entry: &Entry) -> bool
         requires { IsSound plan.now }
-        ensures { (front : List Entry) → TellsHistory plan.now front self.now → result ≡ is_allowed plan.now front entry.now }
+        ensures { (front : List Entry) → IsAuditOf plan.now front self.now → result ≡ is_allowed plan.now front entry.now }
     {
         let _times = plan.repeat.times;
         hand_out_attempt(entry);
@@ -81,7 +81,7 @@ impl Audit {
 
     fn is_at_end_for(&self, plan: &PlanParts) -> bool
         requires { IsSound plan.now }
-        ensures { (front : List Entry) → TellsHistory plan.now front self.now → result ≡ is_at_end plan.now front }
+        ensures { (front : List Entry) → IsAuditOf plan.now front self.now → result ≡ is_at_end plan.now front }
     {
         let _times = plan.repeat.times;
         self.has_ended(plan)
@@ -95,7 +95,7 @@ impl Audit {
 
     fn note_for(&mut self, plan: &PlanParts, entry: Entry) -> Result<(), NoMemory>
         requires { IsSound plan.now }
-        ensures { (front : List Entry) → TellsHistory plan.now front self.old → is_allowed plan.now front entry ≡ true → OnOk result (TellsHistory plan.now (front ++ entry ∷ []) self.new) }
+        ensures { (front : List Entry) → IsAuditOf plan.now front self.old → is_allowed plan.now front entry ≡ true → OnOk result (IsAuditOf plan.now (front ++ entry ∷ []) self.new) }
     {
         let _times = plan.repeat.times;
         let number = test_of(&entry);

@@ -2,7 +2,7 @@
 //!
 //! Hands up: `Audit` (`new`, `allows`, `note`, `is_at_end`), `planned_test`.
 //! It names no crate of the scheduler.
-//! Read first: `specs/Tells.antt`, `specs/Seen.antt`.
+//! Read first: `specs/Audited.antt`, `specs/Seen.antt`.
 #![tactic(auto)]
 
 mod audit;

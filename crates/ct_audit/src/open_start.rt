@@ -19,7 +19,7 @@ pub(crate) struct OpenStart {
     pub(crate) placement: Option<Placement>,
 }
 
-/// Tells whether one of these starts is of the test.
+/// Returns whether one of these starts is of the test.
 pub(crate) fn is_open(running: &[OpenStart], test: u32) -> bool
     ensures { result ≡ Seen.opens test (runs running.now) }
 {
@@ -31,7 +31,7 @@ pub(crate) fn is_open(running: &[OpenStart], test: u32) -> bool
     false
 }
 
-/// Tells whether the worker made one of these starts.
+/// Returns whether the worker made one of these starts.
 pub(crate) fn is_busy(running: &[OpenStart], worker: u32) -> bool
     ensures { result ≡ Seen.is_busy_with worker (runs running.now) }
 {
@@ -43,7 +43,7 @@ pub(crate) fn is_busy(running: &[OpenStart], worker: u32) -> bool
     false
 }
 
-/// Tells whether the worker made this attempt of the test.
+/// Returns whether the worker made this attempt of the test.
 pub(crate) fn has_start(running: &[OpenStart], test: u32, attempt: u32, worker: u32) -> bool
     ensures { result ≡ Seen.has_start test attempt worker (runs running.now) }
 {
@@ -96,7 +96,7 @@ pub(crate) fn used_slots(running: &[OpenStart], place: usize) -> u64
     used
 }
 
-/// Tells whether this test and one of these starts exclude each other.
+/// Returns whether this test and one of these starts exclude each other.
 pub(crate) fn is_excluded(tests: &[PlanTest], test: &PlanTest, running: &[OpenStart]) -> bool
     requires { Ascend tests.now }
     ensures { result ≡ Seen.is_excluded_by tests.now test.now (runs running.now) }

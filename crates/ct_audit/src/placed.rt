@@ -11,7 +11,7 @@ use ct_alloc::{Pick, Placement};
 use ct_base::{Need, Resource};
 use ct_history::{PlanParts, PlanTest, is_placement, slots_at};
 
-/// Tells whether a placement is right for a test, beside the slots that the open starts use.
+/// Returns whether a placement is right for a test, beside the slots that the open starts use.
 pub(crate) fn is_placed(
     plan: &PlanParts,
     test: &PlanTest,
@@ -66,7 +66,7 @@ fn fits_beside(resources: &[Resource], running: &[OpenStart], picks: &[Pick]) ->
     true
 }
 
-/// Tells whether a resource, counted from 0, has slots for picks beside what the open starts use.
+/// Returns whether a resource, counted from 0, has slots for picks beside what the open starts use.
 fn has_slots(resource: &Resource, place: usize, running: &[OpenStart], picks: &[Pick]) -> bool
     ensures { result ≡
         nat_le (slots_used (runs running.now) place + Placing.slots_at place picks.now) resource.now.slots }

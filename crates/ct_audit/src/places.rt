@@ -1,9 +1,9 @@
-ghost use Rattle.std.specs.Prelude.{◌≡◌, None, MatchOption};
+ghost use Rattle.std.specs.Prelude.{◌≡◌};
 ghost use Rattle.std.specs.Option.{option_copied};
 ghost use Rattle.ct_history.specs.Plan.{test_at};
-ghost use Rattle.ct_audit.specs.Places.{Ascend, IsPlaceInPlan};
+ghost use Rattle.ct_audit.specs.Places.{Ascend};
 
-use ct_history::{Plan, PlanTest};
+use ct_history::{Plan, PlanTest, place_of};
 
 /// Looks up a test by its number: at once where each lesser number is there, and else in a time
 /// that grows with the logarithm of the tests.
@@ -14,39 +14,6 @@ pub(crate) fn planned(tests: &[PlanTest], number: u32) -> Option<&PlanTest>
     match place_of(tests, number) {
         Some(place) => tests.get(place),
         None => None,
-    }
-}
-
-fn place_of(tests: &[PlanTest], number: u32) -> Option<usize>
-    requires { Ascend tests.now }
-    ensures { MatchOption result (test_at tests.now number ≡ None) (λ place. IsPlaceInPlan tests.now number place) }
-{
-    let least = number.wrapping_sub(1) as usize;
-    if least < tests.len() && tests[least].number == number {
-        return Some(least);
-    }
-    search(tests, number)
-}
-
-/// Finds the place of a test by its number, by halves.
-fn search(tests: &[PlanTest], number: u32) -> Option<usize>
-    requires { Ascend tests.now }
-    ensures { MatchOption result (test_at tests.now number ≡ None) (λ place. IsPlaceInPlan tests.now number place) }
-{
-    let mut low = 0;
-    let mut high = tests.len();
-    while low < high {
-        let middle = low + (high - low) / 2;
-        if tests[middle].number < number {
-            low = middle + 1;
-        } else {
-            high = middle;
-        }
-    }
-    if low < tests.len() && tests[low].number == number {
-        Some(low)
-    } else {
-        None
     }
 }
 

@@ -18,7 +18,7 @@ use ct_history::{Entry, PlanParts, PlanTest};
 use ct_verdict::{Cause, Verdict};
 
 impl Audit {
-    /// Tells whether an entry is allowed behind the entries that were noted.
+    /// Returns whether an entry is allowed behind the entries that were noted.
     pub(crate) fn is_allowed(&self, plan: &PlanParts, entry: &Entry) -> bool
         requires { Ascend plan.now.tests }
         ensures { result ≡ Seen.is_allowed_by plan.now (runs self.now.running.items) (course_at self.now.courses) self.now.stopped self.now.due entry.now }
@@ -164,7 +164,7 @@ impl Audit {
         matches!(self.verdict_of(plan, number), Some(Verdict::Passed))
     }
 
-    /// Tells whether the test with this number has a verdict that makes the run fail.
+    /// Returns whether the test with this number has a verdict that makes the run fail.
     pub(crate) fn has_failed(&self, plan: &PlanParts, number: Option<u32>) -> bool
         requires { Ascend plan.now.tests }
         ensures { result ≡ Seen.has_failed_by plan.now (runs self.now.running.items) (course_at self.now.courses) number }

@@ -5,4 +5,5 @@ pub mod Entries
 pub mod Seconds
 pub mod Memory
 pub mod Names
+pub mod TypeNames
 pub mod NameSets

@@ -94,7 +94,11 @@ pub record PutFailsAsDue (before now : MemSinkValue) : Type 0 where
 pub record PutPasses (piece : List ℕ) (before now : MemSinkValue) : Type 0 where
   pub not_due : is_due before.counts ≡ false
   pub is : now
-      ≡ record before { written = before.written ++ piece; pieces = before.pieces ++ piece ∷ []; counts = passed before.counts }
+      ≡ record before {
+        written = before.written ++ piece;
+        pieces = before.pieces ++ piece ∷ [];
+        counts = passed before.counts;
+      }
 
 -- a put into a sink in memory: it fails exactly where it is due to, and is counted;
 -- where memory is wanting, nothing changes

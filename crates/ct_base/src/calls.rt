@@ -32,7 +32,7 @@ impl Calls {
         }
     }
 
-    /// Tells whether the next call is to fail.
+    /// Returns whether the next call is to fail.
     pub(crate) fn is_due(&self) -> bool
         ensures { result ≡ is_due self.now }
     {

@@ -38,7 +38,7 @@ impl Collect {
         &self.heard
     }
 
-    /// Tells whether memory was wanting for some piece.
+    /// Returns whether memory was wanting for some piece.
     pub fn short(&self) -> bool
         ensures { result ≡ self.now.short }
     {

@@ -36,7 +36,7 @@ pub trait Files {
         ensures bound { IfOk result (λ got. IfSome got (λ bytes. length bytes ≤ most + 1)) }
         ensures looks { LooksAt path.now (tells self.old) (tells self.new) result };
 
-    /// Tells whether the files hold something at the path.
+    /// Returns whether the files hold something at the path.
     fn exists(&mut self, alloc: Global, path: &Name) -> Result<bool, FilesFault>
         ensures ok { IfOk result (λ is. IfSome (tells self.old).held (λ files. is ≡ is_some (files path.now))) }
         ensures looks { LooksAt path.now (tells self.old) (tells self.new) result };

@@ -20,6 +20,7 @@ mod names;
 mod path;
 mod seconds;
 mod sink;
+mod type_names;
 
 pub use blob::Blob;
 pub use collect::Collect;
@@ -32,7 +33,8 @@ pub use mem_files::{CalmFiles, MemFiles};
 pub use mem_sink::{CalmSink, MemSink};
 pub use memory::NoMemory;
 pub use name::Name;
-pub use names::name_set;
+pub use names::{copy_names, name_set};
 pub use path::join_path;
 pub use seconds::{first_place, is_numeral, micros, number};
 pub use sink::{Sink, SinkFault};
+pub use type_names::{has_name_bytes, is_type_name};

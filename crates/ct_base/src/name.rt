@@ -55,7 +55,7 @@ impl Name {
         Name::of(alloc, self.bytes())
     }
 
-    /// Tells whether both have the same bytes.
+    /// Returns whether both have the same bytes.
     pub fn is(&self, other: &Name) -> bool
         ensures { result ≡ bytes_eq self.now other.now }
     {

@@ -1,7 +1,7 @@
-ghost use Rattle.std.specs.Prelude.{IfOk};
+ghost use Rattle.std.specs.Prelude.{◌≡◌, IfOk};
 ghost use Rattle.ct_base.specs.NameSets.{AreNames};
 
-use crate::{Name, NoMemory};
+use crate::{List, Name, NoMemory};
 use std::alloc::Global;
 use std::collections::BTreeSet;
 
@@ -14,4 +14,15 @@ pub fn name_set(alloc: Global, names: &[Name]) -> Result<BTreeSet<&[u8]>, NoMemo
         set.insert(name.bytes())?;
     }
     Ok(set)
+}
+
+/// Copies names, in order.
+pub fn copy_names(alloc: Global, names: &[Name]) -> Result<List<Name>, NoMemory>
+    ensures { IfOk result (λ copies. copies ≡ names.now) }
+{
+    let mut copies = List::from_vec(Vec::with_capacity(alloc, names.len())?);
+    for name in names {
+        copies.push(name.copy(alloc)?)?;
+    }
+    Ok(copies)
 }

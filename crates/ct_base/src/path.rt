@@ -1,7 +1,7 @@
 ghost use Rattle.std.specs.Prelude.{◌≡◌, IfOk, ◌==◌};
 ghost use Rattle.ct_base.specs.Path.{is_absolute, joined};
 
-use crate::{Blob, Name, NoMemory};
+use crate::{Name, NoMemory};
 use std::alloc::Global;
 
 /// Joins a folder and a name: the name alone if it begins with `/`, else both with `/` between them.
@@ -13,10 +13,10 @@ pub fn join_path(alloc: Global, dir: &Name, name: &Name) -> Result<Name, NoMemor
     if begins_at_root(name.bytes()) {
         return name.copy(alloc);
     }
-    let mut path = Blob::of(alloc, dir.bytes())?;
-    path.append(b"/")?;
-    path.append(name.bytes())?;
-    Name::of(alloc, path.bytes())
+    let mut path = Vec::from_slice(alloc, dir.bytes())?;
+    path.push(b'/')?;
+    path.extend_from_slice(name.bytes())?;
+    Ok(Name::from_vec(path))
 }
 
 fn begins_at_root(name: &[u8]) -> bool

@@ -29,7 +29,7 @@ pub fn micros(text: &[u8]) -> Option<u64>
     }
 }
 
-/// Tells whether a text has one digit or more, and nothing else.
+/// Returns whether a text has one digit or more, and nothing else.
 pub fn is_numeral(text: &[u8]) -> bool
     ensures { result ≡ is_digits text.now }
 {

@@ -10,14 +10,13 @@ use Rattle.ct_history.specs.declared.plan.PlanParts.{PlanParts}
 use Rattle.ct_history.specs.declared.history.Entry.{Entry}
 use Rattle.ct_history.specs.declared.history.Entry.TheVariants.{Start, End, Settle, Stop}
 use Rattle.ct_history.specs.Plan.{test_at}
-use Rattle.ct_history.specs.History.{Running, attempts_of, open_starts}
+use Rattle.ct_history.specs.History.{Running, attempts_of, open_starts, open_start_of_test}
 use Rattle.ct_history.specs.Verdicts.{verdict_at, verdict_of_test}
 use Rattle.ct_history.specs.Rules.{first_unpassed, follows_finals, is_ready}
 use Rattle.ct_history.specs.Legal.{is_allowed, is_allowed_so_far}
 use Rattle.ct_history.proofs.FinalLemmas.{verdict_stays, attempts-snoc}
 use Rattle.ct_history.proofs.OtherLemmas.{is_about, attempts_other}
 use Rattle.ct_history.proofs.OpenLemmas.{opens_settle}
-use Rattle.ct_core.specs.Standing.{open_start_of_test}
 use Rattle.ct_core.proofs.AllowedLemmas.{allowed_induction, end_holds, number_at, start_begins}
 use Rattle.ct_core.proofs.PredecessorLemmas.{all_stay, passed_stay}
 use Rattle.ct_core.proofs.StateLemmas.{open_other}

@@ -15,14 +15,14 @@ use Rattle.ct_verdict.specs.declared.verdict.Verdict.TheVariants.{Disabled}
 use Rattle.ct_history.specs.declared.plan.PlanTest.{PlanTest}
 use Rattle.ct_history.specs.declared.plan.PlanParts.{PlanParts}
 use Rattle.ct_history.specs.declared.history.Entry.{Entry}
-use Rattle.ct_history.specs.Plan.{AllAscend, IsAscendingFrom, IsSound, has_sound_links, is_before_rank, test_at}
+use Rattle.ct_history.specs.Plan.{AllAscend, IsAscendingFrom, IsPlaceOf, IsSound, has_sound_links, is_before_rank, test_at}
 use Rattle.ct_history.specs.History.{has_stop, is_open_in}
 use Rattle.ct_history.specs.Verdicts.{attempted_verdict, is_passed_verdict, settled_cause, settled_or, verdict_of_test}
 use Rattle.ct_history.specs.Rules.{cause_behind, first_unpassed, follows_finals, is_pending, is_ready, settle_cause}
 use Rattle.ct_history.proofs.ProgressLemmas.{all_found}
 use Rattle.ct_queue.specs.Ready.{ReadyValue, StandsIn, predecessors_left, is_out, place_of, with_out}
 use Rattle.ct_queue.proofs.CallerLemmas.{out_said}
-use Rattle.ct_core.specs.Standing.{IsPlaceOf, open_before}
+use Rattle.ct_core.specs.Standing.{open_before}
 use Rattle.ct_core.specs.Waiting.{AreSettleable, IsQueued, followers_of, is_one_of_numbers, is_pending_at, open_before_at, settles_but}
 use Rattle.ct_core.proofs.NumberLemmas.{listed}
 use Rattle.ct_core.proofs.PredecessorLemmas.{none_of_setups, not_all, one_if, one_less, same_all, same_first}

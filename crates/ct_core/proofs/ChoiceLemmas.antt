@@ -18,7 +18,7 @@ use Rattle.ct_verdict.specs.declared.verdict.Verdict.{Verdict}
 use Rattle.ct_history.specs.declared.plan.PlanTest.{PlanTest}
 use Rattle.ct_history.specs.declared.plan.PlanParts.{PlanParts}
 use Rattle.ct_history.specs.declared.history.Entry.{Entry}
-use Rattle.ct_history.specs.Plan.{IsSound, test_at}
+use Rattle.ct_history.specs.Plan.{IsPlaceOf, IsSound, test_at}
 use Rattle.ct_history.specs.History.{attempts_of, has_stop, open_starts, used_slots}
 use Rattle.ct_history.specs.Rules.{CanStart, has_room, is_idle, is_passed_verdict, is_pending, is_placed, is_ready, may_start, may_start_at, may_start_if_placed, settle_cause}
 use Rattle.ct_history.specs.Verdicts.{are_all_final, verdict_of_test}
@@ -32,9 +32,9 @@ use Rattle.ct_core.specs.declared.state.State.{State}
 use Rattle.ct_core.specs.declared.state.State.TheVariants.{Pending}
 use Rattle.ct_core.specs.Choice.{HasProgress, IsLeastToSettle, IsStartOf, IsStartable, IsStuck, NoneSettles, NoneStarts, SomeIsToPlace, SomeSettles, SomeStarts, TakesMemory, attempt_after, may_start_if_placed_at}
 use Rattle.ct_core.specs.InUse.{IsInUse, has_room_beside}
-use Rattle.ct_core.specs.Parts.{AreTold, IsKept}
+use Rattle.ct_core.specs.Parts.{AreCurrent, IsKept}
 use Rattle.ct_core.specs.Slots.{IsFreeBeside, given_resources, used_of}
-use Rattle.ct_core.specs.Standing.{IsPlaceOf, count_unfinished, state_of, states_of, verdict_of_state}
+use Rattle.ct_core.specs.Standing.{count_unfinished, state_of, states_of, verdict_of_state}
 use Rattle.ct_core.specs.Waiting.{IsDue, cause_then}
 use Rattle.ct_core.proofs.CallerLemmas.{done_settles_none, done_starts_none}
 use Rattle.ct_core.proofs.InUseLemmas.{room_beside}
@@ -137,7 +137,7 @@ attempt_fits plan t es may small =
 -- the count of tests that are not final is 0 exactly if all tests are final
 finished_kept : (plan : PlanParts) (es : List Entry) (room : ℕ) (parts : Parts) → IsKept plan es room parts → (parts.unfinished == 0) ≡ are_all_final plan es
 finished_kept plan es room parts kept =
-    ap (λ (n : ℕ). n == 0) (kept.unfinished ∙ ap (λ (ss : List State). count_unfinished ss) kept.told.states) ∙ all_finished plan es
+    ap (λ (n : ℕ). n == 0) (kept.unfinished ∙ ap (λ (ss : List State). count_unfinished ss) kept.current.states) ∙ all_finished plan es
 
 pub all_kept : (plan : PlanParts) (es : List Entry) (room : ℕ) (parts : Parts) → IsKept plan es room parts → parts.unfinished ≡ 0 → are_all_final plan es ≡ true
 all_kept plan es room parts kept none = sym (finished_kept plan es room parts kept) ∙ ap (λ (n : ℕ). n == 0) none
@@ -170,13 +170,13 @@ module _ (plan : PlanParts) (es : List Entry) (place : ℕ) (t : PlanTest) (sett
   marked_some given is none = none-some settles.cause (sym none ∙ marked_cause given is)
 
 -- the state that is read at a test's place is its state
-state_there : (plan : PlanParts) (es : List Entry) (parts : Parts) (n place : ℕ) (s : State) → AreTold plan es parts → IsPlaceOf plan.tests n place → s ≡ get_or parts.states.items place s → slice_get (states_of plan es) place ≡ Some s
+state_there : (plan : PlanParts) (es : List Entry) (parts : Parts) (n place : ℕ) (s : State) → AreCurrent plan es parts → IsPlaceOf plan.tests n place → s ≡ get_or parts.states.items place s → slice_get (states_of plan es) place ≡ Some s
 state_there plan es parts n place s told here is =
     let mapped : length (states_of plan es) ≡ length plan.tests = length-map plan.tests (state_of plan.repeat es) in
     slice_get_read (states_of plan es) (length plan.tests) place s (sym mapped) here.within (is ∙ ap (λ (ss : List State). get_or ss place s) told.states)
 
 -- a test has passed exactly if the state that is read at its place has passed
-pub passed_there : (plan : PlanParts) (es : List Entry) (parts : Parts) (n place : ℕ) (s : State) → AreTold plan es parts → IsPlaceOf plan.tests n place → s ≡ get_or parts.states.items place s → is_passed_verdict (verdict_of_state s) ≡ is_passed_verdict (verdict_of_test plan es n)
+pub passed_there : (plan : PlanParts) (es : List Entry) (parts : Parts) (n place : ℕ) (s : State) → AreCurrent plan es parts → IsPlaceOf plan.tests n place → s ≡ get_or parts.states.items place s → is_passed_verdict (verdict_of_state s) ≡ is_passed_verdict (verdict_of_test plan es n)
 passed_there plan es parts n place s told here is =
     let there = state_there plan es parts n place s told here is in
     ap (λ (v : Option Verdict). is_passed_verdict v)
@@ -197,7 +197,7 @@ pub record IsDueAt (plan : PlanParts) (es : List Entry) (parts : Parts) (number 
   pub found : test_at plan.tests number ≡ Some t
   pub room : may_start_if_placed plan t es ≡ has_room_beside plan.level parts.in_use t
 
-pub due_at : (plan : PlanParts) (es : List Entry) (parts : Parts) (n place : ℕ) (t : PlanTest) (tests : List PlanTest) → AreTold plan es parts → IsDue plan es n → tests ≡ plan.tests → IsPlaceOf tests n place → t ≡ get_or tests place t → IsDueAt plan es parts n t
+pub due_at : (plan : PlanParts) (es : List Entry) (parts : Parts) (n place : ℕ) (t : PlanTest) (tests : List PlanTest) → AreCurrent plan es parts → IsDue plan es n → tests ≡ plan.tests → IsPlaceOf tests n place → t ≡ get_or tests place t → IsDueAt plan es parts n t
 due_at plan es parts n place t tests told due same at is =
     let here : IsPlaceOf plan.tests n place = subst (λ (ts : List PlanTest). IsPlaceOf ts n place) same at in
     let there : slice_get plan.tests place ≡ Some t = slice_get_read plan.tests (length plan.tests) place t refl here.within (is ∙ ap (λ (ts : List PlanTest). get_or ts place t) same) in
@@ -208,7 +208,7 @@ due_at plan es parts n place t tests told due same at is =
     }
 
 -- the state at the place of a due test is pending, with the number of its ended attempts
-pub due_stands : (plan : PlanParts) (es : List Entry) (parts : Parts) (n place : ℕ) (s : State) → AreTold plan es parts → (due : IsDue plan es n) → IsPlaceOf plan.tests n place → s ≡ get_or parts.states.items place s → s ≡ Pending (length (attempts_of due.test.number due.test.rules es))
+pub due_stands : (plan : PlanParts) (es : List Entry) (parts : Parts) (n place : ℕ) (s : State) → AreCurrent plan es parts → (due : IsDue plan es n) → IsPlaceOf plan.tests n place → s ≡ get_or parts.states.items place s → s ≡ Pending (length (attempts_of due.test.number due.test.rules es))
 due_stands plan es parts n place s told due here read =
     same_Some s (Pending (length (attempts_of due.test.number due.test.rules es)))
     (sym (state_there plan es parts n place s told here read) ∙ pending_at plan es n place due.test here due.planned due.pending)

@@ -7,6 +7,7 @@ use Rattle.std.proofs.lemmas.Option.{slice_get-map}
 use Rattle.std.proofs.Math.Bool.{and-false, and-true, or-true}
 use Rattle.ct_verdict.specs.declared.verdict.Verdict.{Verdict}
 use Rattle.ct_verdict.specs.Verdict.{is_failing_verdict}
+use Rattle.ct_history.specs.Plan.{IsPlaceOf}
 use Rattle.ct_history.specs.declared.plan.PlanTest.{PlanTest}
 use Rattle.ct_history.specs.declared.plan.PlanParts.{PlanParts}
 use Rattle.ct_history.specs.declared.history.Entry.{Entry}
@@ -23,7 +24,7 @@ use Rattle.ct_core.specs.declared.parts.Parts.{Parts}
 use Rattle.ct_core.specs.Core.{with_due_stop}
 use Rattle.ct_core.specs.InUse.{IsInUse}
 use Rattle.ct_core.specs.Places.{stop_places}
-use Rattle.ct_core.specs.Standing.{IsPlaceOf, count_unfinished, state_of, states_of}
+use Rattle.ct_core.specs.Standing.{count_unfinished, state_of, states_of}
 use Rattle.ct_core.specs.Waiting.{followers_of, is_pending_at, settles_but}
 use Rattle.ct_core.specs.Parts.{AreQueued, IsConcluding, IsKept, IsLowered, IsStopped, followers_at, is_pending_in, is_pending_at_place}
 use Rattle.ct_core.proofs.StateLemmas.{pending_state}
@@ -80,7 +81,7 @@ module _ (plan : PlanParts) (es : List Entry) (room n : ℕ) (v : Verdict) (part
   kept_behind stop = record {
     legal = legal_from plan es c.allowed (not_due stop);
     reserved = c.reserved;
-    told = record { sound = c.told.sound; states = c.told.states; in_use = c.told.in_use; stopped = c.told.stopped; followers = c.told.followers };
+    current = record { sound = c.current.sound; states = c.current.states; in_use = c.current.in_use; stopped = c.current.stopped; followers = c.current.followers };
     unfinished = let u = c.unfinished in omega (arith, u);
     queued = record {
       ready = λ going. absurd (true≢false (sym stop ∙ going));
@@ -100,12 +101,12 @@ module _ (plan : PlanParts) (es : List Entry) (room n : ℕ) (v : Verdict) (part
   kept_lowered going none new low queued = record {
     legal = legal_from plan es c.allowed none;
     reserved = subst (λ (u : InUse). 0 < u.open_count → length es + u.open_count + stop_places es ≤ room) (sym low.in_use) c.reserved;
-    told = record {
-      sound = c.told.sound;
-      states = low.states ∙ c.told.states;
-      in_use = subst (λ (u : InUse). IsInUse plan (open_starts es) u) (sym low.in_use) c.told.in_use;
-      stopped = low.stopped ∙ c.told.stopped;
-      followers = low.followers ∙ c.told.followers;
+    current = record {
+      sound = c.current.sound;
+      states = low.states ∙ c.current.states;
+      in_use = subst (λ (u : InUse). IsInUse plan (open_starts es) u) (sym low.in_use) c.current.in_use;
+      stopped = low.stopped ∙ c.current.stopped;
+      followers = low.followers ∙ c.current.followers;
     };
     unfinished =
         let u = c.unfinished in
@@ -126,14 +127,14 @@ module _ (plan : PlanParts) (es : List Entry) (room n : ℕ) (v : Verdict) (part
         let same : new.in_use.open_count ≡ parts.in_use.open_count = ap (λ (u : InUse). u.open_count) halted.in_use in
         let held = c.reserved (omega (arith, some, same)) in
         omega (arith, longer, before, now, same, held, le);
-    told = record {
-      sound = c.told.sound;
-      states = halted.states ∙ c.told.states ∙ sym (states_stopped plan es);
+    current = record {
+      sound = c.current.sound;
+      states = halted.states ∙ c.current.states ∙ sym (states_stopped plan es);
       in_use =
           subst (λ (rs : List Running). IsInUse plan rs new.in_use) (sym (opens_stop es))
-          (subst (λ (u : InUse). IsInUse plan (open_starts es) u) (sym halted.in_use) c.told.in_use);
+          (subst (λ (u : InUse). IsInUse plan (open_starts es) u) (sym halted.in_use) c.current.in_use);
       stopped = halted.stopped ∙ sym (stop_added es);
-      followers = halted.followers ∙ c.told.followers;
+      followers = halted.followers ∙ c.current.followers;
     };
     unfinished =
         let u = c.unfinished in
@@ -150,14 +151,14 @@ module _ (plan : PlanParts) (es : List Entry) (room n : ℕ) (v : Verdict) (part
   }
     where
       count : length parts.states.items ≡ length plan.tests
-      count = ap length c.told.states ∙ length-map plan.tests (state_of plan.repeat es)
+      count = ap length c.current.states ∙ length-map plan.tests (state_of plan.repeat es)
 
       marked : (place : ℕ) → is_marked new.settleable place ≡ is_pending_at plan es (slice_get plan.tests place)
       marked place = elim (cases_Bool (nat_lt place (length parts.states.items))) [
         | inl within ↦
             halted.marked place
             ∙ ap (λ (b : Bool). if b then is_pending_at_place parts.states.items place else is_marked parts.settleable place) within
-            ∙ ap (λ (ss : List State). is_pending_at_place ss place) c.told.states
+            ∙ ap (λ (ss : List State). is_pending_at_place ss place) c.current.states
             ∙ pending_here plan es place
         | inr beyond ↦
             let le : length plan.tests ≤ place = omega (arith, count, ltb-false place (length parts.states.items) beyond) in

@@ -11,7 +11,7 @@ use Rattle.ct_history.specs.declared.plan.PlanTest.{PlanTest}
 use Rattle.ct_history.specs.declared.plan.PlanParts.{PlanParts}
 use Rattle.ct_history.specs.declared.history.Entry.{Entry}
 use Rattle.ct_history.specs.declared.history.Entry.TheVariants.{End, Stop}
-use Rattle.ct_history.specs.Plan.{test_at}
+use Rattle.ct_history.specs.Plan.{IsPlaceOf, test_at}
 use Rattle.ct_history.specs.History.{Running, attempts_of, has_stop, holds_start, open_starts, used_slots}
 use Rattle.ct_history.specs.Verdicts.{is_failing_in, verdict_of_test}
 use Rattle.ct_history.specs.Legal.{GetAlong, is_allowed_so_far, is_stop_due}
@@ -25,9 +25,9 @@ use Rattle.ct_core.specs.declared.parts.Parts.{Parts}
 use Rattle.ct_core.specs.Core.{with_due_stop}
 use Rattle.ct_core.specs.InUse.{CanGive, GivesBack, IsInUse}
 use Rattle.ct_core.specs.Places.{stop_places}
-use Rattle.ct_core.specs.Standing.{IsPlaceOf, count_unfinished, state_of, states_of, verdict_of_state}
+use Rattle.ct_core.specs.Standing.{count_unfinished, state_of, states_of, verdict_of_state}
 use Rattle.ct_core.specs.Waiting.{AreSettleable, IsQueued, followers_of}
-use Rattle.ct_core.specs.Parts.{AreTold, HasRoomToEnd, IsConcluding, IsKept}
+use Rattle.ct_core.specs.Parts.{AreCurrent, HasRoomToEnd, IsConcluding, IsKept}
 use Rattle.ct_core.proofs.KeyLemmas.{bunches_stay}
 use Rattle.ct_core.proofs.DueLemmas.{end_due}
 use Rattle.ct_core.proofs.KeptLemmas.{end_allowed, stop_stays}
@@ -81,12 +81,12 @@ module _ (plan : PlanParts) (es : List Entry) (room : ℕ) (parts : Parts) (kept
   placement = held.start.placement
 
   pub open_here : slice_get parts.states.items place ≡ Some (Open ended placement)
-  open_here = ap (λ (ss : List State). slice_get ss place) kept.told.states ∙ open_at plan es n place t at found so_far held.start held.opens
+  open_here = ap (λ (ss : List State). slice_get ss place) kept.current.states ∙ open_at plan es n place t at found so_far held.start held.opens
 
   pub can_give : CanGive t placement parts.in_use
   can_give =
       let placed = open_placed plan es n held.start t so_far held.opens found in
-      give_possible plan (open_starts es) n held.start t parts.in_use (used_slots placed.front) kept.told.in_use held.opens found placed.placed
+      give_possible plan (open_starts es) n held.start t parts.in_use (used_slots placed.front) kept.current.in_use held.opens found placed.placed
 
   -- the attempt is the one after the attempts that have ended
   pub next : a ≡ ended + 1
@@ -96,7 +96,7 @@ module _ (plan : PlanParts) (es : List Entry) (room : ℕ) (parts : Parts) (kept
 
   pub within_states : place < length parts.states.items
   within_states =
-      let long : length parts.states.items ≡ length plan.tests = ap length kept.told.states ∙ length-map plan.tests (state_of plan.repeat es) in
+      let long : length parts.states.items ≡ length plan.tests = ap length kept.current.states ∙ length-map plan.tests (state_of plan.repeat es) in
       let within = at.within in
       omega (arith, long, within)
 
@@ -110,34 +110,34 @@ module _ (plan : PlanParts) (es : List Entry) (room : ℕ) (parts : Parts) (kept
   stops = stop_stays es (End n a w s) refl
 
   going_on : parts.stopped ≡ false → has_stop es ≡ false
-  going_on runs = sym kept.told.stopped ∙ runs
+  going_on runs = sym kept.current.stopped ∙ runs
 
   pub stands_queued : parts.stopped ≡ false → StandsIn parts.ready.order n
-  stands_queued runs = subst (λ (o : List ℕ). StandsIn o n) (sym (kept.queued.ready (going_on runs)).order) (end_stands plan kept.told.sound es n t found a w s so_far holds)
+  stands_queued runs = subst (λ (o : List ℕ). StandsIn o n) (sym (kept.queued.ready (going_on runs)).order) (end_stands plan kept.current.sound es n t found a w s so_far holds)
 
   pub is_gone : parts.stopped ≡ false → is_out parts.ready n ≡ true
-  is_gone runs = end_out plan kept.told.sound es n t found a w s so_far holds parts.ready (kept.queued.ready (going_on runs))
+  is_gone runs = end_out plan kept.current.sound es n t found a w s so_far holds parts.ready (kept.queued.ready (going_on runs))
 
   -- what is in use agrees with the open starts once the test gave back what it used
   used : (new : InUse) → GivesBack t placement parts.in_use new → IsInUse plan (open_starts more) new
   used new gives =
       subst (λ (rs : List Running). IsInUse plan rs new) (sym (held.closes s))
-      (given plan (open_starts es) n held.start t parts.in_use new kept.told.in_use held.opens (open_apart plan es so_far) along found gives)
+      (given plan (open_starts es) n held.start t parts.in_use new kept.current.in_use held.opens (open_apart plan es so_far) along found gives)
     where
       along : AllPairs (GetAlong plan.tests) (open_starts es)
       along = subst (λ (xs : List Entry). AllPairs (GetAlong plan.tests) (open_starts xs)) (take_all (length es) es (omega arith)) (stays_within plan es so_far (length es)).apart
 
-  told : (state : State) → state_after plan.repeat (ended + 1) verdict ≡ state → (new : Parts) → IsClosed place t placement state parts new → AreTold plan more new
+  told : (state : State) → state_after plan.repeat (ended + 1) verdict ≡ state → (new : Parts) → IsClosed place t placement state parts new → AreCurrent plan more new
   told state is new closed = record {
-    sound = kept.told.sound;
+    sound = kept.current.sound;
     states =
         closed.states
-        ∙ ap (λ (ss : List State). slice_set ss place state) kept.told.states
+        ∙ ap (λ (ss : List State). slice_set ss place state) kept.current.states
         ∙ ap (λ (x : State). slice_set (states_of plan es) place x) (sym is)
-        ∙ sym (states_ended plan es n place t at found kept.told.sound so_far a w s holds);
+        ∙ sym (states_ended plan es n place t at found kept.current.sound so_far a w s holds);
     in_use = used new.in_use closed.in_use;
-    stopped = closed.stopped ∙ kept.told.stopped ∙ sym stops;
-    followers = closed.followers ∙ kept.told.followers;
+    stopped = closed.stopped ∙ kept.current.stopped ∙ sym stops;
+    followers = closed.followers ∙ kept.current.followers;
   }
 
   reserved : (new : Parts) → GivesBack t placement parts.in_use new.in_use → (room' : ℕ) → room ≤ room' → HasRoomToEnd more room' new
@@ -165,7 +165,7 @@ module _ (plan : PlanParts) (es : List Entry) (room : ℕ) (parts : Parts) (kept
 
     not_due : is_stop_due plan more ≡ false
     not_due =
-        end_due plan kept.told.sound es kept.legal n t found a w s holds
+        end_due plan kept.current.sound es kept.legal n t found a w s holds
         ∙ ap (λ (x : State). plan.stop_on_failure && is_failing_in (verdict_of_state x) && not (has_stop es)) state
         ∙ never plan.stop_on_failure (not (has_stop es))
       where
@@ -182,7 +182,7 @@ module _ (plan : PlanParts) (es : List Entry) (room : ℕ) (parts : Parts) (kept
     kept-again new closed ready marks room' le = record {
       legal = legal_from plan more allowed not_due;
       reserved = reserved new closed.in_use room' le;
-      told = told (Pending (ended + 1)) state new closed;
+      current = told (Pending (ended + 1)) state new closed;
       unfinished =
           let same = unfinished_same parts.states.items place (Open ended placement) (Pending (ended + 1)) open_here refl in
           let now : count_unfinished new.states.items ≡ count_unfinished (slice_set parts.states.items place (Pending (ended + 1))) = ap count_unfinished closed.states in
@@ -192,10 +192,10 @@ module _ (plan : PlanParts) (es : List Entry) (room : ℕ) (parts : Parts) (kept
       queued = record {
         ready = λ going.
             let on : has_stop es ≡ false = sym stops ∙ going in
-            subst (λ (r : ReadyValue). IsQueued plan more [] r) (sym (ready (kept.told.stopped ∙ on))) (again_queued plan kept.told.sound es n t found a w s so_far holds no_verdict parts.ready (kept.queued.ready on));
+            subst (λ (r : ReadyValue). IsQueued plan more [] r) (sym (ready (kept.current.stopped ∙ on))) (again_queued plan kept.current.sound es n t found a w s so_far holds no_verdict parts.ready (kept.queued.ready on));
         bunches = λ going.
             let on : has_stop es ≡ false = sym stops ∙ going in
-            bunches_stay plan parts new closed.keys (ap (λ (r : ReadyValue). r.bunches) (ready (kept.told.stopped ∙ on))) (kept.queued.bunches on);
+            bunches_stay plan parts new closed.keys (ap (λ (r : ReadyValue). r.bunches) (ready (kept.current.stopped ∙ on))) (kept.queued.bunches on);
         settleable = by_stop parts.stopped refl;
       };
     }
@@ -203,10 +203,10 @@ module _ (plan : PlanParts) (es : List Entry) (room : ℕ) (parts : Parts) (kept
         by_stop : (b : Bool) → parts.stopped ≡ b → AreSettleable plan more [] new.settleable
         by_stop true is =
             subst (λ (m : List Bool). AreSettleable plan more [] m) (sym (marks ∙ ap (λ (b : Bool). if b then slice_set parts.settleable place true else parts.settleable) is))
-            (again_stopped plan kept.told.sound es n t found a w s so_far holds no_verdict parts.settleable place (sym kept.told.stopped ∙ is) at kept.queued.settleable)
+            (again_stopped plan kept.current.sound es n t found a w s so_far holds no_verdict parts.settleable place (sym kept.current.stopped ∙ is) at kept.queued.settleable)
         by_stop false is =
             subst (λ (m : List Bool). AreSettleable plan more [] m) (sym (marks ∙ ap (λ (b : Bool). if b then slice_set parts.settleable place true else parts.settleable) is))
-            (again_settleable plan kept.told.sound es n t found a w s so_far holds no_verdict parts.settleable (sym kept.told.stopped ∙ is) kept.queued.settleable)
+            (again_settleable plan kept.current.sound es n t found a w s so_far holds no_verdict parts.settleable (sym kept.current.stopped ∙ is) kept.queued.settleable)
 
   -- the case that the test is final
   module _ (over : is_repeated plan.repeat (ended + 1) (Some verdict) ≡ false) where
@@ -221,7 +221,7 @@ module _ (plan : PlanParts) (es : List Entry) (room : ℕ) (parts : Parts) (kept
       allowed = allowed;
       final = final;
       due =
-          end_due plan kept.told.sound es kept.legal n t found a w s holds
+          end_due plan kept.current.sound es kept.legal n t found a w s holds
           ∙ ap (λ (x : State). plan.stop_on_failure && is_failing_in (verdict_of_state x) && not (has_stop es)) last
           ∙ ap (λ (b : Bool). plan.stop_on_failure && is_failing_verdict verdict && not b) (sym stops);
       reserved = reserved new closed.in_use room' le;
@@ -231,7 +231,7 @@ module _ (plan : PlanParts) (es : List Entry) (room : ℕ) (parts : Parts) (kept
           let held_room = kept.reserved one in
           let places : stop_places es ≡ 1 = ap (λ (b : Bool). if b then 0 else 1) (sym stops ∙ going) in
           omega (arith, longer, one, held_room, places, le);
-      told = told (Final verdict) last new closed;
+      current = told (Final verdict) last new closed;
       unfinished =
           let less = unfinished_less parts.states.items place (Open ended placement) (Final verdict) open_here refl refl in
           let now : count_unfinished new.states.items ≡ count_unfinished (slice_set parts.states.items place (Final verdict)) = ap count_unfinished closed.states in
@@ -241,9 +241,9 @@ module _ (plan : PlanParts) (es : List Entry) (room : ℕ) (parts : Parts) (kept
       waiting = λ going.
           let on : has_stop es ≡ false = sym stops ∙ going in
           record {
-            ready = λ _. subst (λ (r : ReadyValue). IsQueued plan more (followers_of plan.tests n) r) (sym ready) (over_queued plan kept.told.sound es n t found a w s so_far holds verdict final parts.ready (kept.queued.ready on));
+            ready = λ _. subst (λ (r : ReadyValue). IsQueued plan more (followers_of plan.tests n) r) (sym ready) (over_queued plan kept.current.sound es n t found a w s so_far holds verdict final parts.ready (kept.queued.ready on));
             bunches = λ _. bunches_stay plan parts new closed.keys (ap (λ (r : ReadyValue). r.bunches) ready) (kept.queued.bunches on);
-            settleable = subst (λ (m : List Bool). AreSettleable plan more (followers_of plan.tests n) m) (sym marks) (over_settleable plan kept.told.sound es n t found a w s so_far holds verdict final parts.settleable on kept.queued.settleable);
+            settleable = subst (λ (m : List Bool). AreSettleable plan more (followers_of plan.tests n) m) (sym marks) (over_settleable plan kept.current.sound es n t found a w s so_far holds verdict final parts.settleable on kept.queued.settleable);
           };
-      stopped = λ stop. subst (λ (m : List Bool). AreSettleable plan more [] m) (sym marks) (over_stopped plan kept.told.sound es n t found a w s so_far holds verdict final parts.settleable (sym stops ∙ stop) kept.queued.settleable);
+      stopped = λ stop. subst (λ (m : List Bool). AreSettleable plan more [] m) (sym marks) (over_stopped plan kept.current.sound es n t found a w s so_far holds verdict final parts.settleable (sym stops ∙ stop) kept.queued.settleable);
     }

@@ -107,7 +107,7 @@ pub begun : (plan : PlanParts) (parts : Parts) → IsSound plan → parts.states
 begun plan parts sound states unfinished in_use followers ready bunches settleable stopped = record {
   legal = legal-nil plan;
   reserved = λ some. absurd (omega (arith, some, in_use.opens));
-  told = record {
+  current = record {
     sound = sound;
     states = states ∙ first_states_of plan;
     in_use = in_use;

@@ -9,11 +9,17 @@ use Rattle.std.proofs.lemmas.List.Elements.{filter-append}
 use Rattle.std.proofs.lemmas.List.Folds.{list_any_more}
 use Rattle.std.proofs.lemmas.Option.{slice_get-get_or}
 use Rattle.ct_history.specs.declared.plan.PlanTest.{PlanTest}
-use Rattle.ct_history.specs.Plan.{AllAscend, IsAscendingFrom, test_at}
+use Rattle.ct_history.specs.Plan.{AllAscend, IsAscendingFrom, IsPlaceOf, test_at}
 use Rattle.ct_history.proofs.PlanLemmas.{find_passes}
-use Rattle.ct_history.proofs.PlaceLemmas.{numbers, number_at}
-use Rattle.ct_core.specs.Standing.{IsPlaceOf}
 use Rattle.ct_core.specs.Followers.{follows, followers_among, followers_of, is_one_of_numbers}
+
+-- the numbers of tests, in order
+abbrev pub numbers : List PlanTest → List ℕ
+numbers tests = map (λ (t : PlanTest). t.number) tests
+
+-- the number of the test at a place
+abbrev pub number_at : List PlanTest → ℕ → ℕ
+number_at tests place = get_or (numbers tests) place 0
 
 -- a list of this number if true, else the empty list
 abbrev pub one_if : Bool → ℕ → List ℕ

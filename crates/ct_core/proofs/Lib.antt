@@ -5,7 +5,6 @@ pub mod StateLemmas
 pub mod StandingLemmas
 pub mod VerdictLemmas
 pub mod DueLemmas
-pub mod PlaceLemmas
 pub mod NumberLemmas
 pub mod FollowerLemmas
 pub mod LockLemmas

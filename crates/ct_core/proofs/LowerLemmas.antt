@@ -12,7 +12,7 @@ use Rattle.ct_verdict.specs.declared.verdict.Verdict.{Verdict}
 use Rattle.ct_history.specs.declared.plan.PlanTest.{PlanTest}
 use Rattle.ct_history.specs.declared.plan.PlanParts.{PlanParts}
 use Rattle.ct_history.specs.declared.history.Entry.{Entry}
-use Rattle.ct_history.specs.Plan.{IsAscendingFrom, IsSound, test_at}
+use Rattle.ct_history.specs.Plan.{IsAscendingFrom, IsPlaceOf, IsSound, test_at}
 use Rattle.ct_history.specs.History.{has_stop}
 use Rattle.ct_history.specs.Verdicts.{verdict_of_test}
 use Rattle.ct_history.specs.Rules.{follows_finals, is_pending, settle_cause}
@@ -20,7 +20,7 @@ use Rattle.ct_history.proofs.BoolLemmas.{eq_same}
 use Rattle.ct_queue.specs.Ready.{ReadyValue, StandsIn, place_of, predecessors_left, is_out, is_in_ready_set, lowered}
 use Rattle.ct_queue.specs.Marks.{is_marked}
 use Rattle.ct_queue.proofs.CallerLemmas.{count_lowered, places_apart}
-use Rattle.ct_core.specs.Standing.{IsPlaceOf, open_before}
+use Rattle.ct_core.specs.Standing.{open_before}
 use Rattle.ct_core.specs.Waiting.{AreSettleable, IsQueued, cause_then, followers_of, is_one_of_numbers, is_pending_at, open_before_at, settles_but}
 use Rattle.ct_core.proofs.AllowedLemmas.{number_at}
 use Rattle.ct_core.proofs.EnabledLemmas.{enabled_stands}

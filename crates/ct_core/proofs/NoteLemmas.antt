@@ -8,14 +8,13 @@ use Rattle.ct_verdict.specs.declared.verdict.Cause.{Cause}
 use Rattle.ct_history.specs.declared.plan.PlanTest.{PlanTest}
 use Rattle.ct_history.specs.declared.plan.PlanParts.{PlanParts}
 use Rattle.ct_history.specs.declared.history.Entry.{Entry}
-use Rattle.ct_history.specs.Plan.{IsSound, test_at}
+use Rattle.ct_history.specs.Plan.{IsPlaceOf, IsSound, test_at}
 use Rattle.ct_history.specs.History.{has_stop}
 use Rattle.ct_queue.specs.Ready.{ReadyValue, StandsIn, predecessors_left, is_in_ready_set, lowered}
 use Rattle.ct_core.specs.declared.parts.Parts.{Parts}
-use Rattle.ct_core.specs.Standing.{IsPlaceOf}
 use Rattle.ct_core.specs.Waiting.{AreSettleable, IsQueued, cause_then, followers_of}
 use Rattle.ct_core.specs.Bunches.{AreBunchesOf}
-use Rattle.ct_core.specs.Parts.{AreQueued, AreTold, followers_at}
+use Rattle.ct_core.specs.Parts.{AreQueued, AreCurrent, followers_at}
 use Rattle.ct_core.proofs.KeyLemmas.{bunches_stay}
 use Rattle.ct_core.proofs.AllowedLemmas.{number_at}
 use Rattle.ct_core.proofs.EnabledLemmas.{IsEnabled, queued_enabled}
@@ -41,7 +40,7 @@ pub record WaitFor (plan : PlanParts) (parts : Parts) (place : ℕ) : Type 0 whe
   pub number : ℕ
   pub same : followers_at parts place ≡ followers_of plan.tests number
 
-pub waiting_for : (plan : PlanParts) (es : List Entry) (parts : Parts) (place : ℕ) → AreTold plan es parts → place < length plan.tests → WaitFor plan parts place
+pub waiting_for : (plan : PlanParts) (es : List Entry) (parts : Parts) (place : ℕ) → AreCurrent plan es parts → place < length plan.tests → WaitFor plan parts place
 waiting_for plan es parts place told there = elim ((slice_get_cases plan.tests place).1) [
   | inl some ↦
       let t = some.0 in
@@ -56,7 +55,7 @@ waiting_for plan es parts place told there = elim ((slice_get_cases plan.tests p
 ]
 
 -- the followers at a test's place are the tests that wait for its number
-pub followers_are : (plan : PlanParts) (es : List Entry) (parts : Parts) (n place : ℕ) → AreTold plan es parts → IsPlaceOf plan.tests n place → followers_at parts place ≡ followers_of plan.tests n
+pub followers_are : (plan : PlanParts) (es : List Entry) (parts : Parts) (n place : ℕ) → AreCurrent plan es parts → IsPlaceOf plan.tests n place → followers_at parts place ≡ followers_of plan.tests n
 followers_are plan es parts n place told at = elim ((slice_get_cases plan.tests place).1) [
   | inl some ↦
       let t = some.0 in
@@ -69,12 +68,12 @@ followers_are plan es parts n place told at = elim ((slice_get_cases plan.tests 
 ]
 
 -- the list that is read at a place is the list of the followers there
-pub read_waiting : (plan : PlanParts) (es : List Entry) (parts : Parts) (place : ℕ) → AreTold plan es parts → place < length plan.tests → (ws : List ℕ) → ws ≡ get_or parts.followers.items place ws → ws ≡ followers_at parts place
+pub read_waiting : (plan : PlanParts) (es : List Entry) (parts : Parts) (place : ℕ) → AreCurrent plan es parts → place < length plan.tests → (ws : List ℕ) → ws ≡ get_or parts.followers.items place ws → ws ≡ followers_at parts place
 read_waiting plan es parts place told there ws is =
     let long : length parts.followers.items ≡ length plan.tests = ap length told.followers ∙ length-map plan.tests (λ (t : PlanTest). followers_of plan.tests t.number) in
     is ∙ get_or_default parts.followers.items place ws [] (omega (arith, long, there))
 
-module _ (plan : PlanParts) (sound : IsSound plan) (es : List Entry) (going : has_stop es ≡ false) (parts : Parts) (told : AreTold plan es parts) (place at x : ℕ) (there : place < length plan.tests) (within : at < length (followers_at parts place)) (is : x ≡ get_or (followers_at parts place) at 0) (queued : AreQueued plan es (drop at (followers_at parts place)) parts) where
+module _ (plan : PlanParts) (sound : IsSound plan) (es : List Entry) (going : has_stop es ≡ false) (parts : Parts) (told : AreCurrent plan es parts) (place at x : ℕ) (there : place < length plan.tests) (within : at < length (followers_at parts place)) (is : x ≡ get_or (followers_at parts place) at 0) (queued : AreQueued plan es (drop at (followers_at parts place)) parts) where
   abbrev rest : List ℕ
   rest = drop (at + 1) (followers_at parts place)
 

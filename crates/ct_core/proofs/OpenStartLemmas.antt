@@ -19,7 +19,7 @@ use Rattle.ct_history.specs.declared.plan.PlanParts.{PlanParts}
 use Rattle.ct_history.specs.declared.history.Entry.{Entry}
 use Rattle.ct_history.specs.declared.history.Entry.TheVariants.{Start, End, Settle, Stop}
 use Rattle.ct_history.specs.Plan.{test_at}
-use Rattle.ct_history.specs.History.{Running, attempts_of, holds_start, is_open_in, open_starts, used_slots}
+use Rattle.ct_history.specs.History.{Running, attempts_of, holds_start, is_open_in, open_starts, used_slots, open_start_of_test}
 use Rattle.ct_history.specs.Verdicts.{is_over, last_of_list, settled_cause, settled_or, verdict_at, verdict_in, verdict_of_test}
 use Rattle.ct_history.specs.Rules.{is_placed}
 use Rattle.ct_history.specs.Legal.{is_allowed, is_allowed_so_far}
@@ -32,7 +32,6 @@ use Rattle.ct_history.proofs.ProgressLemmas.{found_contains}
 use Rattle.ct_history.proofs.FinalLemmas.{settled-snoc, attempts-snoc}
 use Rattle.ct_history.proofs.OtherLemmas.{is_about, settled_other, attempts_other}
 use Rattle.ct_history.proofs.LegalLemmas.{any_found}
-use Rattle.ct_core.specs.Standing.{open_start_of_test}
 pub use Rattle.ct_core.proofs.AllowedLemmas.{IsAboutOnly, IsUndecided, about_end, about_settle, about_start, allowed_induction, end_holds, number_at, settle_settles, start_begins, undecided}
 
 -- if no open start is of the test, then the open start at each position is of another test

@@ -8,7 +8,7 @@ use Rattle.ct_history.specs.declared.plan.PlanTest.{PlanTest}
 use Rattle.ct_history.specs.declared.plan.PlanParts.{PlanParts}
 use Rattle.ct_history.specs.declared.history.Entry.{Entry}
 use Rattle.ct_history.specs.declared.history.Entry.TheVariants.{Settle}
-use Rattle.ct_history.specs.Plan.{test_at}
+use Rattle.ct_history.specs.Plan.{IsPlaceOf, test_at}
 use Rattle.ct_history.specs.History.{Running, attempts_of, has_stop, open_starts}
 use Rattle.ct_history.specs.Rules.{is_pending, settle_cause, settle_cause_at, settle_cause_of_test}
 use Rattle.ct_history.proofs.LegalLemmas.{allowed-snoc, legal_allowed}
@@ -21,7 +21,7 @@ use Rattle.ct_core.specs.declared.in_use.InUse.{InUse}
 use Rattle.ct_core.specs.declared.parts.Parts.{Parts}
 use Rattle.ct_core.specs.InUse.{IsInUse}
 use Rattle.ct_core.specs.Places.{stop_places}
-use Rattle.ct_core.specs.Standing.{IsPlaceOf, count_unfinished}
+use Rattle.ct_core.specs.Standing.{count_unfinished}
 use Rattle.ct_core.specs.Waiting.{AreSettleable, IsQueued, followers_of}
 use Rattle.ct_core.specs.Parts.{IsConcluding, IsKept, IsSettled}
 use Rattle.ct_core.proofs.KeyLemmas.{bunches_stay}
@@ -55,15 +55,15 @@ module _ (plan : PlanParts) (es : List Entry) (room : ℕ) (parts : Parts) (kept
   pending = settled_pending plan one.test es c one.has
 
   going_on : parts.stopped ≡ false → has_stop es ≡ false
-  going_on runs = sym kept.told.stopped ∙ runs
+  going_on runs = sym kept.current.stopped ∙ runs
 
   -- while there is no Stop, the test stands in the queue, and is a member of the ready set
   pub stands_queued : parts.stopped ≡ false → StandsIn parts.ready.order n
   stands_queued runs =
-      subst (λ (o : List ℕ). StandsIn o n) (sym (kept.queued.ready (going_on runs)).order) (settle_stands plan kept.told.sound es n one.test one.found c one.has)
+      subst (λ (o : List ℕ). StandsIn o n) (sym (kept.queued.ready (going_on runs)).order) (settle_stands plan kept.current.sound es n one.test one.found c one.has)
 
   pub is_member : parts.stopped ≡ false → is_in_ready_set parts.ready n ≡ true
-  is_member runs = settle_member plan kept.told.sound es n one.test one.found c one.has parts.ready (going_on runs) (kept.queued.ready (going_on runs))
+  is_member runs = settle_member plan kept.current.sound es n one.test one.found c one.has parts.ready (going_on runs) (kept.queued.ready (going_on runs))
 
   stops : has_stop more ≡ has_stop es
   stops = stop_stays es (Settle n c) refl
@@ -73,7 +73,7 @@ module _ (plan : PlanParts) (es : List Entry) (room : ℕ) (parts : Parts) (kept
     allowed = allowed-snoc plan es (Settle n c) (legal_allowed plan es kept.legal) (settle_allowed plan es kept.legal n c may);
     final = verdict_settled plan es n one.test one.found c pending;
     due =
-        settle_due plan kept.told.sound es kept.legal n one.test one.found c pending
+        settle_due plan kept.current.sound es kept.legal n one.test one.found c pending
         ∙ ap (λ (b : Bool). plan.stop_on_failure && is_failing_cause c && not b) (sym stops);
     reserved = λ some.
         let longer : length more ≡ length es + 1 = length-append es (Settle n c ∷ []) in
@@ -81,21 +81,21 @@ module _ (plan : PlanParts) (es : List Entry) (room : ℕ) (parts : Parts) (kept
         let most : stop_places more ≤ 1 = one_place_most more in
         omega (arith, longer, same, most, le);
     stop_room = λ going. let longer : length more ≡ length es + 1 = length-append es (Settle n c ∷ []) in omega (arith, longer, le);
-    told = record {
-      sound = kept.told.sound;
+    current = record {
+      sound = kept.current.sound;
       states =
           set.states
-          ∙ ap (λ (ss : List State). slice_set ss place (Final (NotRun c))) kept.told.states
-          ∙ sym (states_settled plan es n place one.test at one.found kept.told.sound c pending);
+          ∙ ap (λ (ss : List State). slice_set ss place (Final (NotRun c))) kept.current.states
+          ∙ sym (states_settled plan es n place one.test at one.found kept.current.sound c pending);
       in_use =
           subst (λ (rs : List Running). IsInUse plan rs new.in_use) (sym (opens_settle es n c))
-          (subst (λ (u : InUse). IsInUse plan (open_starts es) u) (sym set.in_use) kept.told.in_use);
-      stopped = set.stopped ∙ kept.told.stopped ∙ sym stops;
-      followers = set.followers ∙ kept.told.followers;
+          (subst (λ (u : InUse). IsInUse plan (open_starts es) u) (sym set.in_use) kept.current.in_use);
+      stopped = set.stopped ∙ kept.current.stopped ∙ sym stops;
+      followers = set.followers ∙ kept.current.followers;
     };
     unfinished =
         let was : slice_get parts.states.items place ≡ Some (Pending (length (attempts_of one.test.number one.test.rules es))) =
-        ap (λ (ss : List State). slice_get ss place) kept.told.states ∙ pending_settles plan es n place one.test at one.found c one.has in
+        ap (λ (ss : List State). slice_get ss place) kept.current.states ∙ pending_settles plan es n place one.test at one.found c one.has in
         let less = unfinished_less parts.states.items place (Pending (length (attempts_of one.test.number one.test.rules es))) (Final (NotRun c)) was refl refl in
         let now : count_unfinished new.states.items ≡ count_unfinished (slice_set parts.states.items place (Final (NotRun c))) = ap count_unfinished set.states in
         let same = set.unfinished in
@@ -103,12 +103,12 @@ module _ (plan : PlanParts) (es : List Entry) (room : ℕ) (parts : Parts) (kept
         omega (arith, less, now, same, before);
     waiting = λ going.
         let on : has_stop es ≡ false = sym stops ∙ going in
-        let runs : parts.stopped ≡ false = kept.told.stopped ∙ on in
+        let runs : parts.stopped ≡ false = kept.current.stopped ∙ on in
         record {
-          ready = λ _. subst (λ (r : ReadyValue). IsQueued plan more (followers_of plan.tests n) r) (sym (set.ready runs)) (settle_queued plan kept.told.sound es n one.test one.found c one.has parts.ready (kept.queued.ready on));
+          ready = λ _. subst (λ (r : ReadyValue). IsQueued plan more (followers_of plan.tests n) r) (sym (set.ready runs)) (settle_queued plan kept.current.sound es n one.test one.found c one.has parts.ready (kept.queued.ready on));
           bunches = λ _. bunches_stay plan parts new set.keys (ap (λ (r : ReadyValue). r.bunches) (set.ready runs)) (kept.queued.bunches on);
-          settleable = subst (λ (m : List Bool). AreSettleable plan more (followers_of plan.tests n) m) (sym set.settleable) (settle_settleable plan kept.told.sound es n one.test one.found c one.has parts.settleable place on at kept.queued.settleable);
+          settleable = subst (λ (m : List Bool). AreSettleable plan more (followers_of plan.tests n) m) (sym set.settleable) (settle_settleable plan kept.current.sound es n one.test one.found c one.has parts.settleable place on at kept.queued.settleable);
         };
     stopped = λ stop.
-        subst (λ (m : List Bool). AreSettleable plan more [] m) (sym set.settleable) (settle_stopped plan kept.told.sound es n one.test one.found c one.has parts.settleable place (sym stops ∙ stop) at kept.queued.settleable);
+        subst (λ (m : List Bool). AreSettleable plan more [] m) (sym set.settleable) (settle_stopped plan kept.current.sound es n one.test one.found c one.has parts.settleable place (sym stops ∙ stop) at kept.queued.settleable);
   }

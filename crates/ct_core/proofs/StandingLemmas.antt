@@ -15,15 +15,15 @@ use Rattle.ct_history.specs.declared.plan.PlanTest.{PlanTest}
 use Rattle.ct_history.specs.declared.plan.PlanParts.{PlanParts}
 use Rattle.ct_history.specs.declared.history.Entry.{Entry}
 use Rattle.ct_history.specs.declared.history.Entry.TheVariants.{Start, End, Settle, Stop}
-use Rattle.ct_history.specs.Plan.{IsAscendingFrom, IsSound, test_at}
-use Rattle.ct_history.specs.History.{Running, attempts_of, holds_start}
+use Rattle.ct_history.specs.Plan.{IsAscendingFrom, IsPlaceOf, IsSound, test_at}
+use Rattle.ct_history.specs.History.{Running, attempts_of, holds_start, open_start_of_test}
 use Rattle.ct_history.specs.Verdicts.{are_all_final, is_final_in, verdict_at, verdict_in, verdict_of_test}
 use Rattle.ct_history.specs.Rules.{is_pending, may_start, settle_cause}
 use Rattle.ct_history.specs.Legal.{is_allowed_so_far}
 use Rattle.ct_history.proofs.MayLemmas.{may_start-parts, settled_pending}
 use Rattle.ct_core.specs.declared.state.State.{State}
 use Rattle.ct_core.specs.declared.state.State.TheVariants.{Pending, Open, Final}
-use Rattle.ct_core.specs.Standing.{IsPlaceOf, count_unfinished, open_start_of_test, state_of, states_of, verdict_of_state}
+use Rattle.ct_core.specs.Standing.{count_unfinished, state_of, states_of, verdict_of_state}
 use Rattle.ct_core.proofs.OpenStartLemmas.{IsAboutOnly, about_end, about_settle, about_start, number_at}
 pub use Rattle.ct_core.proofs.StateLemmas.{attempts_few, open_other, pending_other, pending_state, state_after, state_ended, state_first, state_open, state_other, state_pending, state_settled, state_started, verdict_ended, verdict_other, verdict_settled, verdict_standing, verdict_started, verdict_state}
 

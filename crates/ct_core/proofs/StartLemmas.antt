@@ -7,7 +7,7 @@ use Rattle.ct_history.specs.declared.plan.PlanTest.{PlanTest}
 use Rattle.ct_history.specs.declared.plan.PlanParts.{PlanParts}
 use Rattle.ct_history.specs.declared.history.Entry.{Entry}
 use Rattle.ct_history.specs.declared.history.Entry.TheVariants.{Start}
-use Rattle.ct_history.specs.Plan.{test_at}
+use Rattle.ct_history.specs.Plan.{IsPlaceOf, test_at}
 use Rattle.ct_history.specs.History.{Running, attempts_of, has_stop, is_busy_in, open_starts}
 use Rattle.ct_history.specs.Rules.{may_start, may_start_at}
 use Rattle.ct_history.proofs.LegalLemmas.{allowed-snoc, legal_allowed, legal_from, start_not_due}
@@ -20,7 +20,7 @@ use Rattle.ct_core.specs.declared.parts.Parts.{Parts}
 use Rattle.ct_core.specs.Choice.{IsStartable, attempt_after}
 use Rattle.ct_core.specs.InUse.{CanTake, IsInUse, Takes}
 use Rattle.ct_core.specs.Places.{stop_places}
-use Rattle.ct_core.specs.Standing.{IsPlaceOf, count_unfinished, state_of}
+use Rattle.ct_core.specs.Standing.{count_unfinished, state_of}
 use Rattle.ct_core.specs.Waiting.{AreSettleable, IsQueued}
 use Rattle.ct_core.specs.Parts.{IsKept}
 use Rattle.ct_core.proofs.KeyLemmas.{bunches_stay}
@@ -86,26 +86,26 @@ module _ (plan : PlanParts) (es : List Entry) (room : ℕ) (parts : Parts) (kept
 
   pub within_states : place < length parts.states.items
   within_states =
-      let long : length parts.states.items ≡ length plan.tests = ap length kept.told.states ∙ length-map plan.tests (state_of plan.repeat es) in
+      let long : length parts.states.items ≡ length plan.tests = ap length kept.current.states ∙ length-map plan.tests (state_of plan.repeat es) in
       let within = at.within in
       omega (arith, long, within)
 
   pub can_take : plan.level < 2 ^ 32 → parts.in_use.open_count + 1 < 2 ^ 64 → CanTake t p parts.in_use
   can_take level few =
-      let opens = kept.told.in_use.opens in
-      take_possible plan es n t p parts.in_use kept.told.in_use found may level (omega (arith, opens, few))
+      let opens = kept.current.in_use.opens in
+      take_possible plan es n t p parts.in_use kept.current.in_use found may level (omega (arith, opens, few))
 
   pub stands_queued : StandsIn parts.ready.order n
-  stands_queued = subst (λ (o : List ℕ). StandsIn o n) (sym (kept.queued.ready going).order) (start_stands plan kept.told.sound es n t found start.attempt w p may)
+  stands_queued = subst (λ (o : List ℕ). StandsIn o n) (sym (kept.queued.ready going).order) (start_stands plan kept.current.sound es n t found start.attempt w p may)
 
   pub is_member : is_in_ready_set parts.ready n ≡ true
-  is_member = start_member plan kept.told.sound es n t found start.attempt w p may parts.ready (kept.queued.ready going)
+  is_member = start_member plan kept.current.sound es n t found start.attempt w p may parts.ready (kept.queued.ready going)
 
   stops : has_stop more ≡ has_stop es
   stops = stop_stays es (Start n start.attempt w p) refl
 
   was : slice_get parts.states.items place ≡ Some (Pending ended)
-  was = ap (λ (ss : List State). slice_get ss place) kept.told.states ∙ pending_starts plan es n place t at found p may
+  was = ap (λ (ss : List State). slice_get ss place) kept.current.states ∙ pending_starts plan es n place t at found p may
 
   pub kept-started : (new : Parts) → IsBegun place n ended t p parts new → (room' : ℕ) → length es + (parts.in_use.open_count + 3) ≤ room' → IsKept plan more room' new
   kept-started new begun room' le = record {
@@ -118,17 +118,17 @@ module _ (plan : PlanParts) (es : List Entry) (room : ℕ) (parts : Parts) (kept
         let one_more = begun.in_use.opens in
         let most : stop_places more ≤ 1 = one_place_most more in
         omega (arith, longer, one_more, most, le);
-    told = record {
-      sound = kept.told.sound;
+    current = record {
+      sound = kept.current.sound;
       states =
           begun.states
-          ∙ ap (λ (ss : List State). slice_set ss place (Open ended p)) kept.told.states
-          ∙ sym (states_started plan es n place t at found kept.told.sound start.attempt w p may);
+          ∙ ap (λ (ss : List State). slice_set ss place (Open ended p)) kept.current.states
+          ∙ sym (states_started plan es n place t at found kept.current.sound start.attempt w p may);
       in_use =
           subst (λ (rs : List Running). IsInUse plan rs new.in_use) (sym (start_opens es n start.attempt w p))
-          (taken plan (open_starts es) (record { test = n; attempt = start.attempt; worker = w; placement = p }) t parts.in_use new.in_use kept.told.in_use found begun.in_use);
-      stopped = begun.stopped ∙ kept.told.stopped ∙ sym stops;
-      followers = begun.followers ∙ kept.told.followers;
+          (taken plan (open_starts es) (record { test = n; attempt = start.attempt; worker = w; placement = p }) t parts.in_use new.in_use kept.current.in_use found begun.in_use);
+      stopped = begun.stopped ∙ kept.current.stopped ∙ sym stops;
+      followers = begun.followers ∙ kept.current.followers;
     };
     unfinished =
         let equal = unfinished_same parts.states.items place (Pending ended) (Open ended p) was refl in
@@ -137,8 +137,8 @@ module _ (plan : PlanParts) (es : List Entry) (room : ℕ) (parts : Parts) (kept
         let before = kept.unfinished in
         omega (arith, equal, now, as_before, before);
     queued = record {
-      ready = λ _. subst (λ (r : ReadyValue). IsQueued plan more [] r) (sym begun.ready) (start_queued plan kept.told.sound es n t found start.attempt w p may parts.ready (kept.queued.ready going));
+      ready = λ _. subst (λ (r : ReadyValue). IsQueued plan more [] r) (sym begun.ready) (start_queued plan kept.current.sound es n t found start.attempt w p may parts.ready (kept.queued.ready going));
       bunches = λ _. bunches_stay plan parts new begun.keys (ap (λ (r : ReadyValue). r.bunches) begun.ready) (kept.queued.bunches going);
-      settleable = subst (λ (m : List Bool). AreSettleable plan more [] m) (sym begun.settleable) (start_settleable plan kept.told.sound es n t found start.attempt w p may parts.settleable kept.queued.settleable);
+      settleable = subst (λ (m : List Bool). AreSettleable plan more [] m) (sym begun.settleable) (start_settleable plan kept.current.sound es n t found start.attempt w p may parts.settleable kept.queued.settleable);
     };
   }

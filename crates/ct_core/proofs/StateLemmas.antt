@@ -17,7 +17,7 @@ use Rattle.ct_history.specs.declared.plan.PlanParts.{PlanParts}
 use Rattle.ct_history.specs.declared.history.Entry.{Entry}
 use Rattle.ct_history.specs.declared.history.Entry.TheVariants.{Start, End, Settle, Stop}
 use Rattle.ct_history.specs.Plan.{test_at}
-use Rattle.ct_history.specs.History.{Running, attempt_by, attempts_of, holds_start, open_starts, settled_by}
+use Rattle.ct_history.specs.History.{Running, attempt_by, attempts_of, holds_start, open_starts, settled_by, open_start_of_test}
 use Rattle.ct_history.specs.Verdicts.{first_of_list, is_final_in, is_over, last_of_list, settled_cause, settled_or, verdict_at, verdict_in, verdict_of_test}
 use Rattle.ct_history.specs.Rules.{is_pending}
 use Rattle.ct_history.proofs.BoolLemmas.{eq_one}
@@ -28,7 +28,7 @@ use Rattle.ct_history.proofs.OtherLemmas.{verdict_in_other, attempts_other, is_a
 use Rattle.ct_history.proofs.FinalLemmas.{attempts-snoc, settled-snoc}
 use Rattle.ct_core.specs.declared.state.State.{State}
 use Rattle.ct_core.specs.declared.state.State.TheVariants.{Pending, Open, Final}
-use Rattle.ct_core.specs.Standing.{is_pending_state, open_start_of_test, standing, state_of, verdict_of_state}
+use Rattle.ct_core.specs.Standing.{is_pending_state, standing, state_of, verdict_of_state}
 use Rattle.ct_core.proofs.OpenStartLemmas.{HasLeft, held_open, number_at, open_planned, start_opens, undecided}
 
 -- some element of a list passes exactly if one is found

@@ -15,8 +15,8 @@ use Rattle.ct_history.specs.declared.plan.PlanTest.{PlanTest}
 use Rattle.ct_history.specs.declared.plan.PlanParts.{PlanParts}
 use Rattle.ct_history.specs.declared.history.Entry.{Entry}
 use Rattle.ct_history.specs.declared.history.Entry.TheVariants.{Start, End, Settle, Stop}
-use Rattle.ct_history.specs.Plan.{IsSound, test_at}
-use Rattle.ct_history.specs.History.{Running, attempts_of, has_stop, holds_start, is_open_in, is_stop, open_starts}
+use Rattle.ct_history.specs.Plan.{IsPlaceOf, IsSound, test_at}
+use Rattle.ct_history.specs.History.{Running, attempts_of, has_stop, holds_start, is_open_in, is_stop, open_starts, open_start_of_test}
 use Rattle.ct_history.specs.Verdicts.{verdict_at, verdict_in, verdict_of_test}
 use Rattle.ct_history.specs.Rules.{first_unpassed, follows_finals, is_pending, is_ready, may_start, settle_cause}
 use Rattle.ct_history.specs.Legal.{is_allowed_so_far}
@@ -25,7 +25,7 @@ use Rattle.ct_history.proofs.MayLemmas.{may_start-parts, pending-parts, settled_
 use Rattle.ct_queue.specs.Ready.{ReadyValue, StandsIn, predecessors_left, is_out, place_of, with_out}
 use Rattle.ct_queue.specs.Ready as Queue
 use Rattle.ct_queue.specs.Marks.{is_marked}
-use Rattle.ct_core.specs.Standing.{IsPlaceOf, is_pending_state, open_start_of_test, standing}
+use Rattle.ct_core.specs.Standing.{is_pending_state, standing}
 use Rattle.ct_core.specs.Waiting.{AreSettleable, IsQueued, followers_of, is_one_of_numbers, is_pending_at, open_before_at, settles_but}
 use Rattle.ct_core.proofs.BegunLemmas.{open_is_ready}
 use Rattle.ct_core.proofs.ChangeLemmas.{ChangesOne, cause_of, cause_stopped, counts_final, counts_same, marks_set, marks_stay, no_cause, no_cause_ready, others_final, others_same, others_stopped, queue_set, queue_stays, ready_same}

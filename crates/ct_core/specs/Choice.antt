@@ -1,4 +1,4 @@
--- What a run does next, as its history tells. The order of the cases is this project's choice.
+-- What a run does next, by its history. The order of the cases is this project's choice.
 use Rattle.std.specs.Prelude.{◌≡◌, ◌⊎◌, ℕ, ◌+◌, ◌<◌, Bool, true, false, List, ◌∷◌, ◌++◌, length, All, Option, Some, None}
 use Rattle.ct_alloc.specs.declared.placement.Placement.{Placement}
 use Rattle.ct_verdict.specs.declared.verdict.Cause.{Cause}

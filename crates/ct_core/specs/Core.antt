@@ -13,7 +13,7 @@ use Rattle.ct_core.specs.declared.ticket.Ticket.{Ticket}
 use Rattle.ct_core.specs.declared.scheduler.Next.{Next}
 use Rattle.ct_core.specs.declared.scheduler.Next.TheVariants.{Start, Settled, Wait, Done, Aborted, NoMemory}
 use Rattle.ct_core.specs.Choice.{IsFirstToStart, IsLeastToSettle, IsStuck, NoneSettles, TakesMemory, attempt_after}
-use Rattle.ct_core.specs.Ticket.{start_of}
+use Rattle.ct_core.specs.Ticket.{start_of, test_of, attempt_of, worker_of, placement_of}
 use Rattle.ct_core.specs.CoreValue.{CoreValue}
 
 -- the entries, with a Stop behind them if one is due
@@ -33,9 +33,9 @@ with_final core entry = record core { entries = with_due_stop core.plan (core.en
 pub record StartsFirst (old : CoreValue) (worker : ℕ) (ticket : Ticket) (new : CoreValue) : Type 0 where
   pub goes_on : old.aborted ≡ false
   pub unsettled : NoneSettles old.plan old.entries
-  pub first : IsFirstToStart old.plan old.entries ticket.test ticket.placement
-  pub attempt : ticket.attempt ≡ attempt_after old.entries (test_at old.plan.tests ticket.test)
-  pub by : ticket.worker ≡ worker
+  pub first : IsFirstToStart old.plan old.entries (test_of ticket) (placement_of ticket)
+  pub attempt : attempt_of ticket ≡ attempt_after old.entries (test_at old.plan.tests (test_of ticket))
+  pub by : worker_of ticket ≡ worker
   pub appended : new ≡ with_entry old (start_of ticket)
 
 -- the run was not given up, and of the tests that may be

@@ -33,7 +33,7 @@ is_pending_at_place states place = is_pending_in (slice_get states place)
 
 -- the plan is sound. The states, what is in use and whether there is
 -- a Stop agree with the history. The followers agree with the plan.
-pub record AreTold (plan : PlanParts) (entries : List Entry) (parts : Parts) : Type 0 where
+pub record AreCurrent (plan : PlanParts) (entries : List Entry) (parts : Parts) : Type 0 where
   pub sound : IsSound plan
   pub states : parts.states.items ≡ states_of plan entries
   pub in_use : IsInUse plan (open_starts entries) parts.in_use
@@ -57,7 +57,7 @@ HasRoomToEnd entries room parts =
 pub record IsKept (plan : PlanParts) (entries : List Entry) (room : ℕ) (parts : Parts) : Type 0 where
   pub legal : is_legal plan entries ≡ true
   pub reserved : HasRoomToEnd entries room parts
-  pub told : AreTold plan entries parts
+  pub current : AreCurrent plan entries parts
   pub unfinished : parts.unfinished ≡ count_unfinished parts.states.items
   pub queued : AreQueued plan entries [] parts
 
@@ -72,7 +72,7 @@ pub record IsConcluding
       ≡ (plan.stop_on_failure && is_failing_verdict verdict && not (has_stop entries))
   pub reserved : HasRoomToEnd entries room parts
   pub stop_room : has_stop entries ≡ false → length entries < room
-  pub told : AreTold plan entries parts
+  pub current : AreCurrent plan entries parts
   pub unfinished : parts.unfinished ≡ count_unfinished parts.states.items + 1
   pub waiting : has_stop entries ≡ false → AreQueued plan entries (followers_of plan.tests number) parts
   pub stopped : has_stop entries ≡ true → AreSettleable plan entries [] parts.settleable

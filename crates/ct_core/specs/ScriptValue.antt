@@ -28,7 +28,10 @@ told_of_script gate = record {
 abbrev pub Records : ScriptValue → Request → ScriptValue → Type 0
 Records old request new =
     new
-    ≡ record old { asked = old.asked ++ asked_for request.test request.attempt ∷ []; sent = old.sent ++ request ∷ [] }
+    ≡ record old {
+      asked = old.asked ++ asked_for request.test request.attempt ∷ [];
+      sent = old.sent ++ request ∷ [];
+    }
 
 -- the count of faults rose by one if the attempt was not started, up to 2^64 - 1; nothing else changed
 abbrev pub CountsStart : ScriptValue → How → ScriptValue → Type 0
@@ -45,8 +48,8 @@ abbrev pub AreInOrder : List Told → Type 0
 AreInOrder world = IsNonDecreasingBy (λ (t : Told). rank t.test t.attempt) world
 
 -- each line in front of the place has a lower rank than the one sought, and no line from the place on has
-abbrev pub IsPlaceOf : ℕ → List Told → ℕ → Type 0
-IsPlaceOf sought world place =
+abbrev pub IsPlaceInScript : ℕ → List Told → ℕ → Type 0
+IsPlaceInScript sought world place =
     IsPartitionPoint (λ (t : Told).
     nat_lt (rank t.test t.attempt) sought
     ≡ true) (λ (t : Told). nat_lt (rank t.test t.attempt) sought ≡ false) world place

@@ -1,20 +1,15 @@
--- The states of the tests of a plan, as a history tells them. Source:
+-- The states of the tests of a plan, as a history shows them. Source:
 -- CMake manual, ctest(1), --repeat; the states are this project's own.
-use Rattle.std.specs.Prelude.{◌≡◌, ℕ, ◌<◌, Bool, true, false, List, length, map, filter, find, Option, Some, None, is_none, slice_get, ◌==◌}
+use Rattle.std.specs.Prelude.{ℕ, Bool, true, false, List, length, map, filter, Option, Some, None, is_none}
 use Rattle.ct_verdict.specs.declared.verdict.Verdict.{Verdict}
 use Rattle.ct_verdict.specs.declared.repeat.Repeat.{Repeat}
 use Rattle.ct_history.specs.declared.plan.PlanTest.{PlanTest}
 use Rattle.ct_history.specs.declared.plan.PlanParts.{PlanParts}
 use Rattle.ct_history.specs.declared.history.Entry.{Entry}
-use Rattle.ct_history.specs.Plan.{test_at}
-use Rattle.ct_history.specs.History.{Running, open_starts, attempts_of}
+use Rattle.ct_history.specs.History.{Running, attempts_of, open_start_of_test}
 use Rattle.ct_history.specs.Verdicts.{verdict_in, verdict_of_test}
 use Rattle.ct_core.specs.declared.state.State.{State}
 use Rattle.ct_core.specs.declared.state.State.TheVariants.{Pending, Open, Final}
-
--- the open start of a test, if there is one
-abbrev pub open_start_of_test : ℕ → List Entry → Option Running
-open_start_of_test test entries = find (λ (r : Running). r.test == test) (open_starts entries)
 
 -- the state by the verdict, the open start and the number of ended attempts:
 -- final if there is a verdict, else open if there is an open start, else pending
@@ -23,7 +18,7 @@ standing (Some v) running attempts = Final v
 standing None (Some r) attempts = Open attempts r.placement
 standing None None attempts = Pending attempts
 
--- the state of a test, as the history tells it
+-- the state of a test, as the history shows it
 abbrev pub state_of : Repeat → List Entry → PlanTest → State
 state_of repeat entries t =
     standing (verdict_in repeat t entries) (open_start_of_test t.number entries)
@@ -48,11 +43,6 @@ is_pending_state (Final v) = false
 -- how many of these states are not final
 abbrev pub count_unfinished : List State → ℕ
 count_unfinished states = length (filter (λ s. is_none (verdict_of_state s)) states)
-
--- the test with this number stands at this place, counted from 0
-pub record IsPlaceOf (tests : List PlanTest) (number place : ℕ) : Type 0 where
-  pub within : place < length tests
-  pub there : slice_get tests place ≡ test_at tests number
 
 -- how many of a test's predecessors are not final
 abbrev pub open_before : PlanParts → List Entry → PlanTest → ℕ

@@ -5,9 +5,8 @@ ghost use Rattle.ct_core.specs.Lines.{AreLinesOf, demand_at};
 ghost use Rattle.ct_history.specs.Plan.{IsAscendingFrom};
 
 use crate::lines::test_in;
-use crate::places::place_of;
 use ct_base::{List, Name, NoMemory};
-use ct_history::{PlanParts, PlanTest};
+use ct_history::{PlanParts, PlanTest, place_of};
 use indexmap::IndexMap;
 use std::alloc::Global;
 
@@ -148,7 +147,7 @@ fn lock_in(test: &PlanTest, at: KeyPlace) -> Option<&Name>
     }
 }
 
-/// Tells whether the key of the test at a place of the queue is a lock that the test holds alone.
+/// Returns whether the key of the test at a place of the queue is a lock that the test holds alone.
 pub(crate) fn is_alone_at(keys: &[Option<KeyPlace>], place: u32) -> bool
     ensures { result ≡ is_alone (slice_index_or keys.now place None) }
 {
@@ -252,7 +251,7 @@ fn unlocked_bunch(plan: &PlanParts, keys: &[Option<KeyPlace>], line: u32, place:
     }
 }
 
-/// Tells whether the tests at two places of the queue have the same key.
+/// Returns whether the tests at two places of the queue have the same key.
 fn have_one_key(plan: &PlanParts, keys: &[Option<KeyPlace>], one: u32, other: u32) -> bool
     requires { IsAscendingFrom 1 (map (λ t. t.number) plan.now.tests) }
     ensures there { IsTrue result → is_some (key_at plan.now keys.now one) ≡ true }

@@ -1,7 +1,7 @@
 ghost use Rattle.std.specs.Prelude.{◌≡◌, ◌↔◌, ◌<◌, find, length, not, slice_index, true, false, IfErr, IfOk, IsTrue, MatchOption, None, Some, if◌then◌else◌};
 ghost use Rattle.ct_core.specs.Bunches.{IsBefore, IsFirstOfBunch, IsNewBunchTo, NoNewBunchTo, NoneOfBunch, has_room_at, is_open_key, key_at, test_in_queue};
 ghost use Rattle.ct_core.specs.Choice.{IsChoice, IsLeastToSettle, IsStartOf, IsStartable, NoneSettles, NoneStarts, SomeIsToPlace, TakesMemory, attempt_after, may_start_if_placed_at};
-ghost use Rattle.ct_core.specs.Parts.{AreTold};
+ghost use Rattle.ct_core.specs.Parts.{AreCurrent};
 ghost use Rattle.ct_core.specs.Run.{IsKeptRun, history_of_run};
 ghost use Rattle.ct_core.specs.Waiting.{IsDue, cause_then};
 ghost use Rattle.ct_history.specs.History.{has_stop};
@@ -13,13 +13,12 @@ ghost use Rattle.ct_verdict.specs.declared.verdict.Cause.TheVariants.{Stopped};
 
 use crate::bunches::{is_alone_at, lock_at};
 use crate::lines::test_in;
-use crate::places::{expect_place, place_of};
 use crate::run::Run;
 use crate::slots::{Place, place_for};
 use crate::state::State;
 use ct_alloc::Placement;
 use ct_base::NoMemory;
-use ct_history::PlanTest;
+use ct_history::{PlanTest, expect_place, place_of};
 use ct_verdict::Cause;
 use std::alloc::Global;
 
@@ -31,7 +30,7 @@ pub(crate) struct Startable {
     pub(crate) placement: Option<Placement>,
 }
 
-/// What a run does next, as its history tells.
+/// What a run does next, by its history.
 pub(crate) enum Choice {
     /// Every test is final.
     Done,
@@ -85,7 +84,7 @@ impl Run {
 
     /// Returns the cause of a test that may be settled.
     fn cause(&self, test: &PlanTest) -> Option<Cause>
-        requires { AreTold self.now.plan (history_of_run self.now) self.now.parts }
+        requires { AreCurrent self.now.plan (history_of_run self.now) self.now.parts }
         ensures { result ≡ (if has_stop (history_of_run self.now) then Some Stopped else cause_then self.now.plan (history_of_run self.now) test.now) }
     {
         if self.parts.stopped {
@@ -97,7 +96,7 @@ impl Run {
 
     /// Returns the cause that a test is settled with once its predecessors are final, if there is one.
     pub(crate) fn cause_then(&self, test: &PlanTest) -> Option<Cause>
-        requires { AreTold self.now.plan (history_of_run self.now) self.now.parts }
+        requires { AreCurrent self.now.plan (history_of_run self.now) self.now.parts }
         ensures { result ≡ cause_then self.now.plan (history_of_run self.now) test.now }
     {
         match self.first_unpassed(test.setups.as_slice()) {
@@ -107,7 +106,7 @@ impl Run {
     }
 
     fn first_unpassed(&self, setups: &[u32]) -> Option<u32>
-        requires { AreTold self.now.plan (history_of_run self.now) self.now.parts }
+        requires { AreCurrent self.now.plan (history_of_run self.now) self.now.parts }
         ensures { result ≡ find (λ s. not (is_passed_verdict (verdict_of_test self.now.plan (history_of_run self.now) s))) setups.now }
     {
         for setup in setups {
@@ -119,7 +118,7 @@ impl Run {
     }
 
     fn has_passed(&self, number: u32) -> bool
-        requires { AreTold self.now.plan (history_of_run self.now) self.now.parts }
+        requires { AreCurrent self.now.plan (history_of_run self.now) self.now.parts }
         ensures { result ≡ is_passed_verdict (verdict_of_test self.now.plan (history_of_run self.now) number) }
     {
         match place_of(self.plan.parts().tests.as_slice(), number) {
@@ -257,7 +256,7 @@ impl Run {
         None
     }
 
-    /// Tells whether the bunch of the test at a place of the queue waits for a lock that is open to it.
+    /// Returns whether the bunch of the test at a place of the queue waits for a lock that is open to it.
     fn is_open(&self, place: u32) -> bool
         requires { IsKeptRun self.now }
         ensures { result ≡ is_open_key self.now.parts.in_use (key_at self.now.plan self.now.parts.keys.items place) }
@@ -269,7 +268,7 @@ impl Run {
         }
     }
 
-    /// Tells whether there is room for the test at a place of the queue beside what is in use.
+    /// Returns whether there is room for the test at a place of the queue beside what is in use.
     fn has_room(&self, place: u32) -> bool
         requires { place < length self.now.plan.queue }
         ensures { result ≡ has_room_at self.now.plan self.now.parts.in_use (test_in_queue self.now.plan place) }
@@ -282,7 +281,7 @@ impl Run {
     }
 }
 
-/// Tells whether a place stands in front of the end, if an end is given.
+/// Returns whether a place stands in front of the end, if an end is given.
 fn is_before(place: u32, end: Option<u32>) -> bool
     ensures { IsTrue result ↔ IsBefore end place }
 {

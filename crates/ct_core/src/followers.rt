@@ -2,9 +2,8 @@ ghost use Rattle.std.specs.Prelude.{◌≡◌, ◌+◌, ◌<◌, [], IfOk, OnOk,
 ghost use Rattle.ct_history.specs.Plan.{AllAscend, IsAscendingFrom};
 ghost use Rattle.ct_core.specs.Followers.{followers_among, followers_of};
 
-use crate::places::place_of;
 use ct_base::{List, NoMemory};
-use ct_history::PlanTest;
+use ct_history::{PlanTest, place_of};
 use std::alloc::Global;
 
 /// Lists for each test, by its place, the tests that wait for it.

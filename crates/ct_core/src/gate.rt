@@ -3,7 +3,7 @@ ghost use Rattle.ct_core.specs.Gate.{GateTell, RunsRequest, is_no_memory};
 ghost use Rattle.ct_core.specs.Ticket.{attempt_of, test_of};
 
 use crate::Ticket;
-use ct_base::{Blob, Ear, List, Name, NoMemory, Pair};
+use ct_base::{Blob, Ear, List, Name, NoMemory, Pair, copy_names};
 use ct_verdict::How;
 use std::alloc::Global;
 
@@ -47,19 +47,8 @@ impl Request {
     }
 }
 
-/// Copies names, in order.
-pub fn copy_names(alloc: Global, names: &[Name]) -> Result<List<Name>, NoMemory>
-    ensures { IfOk result (λ copies. copies ≡ names.now) }
-{
-    let mut copies = List::from_vec(Vec::with_capacity(alloc, names.len())?);
-    for name in names {
-        copies.push(name.copy(alloc)?)?;
-    }
-    Ok(copies)
-}
-
 /// Copies pairs, in order.
-pub fn copy_pairs(alloc: Global, pairs: &[Pair]) -> Result<List<Pair>, NoMemory>
+fn copy_pairs(alloc: Global, pairs: &[Pair]) -> Result<List<Pair>, NoMemory>
     ensures { IfOk result (λ copies. copies ≡ pairs.now) }
 {
     let mut copies = List::from_vec(Vec::with_capacity(alloc, pairs.len())?);
@@ -80,7 +69,7 @@ pub struct Ended {
     pub micros: u64,
 }
 
-/// Tells whether an attempt ended for want of memory.
+/// Returns whether an attempt ended for want of memory.
 pub fn lacks_memory(how: How) -> bool
     ensures { result ≡ is_no_memory how }
 {

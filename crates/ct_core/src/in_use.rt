@@ -63,14 +63,14 @@ fn all_free(alloc: Global, plan: &PlanParts) -> Result<Option<Free>, NoMemory>
 }
 
 impl InUse {
-    /// Tells whether there are processors for a test, and no open test excludes it.
+    /// Returns whether there are processors for a test, and no open test excludes it.
     pub(crate) fn has_room(&self, level: u32, test: &PlanTest) -> bool
         ensures { result ≡ has_room_beside level self.now test.now }
     {
         self.has_processors(level, test.processors) && !self.excludes(test)
     }
 
-    /// Tells whether no further test can start before an attempt
+    /// Returns whether no further test can start before an attempt
     /// ends: all processors are in use, or a serial test runs.
     pub(crate) fn is_full(&self, level: u32) -> bool
         ensures { result ≡ (nat_le level self.now.processors || self.now.serial) }
@@ -99,7 +99,7 @@ impl InUse {
         locks.iter().any(|lock| self.is_locked(lock))
     }
 
-    /// Tells whether this lock is closed to a test that is to hold it alone, or else to share it.
+    /// Returns whether this lock is closed to a test that is to hold it alone, or else to share it.
     pub(crate) fn is_closed(&self, alone: bool, lock: &Name) -> bool
         ensures { result ≡ is_closed self.now alone lock.now }
     {
@@ -110,7 +110,7 @@ impl InUse {
         }
     }
 
-    /// Tells whether an open test holds this lock alone or shares it.
+    /// Returns whether an open test holds this lock alone or shares it.
     fn is_locked(&self, lock: &Name) -> bool
         ensures { result ≡ is_locked self.now lock.now }
     {

@@ -15,7 +15,6 @@ mod in_use;
 mod lines;
 mod locks;
 mod parts;
-mod places;
 mod run;
 mod scheduler;
 mod script;
@@ -25,7 +24,7 @@ mod state;
 mod ticket;
 mod verdict;
 
-pub use gate::{Asked, Ended, Gate, Request, Told, copy_names, copy_pairs, lacks_memory};
+pub use gate::{Asked, Ended, Gate, Request, Told, lacks_memory};
 pub use scheduler::{Core, Next};
 pub use script::ScriptGate;
 pub use ticket::Ticket;

@@ -3,9 +3,8 @@ ghost use Rattle.std.specs.Option.{option_copied};
 ghost use Rattle.ct_core.specs.Lines.{AreLinesOf, AskAlike, demand_at, demand_of};
 ghost use Rattle.ct_history.specs.Plan.{IsAscendingFrom, test_at};
 
-use crate::places::place_of;
 use ct_base::{List, Name, Need, NoMemory};
-use ct_history::{PlanParts, PlanTest};
+use ct_history::{PlanParts, PlanTest, place_of};
 use indexmap::IndexMap;
 use std::alloc::Global;
 
@@ -66,7 +65,7 @@ fn line_of(
     Ok(place)
 }
 
-/// Tells whether the test at this place of the queue has the same demand.
+/// Returns whether the test at this place of the queue has the same demand.
 fn is_line_for(plan: &PlanParts, line: u32, test: &PlanTest) -> bool
     requires { IsAscendingFrom 1 (map (λ t. t.number) plan.now.tests) }
     ensures { IsTrue result → demand_at plan.now line ≡ Some (demand_of test.now) }
@@ -88,7 +87,7 @@ pub(crate) fn test_in(plan: &PlanParts, place: u32) -> Option<&PlanTest>
     Some(&tests[here])
 }
 
-/// Tells whether two tests have the same demand.
+/// Returns whether two tests have the same demand.
 fn asks_alike(one: &PlanTest, other: &PlanTest) -> bool
     ensures { IsTrue result ↔ AskAlike one.now other.now }
 {

@@ -31,14 +31,14 @@ pub(crate) fn none_held(alloc: Global, tests: &[PlanTest]) -> Result<Locks, NoMe
 }
 
 impl Locks {
-    /// Tells whether one of these locks is held.
+    /// Returns whether one of these locks is held.
     pub(crate) fn is_any_held(&self, names: &[Name]) -> bool
         ensures { result ≡ list_any (is_held self.now) names.now }
     {
         names.iter().any(|name| self.is_held(name))
     }
 
-    /// Tells whether this lock is held.
+    /// Returns whether this lock is held.
     pub(crate) fn is_held(&self, name: &Name) -> bool
         ensures { result ≡ is_held self.now name.now }
     {

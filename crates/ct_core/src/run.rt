@@ -1,9 +1,9 @@
 ghost use Rattle.std.specs.Prelude.{◌≡◌, ◌+◌, ◌<◌, ◌≤◌, ◌&&◌, ◌∷◌, ◌++◌, [], false, true, drop, length, vec_len, vec_capacity, OnErr, OnOk, Some};
+ghost use Rattle.ct_history.specs.Plan.{IsPlaceOf};
 ghost use Rattle.ct_core.specs.Choice.{IsStartable};
 ghost use Rattle.ct_core.specs.Core.{with_due_stop};
-ghost use Rattle.ct_core.specs.Parts.{AreQueued, AreTold, IsLowered, followers_at};
+ghost use Rattle.ct_core.specs.Parts.{AreQueued, AreCurrent, IsLowered, followers_at};
 ghost use Rattle.ct_core.specs.Run.{IsConcludingRun, IsKeptRun, history_of_run};
-ghost use Rattle.ct_core.specs.Standing.{IsPlaceOf};
 ghost use Rattle.ct_history.specs.History.{has_stop, holds_start, is_busy_in};
 ghost use Rattle.ct_history.specs.Rules.{settle_cause_of_test};
 ghost use Rattle.ct_history.specs.Verdicts.{verdict_of_test};
@@ -12,11 +12,10 @@ ghost use Rattle.ct_history.specs.declared.history.Entry.TheVariants.{Start, End
 
 use crate::choice::Startable;
 use crate::parts::Parts;
-use crate::places::expect_place;
-use crate::slots::copy_placement;
 use crate::state::State;
+use ct_alloc::copy_placement;
 use ct_base::NoMemory;
-use ct_history::{Entry, History, Plan, PlanParts};
+use ct_history::{Entry, History, Plan, PlanParts, expect_place};
 use ct_verdict::{Cause, Seen, Verdict, one};
 use std::mem;
 
@@ -40,7 +39,7 @@ impl Run {
         ensures unstarted { OnErr result (history_of_run self.new ≡ history_of_run self.old) }
     {
         let alloc = *self.history.entries.allocator();
-        let told = copy_placement(alloc, start.placement.as_ref())?;
+        let lent = copy_placement(alloc, start.placement.as_ref())?;
         let kept = copy_placement(alloc, start.placement.as_ref())?;
         self.history
             .entries
@@ -59,7 +58,7 @@ impl Run {
                 test: start.test,
                 attempt: start.attempt,
                 worker,
-                placement: told,
+                placement: lent,
             },
         );
         Ok(())
@@ -159,7 +158,7 @@ impl Run {
     fn lower_followers(&mut self, place: usize)
         requires there { place < length self.old.plan.tests }
         requires goes_on { has_stop (history_of_run self.old) ≡ false }
-        requires told { AreTold self.old.plan (history_of_run self.old) self.old.parts }
+        requires current { AreCurrent self.old.plan (history_of_run self.old) self.old.parts }
         requires queued { AreQueued self.old.plan (history_of_run self.old) (followers_at self.old.parts place) self.old.parts }
         ensures plan { self.new.plan ≡ self.old.plan }
         ensures history { self.new.history ≡ self.old.history }
@@ -176,7 +175,7 @@ impl Run {
         requires there { place < length self.old.plan.tests }
         requires within { at < length (followers_at self.old.parts place) }
         requires goes_on { has_stop (history_of_run self.old) ≡ false }
-        requires told { AreTold self.old.plan (history_of_run self.old) self.old.parts }
+        requires current { AreCurrent self.old.plan (history_of_run self.old) self.old.parts }
         requires queued { AreQueued self.old.plan (history_of_run self.old) (drop at (followers_at self.old.parts place)) self.old.parts }
         ensures plan { self.new.plan ≡ self.old.plan }
         ensures history { self.new.history ≡ self.old.history }
@@ -196,7 +195,7 @@ impl Run {
     }
 }
 
-/// Tells whether this verdict stops the run: the plan stops on failure, and the verdict is of the failing
+/// Returns whether this verdict stops the run: the plan stops on failure, and the verdict is of the failing
 /// class.
 fn stops_at(plan: &PlanParts, verdict: Verdict) -> bool
     ensures { result ≡ (plan.now.stop_on_failure && is_failing_verdict verdict) }

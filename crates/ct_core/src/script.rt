@@ -1,7 +1,7 @@
 ghost use Rattle.std.specs.Prelude.{◌≡◌, ◌<◌, ◌^◌, [], true, find, ◌==◌, ◌&&◌, OnOk, OnErr};
 ghost use Rattle.std.specs.Option.{option_copied};
 ghost use Rattle.ct_core.specs.Gate.{HasStartCause, told};
-ghost use Rattle.ct_core.specs.ScriptValue.{AreInOrder, IsPlaceOf, rank, told_of_script};
+ghost use Rattle.ct_core.specs.ScriptValue.{AreInOrder, IsPlaceInScript, rank, told_of_script};
 
 use crate::{Asked, Ended, Gate, Request, Ticket, Told, lacks_memory};
 use ct_base::{Ear, List, Name, NoMemory, Pair};
@@ -192,7 +192,7 @@ impl World {
     }
 }
 
-/// Tells whether the lines are in the order of test and attempt.
+/// Returns whether the lines are in the order of test and attempt.
 fn are_in_order(told: &[Told]) -> bool
     ensures { result ≡ true → AreInOrder told.now }
 {
@@ -224,7 +224,7 @@ fn find_in_order(told: &[Told], test: u32, attempt: u32) -> Option<&Told>
 /// If each test has one line, it stands at the place of the test's number.
 fn place_near(told: &[Told], near: usize, sought: u64) -> usize
     requires { AreInOrder told.now }
-    ensures { IsPlaceOf sought told.now result }
+    ensures { IsPlaceInScript sought told.now result }
 {
     if is_place(told, near, sought) {
         near
@@ -233,10 +233,10 @@ fn place_near(told: &[Told], near: usize, sought: u64) -> usize
     }
 }
 
-/// Tells whether a line at a place has the rank sought, and the line in front of it a lower one.
+/// Returns whether a line at a place has the rank sought, and the line in front of it a lower one.
 fn is_place(told: &[Told], at: usize, sought: u64) -> bool
     requires { AreInOrder told.now }
-    ensures { result ≡ true → IsPlaceOf sought told.now at }
+    ensures { result ≡ true → IsPlaceInScript sought told.now at }
 {
     match told.get(at) {
         Some(line) => rank(line) == sought && (at == 0 || rank(&told[at - 1]) < sought),
@@ -247,7 +247,7 @@ fn is_place(told: &[Told], at: usize, sought: u64) -> bool
 /// Finds the place where a rank belongs among the lines: each line in front of it has a lower rank.
 fn place_of(told: &[Told], sought: u64) -> usize
     requires { AreInOrder told.now }
-    ensures { IsPlaceOf sought told.now result }
+    ensures { IsPlaceInScript sought told.now result }
 {
     told.partition_point(|told| rank(told) < sought)
 }

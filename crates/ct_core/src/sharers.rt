@@ -14,7 +14,7 @@ pub(crate) struct Sharers {
     counts: IndexMap<Vec<u8>, SharerCount>,
 }
 
-/// How many open tests share a lock. The mark tells that the list which is counted has named the lock
+/// How many open tests share a lock. The mark says that the list which is counted has named the lock
 /// already, since a test counts once, however often it names a lock.
 #[derive(Clone, Copy)]
 struct SharerCount {
@@ -42,7 +42,7 @@ pub(crate) fn none_share(alloc: Global, tests: &[PlanTest]) -> Result<Sharers, N
 }
 
 impl Sharers {
-    /// Tells whether some open test shares this lock.
+    /// Returns whether some open test shares this lock.
     pub(crate) fn is_shared(&self, name: &Name) -> bool
         ensures { result ≡ is_shared self.now name.now }
     {

@@ -1,8 +1,8 @@
-ghost use Rattle.std.specs.Prelude.{◌≡◌, IfOk};
+ghost use Rattle.std.specs.Prelude.{IfOk};
 ghost use Rattle.std.specs.Option.{option_copied};
 ghost use Rattle.ct_core.specs.Slots.{IsPlaceFor};
 
-use ct_alloc::{Free, Pick, Placement};
+use ct_alloc::{Free, Placement};
 use ct_base::{List, Need, NoMemory};
 use std::alloc::Global;
 
@@ -33,35 +33,4 @@ pub(crate) fn place_for(
         Some(placement) => Ok(Place::Here(Some(placement))),
         None => Ok(Place::Nowhere),
     }
-}
-
-/// Copies a placement, if there is one.
-pub(crate) fn copy_placement(
-    alloc: Global,
-    placement: Option<&Placement>,
-) -> Result<Option<Placement>, NoMemory>
-    ensures { IfOk result (λ copy. copy ≡ option_copied placement.entry) }
-{
-    match placement {
-        Some(placement) => Ok(Some(Placement {
-            picks: copy_picks(alloc, placement.picks.as_slice())?,
-        })),
-        None => Ok(None),
-    }
-}
-
-fn copy_picks(alloc: Global, picks: &[Pick]) -> Result<List<Pick>, NoMemory>
-    ensures { IfOk result (λ copies. copies ≡ picks.now) }
-{
-    let mut copies = List::new(alloc);
-    for pick in picks {
-        copies.push(Pick {
-            group: pick.group,
-            kind: pick.kind.copy(alloc)?,
-            id: pick.id.copy(alloc)?,
-            slots: pick.slots,
-            resource: pick.resource,
-        })?;
-    }
-    Ok(copies)
 }

@@ -24,7 +24,10 @@ failed_last costs name = is_among name costs.failed
 -- the cost data in these lines: the costs up to the first line that is `---`, and behind it the failed tests
 abbrev pub costs_from : Version → List (List ℕ) → CostData
 costs_from version lines =
-    record { lines = fold with_new_line [] (filter_map (line_in version) (before_first is_divider lines)); failed = each_once (filter is_named (after_first is_divider lines)) }
+    record {
+      lines = fold with_new_line [] (filter_map (line_in version) (before_first is_divider lines));
+      failed = each_once (filter is_named (after_first is_divider lines));
+    }
 
 -- the cost data in the lines of a text, whose first line may say that they are of version 2
 abbrev pub costs_by : List (List ℕ) → CostData
@@ -39,7 +42,10 @@ costs_in text = costs_by (lines_in text)
 -- failed names are those of this run
 abbrev pub costs_after : PlanParts → List Entry → CostData → CostData
 costs_after plan entries costs =
-    record { lines = fold (after_test entries) costs.lines (passed_tests plan entries); failed = each_once (map (λ (t : PlanTest). t.name) (failed_tests plan entries)) }
+    record {
+      lines = fold (after_test entries) costs.lines (passed_tests plan entries);
+      failed = each_once (map (λ (t : PlanTest). t.name) (failed_tests plan entries));
+    }
 
 -- cost data as a text of version 2
 abbrev pub costs_text : CostData → List ℕ

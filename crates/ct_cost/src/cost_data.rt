@@ -13,7 +13,7 @@ use ct_base::{Blob, Name, NoMemory};
 use ct_history::{Endings, History, Plan, PlanTest, endings_of};
 use std::alloc::Global;
 
-/// What earlier runs tell: what the tests cost, and which of them failed last time.
+/// What is known of earlier runs: what the tests cost, and which of them failed last time.
 ///
 /// Names may hold spaces. A name has one line at most, and the lines keep their order.
 ///
@@ -49,7 +49,7 @@ impl CostData {
         self.lines.cost(name.bytes())
     }
 
-    /// Tells whether a test of this name failed last time.
+    /// Returns whether a test of this name failed last time.
     pub fn failed(&self, name: &Name) -> bool
         ensures { result ≡ failed_last self.now name.now }
     {

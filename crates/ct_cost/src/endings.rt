@@ -27,7 +27,7 @@ fn counted_micros(last: Option<Seen>) -> u64
     }
 }
 
-/// Tells whether a test that is final is of the failing class.
+/// Returns whether a test that is final is of the failing class.
 pub(crate) fn fails_by(test: &PlanTest, ending: Ending) -> bool
     ensures { result ≡ failed_for test.now ending }
 {

@@ -3,7 +3,6 @@
 use Rattle.std.specs.Prelude.{ℕ, List, Option, None, map}
 use Rattle.ct_base.specs.Outside.{FilesTell, SinkTell}
 use Rattle.ct_core.specs.Gate.{GateTell}
-use Rattle.ct_edge.specs.declared.process_gate.ProcessGate.{ProcessGate}
 
 -- what files tell after this many failed calls
 abbrev pub files_tell : ℕ → FilesTell
@@ -13,10 +12,15 @@ files_tell faults = record { held = None; refused = None; faults = faults }
 abbrev pub sink_tell : Option (List ℕ) → ℕ → SinkTell
 sink_tell written faults = record { written = written; pieces = None; faults = faults }
 
+-- a sink over a writer as its calls see it: the writer, and how many puts failed
+pub record RealSinkValue (W : Type 0) : Type 0 where
+  pub writer : W
+  pub faults : ℕ
+
 -- what a gate tells after this many failed starts and waits
 abbrev pub gate_tell : ℕ → GateTell
 gate_tell faults = record { world = None; asked = None; sent = None; faults = faults }
 
--- what each of these gates tells
-abbrev pub gates_tell : List ProcessGate → List GateTell
-gates_tell gates = map (λ gate. gate_tell gate.faults) gates
+-- what gates tell after these many failed starts and waits, one number for each
+abbrev pub gates_tell : List ℕ → List GateTell
+gates_tell gates = map gate_tell gates

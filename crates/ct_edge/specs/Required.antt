@@ -5,7 +5,7 @@ use Rattle.ct_base.specs.Outside.{Held}
 use Rattle.ct_base.specs.declared.files.FilesFault.{FilesFault}
 use Rattle.ct_base.specs.declared.files.FilesFault.TheVariants.{Failed, NoMemory}
 
--- what a look at a file tells: whether it is missing; if the look failed, the file is missing
+-- what a look at a file shows: whether it is missing; if the look failed, the file is missing
 abbrev pub IsMissing : Result Bool FilesFault → Bool → Type 0
 IsMissing (Ok there) missing = missing ≡ not there
 IsMissing (Err Failed) missing = missing ≡ true

@@ -11,7 +11,7 @@ use std::alloc::Global;
 use std::process::{Command, Stdio};
 use std::{fs, rt};
 
-/// Tells whether the program of a request is named without a `/`, and is a file of the folder in
+/// Returns whether the program of a request is named without a `/`, and is a file of the folder in
 /// which it starts.
 ///
 /// Source: this project's choice, as ctest does it for `add_test(name program)`.
@@ -32,14 +32,14 @@ pub(crate) fn is_beside<R: rt::Files>(
     Ok(is_file(rt, &path))
 }
 
-/// Tells whether a program is named without a `/`.
+/// Returns whether a program is named without a `/`.
 fn is_bare(program: &Name) -> bool
     ensures { result ≡ is_bare program.now }
 {
     !program.bytes().contains(&b'/')
 }
 
-/// Tells whether the path is a file. If the system tells nothing of the path, the answer is no.
+/// Returns whether the path is a file. If the system tells nothing of the path, the answer is no.
 fn is_file<R: rt::Files>(rt: &R, path: &Name) -> bool {
     match text_of(path) {
         Some(path) => fs::metadata(rt, path).is_ok_and(|found| found.is_file()),

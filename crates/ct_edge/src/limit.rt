@@ -2,21 +2,32 @@ ghost use Rattle.std.specs.Prelude.{◌≡◌, ◌/◌, ◌^◌, ◌-◌, ◌≤
 ghost use Rattle.std.specs.Duration.{as_nanos};
 
 use std::io;
+use std::marker::Model;
 use std::rt::Clock;
 use std::time::{Duration, Instant};
 
 /// How long a program may run, and when that time began.
-#[derive(Clone, Copy)]
+///
+/// Contracts see how long, and not when it began.
+#[derive(Drop)]
 pub struct Limit {
     began: Instant,
     /// In microseconds; `None` is no limit.
     micros: Option<u64>,
 }
 
+impl Model for Limit {
+    ghost use Rattle.std.specs.Prelude.{Option, ℕ};
+
+    ghost Value = { Option ℕ };
+
+    ghost view = { λ limit. limit.micros };
+}
+
 impl Limit {
     /// Makes the limit of a program that is about to start, in microseconds.
     pub fn from_now<R: Clock>(rt: &R, micros: Option<u64>) -> io::Result<Limit>
-        ensures { IfOk result (λ limit. limit.micros ≡ micros) }
+        ensures { IfOk result (λ limit. limit ≡ micros) }
     {
         Ok(Limit {
             began: Instant::now(rt)?,
@@ -24,9 +35,9 @@ impl Limit {
         })
     }
 
-    /// Tells whether there is a limit.
+    /// Returns whether there is a limit.
     pub fn is_set(&self) -> bool
-        ensures { result ≡ is_some self.now.micros }
+        ensures { result ≡ is_some self.now }
     {
         self.micros.is_some()
     }
@@ -34,8 +45,8 @@ impl Limit {
     /// Returns the microseconds left before the limit, at most `most`; 0 once the time is up.
     pub fn left<R: Clock>(&self, rt: &R, most: u64) -> io::Result<u64>
         ensures most { IfOk result (λ left. left ≤ most) }
-        ensures limit { IfOk result (λ left. IfSome self.now.micros (λ limit. left ≤ limit)) }
-        ensures none { self.now.micros ≡ None → result ≡ Ok most }
+        ensures limit { IfOk result (λ left. IfSome self.now (λ limit. left ≤ limit)) }
+        ensures none { self.now ≡ None → result ≡ Ok most }
     {
         let Some(limit) = self.micros else {
             return Ok(most);

@@ -41,7 +41,7 @@ pub fn read_both<C: Clock, O: Read + AsRawFd, P: Read + AsRawFd, E: Ear, K: Keep
     ensures moved { OnOk result (MovesTo (P.remaining errors.old) (K.holds kept.old) (P.remaining errors.new) (K.holds kept.new)) }
     ensures output { IfOk result (λ whole. whole ≡ true → IsAtEnd (O.remaining output.new)) }
     ensures errors { IfOk result (λ whole. whole ≡ true → IsAtEnd (P.remaining errors.new)) }
-    ensures unlimited { IfOk result (λ whole. whole ≡ false → IsSome limit.now.micros) }
+    ensures unlimited { IfOk result (λ whole. whole ≡ false → IsSome limit.now) }
 {
     let mut room = [0u8; PIECE];
     let mut more_output = true;
@@ -66,7 +66,7 @@ pub fn read_both<C: Clock, O: Read + AsRawFd, P: Read + AsRawFd, E: Ear, K: Keep
     Err(StartFault::Failed)
 }
 
-/// Hands what one read into this room returns to the ear, and tells whether more may come.
+/// Hands what one read into this room returns to the ear, and returns whether more may come.
 fn hear_piece<R: Read, E: Ear>(output: &mut R, ear: &mut E, room: &mut [u8]) -> io::Result<bool>
     requires room { 0 < length room.old }
     ensures moved { OnOk result (Hears (R.remaining output.old) (R.remaining output.new) (E.stands_for ear.old) (E.stands_for ear.new)) }
@@ -78,7 +78,7 @@ fn hear_piece<R: Read, E: Ear>(output: &mut R, ear: &mut E, room: &mut [u8]) -> 
     Ok(got > 0)
 }
 
-/// Keeps what one read into this room returns, and tells whether more may come.
+/// Keeps what one read into this room returns, and returns whether more may come.
 fn keep_piece<R: Read, K: Keep>(
     errors: &mut R,
     kept: &mut K,
@@ -93,7 +93,7 @@ fn keep_piece<R: Read, K: Keep>(
     Ok(got > 0)
 }
 
-/// Returns the descriptor that tells when an output can be read, while more may come of it.
+/// Returns the descriptor that shows when an output can be read, while more may come of it.
 fn awaited<R: AsRawFd>(output: &R, more: bool) -> pollfd {
     let fd = if more {
         output.as_raw_fd()
@@ -108,7 +108,7 @@ fn awaited<R: AsRawFd>(output: &R, more: bool) -> pollfd {
 }
 
 /// Waits at most this many microseconds until one of these
-/// can be read without waiting, and tells which of them can.
+/// can be read without waiting, and returns which of them can.
 ///
 /// It waits in whole milliseconds, rounded up. A signal ends the wait early.
 fn ready(mut awaited: [pollfd; 2], micros: u64) -> io::Result<[bool; 2]> {

@@ -17,6 +17,7 @@ use ct_base::Ear;
 use ct_core::{Ended, Gate, Request, Ticket};
 use ct_verdict::How;
 use std::alloc::Global;
+use std::marker::Model;
 use std::time::Instant;
 
 /// How many bytes of a program's standard error are kept in memory at most, unless its file fails.
@@ -32,24 +33,32 @@ pub struct ProcessGate {
     faults: u64,
 }
 
+impl Model for ProcessGate {
+    ghost use Rattle.std.specs.Prelude.{ℕ};
+
+    ghost Value = { ℕ };
+
+    ghost view = { λ gate. gate.faults };
+}
+
 impl ProcessGate {
     /// Makes the gate of which no start has failed.
     pub fn new(rt: HostRuntime) -> ProcessGate
-        ensures { result.faults ≡ 0 }
+        ensures { result ≡ 0 }
     {
         ProcessGate { rt, faults: 0 }
     }
 
     /// Returns how many starts and waits failed.
     pub fn faults(&self) -> u64
-        ensures { result ≡ self.now.faults }
+        ensures { result ≡ self.now }
     {
         self.faults
     }
 
     /// Runs the program, and measures the time that it took; 0 if the clock failed.
     pub fn attempt<E: Ear>(&mut self, alloc: Global, request: &Request, ear: &mut E) -> Ended
-        ensures cause { HasStartCause self.old.faults self.new.faults result.how }
+        ensures cause { HasStartCause self.old self.new result.how }
         ensures unlimited { result.how ≡ Ends.TimedOut → IsSome request.now.limit }
         ensures kept { E.kept ear.new ≡ E.kept ear.old }
     {
@@ -62,11 +71,11 @@ impl ProcessGate {
         }
     }
 
-    /// Counts a start or a wait that failed, and tells how the attempt ended.
+    /// Counts a start or a wait that failed, and returns how the attempt ended.
     fn count(&mut self, outcome: Result<How, StartFault>) -> How
         requires { IfOk outcome (λ how. is_not_started how ≡ false) }
         ensures how { result ≡ how_of_run outcome }
-        ensures cause { HasStartCause self.old.faults self.new.faults result }
+        ensures cause { HasStartCause self.old self.new result }
     {
         match outcome {
             Ok(how) => how,
@@ -80,7 +89,7 @@ impl ProcessGate {
 }
 
 impl Gate for ProcessGate {
-    ghost tells = { λ gate. gate_tell gate.faults };
+    ghost tells = { gate_tell };
 
     fn run<E: Ear>(
         &mut self,

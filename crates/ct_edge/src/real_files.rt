@@ -10,12 +10,13 @@ use crate::transfer::{read_up_to, write_whole};
 use ct_base::{Blob, Files, FilesFault, Name};
 use std::alloc::Global;
 use std::io::ErrorKind;
+use std::marker::Model;
 use std::{fs, io, rt};
 
 /// The files of the machine, each named by a path that is a text.
 ///
 /// A relative path begins at the working directory of the process.
-/// Contracts see neither what the files hold nor which call failed last.
+/// Contracts see only how many calls failed.
 #[derive(Drop)]
 pub struct RealFiles<R> {
     rt: R,
@@ -23,17 +24,25 @@ pub struct RealFiles<R> {
     faults: u64,
 }
 
+impl<R> Model for RealFiles<R> {
+    ghost use Rattle.std.specs.Prelude.{ℕ};
+
+    ghost Value = { ℕ };
+
+    ghost view = { λ files. files.faults };
+}
+
 impl<R> RealFiles<R> {
     /// Makes the files of which no call has failed.
     pub fn new(rt: R) -> RealFiles<R>
-        ensures { result.faults ≡ 0 }
+        ensures { result ≡ 0 }
     {
         RealFiles { rt, faults: 0 }
     }
 
     /// Returns how many calls failed.
     pub fn faults(&self) -> u64
-        ensures { result ≡ self.now.faults }
+        ensures { result ≡ self.now }
     {
         self.faults
     }
@@ -41,8 +50,8 @@ impl<R> RealFiles<R> {
     /// Counts a call that failed.
     fn count<T>(&mut self, outcome: Result<T, FilesFault>) -> Result<T, FilesFault>
         ensures same { result ≡ outcome }
-        ensures cause { HasCause FilesCause.Failed self.old.faults self.new.faults result }
-        ensures kept { OnOk result (self.new.faults ≡ self.old.faults) }
+        ensures cause { HasCause FilesCause.Failed self.old self.new result }
+        ensures kept { OnOk result (self.new ≡ self.old) }
     {
         if matches!(&outcome, Err(FilesFault::Failed)) {
             self.faults = self.faults.saturating_add(1);
@@ -52,7 +61,7 @@ impl<R> RealFiles<R> {
 }
 
 impl<R: rt::Files> Files for RealFiles<R> {
-    ghost tells = { λ files. files_tell files.faults };
+    ghost tells = { files_tell };
 
     fn read(&mut self, alloc: Global, path: &Name, most: u64) -> Result<Option<Blob>, FilesFault> {
         let got = read_file(&self.rt, alloc, path, most);
@@ -109,7 +118,7 @@ fn write_file<R: rt::Files>(
     replace(rt, alloc, path, bytes)
 }
 
-/// Tells whether there is something at the path that is no file of its own.
+/// Returns whether there is something at the path that is no file of its own.
 fn is_other<R: rt::Files>(rt: &R, path: &str) -> Result<bool, FilesFault> {
     let found = present(fs::symlink_metadata(rt, path))?;
     Ok(found.is_some_and(|what| !what.is_file()))

@@ -7,16 +7,24 @@ use crate::transfer::write_whole;
 use ct_base::{Sink, SinkFault};
 use std::io;
 use std::io::Write;
+use std::marker::Model;
 
 /// A writer as a sink, for example the standard output of the process.
 ///
-/// Contracts see the text that the writer tells, and how
-/// many puts failed. The standard output tells no text.
+/// Contracts see the writer, and how many puts failed. The standard output tells no text.
 #[derive(Drop)]
 pub struct RealSink<W> {
     writer: W,
     /// How many puts failed. The count stops at its last value.
     faults: u64,
+}
+
+impl<W> Model for RealSink<W> {
+    ghost use Rattle.ct_edge.specs.Machine.{RealSinkValue};
+
+    ghost Value = { RealSinkValue W };
+
+    ghost view = { λ sink. record { writer = sink.writer; faults = sink.faults } };
 }
 
 impl<W> RealSink<W> {

@@ -52,7 +52,7 @@ impl Spool {
         }
     }
 
-    /// Tells whether the file took the piece. It is made for the first one.
+    /// Returns whether the file took the piece. It is made for the first one.
     fn files(&mut self, piece: &[u8]) -> bool {
         if self.is_full {
             return false;

@@ -28,7 +28,7 @@ pub(crate) fn start(
     mut command: Command,
     micros: Option<u64>,
 ) -> Result<(Child, Limit), StartFault>
-    ensures { IfOk result (λ started. started.1.micros ≡ micros) }
+    ensures { IfOk result (λ started. started.1 ≡ micros) }
 {
     for _ in 0..MOST_TRIES {
         let limit = Limit::from_now(&rt, micros)?;
@@ -42,7 +42,7 @@ pub(crate) fn start(
     Err(StartFault::Failed)
 }
 
-/// Tells whether the system was short of descriptors or processes.
+/// Returns whether the system was short of descriptors or processes.
 fn is_shortage(fault: &io::Error) -> bool
     ensures { result ≡ is_shortage (raw_os_error fault.now) }
 {

@@ -25,7 +25,7 @@ pub fn read_up_to<R: Read>(alloc: Global, reader: &mut R, most: u64) -> Result<B
     Err(FilesFault::Failed)
 }
 
-/// Reads one piece, of at most one byte more than `most`, and tells whether there was one.
+/// Reads one piece, of at most one byte more than `most`, and returns whether there was one.
 pub fn read_piece<R: Read>(reader: &mut R, bytes: &mut Blob, most: u64) -> Result<bool, FilesFault>
     ensures moved { OnOk result (Moves (R.remaining reader.old) bytes.old (R.remaining reader.new) bytes.new) }
     ensures end { IfOk result (λ more. more ≡ false → IsAtEnd (R.remaining reader.new)) }

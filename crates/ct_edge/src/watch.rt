@@ -36,7 +36,7 @@ pub trait Started {
     /// Waits for the end of the program.
     fn end(&mut self) -> io::Result<ExitStatus>;
 
-    /// Tells how the program ended; `None` if it still runs.
+    /// Returns how the program ended; `None` if it still runs.
     fn look(&mut self) -> io::Result<Option<ExitStatus>>;
 }
 
@@ -82,7 +82,7 @@ impl Running<Child, ChildStdout, ChildStderr> {
 }
 
 /// Hands what a program writes to the ear, its standard output while
-/// it runs and then its standard error, and tells how it ended.
+/// it runs and then its standard error, and returns how it ended.
 ///
 /// It returns when the program has ended and no process holds its outputs any more. Else
 /// it returns at the limit: it stops the program, and reads its outputs no further. A program
@@ -104,7 +104,7 @@ pub fn attend<C: Clock, S: Started, O: Read + AsRawFd, P: Read + AsRawFd, E: Ear
     ensures errors { IfOk result (λ how. how ≢ Ends.TimedOut → IsAtEnd (P.remaining program.new.errors)) }
     ensures ran { IfOk result (λ how. has_run how ≡ true) }
     ensures started { IfOk result (λ how. is_not_started how ≡ false) }
-    ensures unlimited { IfOk result (λ how. how ≡ Ends.TimedOut → IsSome limit.now.micros) }
+    ensures unlimited { IfOk result (λ how. how ≡ Ends.TimedOut → IsSome limit.now) }
 {
     let ended = watch(clock, limit, program, ear, kept);
     if !matches!(ended, Ok(Some(_))) {
@@ -128,7 +128,7 @@ fn watch<C: Clock, S: Started, O: Read + AsRawFd, P: Read + AsRawFd, E: Ear, K: 
     ensures moved { OnOk result (MovesTo (P.remaining program.old.errors) (K.holds kept.old) (P.remaining program.new.errors) (K.holds kept.new)) }
     ensures output { IfOk result (λ ended. IfSome ended (λ _. IsAtEnd (O.remaining program.new.output))) }
     ensures errors { IfOk result (λ ended. IfSome ended (λ _. IsAtEnd (P.remaining program.new.errors))) }
-    ensures unlimited { IfOk result (λ ended. ended ≡ None → IsSome limit.now.micros) }
+    ensures unlimited { IfOk result (λ ended. ended ≡ None → IsSome limit.now) }
 {
     let Running {
         child,
@@ -147,7 +147,7 @@ fn end_of<C: Clock, S: Started>(
     limit: &Limit,
     child: &mut S,
 ) -> Result<Option<ExitStatus>, StartFault>
-    ensures unlimited { IfOk result (λ ended. ended ≡ None → IsSome limit.now.micros) }
+    ensures unlimited { IfOk result (λ ended. ended ≡ None → IsSome limit.now) }
 {
     if !limit.is_set() {
         return Ok(Some(child.end()?));

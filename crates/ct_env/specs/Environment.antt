@@ -14,6 +14,7 @@ use Rattle.ct_env.specs.Operation.{value_after}
 use Rattle.ct_env.specs.Assignment.{assignments_in}
 use Rattle.ct_env.specs.Modification.{Change, change_in}
 use Rattle.ct_env.specs.PlacementVariables.{group_count, given_variables}
+use Rattle.ct_groups.specs.GroupsIn.{count_groups}
 
 -- the value of a variable in the run's own environment: that of its last pair; the count of groups has none
 abbrev pub own_value : List Pair → List ℕ → Option (List ℕ)
@@ -41,10 +42,11 @@ modified_value own props name =
     after_entries name (base_value own props.environment name)
     (base_value own props.environment name) props.modification
 
--- the value of a variable in the environment: what a placement tells, else its value after the modification
+-- the value of a variable in the environment: what a placement gives it, else its value after the
+-- modification
 abbrev pub value_for : List Pair → Props → Option Placement → List ℕ → Option (List ℕ)
 value_for own props given name =
-    option_or (held_by (given_variables props.groups.count given) name) (modified_value own props name)
+    option_or (held_by (given_variables (count_groups props.groups) given) name) (modified_value own props name)
 
 -- the names ascend in byte order, so that each stands once
 abbrev pub IsAscending : List Pair → Type 0

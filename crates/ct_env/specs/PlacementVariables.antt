@@ -1,4 +1,4 @@
--- The variables that tell a test which resources it has. Source: CMake manual, ctest(1), Resource Allocation,
+-- The variables that show a test its resources. Source: CMake manual, ctest(1), Resource Allocation,
 -- Environment Variables. That a group without needs has a variable too is this project's choice.
 use Rattle.std.specs.Prelude.{ℕ, bytes_eq, ◌&&◌, ◌==◌, List, [], ◌∷◌, ◌++◌, map, filter, flat_map, Option, Some, None, codes, decimal}
 use Rattle.std.specs.List.{fold, join_by, range_with_len}
@@ -12,7 +12,7 @@ use Rattle.ct_base.specs.declared.defs.Pair.{Pair}
 use Rattle.ct_alloc.specs.declared.placement.Pick.{Pick}
 use Rattle.ct_alloc.specs.declared.placement.Placement.{Placement}
 
--- the name of the variable that tells how many groups there are
+-- the name of the variable with the number of groups
 abbrev pub group_count : List ℕ
 group_count = codes "CTEST_RESOURCE_GROUP_COUNT"
 
@@ -42,14 +42,14 @@ needs_in group picks kind =
 abbrev pub joined_with : ℕ → List (List ℕ) → List ℕ
 joined_with separator texts = join_by (λ text. text) (separator ∷ []) texts
 
--- the variable that tells which resources of a type a group has
+-- the variable with the resources of a type that a group has
 abbrev pub kind_variable : ℕ → List Pick → List ℕ → Pair
 kind_variable group picks kind = record {
   name = group_name group ++ codes "_" ++ map to_ascii_uppercase kind;
   value = joined_with semicolon (needs_in group picks kind);
 }
 
--- the variable that tells which types of resources a group has
+-- the variable with the types of resources that a group has
 abbrev pub group_variable : ℕ → List (List ℕ) → Pair
 group_variable group kinds = record { name = group_name group; value = joined_with comma kinds }
 

@@ -8,7 +8,7 @@ use ct_alloc::{Pick, Placement};
 use ct_base::{List, Name, NoMemory, Pair};
 use std::alloc::Global;
 
-/// Returns the variables that tell a test of its resources; without a placement, none.
+/// Returns the variables that show a test its resources; without a placement, none.
 pub fn given_variables(
     alloc: Global,
     groups: u32,
@@ -22,7 +22,7 @@ pub fn given_variables(
     }
 }
 
-/// Returns the variables that tell a test of the resources of its groups.
+/// Returns the variables that show a test the resources of its groups.
 ///
 /// Source: CMake manual, ctest(1), Resource Allocation, Environment Variables.
 fn placement_variables(alloc: Global, groups: u32, picks: &[Pick]) -> Result<List<Pair>, NoMemory>
@@ -53,7 +53,7 @@ fn push_group(
     Ok(())
 }
 
-/// Returns the variable that tells which types of resources a group has.
+/// Returns the variable with the types of resources that a group has.
 fn group_variable(alloc: Global, group: u32, kinds: &[Name]) -> Result<Pair, NoMemory>
     ensures { IfOk result (λ pair. pair ≡ variable_of_group group kinds.now) }
 {
@@ -79,7 +79,7 @@ fn push_kinds(
     Ok(())
 }
 
-/// Returns the variable that tells which resources of a type a group has.
+/// Returns the variable with the resources of a type that a group has.
 fn kind_variable(alloc: Global, group: u32, picks: &[Pick], kind: &Name) -> Result<Pair, NoMemory>
     ensures { IfOk result (λ pair. pair ≡ variable_of_kind group picks.now kind.now) }
 {

@@ -4,16 +4,18 @@ use Rattle.std.proofs.lemmas.Bool.{false≢true, eqb-true, eq-eqb, ne_eqb, le-le
 use Rattle.std.proofs.lemmas.List.Elements.{All-nil}
 use Rattle.std.proofs.lemmas.List.Folds.{list_any_at, list_any_more}
 use Rattle.std.proofs.lemmas.Slice.Eq.{bytes_eq-Decides}
-use Rattle.indexmap.specs.IndexMap.{IndexMap}
+use Rattle.indexmap.specs.IndexMap.{IndexMap, index_map_len}
 use Rattle.std.specs.declared.vec.Vec.{Vec}
 use Rattle.std.proofs.Math.Bool.{or-false, or_assoc, and-false}
+use Rattle.ct_regex.specs.declared.pattern.Regex.{Regex}
 use Rattle.ct_props.specs.declared.props.Props.{Props}
 use Rattle.ct_props.specs.declared.wanted.Choice.{Choice}
 use Rattle.ct_fixture.specs.declared.fixtures.Fixtures.{Fixtures}
 use Rattle.ct_fixture.specs.declared.members.Members.{Members}
 use Rattle.ct_props.specs.Numbered.{at_number, is_in}
-use Rattle.ct_fixture.specs.Drawing.{is_drawn, draws, required_by, keeps_cleanups, keeps_setups}
-use Rattle.ct_fixture.specs.Kept.{AddsTests, AreLeft, AreNamed, Draws, Extends, HaveMarks, IsLeft, given, is_drawn_in, names_fixture, fixture_tests}
+use Rattle.ct_fixture.specs.Drawing.{is_drawn, is_hit, draws, required_by, keeps_cleanups, keeps_setups}
+use Rattle.ct_fixture.specs.Kept.{AddsTests, AreLeft, AreNamed, Draws, HaveMarks, IsLeft, given, is_drawn_in, names_fixture, fixture_tests}
+use Rattle.ct_fixture.proofs.IndexLemmas.{none_there}
 use Rattle.ct_fixture.proofs.MemberLemmas.{adds_same, extends_on}
 use Rattle.ct_props.proofs.NumberedLemmas.{at_number_here, number_within}
 use Rattle.ct_base.specs.Names.{is_among}
@@ -67,6 +69,10 @@ low_within : (count number : ℕ) (named : Bool) → (named ≡ true → number 
 low_within count number true within = ap (λ low. low && true) (le-leb number count (within refl))
 low_within count number false within = and-false (leb number count)
 
+none_low : (number : ℕ) (named : Bool) → (named ≡ true → 1 ≤ number) → false ≡ (leb number 0 && named)
+none_low number true low = sym (ap (λ l. l && true) (lt-leb number 0 (omega (arith, low refl))))
+none_low number false low = sym (and-false (leb number 0))
+
 drawn_by_side : (there named member keeps : Bool) (tests : List ℕ) (number : ℕ) → is_in tests number ≡ there → (there ≡ true → named ≡ true) → (named ≡ true → keeps ≡ false → (there || member) ≡ true) → (member || is_in (given keeps tests) number) ≡ (member || (named && not keeps))
 drawn_by_side there named true keeps tests number is sound left = refl
 drawn_by_side there true false true tests number is sound left = refl
@@ -84,6 +90,12 @@ module _ {Y Z S : Type 0} where
   -- each fixture has those of the first tests that name it in this property
   abbrev pub AreNamedTo : ℕ → (Props → List (List ℕ)) → List Props → IndexMap (Vec ℕ Y) (Vec ℕ Z) S → Type 0
   AreNamedTo at property props tests = (fixture : List ℕ) (number : ℕ) → is_in (fixture_tests tests fixture) number ≡ (leb number at && names_fixture property fixture (at_number props number))
+
+  -- before a test is looked at, no fixture has a test
+  pub named_first : (property : Props → List (List ℕ)) (props : List Props) (tests : IndexMap (Vec ℕ Y) (Vec ℕ Z) S) → index_map_len tests ≡ 0 → AreNamedTo 0 property props tests
+  named_first property props tests none = λ fixture number.
+      ap (λ here. is_in here number) (none_there tests none fixture)
+      ∙ none_low number (names_fixture property fixture (at_number props number)) (λ named. (named_number property props fixture number named).0)
 
   -- with one more test that is not disabled
   pub named_more : (property : Props → List (List ℕ)) (props : List Props) (at number : ℕ) (own : Props) (fixtures : List (List ℕ)) (before now : IndexMap (Vec ℕ Y) (Vec ℕ Z) S) → at < length props → own ≡ get_or props at own → own.disabled ≡ false → number ≡ at + 1 → fixtures ≡ property own
@@ -121,12 +133,12 @@ module _ {Y Z S : Type 0} where
   }
 
   -- what is left stays left with more tests that are in
-  pub left_on : (property : Props → List (List ℕ)) (keeps : List ℕ → Bool) (props : List Props) (tests : IndexMap (Vec ℕ Y) (Vec ℕ Z) S) (before now : Members) → Extends before now → IsLeft property keeps props tests before → IsLeft property keeps props tests now
-  left_on property keeps props tests before now more is = record {
+  pub left_on : (property : Props → List (List ℕ)) (keeps : List ℕ → Bool) (props : List Props) (tests : IndexMap (Vec ℕ Y) (Vec ℕ Z) S) (before now : Members) → ((number : ℕ) → is_drawn_in before number ≡ true → is_drawn_in now number ≡ true) → IsLeft property keeps props tests before → IsLeft property keeps props tests now
+  left_on property keeps props tests before now stays is = record {
     named = is.named;
     left = λ fixture number named kept. elim (or_cases (is_in (fixture_tests tests fixture) number) (is_drawn_in before number) (is.left fixture number named kept)) [
       | inl there ↦ or_left (is_in (fixture_tests tests fixture) number) (is_drawn_in now number) there
-      | inr was ↦ or_right (is_in (fixture_tests tests fixture) number) (is_drawn_in now number) (more.kept number was)
+      | inr was ↦ or_right (is_in (fixture_tests tests fixture) number) (is_drawn_in now number) (stays number was)
     ];
   }
 
@@ -174,6 +186,40 @@ have_marks choice props fixtures members left = record {
   cleanups = left_marks (λ own. own.cleanup) (keeps_cleanups choice) props fixtures.cleanups members (length members.marks.items) left.long left.cleanups;
 }
 
+-- what is left is left for members with the same marks
+pub left_still : (choice : Choice) (props : List Props) (fixtures : Fixtures) (before now : Members) → now.marks ≡ before.marks → AreLeft choice props fixtures before → AreLeft choice props fixtures now
+left_still choice props fixtures before now same left =
+    let stays = λ (number : ℕ) (was : is_drawn_in before number ≡ true). ap (λ marks. get_or marks.items number false) same ∙ was in
+    record {
+      long = ap (λ marks. length marks.items) same ∙ left.long;
+      setups = left_on (λ own. own.setup) (keeps_setups choice) props fixtures.setups before now stays left.setups;
+      cleanups = left_on (λ own. own.cleanup) (keeps_cleanups choice) props fixtures.cleanups before now stays left.cleanups;
+    }
+
+all_taken : (P : ℕ → Type 0) (is : Bool) (tests : List ℕ) → All P tests → All P (cond is [] tests)
+all_taken P true tests all = All-nil P
+all_taken P false tests all = all
+
+-- where the tests of a fixture are taken out, those that are left still have marks
+pub marks_still : (fixture : List ℕ) (before now : Fixtures) (members more : Members)
+    → ((asked : List ℕ) → fixture_tests now.setups asked ≡ cond (bytes_eq asked fixture) [] (fixture_tests before.setups asked))
+    → ((asked : List ℕ) → fixture_tests now.cleanups asked ≡ cond (bytes_eq asked fixture) [] (fixture_tests before.cleanups asked))
+    → length more.marks.items ≡ length members.marks.items → HaveMarks before members → HaveMarks now more
+marks_still fixture before now members more setups_out cleanups_out long have =
+    let has_mark = λ (long : ℕ) (number : ℕ). number < long in
+    let each = λ (tests : List ℕ) (rest : List ℕ) (is : Bool) (out : rest ≡ cond is [] tests) (all : All (has_mark (length members.marks.items)) tests).
+    subst (λ count. All (has_mark count) rest) (sym long) (subst (All (has_mark (length members.marks.items))) (sym out) (all_taken (has_mark (length members.marks.items)) is tests all)) in
+    record {
+      setups = λ asked. each (fixture_tests before.setups asked) (fixture_tests now.setups asked) (bytes_eq asked fixture) (setups_out asked) (have.setups asked);
+      cleanups = λ asked. each (fixture_tests before.cleanups asked) (fixture_tests now.cleanups asked) (bytes_eq asked fixture) (cleanups_out asked) (have.cleanups asked);
+    }
+
+-- what equal patterns keep out
+pub given_same : (any side other_any other_side : Option Regex) (fixture tests : List ℕ) → any ≡ other_any → side ≡ other_side → given (is_hit any fixture || is_hit side fixture) tests ≡ given (is_hit other_any fixture || is_hit other_side fixture) tests
+given_same any side other_any other_side fixture tests same_any same_side =
+    ap (λ pattern. given (is_hit pattern fixture || is_hit side fixture) tests) same_any
+    ∙ ap (λ pattern. given (is_hit other_any fixture || is_hit pattern fixture) tests) same_side
+
 joined : (member disabled up kept clean kept_clean : Bool) → ((member || ((not disabled && up) && not kept)) || ((not disabled && clean) && not kept_clean)) ≡ (member || ((not disabled && ((up && not kept) || (clean && not kept_clean))) || false))
 joined true disabled up kept clean kept_clean = refl
 joined false true up kept clean kept_clean = refl
@@ -192,11 +238,11 @@ pub drawn_one : (choice : Choice) (props : List Props) (fixture : List ℕ) (bef
 drawn_one choice props fixture before now setups cleanups first second third left setups_out are_setups added_first cleanups_out are_cleanups added_second =
     let added = adds_same setups (given (keeps_setups choice fixture) (fixture_tests before.setups fixture)) first second are_setups added_first in
     let added_too = adds_same cleanups (given (keeps_cleanups choice fixture) (fixture_tests before.cleanups fixture)) second third are_cleanups added_second in
-    let cleanups_on = left_on (λ own. own.cleanup) (keeps_cleanups choice) props before.cleanups first second added.extends left.cleanups in
+    let cleanups_on = left_on (λ own. own.cleanup) (keeps_cleanups choice) props before.cleanups first second added.extends.kept left.cleanups in
     let setups_on = left_taken (λ own. own.setup) (keeps_setups choice) props before.setups now.setups fixture first second setups_out added left.setups in (
       record {
         long = added_too.extends.long ∙ added.extends.long ∙ left.long;
-        setups = left_on (λ own. own.setup) (keeps_setups choice) props now.setups second third added_too.extends setups_on;
+        setups = left_on (λ own. own.setup) (keeps_setups choice) props now.setups second third added_too.extends.kept setups_on;
         cleanups = left_taken (λ own. own.cleanup) (keeps_cleanups choice) props before.cleanups now.cleanups fixture second third cleanups_out added_too cleanups_on;
       },
       record {
@@ -208,6 +254,24 @@ drawn_one choice props fixture before now setups cleanups first second third lef
             ∙ both_sides choice fixture (is_drawn_in first number) (at_number props number);
       },
     )
+
+drawn_by_none : (choice : Choice) (own : Option Props) → is_drawn choice [] own ≡ false
+drawn_by_none choice None = refl
+drawn_by_none choice (Some own) = refl
+
+-- no fixture draws in nothing
+pub drawn_none : (choice : Choice) (props : List Props) (members : Members) → Draws choice props [] members members
+drawn_none choice props members = record {
+  extends = record {
+    long = refl;
+    kept = λ number was. was;
+    waits = λ number is_now was. absurd (false≢true (sym was ∙ is_now));
+    waits_still = λ number was. was;
+    waits_in = λ all number there. all number there;
+    count = refl;
+  };
+  is = λ number. sym (ap (λ drawn. is_drawn_in members number || drawn) (drawn_by_none choice (at_number props number)) ∙ or-false (is_drawn_in members number));
+}
 
 -- a test that is not disabled requires its fixtures
 pub requires_own : (own : Props) → own.disabled ≡ false → required_by (Some own) ≡ own.required

@@ -1,5 +1,5 @@
 -- Tests that are added to those that are in, and the list of all that are in.
-use Rattle.std.proofs.Common.{◌≡◌, ℕ, ◌+◌, ◌-◌, ◌<◌, ◌≤◌, Bool, true, false, cond, eqb, ◌||◌, List, [], ◌∷◌, ◌++◌, length, get_or, take, filter, inl, inr, sym, ap, ◌∙◌, subst, arith, append-nil}
+use Rattle.std.proofs.Common.{◌≡◌, ℕ, ◌+◌, ◌-◌, ◌<◌, ◌≤◌, Bool, true, false, cond, not, eqb, ◌||◌, List, [], ◌∷◌, ◌++◌, length, get_or, take, filter, count_by, inl, inr, sym, ap, ◌∙◌, subst, arith, append-nil, length-append}
 use Rattle.std.specs.List.{range_with_len}
 use Rattle.std.proofs.Math.Bool.{or-false, or_assoc}
 use Rattle.std.proofs.lemmas.Bool.{cases_Bool}
@@ -8,7 +8,7 @@ use Rattle.std.proofs.lemmas.List.Folds.{list_any-append, list_any_more}
 use Rattle.std.proofs.lemmas.List.FromFn.{filter_of_map_range_with_len_more}
 use Rattle.ct_fixture.specs.declared.members.Members.{Members}
 use Rattle.ct_props.specs.Numbered.{is_in}
-use Rattle.ct_fixture.specs.Kept.{AddsTests, Extends, is_drawn_in}
+use Rattle.ct_fixture.specs.Kept.{AddsTests, Extends, is_drawn_in, open_count}
 
 -- which tests wait, with one more test
 pub waits_more : (waiting : List ℕ) (number : ℕ) (test : ℕ) → is_in (waiting ++ number ∷ []) test ≡ (is_in waiting test || (eqb number test || false))
@@ -27,6 +27,13 @@ extends_on first second third one two = record {
   waits_in = λ all_in number waits. two.waits_in (λ n w. one.waits_in all_in n w) number waits;
   count = two.count ∙ one.count;
 }
+
+-- where a test that waited is taken, and tests are added, fewer marks are open and fewer tests wait
+pub fewer_open : (before taken now : Members) (number : ℕ) → taken.marks ≡ before.marks → before.waiting.items ≡ taken.waiting.items ++ number ∷ [] → Extends taken now → open_count now < open_count before
+fewer_open before taken now number marks waits more =
+    let unmarked : count_by not taken.marks.items ≡ count_by not before.marks.items = ap (λ ms. count_by not ms.items) marks in
+    let waiting : length before.waiting.items ≡ length taken.waiting.items + 1 = ap length waits ∙ length-append taken.waiting.items (number ∷ []) in
+    omega (arith, more.count, unmarked, waiting)
 
 -- tests of a list are added, with one more test
 pub adds_more : (tests : List ℕ) (at : ℕ) (first second third : Members) → at < length tests → AddsTests (take at tests) first second → AddsTests (get_or tests at 0 ∷ []) second third → AddsTests (take (at + 1) tests) first third

@@ -1,14 +1,16 @@
 -- What is kept while fixtures are looked at: the tests by the fixtures that they name, and the tests that are
 -- in. This project's own.
-use Rattle.std.specs.Prelude.{◌≡◌, ℕ, ◌+◌, Bool, true, false, not, ◌&&◌, ◌||◌, ◌<◌, bytes_eq, All, List, [], ◌∷◌, length, slice_index_or, count_by, Option, Some, None, if◌then◌else◌}
+use Rattle.std.specs.Prelude.{◌≡◌, ℕ, ◌+◌, Bool, true, false, not, ◌&&◌, ◌||◌, ◌<◌, bytes_eq, All, List, [], length, slice_index_or, count_by, Option, Some, None, if◌then◌else◌}
 use Rattle.std.specs.declared.vec.Vec.{Vec}
 use Rattle.indexmap.specs.IndexMap.{IndexMap, get_by}
 use Rattle.ct_props.specs.declared.props.Props.{Props}
 use Rattle.ct_props.specs.declared.wanted.Choice.{Choice}
 use Rattle.ct_fixture.specs.declared.fixtures.Fixtures.{Fixtures}
 use Rattle.ct_fixture.specs.declared.members.Members.{Members}
+use Rattle.ct_fixture.specs.declared.patterns.FixtureMatchers.{FixtureMatchers}
 use Rattle.ct_props.specs.Numbered.{at_number, is_in}
 use Rattle.ct_fixture.specs.Drawing.{is_drawn, keeps_setups, keeps_cleanups}
+use Rattle.ct_fixture.specs.Matching.{AreFixtureMatchersOf}
 use Rattle.ct_base.specs.Names.{is_among}
 
 -- the tests that a look-up found, or none
@@ -100,9 +102,12 @@ pub record HaveMarks (fixtures : Fixtures) (members : Members) : Type 0 where
   pub cleanups : (fixture : List ℕ)
       → All (λ number. number < length members.marks.items) (fixture_tests fixtures.cleanups fixture)
 
--- whatever the properties are: where the fixtures had left the tests that are not in, they still have, and
--- the tests that this fixture draws in are added
-abbrev pub TakesFixture : Choice → List ℕ → Fixtures → Members → Fixtures → Members → Type 0
-TakesFixture choice fixture before members now more =
-    (props : List Props) → AreLeft choice props before members
-    → AreLeft choice props now more × Draws choice props (fixture ∷ []) members more
+-- whatever the choice and the properties are: where the matchers were those of the choice, and the fixtures
+-- had left the tests that are not in, both still hold, and the tests that these fixtures draw in are added
+abbrev pub TakesFixtures : List (List ℕ)
+    → FixtureMatchers → Fixtures → Members → FixtureMatchers → Fixtures → Members → Type 0
+TakesFixtures names matchers before members later now more =
+    (choice : Choice) (props : List Props)
+    → AreFixtureMatchersOf choice matchers → AreLeft choice props before members
+    → AreFixtureMatchersOf choice later × AreLeft choice props now more
+    × Draws choice props names members more

@@ -1,14 +1,16 @@
-ghost use Rattle.std.specs.Prelude.{◌≡◌, ◌<◌, ◌≤◌, ◌-◌, ◌^◌, ◌||◌, ℕ, [], length, All, IfOk, OnOk, bytes_eq, ◌∷◌, if◌then◌else◌};
+ghost use Rattle.std.specs.Prelude.{◌≡◌, ◌<◌, ◌≤◌, ◌-◌, ◌^◌, ◌||◌, ℕ, [], length, All, IfOk, OnOk, bytes_eq, ◌∷◌, if◌then◌else◌, option_map};
+ghost use Rattle.ct_regex.specs.PatternOf.{pattern_of};
 ghost use Rattle.ct_props.specs.Numbered.{at_number};
 ghost use Rattle.ct_fixture.specs.Drawing.{is_hit as is_hit_by, members_of, required_by};
-ghost use Rattle.ct_fixture.specs.Kept.{AreLeft, AreUntaken, Draws, HaveMarks, TakesFixture, given, fixture_tests};
+ghost use Rattle.ct_fixture.specs.Kept.{AreUntaken, HaveMarks, TakesFixtures, given, fixture_tests};
 
 use crate::by_fixture::{ByFixture, take};
 use crate::fixtures::Fixtures;
 use crate::members::Members;
+use crate::patterns::{FixtureMatchers, is_kept_out};
 use ct_base::{List, Name, NoMemory};
 use ct_props::{Choice, Props};
-use ct_regex::Regex;
+use ct_regex::Matcher;
 use std::alloc::Global;
 
 /// Draws in the setups and the cleanups of the fixtures that tests require, and of the fixtures
@@ -48,9 +50,11 @@ fn draw_from(
 {
     let mut members = Members::none(alloc, props.len())?;
     members.add_all(chosen)?;
+    let mut matchers = FixtureMatchers::of(alloc, choice)?;
     while let Some(number) = members.next() {
-        draw_for(alloc, props, choice, fixtures, &mut members, number)?;
+        draw_for(alloc, props, &mut matchers, fixtures, &mut members, number)?;
     }
+    drop(matchers);
     members.into_list(alloc)
 }
 
@@ -58,23 +62,23 @@ fn draw_from(
 fn draw_for(
     alloc: Global,
     props: &[Props],
-    choice: &Choice,
+    matchers: &mut FixtureMatchers<'_>,
     fixtures: &mut Fixtures,
     members: &mut Members,
     number: u32,
 ) -> Result<(), NoMemory>
     requires low { 1 ≤ number }
     requires there { number ≤ length props.now }
-    requires left { AreLeft choice.now props.now fixtures.old members.old }
-    ensures left { OnOk result (AreLeft choice.now props.now fixtures.new members.new) }
-    ensures drawn { OnOk result (Draws choice.now props.now (required_by (at_number props.now number)) members.old members.new) }
+    requires marks { HaveMarks fixtures.old members.old }
+    ensures marks { OnOk result (HaveMarks fixtures.new members.new) }
+    ensures taken { OnOk result (TakesFixtures (required_by (at_number props.now number)) matchers.old fixtures.old members.old matchers.new fixtures.new members.new) }
 {
     let own = &props[number as usize - 1];
     if own.disabled {
         return Ok(());
     }
     for fixture in own.required.as_slice() {
-        draw(alloc, choice, fixtures, members, fixture)?;
+        draw(alloc, matchers, fixtures, members, fixture)?;
     }
     Ok(())
 }
@@ -82,61 +86,53 @@ fn draw_for(
 /// Adds the tests that a fixture draws in.
 fn draw(
     alloc: Global,
-    choice: &Choice,
+    matchers: &mut FixtureMatchers<'_>,
     fixtures: &mut Fixtures,
     members: &mut Members,
     fixture: &Name,
 ) -> Result<(), NoMemory>
-    requires { HaveMarks fixtures.old members.old }
-    ensures { OnOk result (TakesFixture choice.now fixture.now fixtures.old members.old fixtures.new members.new) }
+    requires marks { HaveMarks fixtures.old members.old }
+    ensures marks { OnOk result (HaveMarks fixtures.new members.new) }
+    ensures taken { OnOk result (TakesFixtures (fixture.now ∷ []) matchers.old fixtures.old members.old matchers.new fixtures.new members.new) }
 {
     let setups = take_unless(
         alloc,
         &mut fixtures.setups,
         fixture,
-        choice,
-        &choice.keep_setup,
-    )?;
+        &mut matchers.any,
+        &mut matchers.setup,
+    );
     members.add_all(&setups)?;
     let cleanups = take_unless(
         alloc,
         &mut fixtures.cleanups,
         fixture,
-        choice,
-        &choice.keep_cleanup,
-    )?;
-    members.add_all(&cleanups)?;
-    Ok(())
+        &mut matchers.any,
+        &mut matchers.cleanup,
+    );
+    members.add_all(&cleanups)
 }
 
-/// Removes the tests of a fixture, and returns them unless -FA or this pattern hits the fixture.
+/// Removes the tests of a fixture, and returns them unless one of these patterns hits the fixture.
 fn take_unless(
     alloc: Global,
     tests: &mut ByFixture,
     fixture: &Name,
-    choice: &Choice,
-    keep: &Option<Regex>,
-) -> Result<Vec<u32>, NoMemory>
-    ensures gives { IfOk result (λ taken. taken.items ≡ given (is_hit_by choice.now.keep_any fixture.now || is_hit_by keep.now fixture.now) (fixture_tests tests.old fixture.now)) }
+    any: &mut Option<Matcher<'_>>,
+    side: &mut Option<Matcher<'_>>,
+) -> Vec<u32>
+    ensures gives { result.items ≡ given (is_hit_by (option_map pattern_of any.old) fixture.now || is_hit_by (option_map pattern_of side.old) fixture.now) (fixture_tests tests.old fixture.now) }
     ensures leaves { (asked : List ℕ) → fixture_tests tests.new asked
         ≡ (if bytes_eq asked fixture.now then [] else fixture_tests tests.old asked) }
+    ensures any { option_map pattern_of any.new ≡ option_map pattern_of any.old }
+    ensures side { option_map pattern_of side.new ≡ option_map pattern_of side.old }
 {
     let taken = take(alloc, tests, fixture.bytes());
     if taken.is_empty() {
-        return Ok(taken);
+        return taken;
     }
-    if is_hit(alloc, &choice.keep_any, fixture)? || is_hit(alloc, keep, fixture)? {
-        return Ok(Vec::new(alloc));
+    if is_kept_out(any, side, fixture) {
+        return Vec::new(alloc);
     }
-    Ok(taken)
-}
-
-/// Tells whether a pattern hits a fixture. Without a pattern it returns `false`.
-fn is_hit(alloc: Global, pattern: &Option<Regex>, fixture: &Name) -> Result<bool, NoMemory>
-    ensures { IfOk result (λ hit. hit ≡ is_hit_by pattern.now fixture.now) }
-{
-    match pattern {
-        Some(pattern) => pattern.hit(alloc, fixture.bytes()),
-        None => Ok(false),
-    }
+    taken
 }

@@ -1,4 +1,5 @@
-ghost use Rattle.std.specs.Prelude.{◌≡◌, ◌<◌, ◌^◌, ◌-◌, length, IfOk};
+ghost use Rattle.std.specs.Prelude.{◌≡◌, ◌<◌, ◌^◌, ◌-◌, length, IfOk, OnOk};
+ghost use Rattle.indexmap.specs.IndexMap.{index_map_len};
 ghost use Rattle.ct_fixture.specs.Kept.{AreUntaken};
 
 use crate::by_fixture::{ByFixture, note_each};
@@ -20,16 +21,29 @@ impl Fixtures {
         requires { length props.now < 2 ^ 32 - 1 }
         ensures { IfOk result (λ fixtures. AreUntaken props.now fixtures) }
     {
-        let mut setups = IndexMap::new(alloc);
-        let mut cleanups = IndexMap::new(alloc);
+        let mut fixtures = Fixtures {
+            setups: IndexMap::new(alloc),
+            cleanups: IndexMap::new(alloc),
+        };
+        fixtures.note_all(alloc, props)?;
+        Ok(fixtures)
+    }
+
+    /// Notes each test that is not disabled, where none is noted yet.
+    fn note_all(&mut self, alloc: Global, props: &[Props]) -> Result<(), NoMemory>
+        requires few { length props.now < 2 ^ 32 - 1 }
+        requires setups { index_map_len self.old.setups ≡ 0 }
+        requires cleanups { index_map_len self.old.cleanups ≡ 0 }
+        ensures { OnOk result (AreUntaken props.now self.new) }
+    {
         let mut number: u32 = 0;
         for own in props {
             number += 1;
             if !own.disabled {
-                note_each(alloc, &mut setups, own.setup.as_slice(), number)?;
-                note_each(alloc, &mut cleanups, own.cleanup.as_slice(), number)?;
+                note_each(alloc, &mut self.setups, own.setup.as_slice(), number)?;
+                note_each(alloc, &mut self.cleanups, own.cleanup.as_slice(), number)?;
             }
         }
-        Ok(Fixtures { setups, cleanups })
+        Ok(())
     }
 }

@@ -9,5 +9,6 @@ mod by_fixture;
 mod drawing;
 mod fixtures;
 mod members;
+mod patterns;
 
 pub use drawing::draw_in;

@@ -1,5 +1,5 @@
 -- The order of the tests of a run, or why there is none. Source: CMake manual, cmake-properties(7), DEPENDS
--- and FIXTURES_REQUIRED. The limit, and which cycle is told, are this project's choice.
+-- and FIXTURES_REQUIRED. The limit, and which cycle is answered, are this project's choice.
 use Rattle.std.specs.Prelude.{◌≡◌, ℕ, ◌<◌, ◌≤◌, ⊤, Bool, true, false, List, length, map, find, sum_by, nat_lt, Option, Some, None, Result, Ok, Err, ◌==◌}
 use Rattle.std.specs.List.{list_all}
 use Rattle.ct_base.specs.declared.defs.TestDef.{TestDef}

@@ -36,4 +36,9 @@ EndsRows most index NoMemory = ⊤
 -- the links of a member
 abbrev pub links_of : (ℕ → List ℕ) → List (List ℕ) → List Mark → ℕ → Links
 links_of setups rows marks number =
-    record { number = number; before = row_of rows number; setups = setups number; rank = rank_of (mark_of marks number) }
+    record {
+      number = number;
+      before = row_of rows number;
+      setups = setups number;
+      rank = rank_of (mark_of marks number);
+    }

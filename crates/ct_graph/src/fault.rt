@@ -6,7 +6,7 @@ use ct_base::{List, NoMemory};
 #[derive(Debug, Drop)]
 pub enum GraphFault {
     /// The numbers of the tests of a cycle, each once: each has the next one before it, and the last has the
-    /// first before it. Which cycle is told is left open.
+    /// first before it. Which cycle is returned is left open.
     Cycle(List<u32>),
     /// More than `MOST_EDGES` tests come before the tests of the run, counted for each of them.
     TooManyEdges,

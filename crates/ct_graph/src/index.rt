@@ -178,7 +178,7 @@ impl<'a> Index<'a> {
     }
 }
 
-/// Tells whether some test cleans a fixture.
+/// Returns whether some test cleans a fixture.
 fn has_cleanup(props: &[Props]) -> bool
     ensures { result ≡ has_cleanup props.now }
 {

@@ -80,7 +80,7 @@ impl Graph {
     }
 }
 
-/// Tells whether so many more edges are too many.
+/// Returns whether so many more edges are too many.
 fn exceeds(edges: usize, more: usize, most: usize) -> bool
     requires { edges ≤ most }
     ensures { result ≡ nat_lt most (edges + more) }

@@ -1,15 +1,14 @@
 -- One description of resource groups: an optional count, then requirements, with commas between them.
 -- Source: CMake manual, cmake-properties(7), RESOURCE_GROUPS.
 -- The refusals and the limits are this project's choice.
-use Rattle.std.specs.Prelude.{ℕ, ◌+◌, Bool, false, ◌&&◌, ◌||◌, List, [], ◌∷◌, take, drop, nat_lt, Option, Some, None, Result, Ok, Err, ◌==◌, if◌then◌else◌}
-use Rattle.std.specs.List.{list_all, position, slice_split}
-use Rattle.std.specs.Int.{is_in_range}
-use Rattle.std.specs.Char.{is_ascii_digit}
+use Rattle.std.specs.Prelude.{ℕ, ◌+◌, List, [], ◌∷◌, take, drop, nat_lt, Option, Some, None, Result, Ok, Err, ◌==◌, if◌then◌else◌}
+use Rattle.std.specs.List.{position, slice_split}
 use Rattle.ct_base.specs.Seconds.{is_numeral, number_in}
 use Rattle.ct_groups.specs.declared.fault.GroupsFault.{GroupsFault}
 use Rattle.ct_groups.specs.declared.fault.GroupsFault.TheVariants.{NoColon, BadType, BadCount, ZeroSlots, TooMany}
 use Rattle.ct_groups.specs.declared.description.Requirement.{Requirement}
 use Rattle.ct_groups.specs.declared.description.Description.{Description}
+use Rattle.ct_base.specs.TypeNames.{is_type_name}
 
 -- continues with what was read, or returns its fault
 abbrev pub reads_on : {X Y : Type 0}
@@ -25,23 +24,6 @@ comma = 44
 abbrev pub colon : ℕ
 colon = 58
 
--- the byte `_`
-abbrev pub underscore : ℕ
-underscore = 95
-
--- a byte that a type begins with: `a` to `z` or `_`
-abbrev pub begins_kind : ℕ → Bool
-begins_kind byte = is_in_range 97 122 byte || byte == underscore
-
--- a byte that a type goes on with: `a` to `z`, `_` or a digit
-abbrev pub continues_kind : ℕ → Bool
-continues_kind byte = begins_kind byte || is_ascii_digit byte
-
--- the text is the name of a resource type
-abbrev pub is_kind : List ℕ → Bool
-is_kind [] = false
-is_kind (first ∷ rest) = begins_kind first && list_all continues_kind rest
-
 -- a number of slots; no number, 0, and a number above 1,000,000,000 are refused
 abbrev pub slots_asked : Option ℕ → Result ℕ GroupsFault
 slots_asked None = Err BadCount
@@ -56,7 +38,7 @@ requirement_for kind slots = reads_on slots (λ n. Ok (record { kind = kind; slo
 abbrev pub requirement_at : List ℕ → Option ℕ → Result Requirement GroupsFault
 requirement_at piece None = Err NoColon
 requirement_at piece (Some at) =
-    if is_kind (take at piece)
+    if is_type_name (take at piece)
     then requirement_for (take at piece) (slots_asked (number_in (drop (at + 1) piece)))
     else Err BadType
 

@@ -41,7 +41,10 @@ with_description groups d =
     if passes_limits groups d
     then Err TooMany
     else Ok
-    (record { needs = groups.needs ++ needs_from groups.count d.count d.requirements; count = groups.count + d.count })
+    (record {
+      needs = groups.needs ++ needs_from groups.count d.count d.requirements;
+      count = groups.count + d.count;
+    })
 
 -- the groups with the groups of each of these descriptions behind them, or the first fault;
 -- the limits are checked after each description

@@ -1,11 +1,10 @@
 ghost use Rattle.std.specs.Prelude.{◌≡◌};
-ghost use Rattle.std.specs.List.{list_all};
-ghost use Rattle.ct_groups.specs.Description.{is_kind as is_type, begins_kind as may_begin, continues_kind as may_go_on, requirement_at, requirement_of, requirements_of, slots_asked as slots_by, checked_count as count_by, count_in as count_read, first_number as number_in_front, required as without_count, described, description_of};
+ghost use Rattle.ct_groups.specs.Description.{requirement_at, requirement_of, requirements_of, slots_asked as slots_by, checked_count as count_by, count_in as count_read, first_number as number_in_front, required as without_count, described, description_of};
 ghost use Rattle.ct_groups.specs.Read.{ReadsGroups};
 
 use crate::GroupsFault;
 use crate::pieces::pieces_of;
-use ct_base::{List, Name, first_place, is_numeral, number};
+use ct_base::{List, Name, first_place, is_numeral, is_type_name, number};
 use std::alloc::Global;
 
 /// How many groups a test may have, and how many needs. This project's choice.
@@ -109,7 +108,7 @@ fn requirement_in(alloc: Global, piece: &[u8]) -> Result<Requirement, GroupsFaul
         return Err(GroupsFault::NoColon);
     };
     let (kind, slots) = (&piece[..at], &piece[at + 1..]);
-    if !is_kind(kind) {
+    if !is_type_name(kind) {
         return Err(GroupsFault::BadType);
     }
     let slots = slots_of(number(slots))?;
@@ -132,27 +131,4 @@ fn slots_of(number: Option<u64>) -> Result<u32, GroupsFault>
             Ok(slots as u32)
         }
     }
-}
-
-/// Tells whether a text is the name of a resource type.
-fn is_kind(text: &[u8]) -> bool
-    ensures { result ≡ is_type text.now }
-{
-    match text {
-        [] => false,
-        [first, rest @ ..] => begins_kind(*first) && continues_kind(rest),
-    }
-}
-
-fn begins_kind(byte: u8) -> bool
-    ensures { result ≡ may_begin byte }
-{
-    byte.is_ascii_lowercase() || byte == b'_'
-}
-
-fn continues_kind(text: &[u8]) -> bool
-    ensures { result ≡ list_all may_go_on text.now }
-{
-    text.iter()
-        .all(|byte| begins_kind(*byte) || byte.is_ascii_digit())
 }

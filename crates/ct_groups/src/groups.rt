@@ -51,7 +51,7 @@ impl Groups {
         &self.needs
     }
 
-    /// Tells how many groups there are.
+    /// Returns how many groups there are.
     pub fn count(&self) -> u32
         ensures { result ≡ count_groups self.now }
     {

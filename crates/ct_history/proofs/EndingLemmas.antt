@@ -16,7 +16,7 @@ use Rattle.ct_history.specs.declared.history.Entry.{Entry}
 use Rattle.ct_history.specs.declared.history.Entry.TheVariants.{Start, End, Settle, Stop}
 use Rattle.ct_history.specs.History.{settled_by, attempts_of, is_open_in}
 use Rattle.ct_history.specs.Verdicts.{first_of_list, last_of_list, last_behind, settled_or, settled_cause, attempted_verdict, is_over, verdict_in, is_final_in}
-use Rattle.ct_history.specs.Endings.{ending_at, ending_in, first_there, ending_after, last_seen, seen_at_end, verdict_by, AreEndings, TellVerdicts}
+use Rattle.ct_history.specs.Endings.{ending_at, ending_in, first_there, ending_after, last_seen, seen_at_end, verdict_by, AreEndings, HaveVerdicts}
 
 pub first_snoc : {A : Type 0} (xs : List A) (o : Option A) → first_of_list (xs ++ cons_option o []) ≡ first_there (first_of_list xs) o
 first_snoc [] None = refl
@@ -76,5 +76,5 @@ final_verdict repeat t es ended =
     (λ some. sym (last_attempt t.number t.rules None es) ∙ there (not (is_open_in t.number es) && is_over repeat (attempts_of t.number t.rules es)) (last_of_list (attempts_of t.number t.rules es)) some)
 
 -- the kept endings tell the verdict of each test that is final
-pub verdicts_told : {S : Type 0} (endings : IndexMap ℕ Ending S) (es : List Entry) → AreEndings endings es → TellVerdicts endings es
+pub verdicts_told : {S : Type 0} (endings : IndexMap ℕ Ending S) (es : List Entry) → AreEndings endings es → HaveVerdicts endings es
 verdicts_told endings es are = λ repeat t ended. ap (verdict_by t) (are t.number) ∙ final_verdict repeat t es ended

@@ -29,11 +29,11 @@ last_seen test entries = last_of_list (filter_map (seen_at_end test) entries)
 abbrev pub unended : Ending
 unended = record { settled = None; last = None }
 
--- how a test ended, as the map of endings tells it
+-- how a test ended, by the map of endings
 abbrev pub ending_at : {S : Type 0} → IndexMap ℕ Ending S → ℕ → Ending
 ending_at endings test = unwrap_or (get nat_eq endings test) unended
 
--- how a test ended, as the history tells it
+-- how a test ended, by the history
 abbrev pub ending_in : List Entry → ℕ → Ending
 ending_in entries test = record { settled = settled_cause test entries; last = last_seen test entries }
 
@@ -56,12 +56,12 @@ verdict_by t ending =
     then Some Disabled
     else settled_or ending.settled (option_map (verdict_of t.rules) ending.last)
 
--- the map tells of each test how it ended in the history
+-- the map has for each test how it ended in the history
 abbrev pub AreEndings : {S : Type 0} → IndexMap ℕ Ending S → List Entry → Type 0
 AreEndings endings entries = (test : ℕ) → ending_at endings test ≡ ending_in entries test
 
 -- for each final test, `verdict_by` of its ending in the map is its verdict in the history
-abbrev pub TellVerdicts : {S : Type 0} → IndexMap ℕ Ending S → List Entry → Type 0
-TellVerdicts endings entries =
+abbrev pub HaveVerdicts : {S : Type 0} → IndexMap ℕ Ending S → List Entry → Type 0
+HaveVerdicts endings entries =
     (repeat : Repeat) (t : PlanTest) → is_final_in repeat t entries ≡ true
     → verdict_by t (ending_at endings t.number) ≡ verdict_in repeat t entries

@@ -1,5 +1,5 @@
 -- What a history of a run says: open starts, what they use, attempts. This project's own, after ctest(1).
-use Rattle.std.specs.Prelude.{ℕ, Bool, true, false, ◌&&◌, List, [], ◌∷◌, filter_map, sum_by, Option, Some, None, option_and_then, ◌==◌, if◌then◌else◌}
+use Rattle.std.specs.Prelude.{ℕ, Bool, true, false, ◌&&◌, List, [], ◌∷◌, filter_map, find, sum_by, Option, Some, None, option_and_then, ◌==◌, if◌then◌else◌}
 use Rattle.std.specs.List.{list_any, cons_option}
 use Rattle.ct_alloc.specs.declared.placement.Placement.{Placement}
 use Rattle.ct_alloc.specs.Placement.{slots_at}
@@ -44,6 +44,14 @@ opened_placement e behind = option_and_then (λ (r : Running). r.placement) (ope
 abbrev pub open_starts : List Entry → List Running
 open_starts [] = []
 open_starts (e ∷ es) = cons_option (opened e es) (open_starts es)
+
+-- the open start of a test, if there is one
+abbrev pub open_start_of_test : ℕ → List Entry → Option Running
+open_start_of_test test entries = find (λ (r : Running). r.test == test) (open_starts entries)
+
+-- the open start of a worker, if it has one
+abbrev pub open_start_of_worker : ℕ → List Entry → Option Running
+open_start_of_worker worker entries = find (λ (r : Running). r.worker == worker) (open_starts entries)
 
 -- a start of the test is open
 abbrev pub is_open_in : ℕ → List Entry → Bool

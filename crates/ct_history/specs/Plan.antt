@@ -1,5 +1,5 @@
 -- What a plan says of its tests, and when it is sound. This project's own, after ctest(1).
-use Rattle.std.specs.Prelude.{◌≡◌, ℕ, ◌+◌, ◌≤◌, Bool, true, false, not, ◌&&◌, List, [], ◌∷◌, map, filter, find, All, Option, Some, None, IfSome, nat_le, nat_lt, ◌==◌, IsPermutation, is_some}
+use Rattle.std.specs.Prelude.{◌≡◌, ℕ, ◌+◌, ◌<◌, ◌≤◌, Bool, true, false, not, ◌&&◌, List, [], ◌∷◌, length, map, filter, slice_get, find, All, Option, Some, None, IfSome, nat_le, nat_lt, ◌==◌, IsPermutation, is_some}
 use Rattle.std.specs.List.{list_any, list_all}
 use Rattle.ct_base.specs.declared.defs.Resource.{Resource}
 use Rattle.ct_alloc.specs.Placement.{AreDistinct, SomeFits}
@@ -11,6 +11,11 @@ use Rattle.ct_history.specs.declared.plan.PlanParts.{PlanParts}
 -- the test with this number
 abbrev pub test_at : List PlanTest → ℕ → Option PlanTest
 test_at tests number = find (λ (t : PlanTest). t.number == number) tests
+
+-- the test with this number stands at this place, counted from 0
+pub record IsPlaceOf (tests : List PlanTest) (number place : ℕ) : Type 0 where
+  pub within : place < length tests
+  pub there : slice_get tests place ≡ test_at tests number
 
 -- the numbers ascend without repeats, and the first is at least this one
 abbrev pub IsAscendingFrom : ℕ → List ℕ → Type 0

@@ -1,7 +1,7 @@
 -- When a test may start, and when it may be settled. Source: CMake manual, cmake-properties(7), DEPENDS,
 -- FIXTURES_REQUIRED, PROCESSORS, RESOURCE_LOCK, RUN_SERIAL; ctest(1), Resource Allocation, --stop-on-failure.
 -- That locks may be shared is this project's own.
-use Rattle.std.specs.Prelude.{◌≡◌, ℕ, ◌+◌, Bool, true, false, not, ◌&&◌, ◌||◌, List, [], ◌∷◌, find, Option, Some, None, is_some, is_none, nat_le, bytes_eq, if◌then◌else◌}
+use Rattle.std.specs.Prelude.{◌≡◌, ℕ, ◌+◌, Bool, true, false, not, ◌&&◌, ◌||◌, List, [], ◌∷◌, find, Option, Some, None, is_some, is_none, nat_le, if◌then◌else◌}
 use Rattle.std.specs.List.{list_any, list_all}
 use Rattle.ct_base.specs.declared.defs.Resource.{Resource}
 use Rattle.ct_base.specs.declared.defs.Need.{Need}
@@ -14,7 +14,7 @@ use Rattle.ct_history.specs.declared.plan.PlanParts.{PlanParts}
 use Rattle.ct_history.specs.declared.history.Entry.{Entry}
 pub use Rattle.ct_history.specs.Plan.{test_at}
 use Rattle.ct_history.specs.History.{Running, open_starts, is_open_in, used_processors, used_slots, has_stop}
-use Rattle.ct_base.specs.Names.{is_among, shares_name}
+use Rattle.ct_base.specs.Names.{shares_name}
 pub use Rattle.ct_history.specs.Verdicts.{is_final_in, verdict_of_test, is_passed_verdict}
 
 -- the locks that a test holds alone

@@ -32,7 +32,7 @@ pub trait Board {
     fn length(&self) -> usize
         ensures { result ≡ length (history self.now) };
 
-    /// Tells whether the run was given up.
+    /// Returns whether the run was given up.
     fn is_halted(&self) -> bool
         ensures { result ≡ halted self.now };
 }

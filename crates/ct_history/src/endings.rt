@@ -1,6 +1,6 @@
 ghost use Rattle.std.specs.Prelude.{◌≡◌, ℕ, IfOk, OnOk, option_map};
 ghost use Rattle.ct_verdict.specs.Verdict.{verdict_of};
-ghost use Rattle.ct_history.specs.Endings.{AreEndings, TellVerdicts, ending_after, ending_at, verdict_by};
+ghost use Rattle.ct_history.specs.Endings.{AreEndings, HaveVerdicts, ending_after, ending_at, verdict_by};
 
 use crate::{Entry, PlanTest};
 use ct_base::NoMemory;
@@ -23,7 +23,7 @@ pub type Endings = IndexMap<u32, Ending>;
 /// From a test's ending `verdict_by` returns its verdict, if the test is final.
 pub fn endings_of(alloc: Global, entries: &[Entry]) -> Result<Endings, NoMemory>
     ensures ended { IfOk result (λ endings. AreEndings endings entries.now) }
-    ensures verdicts { IfOk result (λ endings. TellVerdicts endings entries.now) }
+    ensures verdicts { IfOk result (λ endings. HaveVerdicts endings entries.now) }
 {
     let mut endings = IndexMap::new(alloc);
     for entry in entries {

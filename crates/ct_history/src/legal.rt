@@ -12,7 +12,7 @@ use ct_alloc::Placement;
 use ct_base::NoMemory;
 use ct_verdict::Cause;
 
-/// Tells whether a history is legal for a plan: each entry is allowed by the entries in front of
+/// Returns whether a history is legal for a plan: each entry is allowed by the entries in front of
 /// it, and no Stop is left due. A legal history stays within what the plan declares.
 ///
 /// Source: this project's choice.
@@ -121,7 +121,7 @@ fn is_same_cause(cause: Cause, other: Option<Cause>) -> bool
     }
 }
 
-/// Tells whether a Stop is due directly behind these entries.
+/// Returns whether a Stop is due directly behind these entries.
 ///
 /// Source: CMake manual, ctest(1), --stop-on-failure.
 fn is_stop_due(plan: &PlanParts, entries: &[Entry]) -> bool

@@ -66,7 +66,7 @@ pub(crate) fn open_placement<'a>(entry: &'a Entry, behind: &[Entry]) -> Option<&
     }
 }
 
-/// Tells whether a start of the test is open.
+/// Returns whether a start of the test is open.
 pub(crate) fn is_open(entries: &[Entry], test: u32) -> bool
     ensures { result ≡ is_open_in test entries.now }
 {
@@ -80,7 +80,7 @@ pub(crate) fn is_open(entries: &[Entry], test: u32) -> bool
     false
 }
 
-/// Tells whether the worker has an open start.
+/// Returns whether the worker has an open start.
 pub fn is_busy(entries: &[Entry], worker: u32) -> bool
     ensures { result ≡ is_busy_in worker entries.now }
 {
@@ -94,7 +94,7 @@ pub fn is_busy(entries: &[Entry], worker: u32) -> bool
     false
 }
 
-/// Tells whether this attempt of the test is open, and the worker made it.
+/// Returns whether this attempt of the test is open, and the worker made it.
 pub fn holds_start(entries: &[Entry], test: u32, attempt: u32, worker: u32) -> bool
     ensures { result ≡ History.holds_start test attempt worker entries.now }
 {
@@ -108,7 +108,7 @@ pub fn holds_start(entries: &[Entry], test: u32, attempt: u32, worker: u32) -> b
     false
 }
 
-/// Tells whether this test and some open test exclude each other.
+/// Returns whether this test and some open test exclude each other.
 pub(crate) fn is_excluded(tests: &[PlanTest], test: &PlanTest, entries: &[Entry]) -> bool
     ensures { result ≡ Rules.is_excluded tests.now test.now entries.now }
 {
@@ -131,7 +131,7 @@ fn excludes(tests: &[PlanTest], test: &PlanTest, number: u32) -> bool
     }
 }
 
-/// Tells whether two tests exclude each other: one locks the other out, or one of them is serial.
+/// Returns whether two tests exclude each other: one locks the other out, or one of them is serial.
 ///
 /// Source: CMake manual, cmake-properties(7), RESOURCE_LOCK, RUN_SERIAL.
 #[tactic(auto, unfolding(crate::specs::Rules::exclude))]
@@ -141,7 +141,7 @@ pub fn exclude(test: &PlanTest, other: &PlanTest) -> bool
     locks_out(test, other) || locks_out(other, test) || test.serial || other.serial
 }
 
-/// Tells whether a lock that the test holds alone is one that the other test holds or shares.
+/// Returns whether a lock that the test holds alone is one that the other test holds or shares.
 fn locks_out(test: &PlanTest, other: &PlanTest) -> bool
     ensures { result ≡ Rules.locks_out (Some test.now) (Some other.now) }
 {

@@ -9,7 +9,7 @@ use crate::{Entry, PlanParts, PlanTest};
 use ct_alloc::{Pick, Placement};
 use ct_base::{Need, Resource};
 
-/// Tells whether a placement is right for a test. Where the test has needs and resources are given,
+/// Returns whether a placement is right for a test. Where the test has needs and resources are given,
 /// it is a placement for the needs that fits beside the used slots. Otherwise it is `None`.
 pub(crate) fn is_placed(
     plan: &PlanParts,
@@ -52,7 +52,7 @@ fn is_placed_on(
     }
 }
 
-/// Tells whether picks are a placement for the needs on these resources.
+/// Returns whether picks are a placement for the needs on these resources.
 ///
 /// Source: CMake manual, ctest(1), Resource Allocation.
 pub fn is_placement(resources: &[Resource], needs: &[Need], picks: &[Pick]) -> bool
@@ -98,7 +98,7 @@ fn fits_beside(resources: &[Resource], entries: &[Entry], picks: &[Pick]) -> boo
     true
 }
 
-/// Tells whether a resource, counted from 0, has slots for picks beside what the open starts use.
+/// Returns whether a resource, counted from 0, has slots for picks beside what the open starts use.
 fn has_slots(resource: &Resource, place: usize, entries: &[Entry], picks: &[Pick]) -> bool
     ensures { result ≡
         nat_le (History.used_slots entries.now place + Placing.slots_at place picks.now) resource.now.slots }

@@ -11,7 +11,7 @@ use crate::{Entry, PlanParts, PlanTest};
 use ct_alloc::Placement;
 use ct_verdict::{Cause, Verdict};
 
-/// Tells whether a test may start with a placement, or without one.
+/// Returns whether a test may start with a placement, or without one.
 ///
 /// Source: CMake manual, cmake-properties(7), DEPENDS, FIXTURES_REQUIRED, PROCESSORS,
 /// RESOURCE_LOCK, RUN_SERIAL; ctest(1), Resource Allocation.
@@ -26,7 +26,7 @@ pub(crate) fn may_start(
     may_start_if_placed(plan, test, entries) && is_placed(plan, test, placement, entries)
 }
 
-/// Tells whether a test may start as soon as its needs are met.
+/// Returns whether a test may start as soon as its needs are met.
 fn may_start_if_placed(plan: &PlanParts, test: &PlanTest, entries: &[Entry]) -> bool
     ensures { result ≡ may_start_if_placed plan.now test.now entries.now }
 {

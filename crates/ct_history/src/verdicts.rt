@@ -31,7 +31,7 @@ pub fn verdict_of(plan: &PlanParts, entries: &[Entry], number: u32) -> Option<Ve
     }
 }
 
-/// Tells whether some test of the plan has a verdict that makes the run fail.
+/// Returns whether some test of the plan has a verdict that makes the run fail.
 pub(crate) fn has_failing(plan: &PlanParts, entries: &[Entry]) -> bool
     ensures { result ≡ has_failing plan.now entries.now }
 {
@@ -50,7 +50,7 @@ fn is_failing(verdict: Option<Verdict>) -> bool
     }
 }
 
-/// Tells whether each test of the plan is final.
+/// Returns whether each test of the plan is final.
 pub fn are_all_final(plan: &PlanParts, entries: &[Entry]) -> bool
     ensures { result ≡ are_all_final plan.now entries.now }
 {
@@ -60,7 +60,7 @@ pub fn are_all_final(plan: &PlanParts, entries: &[Entry]) -> bool
         .all(|test| is_final(&plan.repeat, test, entries))
 }
 
-/// Tells whether a test has a verdict.
+/// Returns whether a test has a verdict.
 pub(crate) fn is_final(repeat: &Repeat, test: &PlanTest, entries: &[Entry]) -> bool
     ensures { result ≡ is_final_in repeat.now test.now entries.now }
 {

@@ -11,7 +11,7 @@ use Rattle.ct_app.specs.declared.outcome.Outcome.TheVariants as Ends
 use Rattle.ct_app.specs.declared.planning.Unplanned.{Unplanned}
 use Rattle.ct_app.specs.Calls.{PutsOrFails, Sides, list_sides}
 use Rattle.ct_app.specs.Complete.{IsRunnable, IsUnfailed}
-use Rattle.ct_app.specs.Ends.{Tells, Told}
+use Rattle.ct_app.specs.Ends.{ReportsFault, PutsFault}
 use Rattle.ct_app.specs.Outcome.{fault_status}
 use Rattle.ct_app.specs.Runs.{AnswersRun, HasRunWith, IsShort, IsShortRun}
 use Rattle.ct_app.proofs.AnswerLemmas.{told_answer}
@@ -23,7 +23,7 @@ use Rattle.ct_journal.specs.declared.check_find.Finding.TheVariants as Found
 use Rattle.ct_journal.specs.File.{too_long_line}
 use Rattle.ct_journal.specs.CheckFound.{IsBadJournal, IsGoodJournal, IsLongJournal, accepted_line, refused_line}
 use Rattle.ct_journal.specs.Check.{AnswersCheck, AnswersFor, AnswersNoPath, CompletesCheck, IsJournalFault, IsJudged, IsPrinted, IsShortCheck, IsShortEnough, IsUnprinted, SaysYesOrNo}
-use Rattle.ct_journal.specs.CheckSteps.{IsCheckOf, IsFoundFor, IsUnfoundFor, LacksPath, LeadsTo, SaysFinding, TellsCheck, TellsWhy}
+use Rattle.ct_journal.specs.CheckSteps.{IsCheckOf, IsFoundFor, IsUnfoundFor, LacksPath, LeadsTo, SaysFinding, ReportsCheck, ReportsWhy}
 use Rattle.ct_journal.proofs.CheckFoundLemmas.{never_long}
 
 module _ (path : List ℕ) (words : List (List ℕ)) (files files_now : FilesTell) (sink sink_now : SinkTell) where
@@ -83,37 +83,37 @@ module _ (path : List ℕ) (words : List (List ℕ)) (files files_now : FilesTel
   of_run Ends.Memory outcome status is run = answer_as Memory outcome status status is refl (short_of run.0.0 run.0.1, run.1)
 
   -- the failed read of the journal was told
-  fault_told : (told : Outcome) (outcome : CheckOutcome) (status : ℕ) → IsJournalFault path s → IsCheckOf told outcome → status ≡ fault_status told → Told [] (Ends.FilesFault path) told sink sink_now → AnswersFor path s outcome status
+  fault_told : (told : Outcome) (outcome : CheckOutcome) (status : ℕ) → IsJournalFault path s → IsCheckOf told outcome → status ≡ fault_status told → PutsFault [] (Ends.FilesFault path) told sink sink_now → AnswersFor path s outcome status
   fault_told told outcome status fault of status_is (inl (is, puts)) =
       answer_as (FilesFault path) outcome 3 status (subst (λ (o : Outcome). IsCheckOf o outcome) is of) (status_is ∙ ap fault_status is) (inr (refl, fault, puts, refl))
   fault_told told outcome status fault of status_is (inr (is, puts)) =
       answer_as Memory outcome 5 status (subst (λ (o : Outcome). IsCheckOf o outcome) is of) (status_is ∙ ap fault_status is) ((FilesFault path, inr (refl, fault, puts)), refl)
 
   -- why nothing was found was told
-  why_answer : (why : Unplanned) (outcome : CheckOutcome) (status : ℕ) → IsUnfoundFor path words files files_now why → TellsWhy why outcome status sink sink_now → AnswersFor path s outcome status
+  why_answer : (why : Unplanned) (outcome : CheckOutcome) (status : ℕ) → IsUnfoundFor path words files files_now why → ReportsWhy why outcome status sink sink_now → AnswersFor path s outcome status
   why_answer why outcome status (inl none) tells =
       of_run tells.told outcome status tells.is (told_answer words [] files files_now [] [] sink sink sink_now None None why.names (Err why.outcome) tells.told status (inr (none sink, refl)) (tells.tells, tells.status_is))
   why_answer why outcome status (inr (is, names, unread)) tells =
       fault_told tells.told outcome status (record { plan = unread.plan; middle = unread.middle; planned = unread.planned; files = unread.files }) tells.is tells.status_is
-      (subst (λ (ns : List (List ℕ)). Tells ns (Ends.FilesFault path) tells.told sink sink_now) names (subst (λ (o : Outcome). Tells why.names o tells.told sink sink_now) is tells.tells))
+      (subst (λ (ns : List (List ℕ)). ReportsFault ns (Ends.FilesFault path) tells.told sink sink_now) names (subst (λ (o : Outcome). ReportsFault why.names o tells.told sink sink_now) is tells.tells))
 
 -- that there is no path was told
 module _ (files files_now : FilesTell) (sink sink_now : SinkTell) where
   no_path_as : (o outcome : CheckOutcome) (n status : ℕ) → outcome ≡ o → status ≡ n → AnswersNoPath files files_now sink sink_now o n → AnswersNoPath files files_now sink sink_now outcome status
   no_path_as o outcome n status is status_is answer = subst (λ (k : ℕ). AnswersNoPath files files_now sink sink_now outcome k) (sym status_is) (subst (λ (x : CheckOutcome). AnswersNoPath files files_now sink sink_now x n) (sym is) answer)
 
-  no_path_told : (told : Outcome) (outcome : CheckOutcome) (status : ℕ) → files_now ≡ files → IsCheckOf told outcome → status ≡ fault_status told → Told [] (Ends.Usage 1 NoValue) told sink sink_now → AnswersNoPath files files_now sink sink_now outcome status
+  no_path_told : (told : Outcome) (outcome : CheckOutcome) (status : ℕ) → files_now ≡ files → IsCheckOf told outcome → status ≡ fault_status told → PutsFault [] (Ends.Usage 1 NoValue) told sink sink_now → AnswersNoPath files files_now sink sink_now outcome status
   no_path_told told outcome status kept of status_is (inl (is, puts)) =
       no_path_as (Usage 1 NoValue) outcome 1 status (subst (λ (o : Outcome). IsCheckOf o outcome) is of) (status_is ∙ ap fault_status is) (refl, refl, kept, puts, refl)
   no_path_told told outcome status kept of status_is (inr (is, puts)) =
       no_path_as Memory outcome 5 status (subst (λ (o : Outcome). IsCheckOf o outcome) is of) (status_is ∙ ap fault_status is) (kept, puts, refl)
 
-  no_path_answer : (why : Unplanned) (outcome : CheckOutcome) (status : ℕ) → LacksPath files files_now why → TellsWhy why outcome status sink sink_now → AnswersNoPath files files_now sink sink_now outcome status
+  no_path_answer : (why : Unplanned) (outcome : CheckOutcome) (status : ℕ) → LacksPath files files_now why → ReportsWhy why outcome status sink sink_now → AnswersNoPath files files_now sink sink_now outcome status
   no_path_answer why outcome status lacks tells =
       no_path_told tells.told outcome status lacks.files tells.is tells.status_is
-      (subst (λ (ns : List (List ℕ)). Tells ns (Ends.Usage 1 NoValue) tells.told sink sink_now) lacks.names (subst (λ (o : Outcome). Tells why.names o tells.told sink sink_now) lacks.outcome tells.tells))
+      (subst (λ (ns : List (List ℕ)). ReportsFault ns (Ends.Usage 1 NoValue) tells.told sink sink_now) lacks.names (subst (λ (o : Outcome). ReportsFault why.names o tells.told sink sink_now) lacks.outcome tells.tells))
 
-pub check_answer : (words : List (List ℕ)) (files files_now : FilesTell) (sink sink_now : SinkTell) (found : Result Finding Unplanned) (outcome : CheckOutcome) (status : ℕ) → LeadsTo words files files_now found → TellsCheck found outcome status sink sink_now → AnswersCheck words files files_now sink sink_now outcome status
+pub check_answer : (words : List (List ℕ)) (files files_now : FilesTell) (sink sink_now : SinkTell) (found : Result Finding Unplanned) (outcome : CheckOutcome) (status : ℕ) → LeadsTo words files files_now found → ReportsCheck found outcome status sink sink_now → AnswersCheck words files files_now sink sink_now outcome status
 check_answer [] files files_now sink sink_now (Ok finding) outcome status leads tells = absurd leads
 check_answer [] files files_now sink sink_now (Err why) outcome status leads tells = no_path_answer files files_now sink sink_now why outcome status leads tells
 check_answer (path ∷ words) files files_now sink sink_now (Ok finding) outcome status leads tells = found_answer path words files files_now sink sink_now finding outcome status leads tells

@@ -14,7 +14,7 @@ use Rattle.ct_app.specs.Outcome.{fault_line}
 use Rattle.ct_app.proofs.AnswerLemmas.{tried}
 use Rattle.ct_journal.specs.declared.check.CheckOutcome.{CheckOutcome}
 use Rattle.ct_journal.specs.declared.check.CheckOutcome.TheVariants as Says
-use Rattle.ct_app.specs.Ends.{EndsUnrun, Tells, Told}
+use Rattle.ct_app.specs.Ends.{EndsUnrun, ReportsFault, PutsFault}
 use Rattle.ct_app.specs.Planning.{HasNoPlan, HasPlan}
 use Rattle.ct_app.specs.RunFiles.{FilesFail, FilesStay}
 use Rattle.ct_app.specs.Runs.{IsRefusal}
@@ -107,12 +107,12 @@ leads_unended words before now (Ok finding) leads = tt
 leads_unended [] before now (Err why) leads = subst IsUnended (sym leads.outcome) tt
 leads_unended (path ∷ words) before now (Err why) leads = why_unended path words before now why leads
 
-told_by : (names : List (List ℕ)) (outcome told : Outcome) (before now : SinkTell) → IsUnended outcome → Told names outcome told before now → IsUnended told
+told_by : (names : List (List ℕ)) (outcome told : Outcome) (before now : SinkTell) → IsUnended outcome → PutsFault names outcome told before now → IsUnended told
 told_by names outcome told before now fine (inl (is, puts)) = subst IsUnended (sym is) fine
 told_by names outcome told before now fine (inr (is, puts)) = subst IsUnended (sym is) tt
 
 -- what is told of a call that is not complete and puts no list is such an outcome too
-pub told_unended : (names : List (List ℕ)) (outcome told : Outcome) (before now : SinkTell) → IsUnended outcome → Tells names outcome told before now → IsUnended told
+pub told_unended : (names : List (List ℕ)) (outcome told : Outcome) (before now : SinkTell) → IsUnended outcome → ReportsFault names outcome told before now → IsUnended told
 told_unended names Ends.Completed told before now fine tells = absurd fine
 told_unended names Ends.Listed told before now fine tells = absurd fine
 told_unended names (Ends.Usage word kind) told before now fine tells = told_by names (Ends.Usage word kind) told before now fine tells
@@ -154,6 +154,6 @@ pub short_line : (finding : Finding) (before middle now : SinkTell) → PutsLine
 short_line finding before middle now put behind = inr (inr (refl, refl, record { middle = middle; first = put; line = behind }))
 
 -- want of memory was told
-pub memory_tries : (told : Outcome) (before now : SinkTell) → Tells [] Ends.Memory told before now → Tries (fault_line [] Ends.Memory) before now
+pub memory_tries : (told : Outcome) (before now : SinkTell) → ReportsFault [] Ends.Memory told before now → Tries (fault_line [] Ends.Memory) before now
 memory_tries told before now (inl (is, puts)) = tried (fault_line [] Ends.Memory) before now puts
 memory_tries told before now (inr (is, puts)) = (Err Sinks.NoMemory, puts)

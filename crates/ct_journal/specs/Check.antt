@@ -39,7 +39,7 @@ IsPrinted plan found line =
     (IsGoodJournal plan found × (line ≡ accepted_line))
     ⊎ ((number : ℕ) × IsBadJournal plan found number × (line ≡ refused_line number))
 
--- memory ran out in the put of a line, a beginning of which was written; then want of memory was told
+-- memory ran out in the put of a line, a beginning of which was written; then want of memory was reported
 abbrev pub IsUnprinted : List ℕ → Sides → Type 0
 IsUnprinted line s =
     ThenLine (λ middle. PutsLines (line ∷ []) s.sink.before middle (Err Sinks.NoMemory)) (λ middle.
@@ -47,12 +47,20 @@ IsUnprinted line s =
 
 -- memory ran out: for the line of this outcome; or, with Memory, for a step before any line
 abbrev pub IsShortCheck : List ℕ → Sides → CheckOutcome → Type 0
-IsShortCheck path s Yes = IsJudged path s (λ plan found. IsGoodJournal plan found × IsUnprinted accepted_line s)
-IsShortCheck path s (No line) = IsJudged path s (λ plan found. IsBadJournal plan found line × IsUnprinted (refused_line line) s)
-IsShortCheck path s TooLong = IsJudged path s (λ plan found. IsLongJournal found × PutsLines (too_long_line ∷ []) s.sink.before s.sink.after (Err Sinks.NoMemory))
+IsShortCheck path s Yes =
+    IsJudged path s (λ plan found. IsGoodJournal plan found × IsUnprinted accepted_line s)
+IsShortCheck path s (No line) =
+    IsJudged path s (λ plan found. IsBadJournal plan found line × IsUnprinted (refused_line line) s)
+IsShortCheck path s TooLong =
+    IsJudged path s (λ plan found. IsLongJournal found
+    × PutsLines (too_long_line ∷ []) s.sink.before s.sink.after (Err Sinks.NoMemory))
 IsShortCheck path s (Usage word kind) = IsShort s (Ends.Usage word kind)
 IsShortCheck path s (Refused refusal) = IsShort s (Ends.Refused refusal)
-IsShortCheck path s (FilesFault failed) = IsShort s (Ends.FilesFault failed) ⊎ ((failed ≡ path) × IsJournalFault path s × PutsLines (fault_line [] (Ends.FilesFault failed) ∷ []) s.sink.before s.sink.after (Err Sinks.NoMemory))
+IsShortCheck path s (FilesFault failed) =
+    IsShort s (Ends.FilesFault failed)
+    ⊎ ((failed ≡ path) × IsJournalFault path s
+    × PutsLines (fault_line [] (Ends.FilesFault failed) ∷ [])
+    s.sink.before s.sink.after (Err Sinks.NoMemory))
 IsShortCheck path s OutputFault = ⊥
 IsShortCheck path s Memory = IsShort s Ends.Memory
 
@@ -61,13 +69,27 @@ IsShortCheck path s Memory = IsShort s Ends.Memory
 -- - where the words have no plan, the answer is that of a run of these words;
 -- - Memory alone may come at any time
 abbrev pub AnswersFor : List ℕ → Sides → CheckOutcome → ℕ → Type 0
-AnswersFor path s Yes status = IsJudged path s (λ plan found. IsGoodJournal plan found × PutsLines (accepted_line ∷ []) s.sink.before s.sink.after (Ok tt)) × (status ≡ 0)
-AnswersFor path s (No line) status = IsJudged path s (λ plan found. IsBadJournal plan found line × PutsLines (refused_line line ∷ []) s.sink.before s.sink.after (Ok tt)) × (status ≡ 9)
-AnswersFor path s TooLong status = IsJudged path s (λ plan found. IsLongJournal found × PutsOrFails too_long_line s.sink.before s.sink.after) × (status ≡ 2)
+AnswersFor path s Yes status =
+    IsJudged path s (λ plan found. IsGoodJournal plan found
+    × PutsLines (accepted_line ∷ []) s.sink.before s.sink.after (Ok tt))
+    × (status ≡ 0)
+AnswersFor path s (No line) status =
+    IsJudged path s (λ plan found. IsBadJournal plan found line
+    × PutsLines (refused_line line ∷ []) s.sink.before s.sink.after (Ok tt))
+    × (status ≡ 9)
+AnswersFor path s TooLong status =
+    IsJudged path s (λ plan found. IsLongJournal found × PutsOrFails too_long_line s.sink.before s.sink.after)
+    × (status ≡ 2)
 AnswersFor path s (Usage word kind) status = AnswersRun s (Ends.Usage word kind) status
 AnswersFor path s (Refused refusal) status = AnswersRun s (Ends.Refused refusal) status
-AnswersFor path s (FilesFault failed) status = AnswersRun s (Ends.FilesFault failed) status ⊎ ((failed ≡ path) × IsJournalFault path s × PutsOrFails (fault_line [] (Ends.FilesFault failed)) s.sink.before s.sink.after × (status ≡ 3))
-AnswersFor path s OutputFault status = IsJudged path s (λ plan found. (line : List ℕ) × IsPrinted plan found line × PutsLines (line ∷ []) s.sink.before s.sink.after (Err Sinks.Failed)) × (status ≡ 4)
+AnswersFor path s (FilesFault failed) status =
+    AnswersRun s (Ends.FilesFault failed) status
+    ⊎ ((failed ≡ path) × IsJournalFault path s
+    × PutsOrFails (fault_line [] (Ends.FilesFault failed)) s.sink.before s.sink.after × (status ≡ 3))
+AnswersFor path s OutputFault status =
+    IsJudged path s (λ plan found. (line : List ℕ) × IsPrinted plan found line
+    × PutsLines (line ∷ []) s.sink.before s.sink.after (Err Sinks.Failed))
+    × (status ≡ 4)
 AnswersFor path s Memory status = ((outcome : CheckOutcome) × IsShortCheck path s outcome) × (status ≡ 5)
 
 -- the line of a check without any word: word 1, the path of the journal, has no value
@@ -79,11 +101,14 @@ abbrev pub AnswersNoPath : FilesTell → FilesTell → SinkTell → SinkTell →
 AnswersNoPath files files_now sink sink_now Yes status = ⊥
 AnswersNoPath files files_now sink sink_now (No line) status = ⊥
 AnswersNoPath files files_now sink sink_now TooLong status = ⊥
-AnswersNoPath files files_now sink sink_now (Usage word kind) status = (word ≡ 1) × (kind ≡ NoValue) × (files_now ≡ files) × PutsOrFails no_path_line sink sink_now × (status ≡ 1)
+AnswersNoPath files files_now sink sink_now (Usage word kind) status =
+    (word ≡ 1) × (kind ≡ NoValue) × (files_now ≡ files) × PutsOrFails no_path_line sink sink_now
+    × (status ≡ 1)
 AnswersNoPath files files_now sink sink_now (Refused refusal) status = ⊥
 AnswersNoPath files files_now sink sink_now (FilesFault failed) status = ⊥
 AnswersNoPath files files_now sink sink_now OutputFault status = ⊥
-AnswersNoPath files files_now sink sink_now Memory status = (files_now ≡ files) × PutsLines (no_path_line ∷ []) sink sink_now (Err Sinks.NoMemory) × (status ≡ 5)
+AnswersNoPath files files_now sink sink_now Memory status =
+    (files_now ≡ files) × PutsLines (no_path_line ∷ []) sink sink_now (Err Sinks.NoMemory) × (status ≡ 5)
 
 -- what each outcome and status of a check means: the first word is the path of the journal, and the others
 -- are words of a run
@@ -111,7 +136,8 @@ IsShortEnough path s = IfSome s.files.before.held (λ held. IfSome (held path) H
 
 -- a check says yes or no where a run of its words can be made, the journal is short enough, and no fault was
 -- counted, unless memory ran out
-abbrev pub CompletesCheck : List (List ℕ) → FilesTell → FilesTell → SinkTell → SinkTell → CheckOutcome → Type 0
+abbrev pub CompletesCheck : List (List ℕ)
+    → FilesTell → FilesTell → SinkTell → SinkTell → CheckOutcome → Type 0
 CompletesCheck [] files files_now sink sink_now outcome = ⊤
 CompletesCheck (path ∷ words) files files_now sink sink_now outcome =
     IsRunnable (list_sides words files files_now sink sink_now)

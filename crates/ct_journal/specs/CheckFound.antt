@@ -7,8 +7,8 @@ use Rattle.ct_journal.specs.File.{HasJournalSize, most_journal_bytes}
 use Rattle.ct_journal.specs.declared.check_find.Finding.{Finding}
 use Rattle.ct_journal.specs.declared.check_find.Finding.TheVariants.{Accepted, Refused, TooLong}
 
--- the text that was read is the journal of a complete legal history for the plan, and not too long; so no line
--- of it is refused
+-- the text that was read is the journal of a complete legal history for the plan, and not too long; so no
+-- line of it is refused
 abbrev pub IsGoodJournal : PlanParts → Option (List ℕ) → Type 0
 IsGoodJournal plan None = ⊥
 IsGoodJournal plan (Some text) = HasJournalSize text × IsAccepted plan text × IsSoleFinding plan text None

@@ -1,4 +1,4 @@
--- The steps of a check: the plan, what is found of the journal, and what is told. This project's own.
+-- The steps of a check: the plan, what is found of the journal, and what is reported. This project's own.
 use Rattle.std.specs.Prelude.{◌≡◌, ◌⊎◌, ⊤, ℕ, List, [], ◌∷◌, Option, Result, Ok, Err, IfSome}
 use Rattle.ct_base.specs.declared.sink.SinkFault.TheVariants as Sinks
 use Rattle.ct_base.specs.Outside.{FilesTell, SameHeld, SinkTell}
@@ -9,7 +9,7 @@ use Rattle.ct_app.specs.declared.outcome.Outcome.{Outcome}
 use Rattle.ct_app.specs.declared.outcome.Outcome.TheVariants as Ends
 use Rattle.ct_app.specs.declared.planning.Unplanned.{Unplanned}
 use Rattle.ct_app.specs.Calls.{ThenLine, Tries}
-use Rattle.ct_app.specs.Ends.{Tells}
+use Rattle.ct_app.specs.Ends.{ReportsFault}
 use Rattle.ct_app.specs.Outcome.{fault_line, fault_status}
 use Rattle.ct_app.specs.Planning.{HasNoPlan, HasPlan}
 use Rattle.ct_app.specs.RunFiles.{FilesFail, FilesStay}
@@ -118,15 +118,15 @@ IsCheckOf (Ends.FilesFault path) outcome = outcome ≡ Says.FilesFault path
 IsCheckOf Ends.OutputFault outcome = outcome ≡ Says.OutputFault
 IsCheckOf Ends.Memory outcome = outcome ≡ Says.Memory
 
--- why nothing was found was told as a run tells it
-pub record TellsWhy (why : Unplanned) (outcome : CheckOutcome) (status : ℕ) (before now : SinkTell)
+-- why nothing was found was reported, as a run reports it
+pub record ReportsWhy (why : Unplanned) (outcome : CheckOutcome) (status : ℕ) (before now : SinkTell)
     : Type 0 where
   pub told : Outcome
-  pub tells : Tells why.names why.outcome told before now
+  pub tells : ReportsFault why.names why.outcome told before now
   pub status_is : status ≡ fault_status told
   pub is : IsCheckOf told outcome
 
--- how a check tells what its words led to
-abbrev pub TellsCheck : Result Finding Unplanned → CheckOutcome → ℕ → SinkTell → SinkTell → Type 0
-TellsCheck (Ok finding) outcome status before now = SaysFinding finding outcome status before now
-TellsCheck (Err why) outcome status before now = TellsWhy why outcome status before now
+-- how a check reports what its words led to
+abbrev pub ReportsCheck : Result Finding Unplanned → CheckOutcome → ℕ → SinkTell → SinkTell → Type 0
+ReportsCheck (Ok finding) outcome status before now = SaysFinding finding outcome status before now
+ReportsCheck (Err why) outcome status before now = ReportsWhy why outcome status before now

@@ -8,7 +8,7 @@ use Rattle.ct_journal_text.specs.Journal.{journal_of}
 use Rattle.ct_journal_text.specs.Found.{IsAccepted}
 use Rattle.ct_app.specs.declared.outcome.Outcome.{Outcome}
 use Rattle.ct_app.specs.declared.outcome.Outcome.TheVariants as Ran
-use Rattle.ct_app.specs.Ends.{Told}
+use Rattle.ct_app.specs.Ends.{PutsFault}
 use Rattle.ct_app.specs.Outcome.{fault_line, fault_status}
 use Rattle.ct_app.specs.RunFiles.{FilesFail, FilesServe, FilesStay}
 use Rattle.ct_app.specs.Calls.{BeforeAfter, IsUnrun, Sides, Tries, sides}
@@ -28,8 +28,8 @@ pub record CallEnd : Type 0 where
   pub journal : JournalEnd
   pub status : ℕ
 
--- the end of a run whose journal goes to a path: its outcome and history, and what the files and the sink told
--- when the run ended and when the call ended
+-- the end of a run whose journal goes to a path: its outcome and history, and what the files and the sink
+-- told when the run ended and when the call ended
 pub record RunEnd : Type 0 where
   pub path : List ℕ
   pub outcome : Outcome
@@ -110,23 +110,24 @@ pub record RecordsRun (s : Sides) (path : List ℕ) (words : List (List ℕ)) (e
       IsJournalEnd (run_end path end.outcome s.history files s.files.after sink s.sink.after) end.journal
   pub status : end.status ≡ status_after end.run_status end.journal
 
--- there is no word: its lack is told, as a call of `ctest_main` tells a word that is refused, and the status is
--- that of what is told. Nothing was run, no journal was written, and no call was made on the files.
+-- there is no word: its lack is reported, as `ctest_main` reports a word that is refused, and the status is
+-- that of what is reported. Nothing was run, no journal was written, and no call was made on the files.
 pub record IsUnnamed (s : Sides) (end : CallEnd) : Type 0 where
-  pub told : Told [] (Ran.Usage 1 NoValue) end.outcome s.sink.before s.sink.after
+  pub told : PutsFault [] (Ran.Usage 1 NoValue) end.outcome s.sink.before s.sink.after
   pub run_status : end.run_status ≡ fault_status end.outcome
   pub journal : end.journal ≡ NoRun
   pub status : end.status ≡ fault_status end.outcome
   pub files : s.files.after ≡ s.files.before
   pub unrun : IsUnrun s
 
--- what a call with these words did: the first word is the path of the journal, the others are those of the run
+-- what a call with these words did: the first word is the path of the journal, the others are those of the
+-- run
 abbrev pub RecordsFor : List (List ℕ) → Sides → CallEnd → Type 0
 RecordsFor [] s end = IsUnnamed s end
 RecordsFor (path ∷ words) s end = RecordsRun s path words end
 
--- a journal that was written is accepted for the plan of its run, and for each plan that differs from it in the
--- order of the starts alone: it is that of the history of the run, which is legal and complete
+-- a journal that was written is accepted for the plan of its run, and for each plan that differs from it in
+-- the order of the starts alone: it is that of the history of the run, which is legal and complete
 abbrev pub AcceptsWritten : Option PlanParts → Option (List Entry) → JournalEnd → Type 0
 AcceptsWritten plan history end =
     end ≡ Written

@@ -1,5 +1,5 @@
--- When two holdings of the files read alike for the plan of the same words. The cost data, which a run changes,
--- plays no part. This project's own.
+-- When two holdings of the files read alike for the plan of the same words. The cost data, which a run
+-- changes, plays no part. This project's own.
 use Rattle.std.specs.Prelude.{◌≡◌, ℕ, true, List, Option, IfSome, IsSomeAnd}
 use Rattle.ct_base.specs.Outside.{FilesTell, Held}
 use Rattle.ct_testfile.specs.Tree.{tree_of}
@@ -39,4 +39,5 @@ RechecksWritten words told history end =
     end ≡ Written
     → IsSomeAnd history (λ entries.
     (before now : FilesTell) (plan : PlanParts)
-    → ReadsAlike words told before.held → HasPlan words before now plan → IsAccepted plan (journal_of entries))
+    → ReadsAlike words told before.held → HasPlan words before now plan
+    → IsAccepted plan (journal_of entries))

@@ -4,7 +4,7 @@ ghost use Rattle.ct_journal.specs.Check.{AnswersCheck, CompletesCheck};
 ghost use Rattle.ct_journal.specs.CheckSteps.{LeadsTo};
 
 use crate::check_find::{Finding, find_for, unfound};
-use crate::check_tell::tell_check;
+use crate::check_report::report_check;
 use ct_app::{Outcome, Refusal, Unplanned, UsageKind};
 use ct_base::{Files, Name, Sink};
 use std::alloc::Global;
@@ -62,7 +62,7 @@ pub fn check_main<F: Files, S: Sink>(
     ensures kept { Becomes (F.tells files).held (F.tells result.files).held SameHeld }
 {
     let found = check_words(alloc, words, &mut files);
-    let (outcome, status) = tell_check(alloc, &mut sink, found);
+    let (outcome, status) = report_check(alloc, &mut sink, found);
     Checked {
         outcome,
         status,

@@ -8,7 +8,7 @@
 
 mod check;
 mod check_find;
-mod check_tell;
+mod check_report;
 mod limit;
 mod record;
 

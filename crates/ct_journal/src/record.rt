@@ -2,7 +2,7 @@ ghost use Rattle.std.specs.Prelude.{◌≡◌, ◌<◌, ◌-◌, ◌^◌, ⊤, [
 ghost use Rattle.std.specs.Option.{option_copied};
 ghost use Rattle.ct_args.specs.declared.usage.UsageKind.TheVariants.{NoValue};
 ghost use Rattle.ct_app.specs.Calls.{Tries, sides};
-ghost use Rattle.ct_app.specs.Ends.{Told, history_entries};
+ghost use Rattle.ct_app.specs.Ends.{PutsFault, history_entries};
 ghost use Rattle.ct_app.specs.Outcome.{fault_line, fault_status};
 ghost use Rattle.ct_app.specs.Reading.{ask_for_list};
 ghost use Rattle.ct_app.specs.Run.{OthersStay};
@@ -14,7 +14,7 @@ ghost use Rattle.ct_journal.specs.RecordReads.{RechecksWritten};
 ghost use Rattle.ct_journal.specs.Record.{AcceptsWritten, IsJournalEnd, RecordsFor, TriesLine, WritesJournal, run_end, status_after as status_with};
 
 use crate::limit::MOST_JOURNAL_BYTES;
-use ct_app::{Finished, Outcome, UsageKind, ctest_main, tell_outcome};
+use ct_app::{Finished, Outcome, UsageKind, ctest_main, report_outcome};
 use ct_base::{Files, FilesFault, Name, NoMemory, Pair, Sink};
 use ct_core::Gate;
 use ct_history::{Entry, History};
@@ -127,11 +127,11 @@ fn end_call<F, G, S>(finished: Finished<F, G, S>, journal: JournalEnd) -> Record
 
 /// Puts the line of a call without any word, and returns its outcome and status.
 fn miss_path<S: Sink>(alloc: Global, sink: &mut S) -> (Outcome, u8)
-    ensures told { Told [] (Ran.Usage 1 NoValue) result.0 (S.tells sink.old) (S.tells sink.new) }
+    ensures told { PutsFault [] (Ran.Usage 1 NoValue) result.0 (S.tells sink.old) (S.tells sink.new) }
     ensures status { result.1 ≡ fault_status result.0 }
 {
     let kind = UsageKind::NoValue;
-    tell_outcome(alloc, sink, &[], Outcome::Usage { word: 1, kind })
+    report_outcome(alloc, sink, &[], Outcome::Usage { word: 1, kind })
 }
 
 /// Writes the journal of a run that was completed, and tries the line of a fault.
@@ -156,7 +156,7 @@ fn keep_journal<F: Files, S: Sink>(
     match history {
         Some(history) => {
             let end = write_journal(alloc, files, path, &history.entries);
-            tell_end(alloc, sink, path, end);
+            report_journal(alloc, sink, path, end);
             end
         }
         None => JournalEnd::NoRun,
@@ -188,24 +188,24 @@ fn write_journal<F: Files>(
 
 /// Tries the line of an end of the journal, where it has one. A put that fails changes nothing.
 #[tactic(auto, using(crate::proofs::RecordLemmas::put_tries))]
-fn tell_end<S: Sink>(alloc: Global, sink: &mut S, path: &Name, end: JournalEnd)
+fn report_journal<S: Sink>(alloc: Global, sink: &mut S, path: &Name, end: JournalEnd)
     ensures { TriesLine path.now (S.tells sink.old) (S.tells sink.new) end }
 {
     match end {
         JournalEnd::TooLong => {
             let _put = sink.put(b"ctest: journal: too long\n");
         }
-        JournalEnd::FilesFault => tell_path(alloc, sink, path),
+        JournalEnd::FilesFault => report_path(alloc, sink, path),
         JournalEnd::Written | JournalEnd::NoRun | JournalEnd::Memory => {}
     }
 }
 
 /// Tries the line that says that the path cannot be used.
-fn tell_path<S: Sink>(alloc: Global, sink: &mut S, path: &Name)
+fn report_path<S: Sink>(alloc: Global, sink: &mut S, path: &Name)
     ensures { Tries (fault_line [] (Ran.FilesFault path.now)) (S.tells sink.old) (S.tells sink.new) }
 {
     if let Ok(path) = path.copy(alloc) {
-        let _told = tell_outcome(alloc, sink, &[], Outcome::FilesFault { path });
+        let _told = report_outcome(alloc, sink, &[], Outcome::FilesFault { path });
     }
 }
 

@@ -17,7 +17,7 @@ use Rattle.ct_history.specs.Rules.{is_placed}
 use Rattle.ct_history.specs.Legal.{is_allowed, is_stop_due, starts}
 use Rattle.ct_history.proofs.MayLemmas.{starts-parts}
 use Rattle.ct_audit.specs.declared.audit.Audit.{Audit}
-use Rattle.ct_audit.specs.Tells.{is_at_end}
+use Rattle.ct_audit.specs.Audited.{is_at_end}
 use Rattle.ct_journal_text.specs.declared.check.Step.{Step}
 use Rattle.ct_journal_text.specs.declared.check.Step.TheVariants.{GoesOn, Ends, IsBad}
 use Rattle.ct_journal_text.specs.declared.lines.EntryLine.{EntryLine}

@@ -15,7 +15,7 @@ use Rattle.ct_history.specs.Legal.{IsComplete, is_allowed_so_far, is_legal, is_s
 use Rattle.ct_history.proofs.LegalLemmas.{allowed-snoc}
 use Rattle.ct_history.proofs.ProgressLemmas.{idle_empty}
 use Rattle.ct_audit.specs.declared.audit.Audit.{Audit}
-use Rattle.ct_audit.specs.Tells.{TellsHistory, is_at_end}
+use Rattle.ct_audit.specs.Audited.{IsAuditOf, is_at_end}
 use Rattle.ct_journal_text.specs.declared.check.Step.TheVariants.{GoesOn, Ends, IsBad}
 use Rattle.ct_journal_text.specs.declared.lines.JournalLine.TheVariants as Line
 use Rattle.ct_journal_text.specs.Guess.{guess_in}
@@ -30,7 +30,7 @@ fit_snoc (first ∷ rest) e fit one = (fit.0, fit_snoc rest e fit.1 one)
 
 module _ (plan : PlanParts) (text : List ℕ) where
   -- nothing was read yet
-  pub reads_none : (audit : Audit) (line : List ℕ) → TellsHistory plan [] audit → line ≡ [] → IsReading plan text 0 audit line 0 []
+  pub reads_none : (audit : Audit) (line : List ℕ) → IsAuditOf plan [] audit → line ≡ [] → IsReading plan text 0 audit line 0 []
   reads_none audit line told none = record {
     told = told;
     stands = record { fit = tt; allowed = refl; text_is = ap (λ (l : List ℕ). l ++ text) (sym none); one = ap (list_any (λ (byte : ℕ). byte == 10)) none };

@@ -10,7 +10,7 @@ use Rattle.ct_history.specs.declared.history.Entry.TheVariants as Happened
 use Rattle.ct_history.specs.Plan.{test_at}
 use Rattle.ct_history.specs.Legal.{is_allowed}
 use Rattle.ct_audit.specs.declared.audit.Audit.{Audit}
-use Rattle.ct_audit.specs.Tells.{TellsHistory, is_at_end}
+use Rattle.ct_audit.specs.Audited.{IsAuditOf, is_at_end}
 use Rattle.ct_journal_text.specs.declared.lines.EntryLine.{EntryLine}
 use Rattle.ct_journal_text.specs.declared.lines.JournalLine.TheVariants as Line
 use Rattle.ct_journal_text.specs.declared.check.Step.{Step}
@@ -45,13 +45,13 @@ abbrev pub IsNoEnd : PlanParts → List Entry → List ℕ → Type 0
 IsNoEnd plan front line =
     line ≡ journal_line_text (Line.Done (length front)) → is_at_end plan front ≡ true → ⊥
 
--- the line is that of an allowed entry, which the audit now tells besides
+-- the line is that of an allowed entry, which the audit has now seen besides
 pub record TakesEntry (plan : PlanParts) (front : List Entry) (line : List ℕ) (audit : Audit) : Type 0 where
   pub entry : Entry
   pub is : line ≡ journal_line_text (Line.Entry (noted entry))
   pub fits : EntryFits (noted entry)
   pub allowed : is_allowed plan front entry ≡ true
-  pub told : TellsHistory plan (front ++ entry ∷ []) audit
+  pub told : IsAuditOf plan (front ++ entry ∷ []) audit
 
 -- what a line does behind these entries: it is that of one entry more, it is the last line, or it is not good
 abbrev pub TakesLine : PlanParts → List Entry → List ℕ → Step → Audit → Type 0
@@ -65,10 +65,10 @@ abbrev pub FindsPlacement : Option (List Resource) → Option PlanTest → List 
 FindsPlacement resources test places found =
     (p : Placement) → (found ≡ Some p) ↔ (IsPlacementFor resources test p × (places ≡ places_of_placement p))
 
--- the entry is allowed and the audit tells it besides, or it is not allowed
+-- the entry is allowed and the audit has seen it besides, or it is not allowed
 abbrev pub NotesLine : PlanParts → List Entry → Entry → Step → Audit → Type 0
 NotesLine plan front e GoesOn audit =
-    (is_allowed plan front e ≡ true) × TellsHistory plan (front ++ e ∷ []) audit
+    (is_allowed plan front e ≡ true) × IsAuditOf plan (front ++ e ∷ []) audit
 NotesLine plan front e Ends audit = ⊥
 NotesLine plan front e IsBad audit = is_allowed plan front e ≡ false
 
@@ -78,7 +78,7 @@ TakesEntryOr plan front line GoesOn audit =
     (e : Entry)
     × (line ≡ noted e)
     × (is_allowed plan front e ≡ true)
-    × TellsHistory plan (front ++ e ∷ []) audit
+    × IsAuditOf plan (front ++ e ∷ []) audit
 TakesEntryOr plan front line Ends audit = ⊥
 TakesEntryOr plan front line IsBad audit = (e : Entry) → is_allowed plan front e ≡ true → line ≡ noted e → ⊥
 

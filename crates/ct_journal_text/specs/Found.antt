@@ -6,7 +6,7 @@ use Rattle.ct_history.specs.declared.plan.PlanParts.{PlanParts}
 use Rattle.ct_history.specs.declared.history.Entry.{Entry}
 use Rattle.ct_history.specs.Legal.{IsComplete, is_allowed_so_far, is_legal}
 use Rattle.ct_audit.specs.declared.audit.Audit.{Audit}
-use Rattle.ct_audit.specs.Tells.{TellsHistory, is_at_end}
+use Rattle.ct_audit.specs.Audited.{IsAuditOf, is_at_end}
 use Rattle.ct_journal_text.specs.declared.lines.JournalLine.TheVariants as Line
 use Rattle.ct_journal_text.specs.Journal.{EntriesFit, entry_lines, full_line, journal_of, journal_line_text}
 use Rattle.ct_journal_text.specs.Checked.{IsNoEntry}
@@ -82,10 +82,10 @@ Finds plan text (Some number) = ((number ≡ 1) × LacksFirst text) ⊎ IsRefuse
 abbrev pub IsSoleFinding : PlanParts → List ℕ → Option ℕ → Type 0
 IsSoleFinding plan text found = (other : Option ℕ) → Finds plan text other → found ≡ other
 
--- so far, the audit tells the entries whose lines were read, and the rest of the text stands behind them
+-- so far, the audit has seen the entries whose lines were read, and the rest of the text stands behind them
 pub record IsReading (plan : PlanParts) (text : List ℕ) (at : ℕ) (audit : Audit) (line : List ℕ) (count : ℕ)
     (entries : List Entry) : Type 0 where
-  pub told : TellsHistory plan entries audit
+  pub told : IsAuditOf plan entries audit
   pub stands : StandsAt plan text entries line (drop at text)
   pub count_is : count ≡ length entries
   pub few : count ≤ at

@@ -45,7 +45,7 @@ with_digit number byte = min (min (number * 10) most + (byte - 48)) most
 abbrev pub number_written : List ℕ → ℕ
 number_written text = fold with_digit 0 text
 
--- the same, kept at most at the greatest number of 32 bits
+-- the number that a text of digits writes, kept at most at the greatest number of 32 bits
 abbrev pub short_in : List ℕ → ℕ
 short_in text = min (number_written text) (2 ^ 32 - 1)
 
@@ -91,7 +91,13 @@ hit_in word place = nat_lt place (length word) && get_or word place 0 == 49
 -- what was seen of an attempt, by the words of its line
 abbrev pub seen_in : List (List ℕ) → Seen
 seen_in words =
-    record { how = how_in (word_at words 4); fail_hit = hit_in (word_at words 5) 0; pass_hit = hit_in (word_at words 5) 1; skip_hit = hit_in (word_at words 5) 2; micros = number_written (word_at words 6) }
+    record {
+      how = how_in (word_at words 4);
+      fail_hit = hit_in (word_at words 5) 0;
+      pass_hit = hit_in (word_at words 5) 1;
+      skip_hit = hit_in (word_at words 5) 2;
+      micros = number_written (word_at words 6);
+    }
 
 -- the places of resources, by their word
 abbrev pub places_in_word : List ℕ → List ℕ

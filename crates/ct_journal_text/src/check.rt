@@ -1,7 +1,7 @@
 ghost use Rattle.std.specs.Prelude.{◌≡◌, IfOk, List, length};
 ghost use Rattle.ct_history.specs.declared.history.Entry.{Entry};
 ghost use Rattle.ct_history.specs.Plan.{test_at};
-ghost use Rattle.ct_audit.specs.Tells.{TellsHistory};
+ghost use Rattle.ct_audit.specs.Audited.{IsAuditOf};
 ghost use Rattle.ct_journal_text.specs.Checked.{FindsEntry, FindsPlacement, IsDoneLine, NotesLine, TakesLine, TakesEntryOr};
 
 use crate::placements::placement_at;
@@ -34,7 +34,7 @@ pub fn take_line(
     count: u64,
     line: &[u8],
 ) -> Result<Step, NoMemory>
-    ensures { (front : List Entry) → TellsHistory plan.now front audit.old → count ≡ length front → IfOk result (λ step. TakesLine plan.now front line.now step audit.new) }
+    ensures { (front : List Entry) → IsAuditOf plan.now front audit.old → count ≡ length front → IfOk result (λ step. TakesLine plan.now front line.now step audit.new) }
 {
     match read_line(alloc, line)? {
         Some(JournalLine::Entry(said)) => Ok(take_entry(alloc, plan, audit, said)?),
@@ -45,7 +45,7 @@ pub fn take_line(
 }
 
 fn done_step(plan: &Plan, audit: &Audit, count: u64, entries: u64) -> Step
-    ensures { (front : List Entry) → TellsHistory plan.now front audit.now → count ≡ length front → IsDoneLine plan.now front entries result }
+    ensures { (front : List Entry) → IsAuditOf plan.now front audit.now → count ≡ length front → IsDoneLine plan.now front entries result }
 {
     let ends = audit.is_at_end(plan);
     if entries == count && ends {
@@ -61,7 +61,7 @@ fn take_entry(
     audit: &mut Audit,
     line: EntryLine,
 ) -> Result<Step, NoMemory>
-    ensures { (front : List Entry) → TellsHistory plan.now front audit.old → IfOk result (λ step. TakesEntryOr plan.now front line step audit.new) }
+    ensures { (front : List Entry) → IsAuditOf plan.now front audit.old → IfOk result (λ step. TakesEntryOr plan.now front line step audit.new) }
 {
     match entry_of(alloc, plan, line)? {
         Some(entry) => Ok(note_entry(plan, audit, entry)?),
@@ -70,7 +70,7 @@ fn take_entry(
 }
 
 fn note_entry(plan: &Plan, audit: &mut Audit, entry: Entry) -> Result<Step, NoMemory>
-    ensures { (front : List Entry) → TellsHistory plan.now front audit.old → IfOk result (λ step. NotesLine plan.now front entry step audit.new) }
+    ensures { (front : List Entry) → IsAuditOf plan.now front audit.old → IfOk result (λ step. NotesLine plan.now front entry step audit.new) }
 {
     if audit.allows(plan, &entry) {
         audit.note(plan, entry)?;

@@ -30,7 +30,7 @@ fn said_of(alloc: Global, line: &[u8]) -> Result<Option<JournalLine>, NoMemory>
     }
 }
 
-/// Tells whether a text is that of a line of a journal, without its line feed.
+/// Returns whether a text is that of a line of a journal, without its line feed.
 fn is_text_of(alloc: Global, line: &JournalLine, text: &[u8]) -> Result<bool, NoMemory>
     ensures { IfOk result (λ same. same ≡ bytes_eq (journal_line_text line.now) text.now) }
 {

@@ -1,6 +1,6 @@
 ghost use Rattle.std.specs.Prelude.{◌≡◌, [], ◌<◌, ◌+◌, ◌-◌, ◌^◌, ◌++◌, None, Some, IfOk, IfSome, if◌then◌else◌};
 ghost use Rattle.std.specs.Option.{option_copied};
-ghost use Rattle.ct_audit.specs.Tells.{TellsHistory};
+ghost use Rattle.ct_audit.specs.Audited.{IsAuditOf};
 ghost use Rattle.ct_journal_text.specs.Journal.{full_line};
 ghost use Rattle.ct_journal_text.specs.declared.lines.JournalLine.TheVariants as Line;
 ghost use Rattle.ct_journal_text.specs.Found.{Finds, FindsBehind, IsSoleFinding, LacksFirst};
@@ -53,7 +53,7 @@ fn check_by(
     audit: &mut Audit,
     line: &mut Vec<u8>,
 ) -> Result<Option<u64>, NoMemory>
-    requires fresh { TellsHistory plan.now [] audit.old }
+    requires fresh { IsAuditOf plan.now [] audit.old }
     requires empty { line.old.items ≡ [] }
     ensures { IfOk result (λ found. FindsBehind plan.now text.now found) }
 {

@@ -50,7 +50,7 @@ pub fn journal_within(alloc: Global, entries: &[Entry], most: u64) -> Result<Opt
     }
 }
 
-/// Puts the journal of a history into an empty text, and tells whether it has at most `most` bytes.
+/// Puts the journal of a history into an empty text, and returns whether it has at most `most` bytes.
 ///
 /// Where it has more, the text may lack lines.
 fn fill_within(

@@ -22,7 +22,8 @@ FaultKind = ℕ → LexFault
 pub data IsBrokenUnit : ArgKind → List ℕ → FaultKind → Type 0 where
   escape : {kind : ArgKind} (byte : ℕ) (text : List ℕ) →
       escaped kind byte ≡ None → IsBrokenUnit kind (codes "\\" ++ (byte ∷ text)) (λ line. BadEscape line)
-  no_name : {kind : ArgKind} (text : List ℕ) → IsBrokenUnit kind (codes "${}" ++ text) (λ line. BadReference line)
+  no_name : {kind : ArgKind} (text : List ℕ) →
+      IsBrokenUnit kind (codes "${}" ++ text) (λ line. BadReference line)
   no_brace : {kind : ArgKind} (name : List ℕ) (byte : ℕ) (text : List ℕ) →
       list_all is_name name ≡ true → is_name byte ≡ false → (byte == char "}") ≡ false →
       IsBrokenUnit kind (codes "${" ++ (name ++ (byte ∷ text))) (λ line. BadReference line)

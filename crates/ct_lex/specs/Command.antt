@@ -31,7 +31,8 @@ named name front read = read >>= λ x. Ok (name, x.0, x.1 + front)
 abbrev pub command_by : List ℕ → List ℕ → ℕ → Result CommandRead Stop
 command_by text name paren =
     if paren == length text then Err Ended
-    else (if stands (char "(") paren text then named name (paren + 1) (arguments_from 0 (drop (paren + 1) text))
+    else (if stands (char "(") paren text
+    then named name (paren + 1) (arguments_from 0 (drop (paren + 1) text))
     else refused BadChar (drop paren text))
 
 -- the command at the front of the text, up to its `)`

@@ -15,6 +15,6 @@ abbrev pub read_as : NextArg × ℕ → Arg × ℕ
 read_as x = (arg_of x.0, x.1)
 
 -- the next argument, if there is one
-abbrev pub next_of : {E : Type 0} → Result (Option NextArg) E → Result (Option Arg) E
-next_of (Ok found) = Ok (option_map arg_of found)
-next_of (Err fault) = Err fault
+abbrev pub next_arg : {E : Type 0} → Result (Option NextArg) E → Result (Option Arg) E
+next_arg (Ok found) = Ok (option_map arg_of found)
+next_arg (Err fault) = Err fault

@@ -35,8 +35,13 @@ text_from kind zero (byte ∷ rest) =
 abbrev pub bracket_by : List ℕ → ℕ → Option ℕ → Result (Arg × ℕ) Stop
 bracket_by text n None = refused OpenBracket text
 bracket_by text n (Some inside) =
-    Ok
-    (record { kind = Bracket; parts = with_bytes (without_feed (take inside (drop (n + 2) text))) [] }, bracket_len n inside)
+    Ok (
+      record {
+        kind = Bracket;
+        parts = with_bytes (without_feed (take inside (drop (n + 2) text))) [];
+      },
+      bracket_len n inside,
+    )
 
 -- the quoted argument at the front of the text, given what was read of the text inside
 abbrev pub quoted_by : List ℕ → Result (List Part × ℕ) Stop → Result (Arg × ℕ) Stop

@@ -1,6 +1,6 @@
 ghost use Rattle.std.specs.Prelude.{◌≡◌, ◌≤◌, length, IfOk};
 ghost use Rattle.ct_lex.specs.Args.{TakesFirst};
-ghost use Rattle.ct_lex.specs.Next.{next_of};
+ghost use Rattle.ct_lex.specs.Next.{next_arg};
 ghost use Rattle.ct_lex.specs.Stop.{GivesRead};
 ghost use Rattle.ct_lex.specs.Text.{arguments_from};
 
@@ -94,7 +94,7 @@ impl<'a> ArgReader<'a> {
     ///
     /// An `Err` changes nothing.
     pub fn lend_next(&mut self, alloc: Global) -> Result<Option<NextArg<'a>>, NoMemory>
-        ensures { TakesFirst self.old (next_of result) self.new }
+        ensures { TakesFirst self.old (next_arg result) self.new }
     {
         let text = self.rest;
         match first_argument(alloc, text)? {

@@ -10,7 +10,7 @@ ghost use Rattle.ct_lex.specs.Text.{text_from, plain_argument, argument_by, argu
 use crate::bracket::{closing, gap_at, opening};
 use crate::bytes::stands;
 use crate::call::{Arg, ArgKind, NextArg, Part};
-use crate::extent::argument_len;
+use crate::lengths::argument_len;
 use crate::parts::Parts;
 use crate::plain::{ends_text, plain_len};
 use crate::stop::Stop;

@@ -29,7 +29,7 @@ pub fn opening(text: &[u8]) -> Option<usize>
     }
 }
 
-/// Tells whether a text begins with a bracket closing with `n` times `=`.
+/// Returns whether a text begins with a bracket closing with `n` times `=`.
 fn closes(n: usize, text: &[u8]) -> bool
     ensures value { result ≡ closes n text.now }
     ensures within { IsTrue result → n + 2 ≤ length text.now }

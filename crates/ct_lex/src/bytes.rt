@@ -1,49 +1,49 @@
 ghost use Rattle.std.specs.Prelude.{◌≡◌, length};
 ghost use Rattle.ct_lex.specs.Bytes.{is_space, is_blank, is_gap, begins_word, is_word, is_name, stands, feeds};
 
-/// Tells whether a byte is a space or a tab.
+/// Returns whether a byte is a space or a tab.
 pub fn is_space(byte: u8) -> bool
     ensures { result ≡ is_space byte }
 {
     byte == b' ' || byte == b'\t'
 }
 
-/// Tells whether a byte is a blank: a space, a tab or a carriage return.
+/// Returns whether a byte is a blank: a space, a tab or a carriage return.
 pub fn is_blank(byte: u8) -> bool
     ensures { result ≡ is_blank byte }
 {
     is_space(byte) || byte == b'\r'
 }
 
-/// Tells whether a byte is a blank or a line feed, which separate arguments and commands.
+/// Returns whether a byte is a blank or a line feed, which separate arguments and commands.
 pub fn is_gap(byte: u8) -> bool
     ensures { result ≡ is_gap byte }
 {
     is_blank(byte) || byte == b'\n'
 }
 
-/// Tells whether an identifier can begin with a byte.
+/// Returns whether an identifier can begin with a byte.
 pub fn begins_word(byte: u8) -> bool
     ensures { result ≡ begins_word byte }
 {
     byte.is_ascii_alphabetic() || byte == b'_'
 }
 
-/// Tells whether an identifier can go on with a byte.
+/// Returns whether an identifier can go on with a byte.
 pub fn is_word(byte: u8) -> bool
     ensures { result ≡ is_word byte }
 {
     byte.is_ascii_alphanumeric() || byte == b'_'
 }
 
-/// Tells whether a byte can stand in a variable's name in a reference.
+/// Returns whether a byte can stand in a variable's name in a reference.
 pub fn is_name(byte: u8) -> bool
     ensures { result ≡ is_name byte }
 {
     is_word(byte) || byte == b'.' || byte == b'/' || byte == b'+' || byte == b'-'
 }
 
-/// Tells whether a text has that byte at that place, counted from 0.
+/// Returns whether a text has that byte at that place, counted from 0.
 pub fn stands(text: &[u8], at: usize, byte: u8) -> bool
     ensures { result ≡ stands byte at text.now }
 {

@@ -63,7 +63,7 @@ pub fn command(alloc: Global, text: &[u8]) -> Result<(Name, Args, usize), Halt>
     Ok((name, args, taken + paren + 1))
 }
 
-/// Tells whether the text behind a gap is still on the line of the command in front of it. Only a
+/// Returns whether the text behind a gap is still on the line of the command in front of it. Only a
 /// line feed ends that.
 fn stays_behind(behind: bool, first: u8) -> bool
     ensures { result ≡ stays_behind behind first }

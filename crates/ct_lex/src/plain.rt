@@ -5,7 +5,7 @@ ghost use Rattle.ct_lex.specs.Argument.{ends_text, is_plain};
 use crate::bytes::is_gap;
 use crate::call::ArgKind;
 
-/// Tells whether a byte ends the text of an argument.
+/// Returns whether a byte ends the text of an argument.
 pub fn ends_text(kind: ArgKind, byte: u8) -> bool
     ensures { result ≡ ends_text kind byte }
 {
@@ -18,14 +18,14 @@ pub fn ends_text(kind: ArgKind, byte: u8) -> bool
     }
 }
 
-/// Tells whether a byte stands for itself in the text of an argument.
+/// Returns whether a byte stands for itself in the text of an argument.
 fn is_plain(kind: ArgKind, byte: u8) -> bool
     ensures { result ≡ is_plain kind byte }
 {
     !(ends_text(kind, byte) || (byte == b'\\' || byte == b'$'))
 }
 
-/// Tells whether a byte stands for itself in a quoted argument.
+/// Returns whether a byte stands for itself in a quoted argument.
 ///
 /// Nearly every byte is greater than `$`, so two comparisons are enough.
 fn is_plain_quoted(byte: u8) -> bool
@@ -38,7 +38,7 @@ fn is_plain_quoted(byte: u8) -> bool
     }
 }
 
-/// Tells whether a byte stands for itself in an unquoted argument.
+/// Returns whether a byte stands for itself in an unquoted argument.
 ///
 /// Nearly every byte is greater than `)`, so two comparisons are enough.
 fn is_plain_unquoted(byte: u8) -> bool

@@ -19,7 +19,7 @@ pub enum Unit<'a> {
     Ref(&'a [u8]),
 }
 
-/// Tells what a backslash in front of a line feed stands for.
+/// Returns what a backslash in front of a line feed stands for.
 fn joined_line(kind: ArgKind) -> Option<Unit<'static>>
     ensures { option_map (λ unit. piece_of unit) result ≡ joined_line kind }
 {
@@ -29,7 +29,7 @@ fn joined_line(kind: ArgKind) -> Option<Unit<'static>>
     }
 }
 
-/// Tells what a backslash and the byte behind it stand for.
+/// Returns what a backslash and the byte behind it stand for.
 fn escaped(kind: ArgKind, byte: u8) -> Option<Unit<'static>>
     ensures { option_map (λ unit. piece_of unit) result ≡ escaped kind byte }
 {
@@ -85,7 +85,7 @@ fn reference_at(text: &[u8]) -> Result<(Unit<'_>, usize), Stop>
     }
 }
 
-/// Tells whether a `$` in front of this text begins a reference, be it one that is refused.
+/// Returns whether a `$` in front of this text begins a reference, be it one that is refused.
 fn begins_reference(text: &[u8]) -> bool
     ensures { result ≡ begins_reference text.now }
 {

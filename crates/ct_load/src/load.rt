@@ -47,7 +47,7 @@ pub fn load_main<R: Threads + Wait + Sync, S: Sink>(
 {
     match asked_count(words) {
         Some(count) => load(rt, alloc, count, sink),
-        None => tell_usage(sink),
+        None => report_usage(sink),
     }
 }
 
@@ -72,7 +72,7 @@ fn count_within(count: u64) -> Option<u32>
 }
 
 /// Puts the line that says which words a load takes.
-fn tell_usage<S: Sink>(mut sink: S) -> Loaded<S>
+fn report_usage<S: Sink>(mut sink: S) -> Loaded<S>
     ensures line { Tries usage_line (S.tells sink) (S.tells result.sink) }
     ensures none { result.run ≡ None }
     ensures status { result.status ≡ 1 }

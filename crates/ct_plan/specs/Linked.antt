@@ -16,8 +16,9 @@ use Rattle.ct_plan.specs.declared.fault.PlanFault.TheVariants.{Cycle, TooManyEdg
 use Rattle.ct_plan.specs.declared.standing.Standing.{Standing}
 use Rattle.ct_plan.specs.Planned.{IsFixed, rules_of, shared_by}
 use Rattle.ct_plan.specs.Queue.{standing_there}
+use Rattle.ct_groups.specs.GroupsIn.{needs_of_groups}
 
--- the resources that are lent, if any are, by the value that tells what is free of them
+-- the resources that are lent, if any are, by the value of what is free of them
 abbrev pub lent : Option FreeValue → Option (List Resource)
 lent free = option_map (λ (f : FreeValue). f.resources) free
 
@@ -37,7 +38,7 @@ test_from level link def props fixed = record {
   shared = shared_by props;
   serial = props.serial;
   rules = rules_of props;
-  needs = props.groups.needs;
+  needs = needs_of_groups props.groups;
   before = link.before;
   setups = link.setups;
   rank = link.rank;

@@ -16,6 +16,7 @@ use Rattle.ct_verdict.specs.declared.verdict.Cause.TheVariants.{NotAvailable, Ba
 use Rattle.ct_history.specs.declared.plan.PlanTest.{PlanTest}
 use Rattle.ct_plan.specs.Source.{Source, members_before, setup_members}
 use Rattle.ct_base.specs.Names.{is_among}
+use Rattle.ct_groups.specs.GroupsIn.{needs_of_groups}
 
 -- how an exit of the test is judged
 abbrev pub rules_of : Props → Rules
@@ -56,7 +57,7 @@ IsFixedBy None Fits (Some _) = ⊥
 -- where its needs fit nowhere; else none
 abbrev pub IsFixed : Option (List Resource) → TestDef → Props → Option Cause → Type 0
 IsFixed resources def props cause =
-    IsFixedBy (own_cause def props) (ArePlaceable resources props.groups.needs) cause
+    IsFixedBy (own_cause def props) (ArePlaceable resources (needs_of_groups props.groups)) cause
 
 -- the names without those of the locks
 abbrev pub without : List (List ℕ) → List (List ℕ) → List (List ℕ)
@@ -77,7 +78,7 @@ planned_test s number def props rank fixed = record {
   shared = shared_by props;
   serial = props.serial;
   rules = rules_of props;
-  needs = props.groups.needs;
+  needs = needs_of_groups props.groups;
   before = members_before s number;
   setups = setup_members s number;
   rank = rank;

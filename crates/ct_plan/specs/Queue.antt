@@ -8,22 +8,21 @@ use Rattle.ct_props.specs.declared.props.Props.{Props}
 use Rattle.ct_props.specs.Numbered.{at_number}
 use Rattle.ct_history.specs.declared.plan.PlanTest.{PlanTest}
 use Rattle.ct_history.specs.Plan.{enabled}
-use Rattle.ct_cost.specs.CostLine.{cost_of}
 use Rattle.ct_cost.specs.declared.cost_data.CostData.{CostData}
 use Rattle.ct_plan.specs.declared.standing.Standing.{Standing}
 use Rattle.ct_plan.specs.Source.{Source}
-use Rattle.ct_base.specs.Names.{is_among}
+use Rattle.ct_cost.specs.Costs.{cost_of_name, failed_last}
 
--- the cost of a test: what its property says, else what earlier runs tell of its name, else 0
+-- the cost of a test: what its property says, else what the cost data says of its name, else 0
 abbrev pub cost_in : CostData → TestDef → Props → ℕ
-cost_in costs def props = unwrap_or props.cost (unwrap_or (cost_of costs.lines def.name) 0)
+cost_in costs def props = unwrap_or props.cost (unwrap_or (cost_of_name costs def.name) 0)
 
 -- the standing of the test with this number, if it is there
 abbrev pub standing_there : CostData → ℕ → Option TestDef → Option Props → Option Standing
 standing_there costs number None props = None
 standing_there costs number (Some def) None = None
 standing_there costs number (Some def) (Some props) =
-    Some (record { failed = is_among def.name costs.failed; cost = cost_in costs def props; number = number })
+    Some (record { failed = failed_last costs def.name; cost = cost_in costs def props; number = number })
 
 -- the standing of the test with this number, if it is there
 abbrev pub standing_of : Source → ℕ → Option Standing
@@ -48,7 +47,7 @@ abbrev pub goes_first_there : ℕ → Option Standing → Option Standing → Bo
 goes_first_there level (Some one) (Some other) = goes_first level one other
 goes_first_there level _ _ = false
 
--- the queue of these tests at this level, where `standing` tells by its number how each of them stands: each
+-- the queue of these tests at this level, where `standing` gives by its number how each of them stands: each
 -- that is not disabled is in it once, and in front of those that it goes before
 pub record IsQueue
     (level : ℕ) (standing : ℕ → Option Standing) (tests : List PlanTest) (queue : List ℕ) : Type 0 where

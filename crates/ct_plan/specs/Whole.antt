@@ -28,7 +28,8 @@ abbrev pub standing_behind : ℕ → List TestDef → List Props → CostData �
 standing_behind offset defs props costs number =
     standing_there costs (number + offset) (at_number defs number) (at_number props number)
 
--- the standing of the test with this number among these trees, by what its own tree tells of it, if it is there
+-- the standing of the test with this number among these trees, by what its own tree says of it, if it is
+-- there
 abbrev pub standing_in_trees : ℕ → List Tree → ℕ → Option Standing
 standing_in_trees offset [] number = None
 standing_in_trees offset (tree ∷ trees) number =
@@ -54,7 +55,8 @@ pub record RunsLike (plan : PlanParts) (tree : Tree) : Type 0 where
 abbrev pub RunAlike : List Tree → Type 0
 RunAlike trees = IsSomeAnd (slice_get trees 0) (λ (first : Tree). All (RunsLike first.plan) trees)
 
--- the whole plan of these trees: the folder of the first one, all tests, and one queue of all, by the one rule
+-- the whole plan of these trees: the folder of the first one, all tests, and one queue of all, by the one
+-- rule
 pub record IsWholePlan (trees : List Tree) (plan : PlanParts) : Type 0 where
   pub dir : IsSomeAnd (slice_get trees 0) (λ (first : Tree). plan.dir ≡ first.plan.dir)
   pub tests : plan.tests ≡ tests_of_trees 0 trees

@@ -7,7 +7,7 @@ use ct_graph::GraphFault;
 #[derive(Debug, Drop)]
 pub enum PlanFault {
     /// The numbers of the tests of a cycle: each has the next one before it, and the last has the
-    /// first before it. Which cycle is told is left open.
+    /// first before it. Which cycle is returned is left open.
     Cycle(List<u32>),
     /// More than `ct_graph::MOST_EDGES` tests come before the tests of the run, counted for each of
     /// them.

@@ -4,7 +4,7 @@ ghost use Rattle.ct_plan.specs.Linked.{AreLinked, IsUnused, lent, test_from};
 ghost use Rattle.ct_plan.specs.Planned.{ArePlaceable, IsFixed, IsFixedBy, is_not_available as stands_for_none, own_cause as cause_of_words, rules_of, without as names_without};
 
 use ct_alloc::Free;
-use ct_base::{List, Name, Need, NoMemory, TestDef, name_set};
+use ct_base::{List, Name, Need, NoMemory, TestDef, copy_names, name_set};
 use ct_env::bad_operation;
 use ct_graph::Links;
 use ct_history::PlanTest;
@@ -12,7 +12,7 @@ use ct_props::Props;
 use ct_verdict::{Cause, Rules};
 use std::alloc::Global;
 
-/// Plans the tests with these links, at `level` processors. `free` tells what is free of the
+/// Plans the tests with these links, at `level` processors. `free` is what is free of the
 /// resources that are lent: all of them.
 pub(crate) fn plan_tests(
     alloc: Global,
@@ -64,16 +64,6 @@ fn plan_test(
         fixed,
         labels: copy_names(alloc, own.labels.as_slice())?,
     })
-}
-
-pub(crate) fn copy_names(alloc: Global, names: &[Name]) -> Result<List<Name>, NoMemory>
-    ensures { IfOk result (λ copies. copies ≡ names.now) }
-{
-    let mut copies = List::from_vec(Vec::with_capacity(alloc, names.len())?);
-    for name in names {
-        copies.push(name.copy(alloc)?)?;
-    }
-    Ok(copies)
 }
 
 /// Copies the names that are none of the locks.
@@ -171,7 +161,7 @@ fn insufficient(
     }
 }
 
-/// Tells whether a command stands for a program that CMake did not find.
+/// Returns whether a command stands for a program that CMake did not find.
 ///
 /// Source: CMake manual, add_test. CMake writes this for a target that was not built.
 fn is_not_available(command: &[Name]) -> bool

@@ -5,11 +5,11 @@ ghost use Rattle.ct_history.specs.Plan.{IsSound, enabled};
 ghost use Rattle.ct_plan.specs.Queue.{IsQueue};
 ghost use Rattle.ct_plan.specs.Whole.{AreTreeParts, IsPlannedTree, IsWholePlan, RunAlike, StaysNumbered, defined_in, standing_behind, standing_in_trees, tests_of_trees};
 
-use crate::planned::{copy_names, copy_needs};
+use crate::planned::copy_needs;
 use crate::planning::copied_resources;
 use crate::queue::{enabled_numbers, numbers_of, sorted};
 use crate::standing::Standing;
-use ct_base::{List, NoMemory, Resource, TestDef};
+use ct_base::{List, NoMemory, Resource, TestDef, copy_names};
 use ct_cost::CostData;
 use ct_history::{Plan, PlanParts, PlanTest};
 use ct_props::Props;

@@ -20,12 +20,18 @@ why_not (Err kind) = Some kind
 -- the keys whose values can be refused, in byte order, each with why it is refused, if it is
 abbrev pub refusals : List Pair → List (List ℕ × Option PropKind)
 refusals props =
-    (codes "COST", why_not (seconds_in (value_of_key props (codes "COST")))) ∷
-    (codes "FAIL_REGULAR_EXPRESSION", why_not (patterns_in (text_of_key props (codes "FAIL_REGULAR_EXPRESSION")))) ∷
-    (codes "PASS_REGULAR_EXPRESSION", why_not (patterns_in (text_of_key props (codes "PASS_REGULAR_EXPRESSION")))) ∷
+    (codes "COST", why_not (seconds_in (value_of_key props (codes "COST")))) ∷ (
+      codes "FAIL_REGULAR_EXPRESSION",
+      why_not (patterns_in (text_of_key props (codes "FAIL_REGULAR_EXPRESSION"))),
+    ) ∷ (
+      codes "PASS_REGULAR_EXPRESSION",
+      why_not (patterns_in (text_of_key props (codes "PASS_REGULAR_EXPRESSION"))),
+    ) ∷
     (codes "PROCESSORS", why_not (processors_in (value_of_key props (codes "PROCESSORS")))) ∷
-    (codes "RESOURCE_GROUPS", why_not (resource_groups_in (text_of_key props (codes "RESOURCE_GROUPS")))) ∷
-    (codes "SKIP_REGULAR_EXPRESSION", why_not (patterns_in (text_of_key props (codes "SKIP_REGULAR_EXPRESSION")))) ∷
+    (codes "RESOURCE_GROUPS", why_not (resource_groups_in (text_of_key props (codes "RESOURCE_GROUPS")))) ∷ (
+      codes "SKIP_REGULAR_EXPRESSION",
+      why_not (patterns_in (text_of_key props (codes "SKIP_REGULAR_EXPRESSION"))),
+    ) ∷
     (codes "SKIP_RETURN_CODE", why_not (skip_code_in (value_of_key props (codes "SKIP_RETURN_CODE")))) ∷
     (codes "TIMEOUT", why_not (seconds_in (value_of_key props (codes "TIMEOUT")))) ∷
     []

@@ -55,8 +55,20 @@ fn add_copies(alloc: Global, labels: &mut IndexSet<Vec<u8>>, names: &[Name]) -> 
         ≡ fold with_new_name (map (λ label. label.items) labels.old.keys) names.now) }
 {
     for name in names {
-        labels.insert(Vec::from_slice(alloc, name.bytes())?)?;
+        add_copy(alloc, labels, name)?;
     }
+    Ok(())
+}
+
+/// Adds a copy of a name, unless it is among the labels. Only a new label is copied.
+fn add_copy(alloc: Global, labels: &mut IndexSet<Vec<u8>>, name: &Name) -> Result<(), NoMemory>
+    ensures { OnOk result (map (λ label. label.items) labels.new.keys
+        ≡ with_new_name (map (λ label. label.items) labels.old.keys) name.now) }
+{
+    if labels.contains(name.bytes()) {
+        return Ok(());
+    }
+    labels.insert(Vec::from_slice(alloc, name.bytes())?)?;
     Ok(())
 }
 

@@ -1,7 +1,7 @@
 ghost use Rattle.std.specs.Prelude.{◌≡◌};
 ghost use Rattle.ct_props.specs.Values.{is_same_word as is_same, is_true_text};
 
-/// Tells whether a text is a true value: `1`, `ON`, `YES`, `TRUE` or `Y`, in any case.
+/// Returns whether a text is a true value: `1`, `ON`, `YES`, `TRUE` or `Y`, in any case.
 ///
 /// Source: this project's choice, after the constants of CMake's `if`.
 pub fn is_true(text: &[u8]) -> bool

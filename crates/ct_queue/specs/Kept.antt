@@ -21,7 +21,13 @@ AreMarkedAtZero counts marks =
 -- the ready set of this order, with these standings, lines and bunches
 abbrev pub ready_of : List ℕ → List Standing → List ℕ → List ℕ → ReadyValue
 ready_of order standings lines bunches =
-    record { order = order; counts = map (λ (s : Standing). s.count) standings; outs = map (λ (s : Standing). s.is_out) standings; lines = lines; bunches = bunches }
+    record {
+      order = order;
+      counts = map (λ (s : Standing). s.count) standings;
+      outs = map (λ (s : Standing). s.is_out) standings;
+      lines = lines;
+      bunches = bunches;
+    }
 
 -- the standing of a test that has this count and is not out
 abbrev pub waiting : ℕ → Standing
@@ -34,7 +40,13 @@ standing_at ready place = record { count = count_at ready place; is_out = is_out
 -- the set with this standing for the test at a place
 abbrev pub with_standing : ReadyValue → ℕ → Standing → ReadyValue
 with_standing ready place s =
-    record { order = ready.order; counts = slice_set ready.counts place s.count; outs = slice_set ready.outs place s.is_out; lines = ready.lines; bunches = ready.bunches }
+    record {
+      order = ready.order;
+      counts = slice_set ready.counts place s.count;
+      outs = slice_set ready.outs place s.is_out;
+      lines = ready.lines;
+      bunches = ready.bunches;
+    }
 
 -- what holds of each ready set: each test is found by its number,
 -- and exactly the ready tests are members in their lines and bunches

@@ -53,17 +53,35 @@ is_in_ready_set ready test = is_member ready (place_of ready.order test)
 -- the tests in this order with these counts, lines and bunches; none of them is out
 abbrev pub none_out : List ℕ → List ℕ → List ℕ → List ℕ → ReadyValue
 none_out order counts lines bunches =
-    record { order = order; counts = counts; outs = replicate (length order) false; lines = lines; bunches = bunches }
+    record {
+      order = order;
+      counts = counts;
+      outs = replicate (length order) false;
+      lines = lines;
+      bunches = bunches;
+    }
 
 -- the same set, with one less predecessor of the test that is not final
 abbrev pub lowered : ReadyValue → ℕ → ReadyValue
 lowered ready test =
-    record { order = ready.order; counts = slice_set ready.counts (place_of ready.order test) (predecessors_left ready test - 1); outs = ready.outs; lines = ready.lines; bunches = ready.bunches }
+    record {
+      order = ready.order;
+      counts = slice_set ready.counts (place_of ready.order test) (predecessors_left ready test - 1);
+      outs = ready.outs;
+      lines = ready.lines;
+      bunches = ready.bunches;
+    }
 
 -- the same set, but for whether the test is out
 abbrev pub with_out : ReadyValue → ℕ → Bool → ReadyValue
 with_out ready test is =
-    record { order = ready.order; counts = ready.counts; outs = slice_set ready.outs (place_of ready.order test) is; lines = ready.lines; bunches = ready.bunches }
+    record {
+      order = ready.order;
+      counts = ready.counts;
+      outs = slice_set ready.outs (place_of ready.order test) is;
+      lines = ready.lines;
+      bunches = ready.bunches;
+    }
 
 -- the place is behind the given one, if one is given
 abbrev pub IsBehind : Option ℕ → ℕ → Type 0

@@ -68,7 +68,7 @@ impl Marks {
     }
 }
 
-/// Tells whether one of the two nodes right below a node is marked.
+/// Returns whether one of the two nodes right below a node is marked.
 fn is_marked_below(nodes: &[bool], node: usize) -> bool
     requires { 2 * node + 1 < length nodes.now }
     ensures { result ≡ (is_marked nodes.now (2 * node) || is_marked nodes.now (2 * node + 1)) }

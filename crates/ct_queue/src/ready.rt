@@ -18,7 +18,7 @@ pub(crate) struct Standing {
 }
 
 impl Standing {
-    /// Tells whether the test is a member.
+    /// Returns whether the test is a member.
     fn is_ready(self) -> bool
         ensures { result ≡ ((self.count == 0) && not self.is_out) }
     {
@@ -131,7 +131,7 @@ impl Ready {
         self.put(place, standing);
     }
 
-    /// Tells whether a test is a member.
+    /// Returns whether a test is a member.
     pub fn is_ready(&self, test: u32) -> bool
         requires stands { StandsIn self.now.order test }
         ensures { result ≡ is_in_ready_set self.now test }

@@ -4,9 +4,7 @@ use Rattle.ct_base.specs.declared.defs.Pair.{Pair}
 use Rattle.ct_core.specs.Gate.{GateTell}
 use Rattle.ct_app.specs.Calls.{sides}
 use Rattle.ct_app.specs.Ends.{history_entries}
-use Rattle.ct_edge.specs.Machine.{files_tell, sink_tell}
-use Rattle.ct_edge.specs.declared.real_files.RealFiles.{RealFiles}
-use Rattle.ct_edge.specs.declared.real_sink.RealSink.{RealSink}
+use Rattle.ct_edge.specs.Machine.{RealSinkValue, files_tell, sink_tell}
 use Rattle.ct_journal.specs.Record.{CallEnd, RecordsFor}
 use Rattle.ct_journal.specs.declared.record.Recorded.{Recorded}
 use Rattle.ct_start.specs.declared.fault.BeginFault.{BeginFault}
@@ -23,10 +21,10 @@ end_of_record recorded = record {
 
 -- what a run of these words and variables that keeps its journal came to, on a machine that tells nothing,
 -- and of which no call had failed
-abbrev pub RecordsOnMachine : {R G W : Type 0}
-    → (G → GateTell) → List (List ℕ) → List Pair → Recorded (RealFiles R) G (RealSink W) → Type 0
+abbrev pub RecordsOnMachine : {G W : Type 0}
+    → (G → GateTell) → List (List ℕ) → List Pair → Recorded ℕ G (RealSinkValue W) → Type 0
 RecordsOnMachine gate_tells words env recorded = RecordsFor words (sides words env
-    (files_tell 0) (files_tell recorded.finished.files.faults)
+    (files_tell 0) (files_tell recorded.finished.files)
     unused_gates (map gate_tells recorded.finished.gates.items)
     (sink_tell None 0) (sink_tell None recorded.finished.sink.faults)
     recorded.finished.plan (option_map history_entries recorded.finished.history)) (end_of_record recorded)

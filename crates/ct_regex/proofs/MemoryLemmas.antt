@@ -7,7 +7,7 @@ use Rattle.ct_regex.specs.Walk.{Step}
 use Rattle.std.proofs.lemmas.List.{drop_more}
 use Rattle.ct_regex.specs.Stand.{Stand, a_stand, behind_byte, behind_bytes}
 use Rattle.ct_regex.specs.Met.{marks_of_met}
-use Rattle.ct_regex.specs.Memory.{last_of, stand_in, stand_at, entry_at, Leads, LeadsBy, Remembers}
+use Rattle.ct_regex.specs.Memory.{ends_match, stand_in, stand_at, entry_at, Leads, LeadsBy, Remembers}
 use Rattle.ct_regex.specs.declared.memory.Memory.{Memory}
 use Rattle.ct_regex.specs.declared.memory.Met.{Met}
 
@@ -40,10 +40,10 @@ one_place a b c d h k e = (omega arith, omega arith)
 -- setting one set keeps the stands of the sets below it
 pub stand_in-set : (sets : List Met) (i at : ℕ) (met : Met) → at < i → stand_in (set sets i met) at ≡ stand_in sets at
 stand_in-set sets i at met h =
-    ap (λ (o : Option Met). a_stand (marks_of_met o) (last_of o)) (slice_get-set_other sets i at met (λ e. absurd (omega (arith, h, e))))
+    ap (λ (o : Option Met). a_stand (marks_of_met o) (ends_match o)) (slice_get-set_other sets i at met (λ e. absurd (omega (arith, h, e))))
 
 pub stand_in-set_same : (sets : List Met) (i : ℕ) (met : Met) → i < length sets → stand_in (set sets i met) i ≡ a_stand met.marks.items met.last
-stand_in-set_same sets i met h = ap (λ (o : Option Met). a_stand (marks_of_met o) (last_of o)) (slice_get-set_same sets i met h)
+stand_in-set_same sets i met h = ap (λ (o : Option Met). a_stand (marks_of_met o) (ends_match o)) (slice_get-set_same sets i met h)
 
 pub leads-set : (steps : List Step) (sets : List Met) (i : ℕ) (met : Met) (at byte to : ℕ) → at < i → to < i →
     behind_byte steps (stand_in sets at) byte ≡ stand_in sets to → behind_byte steps (stand_in (set sets i met) at) byte ≡ stand_in (set sets i met) to

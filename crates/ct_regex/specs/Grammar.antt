@@ -18,9 +18,12 @@ MayBegin first byte = (first ≡ true) ⊎ ((byte == close_set) ≡ false)
 -- begin with a `]`.
 pub data IsItems : Bool → List ℕ → List Span → Type 0 where
   closes : IsItems false (close_set ∷ []) []
-  range : {first : Bool} {text : List ℕ} {items : List Span} (low high : ℕ) → MayBegin first low → (high == close_set) ≡ false → low ≤ high →
-      IsItems false text items → IsItems first (low ∷ dash ∷ high ∷ text) (record { low = low; high = high } ∷ items)
-  byte : {first : Bool} {text : List ℕ} {items : List Span} (low : ℕ) → MayBegin first low → is_range text ≡ false →
+  range : {first : Bool} {text : List ℕ} {items : List Span} (low high : ℕ) → MayBegin first low →
+      (high == close_set) ≡ false → low ≤ high →
+      IsItems false text items →
+      IsItems first (low ∷ dash ∷ high ∷ text) (record { low = low; high = high } ∷ items)
+  byte : {first : Bool} {text : List ℕ} {items : List Span} (low : ℕ) →
+      MayBegin first low → is_range text ≡ false →
       IsItems false text items → IsItems first (low ∷ text) (record { low = low; high = low } ∷ items)
 
 -- an atom that is no group: `^`, `$`, `.`, a byte without special meaning, `\c`, `[..]`, `[^..]`
@@ -30,8 +33,10 @@ pub data IsOne : List ℕ → Tree → Type 0 where
   any_byte : IsOne (dot ∷ []) (one any)
   plain : (byte : ℕ) → stands_for_itself byte ≡ true → IsOne (byte ∷ []) (one (same byte))
   escaped : (byte : ℕ) → IsOne (escaping_byte ∷ byte ∷ []) (one (same byte))
-  of_set : {text : List ℕ} {items : List Span} → begins_negated text ≡ false → IsItems true text items → IsOne (open_set ∷ text) (one (inside items))
-  of_negated : {text : List ℕ} {items : List Span} → IsItems true text items → IsOne (open_set ∷ caret ∷ text) (one (outside items))
+  of_set : {text : List ℕ} {items : List Span} → begins_negated text ≡ false → IsItems true text items →
+      IsOne (open_set ∷ text) (one (inside items))
+  of_negated : {text : List ℕ} {items : List Span} → IsItems true text items →
+      IsOne (open_set ∷ caret ∷ text) (one (outside items))
 
 -- `?` may stand behind each atom, `*` and `+` behind each atom that does not match the empty text
 abbrev pub may_stand_behind : Quantifier → Tree → Bool
@@ -54,22 +59,26 @@ mutual
   -- branches, each with a bar behind it
   pub data IsBranches : List ℕ → List Tree → Type 0 where
     no_branch : IsBranches [] []
-    and_branch : {front text : List ℕ} {trees parts : List Tree} → IsBranches front trees → IsBranch text parts →
+    and_branch : {front text : List ℕ} {trees parts : List Tree} → IsBranches front trees →
+        IsBranch text parts →
         IsBranches (front ++ (text ++ upright ∷ [])) (trees ++ sequence_of parts ∷ [])
 
   -- parts, one directly behind the other
   pub data IsBranch : List ℕ → List Tree → Type 0 where
     no_part : IsBranch [] []
-    and_part : {front text : List ℕ} {trees : List Tree} {tree : Tree} → IsBranch front trees → IsPart text tree →
+    and_part : {front text : List ℕ} {trees : List Tree} {tree : Tree} → IsBranch front trees →
+        IsPart text tree →
         IsBranch (front ++ text) (trees ++ tree ∷ [])
 
   -- an atom, or an atom with a quantifier that may stand behind it
   pub data IsPart : List ℕ → Tree → Type 0 where
     bare : {text : List ℕ} {tree : Tree} → IsAtom text tree → IsPart text tree
-    often : {text : List ℕ} {tree : Tree} (quantifier : Quantifier) → IsAtom text tree → may_stand_behind quantifier tree ≡ true →
+    often : {text : List ℕ} {tree : Tree} (quantifier : Quantifier) → IsAtom text tree →
+        may_stand_behind quantifier tree ≡ true →
         IsPart (text ++ byte_of quantifier ∷ []) (repeat quantifier tree)
 
   -- one atom: an atom that is no group, or a pattern between `(` and `)`
   pub data IsAtom : List ℕ → Tree → Type 0 where
     alone : {text : List ℕ} {tree : Tree} → IsOne text tree → IsAtom text tree
-    group : {text : List ℕ} {tree : Tree} → IsPattern text tree → IsAtom (open_group ∷ text ++ close_group ∷ []) tree
+    group : {text : List ℕ} {tree : Tree} → IsPattern text tree →
+        IsAtom (open_group ∷ text ++ close_group ∷ []) tree

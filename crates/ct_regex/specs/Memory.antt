@@ -7,13 +7,13 @@ use Rattle.ct_regex.specs.declared.memory.Met.{Met}
 use Rattle.ct_regex.specs.declared.memory.Memory.{Memory}
 
 -- whether a match ends at a set; no match does where there is no set
-abbrev pub last_of : Option Met → Bool
-last_of None = false
-last_of (Some met) = met.last
+abbrev pub ends_match : Option Met → Bool
+ends_match None = false
+ends_match (Some met) = met.last
 
 -- where a scan stands at the set with a number, in a list of sets
 abbrev pub stand_in : List Met → ℕ → Stand
-stand_in sets at = a_stand (marks_of_met (slice_get sets at)) (last_of (slice_get sets at))
+stand_in sets at = a_stand (marks_of_met (slice_get sets at)) (ends_match (slice_get sets at))
 
 -- where a scan stands at the set with a number
 abbrev pub stand_at : Memory → ℕ → Stand

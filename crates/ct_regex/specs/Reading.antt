@@ -85,7 +85,12 @@ with_quantifier quantifier place group (quantified tree) = Err (NestedRepeat pla
 with_quantifier quantifier place group (bare tree) =
     if may_repeat quantifier tree
     then Ok
-    (record { place = group.place; branches = group.branches; parts = group.parts; last = quantified (repeat quantifier tree) })
+    (record {
+      place = group.place;
+      branches = group.branches;
+      parts = group.parts;
+      last = quantified (repeat quantifier tree);
+    })
     else Err (EmptyRepeat place)
 
 -- the innermost open group, and the groups around it from the inside out
@@ -119,7 +124,8 @@ with_sign groups (opens place) = with_group place groups
 with_sign groups (closes place) = with_close place groups.inner groups.outer
 with_sign groups (often quantifier place) =
     map_ok (λ group.
-    record { inner = group; outer = groups.outer }) (with_quantifier quantifier place groups.inner groups.inner.last)
+    record { inner = group; outer = groups.outer })
+    (with_quantifier quantifier place groups.inner groups.inner.last)
 with_sign groups (fault why) = Err why
 
 -- the tree at the end of the text, or the fault where a group is still open

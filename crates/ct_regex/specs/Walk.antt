@@ -121,7 +121,11 @@ behind_step join byte walk = record {
 }
 behind_step (loop at) byte walk = record {
   flow =
-      record { now = walk.flow.now || slice_index_or walk.marks at false; next = walk.flow.next; last = walk.flow.last };
+      record {
+        now = walk.flow.now || slice_index_or walk.marks at false;
+        next = walk.flow.next;
+        last = walk.flow.last;
+      };
   opened = walk.opened;
   marks = walk.marks;
 }

@@ -1,7 +1,7 @@
 //! The regular expressions of CMake: parsed exactly, and matched by their definition.
 //!
-//! Hands up: `Regex::parse` reads a pattern or returns its first fault, `hit` tells whether a text
-//! has a match anywhere, a `Scan` tells the same of a text in pieces, and a `Matcher` of many texts.
+//! Hands up: `Regex::parse` reads a pattern or returns its first fault, `hit` says whether a text
+//! has a match anywhere, a `Scan` says the same of a text in pieces, and a `Matcher` of many texts.
 //! Read first: `specs/Tree.antt`, `specs/Ends.antt`, `specs/Signs.antt`, `specs/Reading.antt` and
 //! `specs/Scan.antt`. In `specs/Lib.antt`, the files from `Walk` to `Memory` are internal to the matcher.
 #![tactic(auto)]

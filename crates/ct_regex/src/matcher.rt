@@ -1,4 +1,4 @@
-ghost use Rattle.std.specs.Prelude.{◌≡◌, IfOk};
+ghost use Rattle.std.specs.Prelude.{◌≡◌, IfOk, option_map};
 ghost use Rattle.ct_regex.specs.TreeOf.{regex_tree};
 ghost use Rattle.ct_regex.specs.Scan.{IsScanOf};
 
@@ -29,7 +29,17 @@ impl<'a> Matcher<'a> {
         Ok(Matcher { regex, scan })
     }
 
-    /// Tells whether the text has a match anywhere. What the scan learns serves the next texts too.
+    /// Makes the matcher of a pattern, where there is one.
+    pub fn of(alloc: Global, pattern: &'a Option<Regex>) -> Result<Option<Matcher<'a>>, NoMemory>
+        ensures { IfOk result (λ matcher. option_map pattern_of matcher ≡ pattern.now) }
+    {
+        match pattern {
+            Some(pattern) => Ok(Some(Matcher::new(alloc, pattern)?)),
+            None => Ok(None),
+        }
+    }
+
+    /// Returns whether the text has a match anywhere. What the scan learns serves the next texts too.
     pub fn hit(&mut self, text: &[u8]) -> bool
         ensures hit { result ≡ hits (regex_tree (pattern_of self.old)) text.now }
         ensures kept { pattern_of self.new ≡ pattern_of self.old }

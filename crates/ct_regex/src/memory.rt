@@ -131,7 +131,7 @@ impl Memory {
         }
     }
 
-    /// Tells whether a match ends at the set, if the text ends there.
+    /// Returns whether a match ends at the set, if the text ends there.
     pub(crate) fn last(&self, at: u16) -> bool
         ensures { result ≡ (stand_at self.now at).last }
     {

@@ -59,7 +59,7 @@ impl Regex {
         Ok(Regex { root })
     }
 
-    /// Tells whether the text has a match anywhere.
+    /// Returns whether the text has a match anywhere.
     ///
     /// Source: CMake manual, string(REGEX), Regex Specification.
     pub fn hit(&self, alloc: Global, text: &[u8]) -> Result<bool, NoMemory>

@@ -82,38 +82,47 @@ impl Reader {
     fn open(self, alloc: Global, place: u32) -> Result<Reader, RegexFault>
         ensures { Gives groups_of result (with_group place (groups_of self)) }
     {
-        let Reader { level, mut outer } = self;
-        if outer.len() >= MOST_GROUPS {
+        if self.outer.len() >= MOST_GROUPS {
+            drop(self);
             return Err(RegexFault::TooLarge(place));
         }
-        outer = with_level(outer, level)?;
+        let Reader { level, outer } = self;
+        let outer = with_level(outer, level)?;
         Ok(Reader {
             level: Level::new(alloc, place),
             outer,
         })
     }
 
-    fn close(self, place: u32) -> Result<Reader, RegexFault>
+    fn close(mut self, place: u32) -> Result<Reader, RegexFault>
         ensures { Gives groups_of result
             (with_close place (groups_of self).inner (groups_of self).outer) }
     {
-        let Reader { level, mut outer } = self;
-        let Some(around) = outer.pop() else {
+        let Some(around) = self.outer.pop() else {
+            drop(self);
             return Err(RegexFault::StrayClose(place));
         };
-        let group = level.closed()?;
-        let level = around.with_atom(group)?;
-        Ok(Reader { level, outer })
+        let Reader { level, outer } = self;
+        match level.end_in(around) {
+            Ok(level) => Ok(Reader { level, outer }),
+            Err(NoMemory) => {
+                drop(outer);
+                Err(RegexFault::NoMemory)
+            }
+        }
     }
 
     /// Ends the reading: every group has to be closed.
     pub(crate) fn finish(self) -> Result<Node, RegexFault>
         ensures { Gives meaning result (at_end (groups_of self).inner (groups_of self).outer) }
     {
-        let Reader { level, outer } = self;
-        if !outer.is_empty() {
-            return Err(RegexFault::OpenGroup(level.place));
+        if !self.outer.is_empty() {
+            let place = self.level.place;
+            drop(self);
+            return Err(RegexFault::OpenGroup(place));
         }
+        let Reader { level, outer } = self;
+        drop(outer);
         let root = level.closed()?;
         Ok(root)
     }
@@ -201,6 +210,19 @@ impl Level {
         }
     }
 
+    /// Ends this group as an atom of the group around it.
+    fn end_in(self, around: Level) -> Result<Level, NoMemory>
+        ensures { IfOk result (λ level. group_of level ≡ with_atom (closed (group_of self)) (group_of around)) }
+    {
+        match self.closed() {
+            Ok(group) => around.with_atom(group),
+            Err(NoMemory) => {
+                drop(around);
+                Err(NoMemory)
+            }
+        }
+    }
+
     fn closed(self) -> Result<Node, NoMemory>
         ensures { IfOk result (λ node. meaning node ≡ closed (group_of self)) }
     {
@@ -259,7 +281,7 @@ fn may_be_repeated(quantifier: Quantifier, node: &Node) -> bool
     }
 }
 
-/// Tells whether the tree can match the empty text, by the rule for a quantifier behind it.
+/// Returns whether the tree can match the empty text, by the rule for a quantifier behind it.
 #[cycle(can_be_empty)]
 pub(crate) fn can_be_empty(node: &Node) -> bool
     ensures { result ≡ tree_can_be_empty (meaning node.now) }

@@ -101,7 +101,7 @@ impl Scan {
         }
     }
 
-    /// Tells whether the text has a match anywhere, if it ends here. More may be fed afterwards.
+    /// Returns whether the text has a match anywhere, if it ends here. More may be fed afterwards.
     pub fn ended(&self) -> bool
         ensures { (tree : Tree) (text : List ℕ) →
             StandsFor tree text self.now → result ≡ hits tree text }
@@ -109,7 +109,7 @@ impl Scan {
         either(self.found, self.memory.last(self.at))
     }
 
-    /// Tells whether the text has a match, whatever comes behind it. Then `feed` passes over what comes.
+    /// Returns whether the text has a match, whatever comes behind it. Then `feed` passes over what comes.
     ///
     /// A match at the end of the text may show only when one more byte has come.
     pub fn is_decided(&self) -> bool
@@ -168,7 +168,7 @@ struct Gain {
 }
 
 impl Gain {
-    /// Tells how many of the bytes that are left to take by walks before the set that they lead to is
+    /// Returns how many of the bytes that are left to take by walks before the set that they lead to is
     /// looked up: many, if the sets of a full memory hardly ever come again.
     fn walks(&mut self, known: usize, left: usize, is_full: bool) -> usize
         requires some { 0 < left }

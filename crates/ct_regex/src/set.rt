@@ -49,7 +49,7 @@ fn first_item(negated: bool) -> usize
     if negated { 2 } else { 1 }
 }
 
-/// Tells whether the byte is the `]` that ends the set. The first byte of a set does not end it.
+/// Returns whether the byte is the `]` that ends the set. The first byte of a set does not end it.
 fn ends_set(byte: u8, items: &[Span]) -> bool
     ensures { result ≡ ((byte == close_set) && not (is_none items.now)) }
 {
@@ -65,7 +65,7 @@ fn item_len(rest: &[u8]) -> usize
     if is_range(rest) { 3 } else { 1 }
 }
 
-/// Tells whether the set is negated by a `^`.
+/// Returns whether the set is negated by a `^`.
 fn is_negated(rest: &[u8]) -> bool
     ensures { result ≡ begins_negated rest.now }
 {
@@ -75,7 +75,7 @@ fn is_negated(rest: &[u8]) -> bool
     }
 }
 
-/// Tells whether the bytes behind the first byte of an item make it a range.
+/// Returns whether the bytes behind the first byte of an item make it a range.
 fn is_range(rest: &[u8]) -> bool
     ensures { result ≡ is_range_in rest.now }
 {

@@ -17,7 +17,7 @@ use Rattle.std.proofs.lemmas.List.Sums.{fold-append}
 use Rattle.std.proofs.lemmas.Map.Lookups.{exact_bytes}
 use Rattle.std.proofs.lemmas.Slice.Eq.{bytes_eq-Decides}
 use Rattle.ct_base.proofs.NameLemmas.{by_bytes, same_name}
-use Rattle.ct_report.specs.Labels.{kept_labels, count_at, CountsLabel, CountsLabels}
+use Rattle.ct_report.specs.Labels.{kept_labels, label_count, CountsLabel, CountsLabels}
 
 -- what is folded over one list and then over another is folded over both in a row
 pub fold_behind : {A B : Type 0} (f : B → A → B) (a : B) (xs ys : List A) → fold f (fold f a xs) ys ≡ fold f a (xs ++ ys)
@@ -96,15 +96,15 @@ at_same : (labels : List (List ℕ)) (label other : List ℕ) (b : Bool) → lis
 at_same labels label other b is same = ap (λ l. list_any (bytes_eq l) labels) ((bytes_eq-Decides other label).0 same) ∙ is
 
 module _ {Y : Type 0} where
-  counted_by : (before : BTreeMap (Vec ℕ Y) ℕ) (label other : List ℕ) (is : Bool) → bytes_eq label other ≡ is → unwrap_or (cond is (Some (count_at before label + 1)) (seen before.entries other)) 0 ≡ count_at before other + cond is 1 0
-  counted_by before label other true is = ap (λ l. count_at before l + 1) ((bytes_eq-Decides label other).0 is)
-  counted_by before label other false is = sym (add-zero (count_at before other))
+  counted_by : (before : BTreeMap (Vec ℕ Y) ℕ) (label other : List ℕ) (is : Bool) → bytes_eq label other ≡ is → unwrap_or (cond is (Some (label_count before label + 1)) (seen before.entries other)) 0 ≡ label_count before other + cond is 1 0
+  counted_by before label other true is = ap (λ l. label_count before l + 1) ((bytes_eq-Decides label other).0 is)
+  counted_by before label other false is = sym (add-zero (label_count before other))
 
   -- where one more than before is kept at a label, one more test is counted there
-  pub counts_label : (before after : BTreeMap (Vec ℕ Y) ℕ) (key : Vec ℕ Y) → after.entries ≡ insert_entry (λ (x y : Vec ℕ Y). slice_cmp nat_cmp x.items y.items) before.entries key (count_at before key.items + 1) → CountsLabel key.items before after
+  pub counts_label : (before after : BTreeMap (Vec ℕ Y) ℕ) (key : Vec ℕ Y) → after.entries ≡ insert_entry (λ (x y : Vec ℕ Y). slice_cmp nat_cmp x.items y.items) before.entries key (label_count before key.items + 1) → CountsLabel key.items before after
   counts_label before after key is = λ other.
       ap (λ es. unwrap_or (seen es other) 0) is
-      ∙ ap (λ found. unwrap_or found 0) (seen-insert_entry before.entries key (count_at before key.items + 1) other)
+      ∙ ap (λ found. unwrap_or found 0) (seen-insert_entry before.entries key (label_count before key.items + 1) other)
       ∙ counted_by before key.items other (bytes_eq key.items other) refl
 
   module _ (before now : BTreeMap (Vec ℕ Y) ℕ) (labels : List (List ℕ)) (at : ℕ) (label : List ℕ) (within : at < length labels) (counted : CountsLabels (take at labels) before now) where
@@ -116,13 +116,13 @@ module _ {Y : Type 0} where
     counts_first after is first counts = λ other.
         counts other
         ∙ ap (λ n. n + cond (bytes_eq label other) 1 0) (counted other)
-        ∙ ap (λ b. (count_at before other + cond (list_any (bytes_eq other) (take at labels)) 1 0) + cond b 1 0) (nat_list_eq_equiv.symm label other)
-        ∙ first_here (count_at before other) (list_any (bytes_eq other) (take at labels)) (bytes_eq other label) (at_same (take at labels) label other false first)
-        ∙ ap (λ l. count_at before other + cond (list_any (bytes_eq other) (take at labels) || bytes_eq other l) 1 0) is
-        ∙ ap (λ b. count_at before other + cond b 1 0) (sym (more other))
+        ∙ ap (λ b. (label_count before other + cond (list_any (bytes_eq other) (take at labels)) 1 0) + cond b 1 0) (nat_list_eq_equiv.symm label other)
+        ∙ first_here (label_count before other) (list_any (bytes_eq other) (take at labels)) (bytes_eq other label) (at_same (take at labels) label other false first)
+        ∙ ap (λ l. label_count before other + cond (list_any (bytes_eq other) (take at labels) || bytes_eq other l) 1 0) is
+        ∙ ap (λ b. label_count before other + cond b 1 0) (sym (more other))
 
     -- a label that was listed before is not counted again
     pub counts_again : label ≡ get_or labels at label → list_any (bytes_eq label) (take at labels) ≡ true → CountsLabels (take (at + 1) labels) before now
     counts_again is again = λ other.
         counted other
-        ∙ ap (λ b. count_at before other + cond b 1 0) (not_first (list_any (bytes_eq other) (take at labels)) (bytes_eq other label) (at_same (take at labels) label other true again) ∙ ap (λ l. list_any (bytes_eq other) (take at labels) || bytes_eq other l) is ∙ sym (more other))
+        ∙ ap (λ b. label_count before other + cond b 1 0) (not_first (list_any (bytes_eq other) (take at labels)) (bytes_eq other label) (at_same (take at labels) label other true again) ∙ ap (λ l. list_any (bytes_eq other) (take at labels) || bytes_eq other l) is ∙ sym (more other))

@@ -3,5 +3,4 @@ pub mod ListLemmas
 pub mod LineLemmas
 pub mod LabelLemmas
 pub mod TotalLemmas
-pub mod PlaceLemmas
 pub mod RunLineLemmas

@@ -11,7 +11,7 @@ use Rattle.ct_history.specs.declared.history.Entry.{Entry}
 use Rattle.ct_history.specs.Verdicts.{are_all_final, verdict_in, is_failing_in, is_final_in}
 use Rattle.ct_history.proofs.BoolLemmas.{all_at}
 use Rattle.ct_report.specs.declared.totals.Totals.{Totals}
-use Rattle.ct_report.specs.Labels.{count_at, HasRoom}
+use Rattle.ct_report.specs.Labels.{label_count, CanCountMore}
 use Rattle.ct_report.specs.Report.{failed_lines, has_label, is_good_in, is_unrun_in, label_line, label_lines, labelled_count, labelled_good_count, labels_in_order, listed_line, under}
 use Rattle.ct_report.specs.Totals.{AddsToTotals, AreTotals}
 
@@ -44,8 +44,8 @@ pub counted_below : (count bound : ℕ) (counted : PlanTest → Bool) (tests : L
 counted_below count bound counted tests at within below is = fewer bound at count (count_by counted (take at tests)) (length (take at tests)) below is (count_by-le-length counted (take at tests)) (length-take-le at tests (omega (arith, within)))
 
 -- what is counted in front of a place leaves room for one test more
-pub has_room : {Y : Type 0} (counts : BTreeMap (Vec ℕ Y) ℕ) (counted : List ℕ → PlanTest → Bool) (tests : List PlanTest) (at : ℕ) → at < length tests → at < 2 ^ 64 - 1 → ((label : List ℕ) → count_at counts label ≡ count_by (counted label) (take at tests)) → HasRoom counts
-has_room counts counted tests at within below are = λ label. counted_below (count_at counts label) (2 ^ 64 - 1) (counted label) tests at within below (are label)
+pub has_room : {Y : Type 0} (counts : BTreeMap (Vec ℕ Y) ℕ) (counted : List ℕ → PlanTest → Bool) (tests : List PlanTest) (at : ℕ) → at < length tests → at < 2 ^ 64 - 1 → ((label : List ℕ) → label_count counts label ≡ count_by (counted label) (take at tests)) → CanCountMore counts
+has_room counts counted tests at within below are = λ label. counted_below (label_count counts label) (2 ^ 64 - 1) (counted label) tests at within below (are label)
 
 -- the totals of the tests in front of one, and of that one too
 module _ (plan : PlanParts) (entries : List Entry) (tests : List PlanTest) (at : ℕ) (t : PlanTest) (within : at < length tests) (is : t ≡ get_or tests at t) (before after : Totals) (were : AreTotals plan entries (take at tests) before) where
@@ -86,7 +86,7 @@ pub two_behind : {A : Type 0} (front : List A) (one two : A) (rest : List A) →
 two_behind front one two rest = simp append_assoc
 
 -- the lines of the labels, by the counts of the totals
-pub lines_are : (plan : PlanParts) (entries : List Entry) (totals : Totals) (labels : List (List ℕ)) → AreTotals plan entries plan.tests totals → labels ≡ labels_in_order plan.tests → map (λ label. label_line label (count_at totals.labelled_good label) (count_at totals.labelled label)) labels ≡ label_lines plan entries
+pub lines_are : (plan : PlanParts) (entries : List Entry) (totals : Totals) (labels : List (List ℕ)) → AreTotals plan entries plan.tests totals → labels ≡ labels_in_order plan.tests → map (λ label. label_line label (label_count totals.labelled_good label) (label_count totals.labelled label)) labels ≡ label_lines plan entries
 lines_are plan entries totals labels are names =
     (λ i. map (λ label. label_line label (are.labelled_good label i) (are.labelled label i)) labels)
     ∙ ap (λ ls. map (λ label. label_line label (labelled_good_count plan entries label) (labelled_count plan label)) ls) names

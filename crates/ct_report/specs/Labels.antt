@@ -14,27 +14,30 @@ kept_labels kept = map (λ label. label.items) kept
 
 module _ {Y : Type 0} where
   -- how many tests are counted at a label
-  abbrev pub count_at : BTreeMap (Vec ℕ Y) ℕ → List ℕ → ℕ
-  count_at counts label = unwrap_or (get_by (λ (key : Vec ℕ Y). slice_cmp nat_cmp label key.items) counts) 0
+  abbrev pub label_count : BTreeMap (Vec ℕ Y) ℕ → List ℕ → ℕ
+  label_count counts label =
+      unwrap_or (get_by (λ (key : Vec ℕ Y). slice_cmp nat_cmp label key.items) counts) 0
 
   -- each count is below 2^64 - 1, so that one more test can be counted at each label
-  abbrev pub HasRoom : BTreeMap (Vec ℕ Y) ℕ → Type 0
-  HasRoom counts = (label : List ℕ) → count_at counts label < 2 ^ 64 - 1
+  abbrev pub CanCountMore : BTreeMap (Vec ℕ Y) ℕ → Type 0
+  CanCountMore counts = (label : List ℕ) → label_count counts label < 2 ^ 64 - 1
 
   -- one more test is counted at this label, and the other counts stay
   abbrev pub CountsLabel : List ℕ → BTreeMap (Vec ℕ Y) ℕ → BTreeMap (Vec ℕ Y) ℕ → Type 0
   CountsLabel label before after =
       (other : List ℕ)
-      → count_at after other ≡ count_at before other + (if bytes_eq label other then 1 else 0)
+      → label_count after other ≡ label_count before other + (if bytes_eq label other then 1 else 0)
 
   -- one more test is counted at each of these labels, once even where a label is listed twice
   abbrev pub CountsLabels : List (List ℕ) → BTreeMap (Vec ℕ Y) ℕ → BTreeMap (Vec ℕ Y) ℕ → Type 0
   CountsLabels labels before after =
       (label : List ℕ)
-      → count_at after label ≡ count_at before label + (if list_any (bytes_eq label) labels then 1 else 0)
+      → label_count after label
+      ≡ label_count before label + (if list_any (bytes_eq label) labels then 1 else 0)
 
   -- the test is counted at each of its labels, if it is wanted
   abbrev pub CountsTest : Bool → PlanTest → BTreeMap (Vec ℕ Y) ℕ → BTreeMap (Vec ℕ Y) ℕ → Type 0
   CountsTest wanted t before after =
       (label : List ℕ)
-      → count_at after label ≡ count_at before label + (if wanted && has_label label t then 1 else 0)
+      → label_count after label
+      ≡ label_count before label + (if wanted && has_label label t then 1 else 0)

@@ -34,7 +34,7 @@ abbrev pub NotesEntry : List PlanTest → Entry → List ℕ → List ℕ → Ty
 NotesEntry tests entry before now =
     (front : List Entry) → before ≡ micros_each tests front → now ≡ micros_each tests (front ++ entry ∷ [])
 
--- the lines have read a beginning of these entries: they tell how many tests are enabled, and the
+-- the lines have read a beginning of these entries: they know how many tests are enabled, and the
 -- microseconds of each test after it
 pub record KnowsLines (plan : PlanParts) (entries : List Entry) (lines : TestLines) : Type 0 where
   pub within : lines.read ≤ length entries

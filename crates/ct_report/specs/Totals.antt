@@ -1,4 +1,4 @@
--- What a summary tells of the tests of a plan. This project's own.
+-- What a summary says of the tests of a plan. This project's own.
 use Rattle.std.specs.Prelude.{ℕ, ◌≡◌, ◌+◌, ◌++◌, ◌∷◌, [], not, ◌&&◌, List, Option, map, filter, count_by, if◌then◌else◌}
 use Rattle.ct_verdict.specs.declared.verdict.Verdict.{Verdict}
 use Rattle.ct_history.specs.declared.plan.PlanTest.{PlanTest}
@@ -6,7 +6,7 @@ use Rattle.ct_history.specs.declared.plan.PlanParts.{PlanParts}
 use Rattle.ct_history.specs.declared.history.Entry.{Entry}
 use Rattle.ct_history.specs.Verdicts.{verdict_in, is_failing_in}
 use Rattle.ct_report.specs.declared.totals.Totals.{Totals}
-use Rattle.ct_report.specs.Labels.{CountsTest, count_at}
+use Rattle.ct_report.specs.Labels.{CountsTest, label_count}
 use Rattle.ct_report.specs.Report.{has_label, is_good_in, is_unrun_in, listed_line, listed_with}
 
 -- these are the totals of these tests of the plan
@@ -18,10 +18,10 @@ pub record AreTotals (plan : PlanParts) (entries : List Entry) (tests : List Pla
   pub failed : totals.failed
       ≡ map (listed_line plan entries) (filter (λ t. is_failing_in (verdict_in plan.repeat t entries)) tests)
   pub labelled : (label : List ℕ)
-      → count_at totals.labelled label ≡ count_by (λ (t : PlanTest).
+      → label_count totals.labelled label ≡ count_by (λ (t : PlanTest).
       not t.disabled && has_label label t) tests
   pub labelled_good : (label : List ℕ)
-      → count_at totals.labelled_good label ≡ count_by (λ t.
+      → label_count totals.labelled_good label ≡ count_by (λ t.
       is_good_in (verdict_in plan.repeat t entries) && has_label label t) tests
 
 -- one test more, which has this verdict, is counted and listed

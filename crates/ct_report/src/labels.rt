@@ -3,7 +3,7 @@ ghost use Rattle.std.specs.List.{list_any};
 ghost use Rattle.std.specs.Ordering.{nat_cmp};
 ghost use Rattle.std.specs.Cmp.Lexicographic.{slice_cmp};
 ghost use Rattle.std.specs.BTreeSet.{insert_key};
-ghost use Rattle.ct_report.specs.Labels.{CountsLabel, CountsLabels, CountsTest, HasRoom, count_at, kept_labels};
+ghost use Rattle.ct_report.specs.Labels.{CountsLabel, CountsLabels, CountsTest, CanCountMore, label_count, kept_labels};
 ghost use Rattle.ct_report.specs.Report.{in_order, label_line, labels_in_order};
 
 use crate::numbers::append_number_and;
@@ -71,7 +71,7 @@ pub(crate) fn count_test(
     wanted: bool,
     test: &PlanTest,
 ) -> Result<(), NoMemory>
-    requires room { HasRoom counts.old }
+    requires room { CanCountMore counts.old }
     ensures { OnOk result (CountsTest wanted test.now counts.old counts.new) }
 {
     if wanted {
@@ -82,7 +82,7 @@ pub(crate) fn count_test(
 }
 
 fn count_labels(alloc: Global, counts: &mut LabelCounts, labels: &[Name]) -> Result<(), NoMemory>
-    requires room { HasRoom counts.old }
+    requires room { CanCountMore counts.old }
     ensures { OnOk result (CountsLabels labels.now counts.old counts.new) }
 {
     for at in 0..labels.len() {
@@ -100,7 +100,7 @@ fn is_among(labels: &[Name], label: &Name) -> bool
 }
 
 fn count_label(alloc: Global, counts: &mut LabelCounts, label: &Name) -> Result<(), NoMemory>
-    requires room { count_at counts.old label.now < 2 ^ 64 - 1 }
+    requires room { label_count counts.old label.now < 2 ^ 64 - 1 }
     ensures { OnOk result (CountsLabel label.now counts.old counts.new) }
 {
     let count = count_of(counts, label) + 1;
@@ -109,7 +109,7 @@ fn count_label(alloc: Global, counts: &mut LabelCounts, label: &Name) -> Result<
 }
 
 fn count_of(counts: &LabelCounts, label: &Name) -> usize
-    ensures { result ≡ count_at counts.now label.now }
+    ensures { result ≡ label_count counts.now label.now }
 {
     counts.get(label.bytes()).copied().unwrap_or(0)
 }
@@ -121,7 +121,7 @@ pub(crate) fn lines_of_labels(
     good: &LabelCounts,
     all: &LabelCounts,
 ) -> Result<List<Blob>, NoMemory>
-    ensures { IfOk result (λ lines. lines ≡ map (λ label. label_line label (count_at good.now label) (count_at all.now label)) labels.now) }
+    ensures { IfOk result (λ lines. lines ≡ map (λ label. label_line label (label_count good.now label) (label_count all.now label)) labels.now) }
 {
     let mut lines = List::new(alloc);
     for label in labels {

@@ -8,7 +8,6 @@
 mod labels;
 mod lists;
 mod numbers;
-mod places;
 mod puts;
 mod report;
 mod run_lines;

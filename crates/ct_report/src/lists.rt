@@ -124,7 +124,7 @@ fn put_tests<S: Sink>(
     Ok(())
 }
 
-/// Puts an empty line, and the line that tells how many tests there are.
+/// Puts an empty line, and the line with the number of tests.
 fn put_total<S: Sink>(sink: &mut S, total: &[u8]) -> Result<(), SinkFault>
     ensures text { Puts (text_of (codes "\n" ∷ total.now ∷ [])) (S.tells sink.old) (S.tells sink.new) result }
     ensures each { PutsEach (codes "\n" ∷ total.now ∷ []) (S.tells sink.old) (S.tells sink.new) result }

@@ -5,11 +5,10 @@ ghost use Rattle.ct_history.specs.Verdicts.{verdict_of_test};
 ghost use Rattle.ct_report.specs.Report.{test_line};
 ghost use Rattle.ct_report.specs.RunLines.{KnowsLines, NotesEntry};
 
-use crate::places::{expect_place, place_of};
 use crate::test_lines::{LineNumbers, MOST_MICROS, numbered_line};
 use crate::totals::count_enabled;
 use ct_base::{Blob, NoMemory, Sink, SinkFault};
-use ct_history::{Entry, History, Plan, PlanTest};
+use ct_history::{Entry, History, Plan, PlanTest, expect_place, place_of};
 use ct_verdict::Verdict;
 use std::alloc::Global;
 

@@ -11,7 +11,7 @@ use ct_history::{Entry, PlanParts, PlanTest, test_at, verdict};
 use ct_verdict::Verdict;
 use std::alloc::Global;
 
-/// The greatest number of microseconds that the line of a test tells.
+/// The greatest number of microseconds that the line of a test shows.
 pub(crate) const MOST_MICROS: u64 = 1_000_000_000_000_000_000;
 
 /// The numbers in the line of a test, other than the test's own number.

@@ -4,7 +4,7 @@ ghost use Rattle.ct_history.specs.declared.plan.PlanParts.{PlanParts};
 ghost use Rattle.ct_history.specs.Plan.{enabled};
 ghost use Rattle.ct_history.specs.Verdicts.{are_all_final, is_failing_in};
 ghost use Rattle.ct_report.specs.Report.{is_good_in, is_unrun_in, listed_with, word_of};
-ghost use Rattle.ct_report.specs.Labels.{HasRoom};
+ghost use Rattle.ct_report.specs.Labels.{CanCountMore};
 ghost use Rattle.ct_report.specs.Totals.{AddsToTotals, AreTotals};
 
 use crate::labels::{LabelCounts, count_test};
@@ -16,7 +16,7 @@ use ct_verdict::{Cause, Verdict};
 use std::alloc::Global;
 use std::collections::BTreeMap;
 
-/// What a summary tells of the tests of a plan.
+/// What a summary says of the tests of a plan.
 #[derive(Drop)]
 pub(crate) struct Totals {
     /// How many tests count as passed.
@@ -70,8 +70,8 @@ fn add_test(
     verdict: Option<Verdict>,
 ) -> Result<(), NoMemory>
     requires good { totals.old.good < 2 ^ 64 - 1 }
-    requires labelled { HasRoom totals.old.labelled }
-    requires labelled_good { HasRoom totals.old.labelled_good }
+    requires labelled { CanCountMore totals.old.labelled }
+    requires labelled_good { CanCountMore totals.old.labelled_good }
     ensures { OnOk result (AddsToTotals test.now verdict totals.old totals.new) }
 {
     totals.good = one_more(totals.good, is_good(verdict));

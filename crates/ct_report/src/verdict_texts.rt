@@ -3,9 +3,8 @@ ghost use Rattle.ct_history.specs.Plan.{IsAscendingFrom, test_at as planned_test
 ghost use Rattle.ct_report.specs.Report.{cause_text, cause_word, name_of, verdict_text, verdict_word};
 
 use crate::numbers::append_number;
-use crate::places::place_of;
 use ct_base::{Blob, NoMemory};
-use ct_history::PlanTest;
+use ct_history::{PlanTest, place_of};
 use ct_verdict::{Cause, Verdict};
 use std::alloc::Global;
 

@@ -25,6 +25,7 @@ name_behind line (Some at) =
 abbrev pub name_in : List ℕ → Option (List ℕ)
 name_in line = name_behind line (position (λ byte. byte == number_end) line)
 
--- the names in the lines of a log, in order. Behind a line feed at the end stands an empty line, without a name.
+-- the names in the lines of a log, in order. Behind a line feed at the end stands an empty line, without a
+-- name.
 abbrev pub failed_in : List ℕ → List (List ℕ)
 failed_in log = filter_map name_in (slice_split (λ byte. byte == log_line_end) log)

@@ -99,7 +99,7 @@ fn choose<'a>(
     Ok(chosen)
 }
 
-/// Tells whether a test is chosen. `numbered` is what -I says of it, where -I was given.
+/// Returns whether a test is chosen. `numbered` is what -I says of it, where -I was given.
 ///
 /// Where names alone are asked for, no pattern is tried.
 fn is_chosen<'a>(
@@ -121,7 +121,7 @@ fn is_chosen<'a>(
     }
 }
 
-/// Tells whether the options choose a test.
+/// Returns whether the options choose a test.
 fn is_chosen_by_options(
     choice: &Choice,
     matchers: &mut Matchers<'_>,

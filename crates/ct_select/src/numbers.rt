@@ -27,7 +27,7 @@ fn set_of(alloc: Global, numbers: &[u32]) -> Result<BTreeSet<u32>, NoMemory>
     Ok(others)
 }
 
-/// Tells whether -I admits a number among `count` tests, where -I was given.
+/// Returns whether -I admits a number among `count` tests, where -I was given.
 pub(crate) fn by_number(
     choice: &Choice,
     others: &BTreeSet<u32>,

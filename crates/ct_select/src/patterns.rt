@@ -23,23 +23,11 @@ impl<'a> Matchers<'a> {
         ensures { IfOk result (λ matchers. AreMatchersOf choice.now matchers) }
     {
         Ok(Matchers {
-            name: matcher_of(alloc, &choice.name)?,
-            not_name: matcher_of(alloc, &choice.not_name)?,
+            name: Matcher::of(alloc, &choice.name)?,
+            not_name: Matcher::of(alloc, &choice.not_name)?,
             labels: matchers_of(alloc, choice.labels.as_slice())?,
             not_labels: matchers_of(alloc, choice.not_labels.as_slice())?,
         })
-    }
-}
-
-fn matcher_of<'a>(
-    alloc: Global,
-    pattern: &'a Option<Regex>,
-) -> Result<Option<Matcher<'a>>, NoMemory>
-    ensures { IfOk result (λ matcher. option_map pattern_of matcher ≡ pattern.now) }
-{
-    match pattern {
-        Some(pattern) => Ok(Some(Matcher::new(alloc, pattern)?)),
-        None => Ok(None),
     }
 }
 
@@ -53,7 +41,7 @@ fn matchers_of<'a>(alloc: Global, patterns: &'a [Regex]) -> Result<Vec<Matcher<'
     Ok(matchers)
 }
 
-/// Tells whether a pattern hits a name, where there is one.
+/// Returns whether a pattern hits a name, where there is one.
 pub(crate) fn name_hit(matcher: &mut Option<Matcher<'_>>, name: &Name) -> Option<bool>
     ensures hit { result ≡ by_name (option_map pattern_of matcher.old) name.now }
     ensures kept { option_map pattern_of matcher.new ≡ option_map pattern_of matcher.old }
@@ -64,7 +52,7 @@ pub(crate) fn name_hit(matcher: &mut Option<Matcher<'_>>, name: &Name) -> Option
     }
 }
 
-/// Tells whether -R and -I admit a test, by what each of them says where it was given.
+/// Returns whether -R and -I admit a test, by what each of them says where it was given.
 pub(crate) fn admit(union: bool, named: Option<bool>, numbered: Option<bool>) -> bool
     ensures { result ≡ admitted union named numbered }
 {
@@ -77,7 +65,7 @@ pub(crate) fn admit(union: bool, named: Option<bool>, numbered: Option<bool>) ->
     }
 }
 
-/// Tells whether each pattern hits some label.
+/// Returns whether each pattern hits some label.
 pub(crate) fn hit_labels(matchers: &mut [Matcher<'_>], labels: &[Name]) -> bool
     ensures hit { result ≡ are_hit (map pattern_of matchers.old) labels.now }
     ensures kept { map pattern_of matchers.new ≡ map pattern_of matchers.old }
@@ -90,7 +78,7 @@ pub(crate) fn hit_labels(matchers: &mut [Matcher<'_>], labels: &[Name]) -> bool
     true
 }
 
-/// Tells whether a pattern hits some label.
+/// Returns whether a pattern hits some label.
 fn hits_label(matcher: &mut Matcher<'_>, labels: &[Name]) -> bool
     ensures hit { result ≡ is_label_hit labels.now (pattern_of matcher.old) }
     ensures kept { pattern_of matcher.new ≡ pattern_of matcher.old }
@@ -103,7 +91,7 @@ fn hits_label(matcher: &mut Matcher<'_>, labels: &[Name]) -> bool
     false
 }
 
-/// Tells whether there are patterns, and each hits some label.
+/// Returns whether there are patterns, and each hits some label.
 pub(crate) fn is_left_out(matchers: &mut [Matcher<'_>], labels: &[Name]) -> bool
     ensures left_out { result ≡ leaves_out (map pattern_of matchers.old) labels.now }
     ensures kept { map pattern_of matchers.new ≡ map pattern_of matchers.old }

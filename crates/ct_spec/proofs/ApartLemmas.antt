@@ -17,9 +17,11 @@ use Rattle.serde_json.specs.View.{view, members_view}
 use Rattle.ct_base.specs.declared.defs.Resource.{Resource}
 use Rattle.ct_spec.specs.declared.fault.SpecFault.{SpecFault}
 use Rattle.ct_spec.specs.declared.fault.SpecFault.TheVariants.{BadKind}
-use Rattle.ct_spec.specs.Entry.{stood_before, is_type_name, id_in, slots_in, resource_with, resource_for, resource_in}
+use Rattle.ct_spec.specs.Entry.{id_in, slots_in, resource_with, resource_for, resource_in}
 use Rattle.ct_spec.specs.Specification.{goes_on, entries_from, resources_in_array, resources_of_kind, resources_of_kinds, is_one_resource, AreApart}
 use Rattle.ct_spec.proofs.ReadLemmas.{Kind}
+use Rattle.ct_base.specs.Names.{is_among}
+use Rattle.ct_base.specs.TypeNames.{is_type_name}
 
 -- a relation that holds within each of two lists and across them holds within both together
 pairs_append : {X : Type 0} (R : X → X → Type 0) (xs ys : List X) → AllPairs R xs → AllPairs R ys → All (λ x. All (R x) ys) xs → AllPairs R (xs ++ ys)
@@ -53,7 +55,7 @@ other_kind one other differ = ap (λ b. b && bytes_eq one.id other.id) differ
 -- what holds of the resources that the entries of a kind declare, behind entries with these ids
 record AreDeclared (kind : List ℕ) (ids : List (List ℕ)) (resources : List Resource) : Type 0 where
   kinds : All (λ (r : Resource). r.kind ≡ kind) resources
-  fresh : All (λ (r : Resource). stood_before r.id ids ≡ false) resources
+  fresh : All (λ (r : Resource). is_among r.id ids ≡ false) resources
   apart : AreApart resources
 
 abbrev kind_said : Result Resource SpecFault → List ℕ
@@ -71,18 +73,18 @@ resources_said (Err why) = []
 none_declared : (kind : List ℕ) (ids : List (List ℕ)) → AreDeclared kind ids []
 none_declared kind ids = record {
   kinds = All-nil (λ (r : Resource). r.kind ≡ kind);
-  fresh = All-nil (λ (r : Resource). stood_before r.id ids ≡ false);
+  fresh = All-nil (λ (r : Resource). is_among r.id ids ≡ false);
   apart = λ i j d less within. absurd (omega arith);
 }
 
-one_declared : (kind : List ℕ) (ids : List (List ℕ)) (one : Resource) (others : List Resource) → one.kind ≡ kind → stood_before one.id ids ≡ false → AreDeclared kind (ids ++ one.id ∷ []) others → AreDeclared kind ids (one ∷ others)
+one_declared : (kind : List ℕ) (ids : List (List ℕ)) (one : Resource) (others : List Resource) → one.kind ≡ kind → is_among one.id ids ≡ false → AreDeclared kind (ids ++ one.id ∷ []) others → AreDeclared kind ids (one ∷ others)
 one_declared kind ids one others is fresh rest =
-    let parts : (k : ℕ) (d : Resource) → k < length others → (stood_before (get_or others k d).id ids ≡ false) × (bytes_eq (get_or others k d).id one.id ≡ false) =
-    λ k d within. neither (stood_before (get_or others k d).id ids) (bytes_eq (get_or others k d).id one.id)
+    let parts : (k : ℕ) (d : Resource) → k < length others → (is_among (get_or others k d).id ids ≡ false) × (bytes_eq (get_or others k d).id one.id ≡ false) =
+    λ k d within. neither (is_among (get_or others k d).id ids) (bytes_eq (get_or others k d).id one.id)
     (sym (list_any-append (λ other. bytes_eq (get_or others k d).id other) ids (one.id ∷ [])) ∙ rest.fresh k d within) in
     record {
       kinds = All-cons (λ (r : Resource). r.kind ≡ kind) one others is rest.kinds;
-      fresh = All-cons (λ (r : Resource). stood_before r.id ids ≡ false) one others fresh (λ k d within. (parts k d within).0);
+      fresh = All-cons (λ (r : Resource). is_among r.id ids ≡ false) one others fresh (λ k d within. (parts k d within).0);
       apart = AllPairs-cons (λ one other. is_one_resource one other ≡ false) one others
           (λ k d within. other_id one (get_or others k d) (eq_sym (get_or others k d).id one.id (parts k d within).1)) rest.apart;
     }
@@ -91,15 +93,15 @@ with_by : (kind : List ℕ) (place : ℕ) (id : List ℕ) (slots : Option ℕ) (
 with_by kind place id None one is = cc
 with_by kind place id (Some slots) one is = (sym (ap kind_said is), sym (ap id_said is))
 
-taken_by : (kind : List ℕ) (place : ℕ) (ids : List (List ℕ)) (id : List ℕ) (slots : Option ℕ) (one : Resource) (fault : SpecFault) (b : Bool) → stood_before id ids ≡ b → cond b (Err fault) (resource_with kind place id slots) ≡ Ok one → (one.kind ≡ kind) × (stood_before one.id ids ≡ false)
+taken_by : (kind : List ℕ) (place : ℕ) (ids : List (List ℕ)) (id : List ℕ) (slots : Option ℕ) (one : Resource) (fault : SpecFault) (b : Bool) → is_among id ids ≡ b → cond b (Err fault) (resource_with kind place id slots) ≡ Ok one → (one.kind ≡ kind) × (is_among one.id ids ≡ false)
 taken_by kind place ids id slots one fault true taken is = cc
 taken_by kind place ids id slots one fault false taken is =
     let parts = with_by kind place id slots one is in
-    (parts.0, ap (λ i. stood_before i ids) parts.1 ∙ taken)
+    (parts.0, ap (λ i. is_among i ids) parts.1 ∙ taken)
 
-for_by : (kind : List ℕ) (place : ℕ) (ids : List (List ℕ)) (id : Option (List ℕ)) (slots : Option ℕ) (one : Resource) → resource_for kind place ids id slots ≡ Ok one → (one.kind ≡ kind) × (stood_before one.id ids ≡ false)
+for_by : (kind : List ℕ) (place : ℕ) (ids : List (List ℕ)) (id : Option (List ℕ)) (slots : Option ℕ) (one : Resource) → resource_for kind place ids id slots ≡ Ok one → (one.kind ≡ kind) × (is_among one.id ids ≡ false)
 for_by kind place ids None slots one is = cc
-for_by kind place ids (Some id) slots one is = taken_by kind place ids id slots one _ (stood_before id ids) refl is
+for_by kind place ids (Some id) slots one is = taken_by kind place ids id slots one _ (is_among id ids) refl is
 
 -- whatever the entries declare from any place on, behind any ids, meets `AreDeclared`
 abbrev Behind : List ℕ → Items → Type 0

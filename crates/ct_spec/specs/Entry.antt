@@ -1,36 +1,19 @@
 -- One entry of a resource specification. Source: CMake manual, ctest(1), Resource Specification File.
 -- The refusals are this project's choice.
-use Rattle.std.specs.Prelude.{ℕ, Bool, false, not, ◌&&◌, ◌||◌, List, [], ◌∷◌, length, codes, bytes_eq, nat_le, Option, Some, None, option_and_then, Result, Ok, Err, ◌==◌, if◌then◌else◌}
-use Rattle.std.specs.List.{list_all, list_any}
-use Rattle.std.specs.Int.{is_in_range}
-use Rattle.std.specs.Char.{is_ascii_digit}
+use Rattle.std.specs.Prelude.{ℕ, Bool, not, ◌&&◌, List, length, codes, nat_le, Option, Some, None, option_and_then, Result, Ok, Err, ◌==◌, if◌then◌else◌}
+use Rattle.std.specs.List.{list_all}
 use Rattle.serde_json.specs.Data.{Data}
 use Rattle.serde_json.specs.Find.{get, as_str}
 use Rattle.ct_base.specs.declared.defs.Resource.{Resource}
 use Rattle.ct_spec.specs.declared.fault.SpecFault.{SpecFault}
 use Rattle.ct_spec.specs.declared.fault.SpecFault.TheVariants.{BadId, TwiceId, BadSlots}
 use Rattle.ct_spec.specs.Json.{whole}
-
--- a byte that the name of a resource type begins with: `a` to `z` or `_`
-abbrev pub begins_type : ℕ → Bool
-begins_type byte = is_in_range 97 122 byte || byte == 95
-
--- a byte that a name goes on with, and a byte of an id: `a` to `z`, `_` or a digit
-abbrev pub is_name_byte : ℕ → Bool
-is_name_byte byte = begins_type byte || is_ascii_digit byte
-
--- the text is the name of a resource type
-abbrev pub is_type_name : List ℕ → Bool
-is_type_name [] = false
-is_type_name (first ∷ rest) = begins_type first && list_all is_name_byte rest
+use Rattle.ct_base.specs.Names.{is_among}
+use Rattle.ct_base.specs.TypeNames.{is_name_byte}
 
 -- the text is the id of a resource
 abbrev pub is_id : List ℕ → Bool
 is_id text = not (length text == 0) && list_all is_name_byte text
-
--- the id is among these
-abbrev pub stood_before : List ℕ → List (List ℕ) → Bool
-stood_before id ids = list_any (λ other. bytes_eq id other) ids
 
 -- the text, if it is an id
 abbrev pub checked_id : List ℕ → Option (List ℕ)
@@ -62,7 +45,7 @@ resource_with kind place id (Some slots) = Ok (record { kind = kind; id = id; sl
 abbrev pub resource_for : List ℕ → ℕ → List (List ℕ) → Option (List ℕ) → Option ℕ → Result Resource SpecFault
 resource_for kind place ids None slots = Err (BadId kind place)
 resource_for kind place ids (Some id) slots =
-    if stood_before id ids then Err (TwiceId kind place) else resource_with kind place id slots
+    if is_among id ids then Err (TwiceId kind place) else resource_with kind place id slots
 
 -- the resource that an entry declares, or its fault
 abbrev pub resource_in : List ℕ → ℕ → List (List ℕ) → Data → Result Resource SpecFault

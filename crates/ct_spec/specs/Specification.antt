@@ -7,7 +7,8 @@ use Rattle.ct_base.specs.declared.defs.Resource.{Resource}
 use Rattle.ct_spec.specs.declared.fault.SpecFault.{SpecFault}
 use Rattle.ct_spec.specs.declared.fault.SpecFault.TheVariants.{NotJson, BadVersion, BadLocal, BadKind, TooMany}
 use Rattle.ct_spec.specs.Json.{json_in, whole_at, only_item}
-use Rattle.ct_spec.specs.Entry.{is_type_name, resource_in}
+use Rattle.ct_spec.specs.Entry.{resource_in}
+use Rattle.ct_base.specs.TypeNames.{is_type_name}
 
 -- continues with what was read, or returns its fault
 abbrev pub goes_on : {X Y : Type 0} → Result X SpecFault → (X → Result Y SpecFault) → Result Y SpecFault

@@ -1,13 +1,12 @@
-ghost use Rattle.std.specs.Prelude.{◌≡◌, ◌++◌, ◌∷◌, [], List, ℕ, IfOk, option_map};
-ghost use Rattle.std.specs.List.{list_all};
+ghost use Rattle.std.specs.Prelude.{◌≡◌, List, ℕ, option_map};
 ghost use Rattle.serde_json.specs.View.{view};
-ghost use Rattle.ct_spec.specs.Entry.{begins_type as may_begin, checked_slots as slots_by, id_in as id_said, is_id as is_id_text, is_name_byte as may_go_on, is_type_name as is_name, resource_in as resource_said, slots_in as slots_of};
+ghost use Rattle.ct_spec.specs.Entry.{checked_slots as slots_by, id_in as id_said, is_id as is_id_text, resource_in as resource_said, slots_in as slots_of};
 ghost use Rattle.ct_spec.specs.Ids.{AreIds};
 ghost use Rattle.ct_spec.specs.Read.{ReadsResources};
 
 use crate::SpecFault;
 use crate::ids::Ids;
-use ct_base::{Name, Resource};
+use ct_base::{Name, Resource, has_name_bytes};
 use serde_json::Value;
 use std::alloc::Global;
 
@@ -81,31 +80,8 @@ fn checked_slots(slots: u64) -> Option<u32>
     }
 }
 
-/// Tells whether a text is the name of a resource type.
-pub(crate) fn is_type_name(text: &[u8]) -> bool
-    ensures { result ≡ is_name text.now }
-{
-    match text {
-        [] => false,
-        [first, rest @ ..] => begins_type(*first) && has_name_bytes(rest),
-    }
-}
-
 fn is_id(text: &[u8]) -> bool
     ensures { result ≡ is_id_text text.now }
 {
     !text.is_empty() && has_name_bytes(text)
-}
-
-fn begins_type(byte: u8) -> bool
-    ensures { result ≡ may_begin byte }
-{
-    byte.is_ascii_lowercase() || byte == b'_'
-}
-
-fn has_name_bytes(text: &[u8]) -> bool
-    ensures { result ≡ list_all may_go_on text.now }
-{
-    text.iter()
-        .all(|byte| begins_type(*byte) || byte.is_ascii_digit())
 }

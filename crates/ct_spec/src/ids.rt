@@ -1,6 +1,6 @@
 ghost use Rattle.std.specs.Prelude.{◌≡◌, ◌++◌, ◌∷◌, [], List, ℕ, IfOk};
-ghost use Rattle.ct_spec.specs.Entry.{stood_before};
 ghost use Rattle.ct_spec.specs.Ids.{AreIds};
+ghost use Rattle.ct_base.specs.Names.{is_among};
 
 use ct_base::NoMemory;
 use std::alloc::Global;
@@ -32,7 +32,7 @@ impl Ids {
     }
 
     pub(crate) fn has(&self, id: &[u8]) -> bool
-        ensures { result ≡ stood_before id.now self.now }
+        ensures { result ≡ is_among id.now self.now }
     {
         self.ids.contains(id)
     }

@@ -4,9 +4,9 @@ ghost use Rattle.ct_spec.specs.Specification.{AreApart, entries_from, resources_
 ghost use Rattle.ct_spec.specs.Read.{ReadsResources};
 
 use crate::SpecFault;
-use crate::entry::{is_type_name, resource_in};
+use crate::entry::resource_in;
 use crate::ids::Ids;
-use ct_base::{List, Name, NoMemory, Resource};
+use ct_base::{List, Name, NoMemory, Resource, is_type_name};
 use serde_json::{Map, Value};
 use std::alloc::Global;
 

@@ -1,12 +1,12 @@
 -- A run of bytes of an entry, of which none is a semicolon or a backslash.
-use Rattle.std.proofs.Common.{◌≡◌, ℕ, suc, ◌+◌, ◌<◌, Bool, true, false, ◌||◌, ◌==◌, List, [], ◌∷◌, ◌++◌, length, take, drop, Result, Err, OnOk, IfErr, refl, sym, ap, ◌∙◌, subst, arith}
+use Rattle.std.proofs.Common.{◌≡◌, ℕ, suc, ◌+◌, ◌<◌, ◌≤◌, Bool, true, false, ◌||◌, ◌==◌, List, [], ◌∷◌, ◌++◌, length, take, drop, Result, Err, OnOk, IfErr, refl, sym, ap, ◌∙◌, subst, arith}
 use Rattle.std.proofs.lemmas.List.{drop-drop, take-append-drop}
 use Rattle.std.proofs.lemmas.Bool.{and_from, and_parts, or_parts, not-true}
 use Rattle.std.proofs.lemmas.Result.{IfErr-weaker, on_ok_weaker}
 use Rattle.std.specs.List.{list_all, prefix_len}
 use Rattle.ct_base.specs.Entries.{backslash, parts_of, semicolon, with_front}
 use Rattle.ct_base.proofs.EntryLemmas.{with_front-append}
-use Rattle.ct_suite.specs.Readers.{IsCounted, StopsFor, StopsIf, TakesEntries, entries_with, held_bytes, is_ended, is_inner}
+use Rattle.ct_suite.specs.Readers.{IsWithin, StopsFor, StopsIf, TakesEntries, entries_with, held_bytes, is_ended, is_inner}
 use Rattle.ct_suite.specs.declared.fault.ValueFault.{ValueFault}
 use Rattle.ct_suite.specs.declared.limits.ValueLimits.{ValueLimits}
 use Rattle.ct_suite.specs.declared.reader.Reader.{Reader}
@@ -49,20 +49,20 @@ run-apart (byte ∷ run) rest some all = (inner-apart byte (and_parts (is_inner 
 
 -- a run behind a backslash that was released first
 module _ (limits : ValueLimits) (old between : Reader) (run : List ℕ) (some : 0 < length run) (all : list_all is_inner run ≡ true) where
-  pub takes-run : (new : Reader) (result : Result (Unit {0}) ValueFault) → between.held ≡ false → IsCounted new → ((rest : List ℕ) → is_ended rest ≡ false → entries_with between rest ≡ entries_with old rest) → new.values ≡ between.values → new.held ≡ between.held
-      → OnOk result (new.text.items ≡ between.text.items ++ run) → IfErr result (StopsIf (Long limits (between.text.items ++ run))) → TakesEntries limits old new run result
-  takes-run new result free counted released values held joined stopped =
+  pub takes-run : (new : Reader) (result : Result (Unit {0}) ValueFault) → between.held ≡ false → IsWithin limits between → ((rest : List ℕ) → is_ended rest ≡ false → entries_with between rest ≡ entries_with old rest) → new.values ≡ between.values → new.bytes ≡ between.bytes → new.held ≡ between.held
+      → OnOk result (new.text.items ≡ between.text.items ++ run) → OnOk result (length new.text.items ≤ limits.value_bytes) → IfErr result (StopsIf (Long limits (between.text.items ++ run))) → TakesEntries limits old new run result
+  takes-run new result free within released values bytes held joined short stopped =
       let same : (rest : List ℕ) → parts_of (held_bytes between.held ++ (run ++ rest)) ≡ with_front run (parts_of (held_bytes new.held ++ rest)) =
       λ rest. ap (λ h. parts_of (held_bytes h ++ (run ++ rest))) free ∙ run-parts run rest some all ∙ ap (λ h. with_front run (parts_of (held_bytes h ++ rest))) (sym (held ∙ free)) in
-      let takes = takes-joined limits between new run run result values counted same joined stopped in record {
-        counted = takes.counted;
+      let takes = takes-joined limits between new run run result values bytes within same joined short stopped in record {
+        within = takes.within;
         taken = on_ok_weaker result (λ on rest. on rest ∙ released (run ++ rest) (run-apart run rest some all)) takes.taken;
         stopped = IfErr-weaker result (λ why. (rest : List ℕ) → StopsFor limits (entries_with between (run ++ rest)) why) (λ why. (rest : List ℕ) → StopsFor limits (entries_with old (run ++ rest)) why) (λ why stops rest. subst (λ vs. StopsFor limits vs why) (released (run ++ rest) (run-apart run rest some all)) (stops rest)) takes.stopped;
       }
 
   pub run-stopped : (new : Reader) (why : ValueFault) → ((rest : List ℕ) → is_ended rest ≡ false → StopsFor limits (entries_with old rest) why) → TakesEntries limits old new run (Err why)
   run-stopped new why stops = record {
-    counted = tt;
+    within = tt;
     taken = tt;
     stopped = λ rest. stops (run ++ rest) (run-apart run rest some all);
   }

@@ -1,12 +1,12 @@
 -- Each step of a reader takes the bytes that it was given, or the values with them are too long.
-use Rattle.std.proofs.Common.{◌≡◌, ℕ, ◌<◌, Bool, true, false, ◌==◌, List, [], ◌∷◌, ◌++◌, length, map, filter, Result, Ok, Err, OnOk, IfErr, refl, sym, ap, ◌∙◌, subst, append_assoc, append-nil, drop, get_or, ◌+◌}
+use Rattle.std.proofs.Common.{◌≡◌, ℕ, ◌<◌, ◌≤◌, Bool, true, false, ◌==◌, List, [], ◌∷◌, ◌++◌, length, map, filter, Result, Ok, Err, OnOk, IfErr, refl, sym, ap, ◌∙◌, subst, append_assoc, append-nil, drop, get_or, ◌+◌}
 use Rattle.std.proofs.lemmas.List.{at_drop_more}
 use Rattle.std.proofs.lemmas.Result.{IfErr-weaker, on_ok_weaker}
 use Rattle.ct_base.specs.Entries.{backslash, is_entry, parts_of, semicolon, with_front}
-use Rattle.ct_suite.specs.Values.{Variable, bare, part_text, argument_text}
+use Rattle.ct_suite.specs.Values.{Variable, bare, part_text, argument_text, size}
 use Rattle.ct_base.specs.Entries.{entries_of}
 use Rattle.ct_lex.specs.declared.call.Part.{Part}
-use Rattle.ct_suite.specs.Readers.{IsAtRest, IsCounted, Releases, StopsFor, StopsIf, TakesEntries, are_too_long, entries_with, held_bytes, is_ended}
+use Rattle.ct_suite.specs.Readers.{IsAtRest, IsWithin, Releases, StopsFor, StopsIf, TakesEntries, are_too_long, entries_with, held_bytes, is_ended}
 use Rattle.ct_suite.specs.declared.fault.ValueFault.{ValueFault}
 use Rattle.ct_suite.specs.declared.limits.ValueLimits.{ValueLimits}
 use Rattle.ct_suite.specs.declared.reader.Reader.{Reader}
@@ -34,23 +34,31 @@ always : {P : Type 0} (result : Result (Unit {0}) ValueFault) → P → OnOk res
 always (Ok done) is = is
 always (Err why) is = tt
 
+-- a reader that has read more of its next value is within the limits, if that text is
+within-joined : (limits : ValueLimits) (old new : Reader) → new.values ≡ old.values → new.bytes ≡ old.bytes → IsWithin limits old → length new.text.items ≤ limits.value_bytes → IsWithin limits new
+within-joined limits old new values bytes within short = record {
+  counted = bytes ∙ within.counted ∙ ap size (sym values);
+  values = ap (are_too_long limits) values ∙ within.values;
+  text = short;
+}
+
 -- bytes of an unquoted argument are read of an entry
-pub takes-joined : (limits : ValueLimits) (old new : Reader) (front piece : List ℕ) (result : Result (Unit {0}) ValueFault) → new.values ≡ old.values → IsCounted new → ((rest : List ℕ) → parts_of (held_bytes old.held ++ (front ++ rest)) ≡ with_front piece (parts_of (held_bytes new.held ++ rest)))
-    → OnOk result (new.text.items ≡ old.text.items ++ piece) → IfErr result (StopsIf (Long limits (old.text.items ++ piece))) → TakesEntries limits old new front result
-takes-joined limits old new front piece result values counted same joined stopped = record {
-  counted = always result counted;
+pub takes-joined : (limits : ValueLimits) (old new : Reader) (front piece : List ℕ) (result : Result (Unit {0}) ValueFault) → new.values ≡ old.values → new.bytes ≡ old.bytes → IsWithin limits old → ((rest : List ℕ) → parts_of (held_bytes old.held ++ (front ++ rest)) ≡ with_front piece (parts_of (held_bytes new.held ++ rest)))
+    → OnOk result (new.text.items ≡ old.text.items ++ piece) → OnOk result (length new.text.items ≤ limits.value_bytes) → IfErr result (StopsIf (Long limits (old.text.items ++ piece))) → TakesEntries limits old new front result
+takes-joined limits old new front piece result values bytes within same joined short stopped = record {
+  within = on_ok_weaker result (within-joined limits old new values bytes within) short;
   taken = on_ok_weaker result (λ now rest. ap (λ vs. with_parts vs new.text.items (parts_of (held_bytes new.held ++ rest))) values ∙ joined-same limits old.values old.text.items piece (parts_of (held_bytes old.held ++ (front ++ rest))) (parts_of (held_bytes new.held ++ rest)) (same rest) new.text.items now) joined;
   stopped = IfErr-weaker result (StopsIf (Long limits (old.text.items ++ piece))) (λ why. (rest : List ℕ) → StopsFor limits (entries_with old (front ++ rest)) why) (λ why long rest. StopsIf-then why (joined-long limits old.values old.text.items piece (parts_of (held_bytes old.held ++ (front ++ rest))) (parts_of (held_bytes new.held ++ rest)) (same rest)) long) stopped;
 }
 
 -- a backslash that was held back becomes a byte of the entry
-pub releases-joined : (limits : ValueLimits) (old new : Reader) (result : Result (Unit {0}) ValueFault) → new.values ≡ old.values → IsCounted new → old.held ≡ true → new.held ≡ false
-    → OnOk result (new.text.items ≡ old.text.items ++ backslash ∷ []) → IfErr result (StopsIf (Long limits (old.text.items ++ backslash ∷ []))) → Releases limits old new result
-releases-joined limits old new result values counted held free joined stopped =
+pub releases-joined : (limits : ValueLimits) (old new : Reader) (result : Result (Unit {0}) ValueFault) → new.values ≡ old.values → new.bytes ≡ old.bytes → IsWithin limits old → old.held ≡ true → new.held ≡ false
+    → OnOk result (new.text.items ≡ old.text.items ++ backslash ∷ []) → OnOk result (length new.text.items ≤ limits.value_bytes) → IfErr result (StopsIf (Long limits (old.text.items ++ backslash ∷ []))) → Releases limits old new result
+releases-joined limits old new result values bytes within held free joined short stopped =
     let piece = backslash ∷ [] in
     let same : (rest : List ℕ) → is_ended rest ≡ false → parts_of (held_bytes old.held ++ rest) ≡ with_front piece (parts_of (held_bytes new.held ++ rest)) =
     λ rest apart. ap (λ h. parts_of (held_bytes h ++ rest)) held ∙ parts-backslash rest apart ∙ ap (λ h. with_front piece (parts_of (held_bytes h ++ rest))) (sym free) in record {
-      counted = always result counted;
+      within = on_ok_weaker result (within-joined limits old new values bytes within) short;
       held = always result free;
       taken = on_ok_weaker result (λ now rest apart. ap (λ vs. with_parts vs new.text.items (parts_of (held_bytes new.held ++ rest))) values ∙ joined-same limits old.values old.text.items piece (parts_of (held_bytes old.held ++ rest)) (parts_of (held_bytes new.held ++ rest)) (same rest apart) new.text.items now) joined;
       stopped = IfErr-weaker result (StopsIf (Long limits (old.text.items ++ piece))) (λ why. (rest : List ℕ) → is_ended rest ≡ false → StopsFor limits (entries_with old rest) why) (λ why long rest apart. StopsIf-then why (joined-long limits old.values old.text.items piece (parts_of (held_bytes old.held ++ rest)) (parts_of (held_bytes new.held ++ rest)) (same rest apart)) long) stopped;
@@ -76,7 +84,7 @@ escape-same byte held is ends rest =
 -- a byte behind a backslash that was released first
 pub takes-released : (limits : ValueLimits) (old between new : Reader) (byte : ℕ) (result : Result (Unit {0}) ValueFault) → ((rest : List ℕ) → is_ended rest ≡ false → entries_with between rest ≡ entries_with old rest) → (byte == semicolon) ≡ false → TakesEntries limits between new (byte ∷ []) result → TakesEntries limits old new (byte ∷ []) result
 takes-released limits old between new byte result released other takes = record {
-  counted = takes.counted;
+  within = takes.within;
   taken = on_ok_weaker result (λ on rest. on rest ∙ released (byte ∷ rest) other) takes.taken;
   stopped = IfErr-weaker result (λ why. (rest : List ℕ) → StopsFor limits (entries_with between (byte ∷ rest)) why) (λ why. (rest : List ℕ) → StopsFor limits (entries_with old (byte ∷ rest)) why) (λ why stops rest. subst (λ vs. StopsFor limits vs why) (released (byte ∷ rest) other) (stops rest)) takes.stopped;
 }
@@ -95,14 +103,14 @@ with-ended old byte rest ends free =
     ∙ ap (with_parts old.values old.text.items) (sym (parts-ended rest))
     ∙ (λ i. with_parts old.values old.text.items (parts_of (held_bytes (sym free i) ++ (sym ends i ∷ rest))))
 
-pub takes-ended : (limits : ValueLimits) (old new : Reader) (byte : ℕ) (result : Result (Unit {0}) ValueFault) → byte ≡ semicolon → old.held ≡ false → OnOk result (IsCounted new) → OnOk result (new.values ≡ with_entry old) → OnOk result (new.text.items ≡ []) → OnOk result (new.held ≡ old.held) → IfErr result (StopsFor limits (with_entry old)) → TakesEntries limits old new (byte ∷ []) result
-takes-ended limits old new byte (Ok done) ends free counted values empty held stopped = record {
-  counted = counted;
+pub takes-ended : (limits : ValueLimits) (old new : Reader) (byte : ℕ) (result : Result (Unit {0}) ValueFault) → byte ≡ semicolon → old.held ≡ false → OnOk result (IsWithin limits new) → OnOk result (new.values ≡ with_entry old) → OnOk result (new.text.items ≡ []) → OnOk result (new.held ≡ old.held) → IfErr result (StopsFor limits (with_entry old)) → TakesEntries limits old new (byte ∷ []) result
+takes-ended limits old new byte (Ok done) ends free within values empty held stopped = record {
+  within = within;
   taken = λ rest. ended-same old new byte rest ends free values empty held (with-ended old byte rest ends free);
   stopped = tt;
 }
-takes-ended limits old new byte (Err why) ends free counted values empty held stopped = record {
-  counted = tt;
+takes-ended limits old new byte (Err why) ends free within values empty held stopped = record {
+  within = tt;
   taken = tt;
   stopped = λ rest. subst (λ vs. StopsFor limits vs why) (with-ended old byte rest ends free) (StopsIf-then why (too_long-more limits (with_entry old) (map bare (filter is_entry (with_front [] (parts_of rest))))) stopped);
 }
@@ -121,15 +129,15 @@ stands-on old between new whole behind piece more is stands taken rest =
 
 pub takes-stopped : (limits : ValueLimits) (old between new : Reader) (whole behind piece more : List ℕ) (why : ValueFault) → behind ≡ piece ++ more → Stands old between whole behind → ((rest : List ℕ) → StopsFor limits (entries_with between (piece ++ rest)) why) → TakesEntries limits old new whole (Err why)
 takes-stopped limits old between new whole behind piece more why is stands stops = record {
-  counted = tt;
+  within = tt;
   taken = tt;
   stopped = λ rest. subst (λ vs. StopsFor limits vs why) (piece-next old between whole behind piece more is stands rest) (stops (more ++ rest));
 }
 
 -- at the end of the bytes all of them are taken
-pub takes-done : (limits : ValueLimits) (old new : Reader) (whole behind : List ℕ) → behind ≡ [] → IsCounted new → Stands old new whole behind → TakesEntries limits old new whole (Ok tt)
-takes-done limits old new whole behind is counted stands = record {
-  counted = counted;
+pub takes-done : (limits : ValueLimits) (old new : Reader) (whole behind : List ℕ) → behind ≡ [] → IsWithin limits new → Stands old new whole behind → TakesEntries limits old new whole (Ok tt)
+takes-done limits old new whole behind is within stands = record {
+  within = within;
   taken = λ rest. ap (λ bytes. entries_with new (bytes ++ rest)) (sym is) ∙ stands rest;
   stopped = tt;
 }
@@ -142,8 +150,8 @@ texts-next variables parts i part text within is text_is =
     ∙ ap (λ t. t ++ argument_text variables (drop (i + 1) parts)) (sym text_is)
 
 -- all bytes of an argument, read by a reader at rest
-rest-all : (old : Reader) (text : List ℕ) → IsAtRest old → entries_with old (text ++ []) ≡ old.values ++ map bare (entries_of text)
-rest-all old text rest =
+rest-all : (limits : ValueLimits) (old : Reader) (text : List ℕ) → IsAtRest limits old → entries_with old (text ++ []) ≡ old.values ++ map bare (entries_of text)
+rest-all limits old text rest =
     (λ i. with_parts old.values (rest.text i) (parts_of (held_bytes (rest.held i) ++ append-nil text i)))
     ∙ with_parts-all old.values text
 
@@ -155,13 +163,13 @@ entry-last old released free same =
     ∙ same
 
 -- all bytes of an argument, read by a reader that was at rest
-module _ (limits : ValueLimits) (old : Reader) (text : List ℕ) (rest : IsAtRest old) where
+module _ (limits : ValueLimits) (old : Reader) (text : List ℕ) (rest : IsAtRest limits old) where
   pub entries-stopped : (why : ValueFault) → StopsFor limits (entries_with old (text ++ [])) why → StopsFor limits (old.values ++ map bare (entries_of text)) why
-  entries-stopped why stops = subst (λ vs. StopsFor limits vs why) (rest-all old text rest) stops
+  entries-stopped why stops = subst (λ vs. StopsFor limits vs why) (rest-all limits old text rest) stops
 
   pub entries-ended : (mid new : Reader) (result : Result (Unit {0}) ValueFault) → entries_with mid [] ≡ entries_with old (text ++ []) → OnOk result (new.values ≡ entries_with mid []) → OnOk result (new.values ≡ old.values ++ map bare (entries_of text))
-  entries-ended mid new result taken values = on_ok_weaker result (λ is. is ∙ taken ∙ rest-all old text rest) values
+  entries-ended mid new result taken values = on_ok_weaker result (λ is. is ∙ taken ∙ rest-all limits old text rest) values
 
   pub entries-long : (mid : Reader) (result : Result (Unit {0}) ValueFault) → entries_with mid [] ≡ entries_with old (text ++ []) → IfErr result (StopsFor limits (entries_with mid [])) → IfErr result (StopsFor limits (old.values ++ map bare (entries_of text)))
   entries-long mid result taken stopped =
-      IfErr-weaker result (StopsFor limits (entries_with mid [])) (StopsFor limits (old.values ++ map bare (entries_of text))) (λ why stops. subst (λ vs. StopsFor limits vs why) (taken ∙ rest-all old text rest) stops) stopped
+      IfErr-weaker result (StopsFor limits (entries_with mid [])) (StopsFor limits (old.values ++ map bare (entries_of text))) (λ why stops. subst (λ vs. StopsFor limits vs why) (taken ∙ rest-all limits old text rest) stops) stopped

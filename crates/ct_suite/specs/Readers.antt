@@ -1,5 +1,5 @@
 -- Values that are read byte by byte, up to the limits of their length. This project's own.
-use Rattle.std.specs.Prelude.{ℕ, ◌≡◌, ⊤, Bool, true, false, not, ◌||◌, ◌==◌, nat_lt, List, [], ◌∷◌, ◌++◌, filter, map, Result, IfErr, OnOk, if◌then◌else◌}
+use Rattle.std.specs.Prelude.{ℕ, ◌≡◌, ◌≤◌, ⊤, Bool, true, false, not, ◌||◌, ◌==◌, nat_lt, List, [], ◌∷◌, ◌++◌, filter, length, map, Result, IfErr, OnOk, if◌then◌else◌}
 use Rattle.std.specs.List.{list_any}
 use Rattle.ct_base.specs.Entries.{backslash, is_entry, parts_of, semicolon, with_front}
 use Rattle.ct_suite.specs.Values.{bare, is_too_long, size}
@@ -23,13 +23,16 @@ StopsIf Long NoMemory = ⊤
 abbrev pub StopsFor : ValueLimits → List Value → ValueFault → Type 0
 StopsFor limits values why = StopsIf (are_too_long limits values ≡ true) why
 
--- the reader has counted the bytes of its values
-abbrev pub IsCounted : Reader → Type 0
-IsCounted reader = reader.bytes ≡ size reader.values
+-- the reader has counted the bytes of its values;
+-- they, and what it has read of its next value, are within the limits
+pub record IsWithin (limits : ValueLimits) (reader : Reader) : Type 0 where
+  pub counted : reader.bytes ≡ size reader.values
+  pub values : are_too_long limits reader.values ≡ false
+  pub text : length reader.text.items ≤ limits.value_bytes
 
--- the reader has read nothing of its next value, and has counted the bytes of its values
-pub record IsAtRest (reader : Reader) : Type 0 where
-  pub counted : IsCounted reader
+-- the reader has read nothing of its next value, and is within the limits
+pub record IsAtRest (limits : ValueLimits) (reader : Reader) : Type 0 where
+  pub within : IsWithin limits reader
   pub text : reader.text.items ≡ []
   pub held : reader.held ≡ false
 
@@ -48,7 +51,7 @@ entries_with reader rest =
 pub record TakesEntries
     (limits : ValueLimits) (old new : Reader) (piece : List ℕ) (result : Result (Unit {0}) ValueFault)
     : Type 0 where
-  pub counted : OnOk result (IsCounted new)
+  pub within : OnOk result (IsWithin limits new)
   pub taken : OnOk result ((rest : List ℕ) → entries_with new rest ≡ entries_with old (piece ++ rest))
   pub stopped : IfErr result (λ why. (rest : List ℕ) → StopsFor limits (entries_with old (piece ++ rest)) why)
 
@@ -65,7 +68,7 @@ is_ended (byte ∷ bytes) = byte == semicolon
 -- or it stopped, since the values are too long or memory was wanting
 pub record Releases (limits : ValueLimits) (old new : Reader) (result : Result (Unit {0}) ValueFault)
     : Type 0 where
-  pub counted : OnOk result (IsCounted new)
+  pub within : OnOk result (IsWithin limits new)
   pub held : OnOk result (new.held ≡ false)
   pub taken :
       OnOk result ((rest : List ℕ) → is_ended rest ≡ false → entries_with new rest ≡ entries_with old rest)

@@ -2,8 +2,9 @@
 -- Source: CMake manual, add_test, set_tests_properties and set_directory_properties.
 -- This project's own: how names that no test has, repeated keys and the labels of a folder are read.
 use Rattle.std.specs.Prelude.{ℕ, ◌≤◌, Bool, bytes_eq, codes, List, [], ◌∷◌, ◌++◌, length, map, fold, sum_by, All, if◌then◌else◌}
-use Rattle.std.specs.List.{flat_map, list_any}
+use Rattle.std.specs.List.{flat_map}
 use Rattle.ct_base.specs.Entries.{entries_of}
+use Rattle.ct_base.specs.Names.{is_among}
 use Rattle.ct_base.specs.declared.defs.Pair.{Pair}
 use Rattle.ct_base.specs.declared.defs.TestDef.{TestDef}
 
@@ -45,17 +46,13 @@ with_prop (first ∷ props) prop =
 abbrev pub with_props : List Pair → List Pair → List Pair
 with_props props more = fold with_prop props more
 
--- the name is among these
-abbrev pub is_one_of_names : List (List ℕ) → List ℕ → Bool
-is_one_of_names names name = list_any (λ (other : List ℕ). bytes_eq other name) names
-
 -- the tests, with each test that passes changed
 abbrev pub each_where : (TestDef → Bool) → (TestDef → TestDef) → List TestDef → List TestDef
 each_where passes change tests = map (λ (test : TestDef). if passes test then change test else test) tests
 
 -- the test has one of these names
 abbrev pub has_name_of : List (List ℕ) → TestDef → Bool
-has_name_of names test = is_one_of_names names test.name
+has_name_of names test = is_among test.name names
 
 -- the test belongs to this folder
 abbrev pub is_in_folder : List ℕ → TestDef → Bool

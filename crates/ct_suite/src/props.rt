@@ -147,7 +147,7 @@ fn in_turn(alloc: Global, pairs: Vec<Pair>) -> Result<List<Pair>, NoMemory>
     Ok(List::from_vec(props))
 }
 
-/// Tells whether no two properties have the same key. Setting them in turn then leaves them as they are.
+/// Returns whether no two properties have the same key. Setting them in turn then leaves them as they are.
 fn have_own_keys(pairs: &[Pair]) -> bool
     ensures { IsTrue result → with_props [] pairs.now ≡ pairs.now }
 {
@@ -178,7 +178,7 @@ fn others(props: &[Pair], key: &Name) -> usize
     props.iter().take_while(|prop| is_other(key, prop)).count()
 }
 
-/// Tells whether a property has another key.
+/// Returns whether a property has another key.
 fn is_other(key: &Name, prop: &Pair) -> bool
     ensures { result ≡ is_other key.now prop.now }
 {

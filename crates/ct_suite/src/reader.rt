@@ -3,7 +3,8 @@ ghost use Rattle.std.specs.List.{list_all, prefix_len};
 ghost use Rattle.ct_base.specs.Entries.{entries_of, is_entry, semicolon};
 ghost use Rattle.ct_lex.specs.Next.{arg_of};
 ghost use Rattle.ct_suite.specs.Values.{bare, argument_text, part_text, values_by};
-ghost use Rattle.ct_suite.specs.Readers.{IsAtRest, IsCounted, Releases, StopsFor, StopsIf, TakesEntries, entries_with, is_inner};
+ghost use Rattle.ct_suite.specs.Readers.{IsAtRest, IsWithin, Releases, StopsFor, StopsIf, TakesEntries, entries_with, is_inner};
+ghost use Rattle.ct_suite.specs.declared.limits.ValueLimits.{ValueLimits};
 
 use crate::count::raised;
 use crate::fault::ValueFault;
@@ -33,7 +34,7 @@ pub(crate) struct Reader {
 impl Reader {
     /// Makes a reader that has read nothing.
     pub(crate) fn new(alloc: Global) -> Reader
-        ensures rest { IsAtRest result }
+        ensures rest { (limits : ValueLimits) → IsAtRest limits result }
         ensures values { result.values ≡ [] }
     {
         Reader {
@@ -53,8 +54,8 @@ impl Reader {
         table: &Table,
         next: NextArg<'_>,
     ) -> Result<(), ValueFault>
-        requires { IsAtRest self.old }
-        ensures rest { OnOk result (IsAtRest self.new) }
+        requires { IsAtRest limits.now self.old }
+        ensures rest { OnOk result (IsAtRest limits.now self.new) }
         ensures values { OnOk result (self.new.values ≡ self.old.values ++ values_by (arg_of next.entry).kind (argument_text table.now (arg_of next.entry).parts)) }
         ensures stopped { IfErr result (StopsFor limits.now (self.old.values ++ values_by (arg_of next.entry).kind (argument_text table.now (arg_of next.entry).parts))) }
     {
@@ -72,8 +73,8 @@ impl Reader {
         kind: ArgKind,
         run: &[u8],
     ) -> Result<(), ValueFault>
-        requires { IsAtRest self.old }
-        ensures rest { OnOk result (IsAtRest self.new) }
+        requires { IsAtRest limits.now self.old }
+        ensures rest { OnOk result (IsAtRest limits.now self.new) }
         ensures values { OnOk result (self.new.values ≡ self.old.values ++ values_by kind run.now) }
         ensures stopped { IfErr result (StopsFor limits.now (self.old.values ++ values_by kind run.now)) }
     {
@@ -91,8 +92,8 @@ impl Reader {
         limits: &ValueLimits,
         run: &[u8],
     ) -> Result<(), ValueFault>
-        requires { IsAtRest self.old }
-        ensures rest { OnOk result (IsAtRest self.new) }
+        requires { IsAtRest limits.now self.old }
+        ensures rest { OnOk result (IsAtRest limits.now self.new) }
         ensures values { OnOk result (self.new.values ≡ self.old.values ++ record { text = run.now; unquoted = false } ∷ []) }
         ensures stopped { IfErr result (StopsFor limits.now (self.old.values ++ record { text = run.now; unquoted = false } ∷ [])) }
     {
@@ -107,8 +108,8 @@ impl Reader {
         limits: &ValueLimits,
         run: &[u8],
     ) -> Result<(), ValueFault>
-        requires { IsAtRest self.old }
-        ensures rest { OnOk result (IsAtRest self.new) }
+        requires { IsAtRest limits.now self.old }
+        ensures rest { OnOk result (IsAtRest limits.now self.new) }
         ensures values { OnOk result (self.new.values ≡ self.old.values ++ map bare (entries_of run.now)) }
         ensures stopped { IfErr result (StopsFor limits.now (self.old.values ++ map bare (entries_of run.now))) }
     {
@@ -124,8 +125,8 @@ impl Reader {
         table: &Table,
         arg: Arg,
     ) -> Result<(), ValueFault>
-        requires { IsAtRest self.old }
-        ensures rest { OnOk result (IsAtRest self.new) }
+        requires { IsAtRest limits.now self.old }
+        ensures rest { OnOk result (IsAtRest limits.now self.new) }
         ensures values { OnOk result (self.new.values ≡ self.old.values ++ values_by arg.kind (argument_text table.now arg.parts)) }
         ensures stopped { IfErr result (StopsFor limits.now (self.old.values ++ values_by arg.kind (argument_text table.now arg.parts))) }
     {
@@ -145,8 +146,8 @@ impl Reader {
         table: &Table,
         parts: List<Part>,
     ) -> Result<(), ValueFault>
-        requires { IsAtRest self.old }
-        ensures rest { OnOk result (IsAtRest self.new) }
+        requires { IsAtRest limits.now self.old }
+        ensures rest { OnOk result (IsAtRest limits.now self.new) }
         ensures values { OnOk result (self.new.values ≡ self.old.values ++ record { text = argument_text table.now parts; unquoted = false } ∷ []) }
         ensures stopped { IfErr result (StopsFor limits.now (self.old.values ++ record { text = argument_text table.now parts; unquoted = false } ∷ [])) }
     {
@@ -161,9 +162,10 @@ impl Reader {
         table: &Table,
         parts: List<Part>,
     ) -> Result<(), ValueFault>
+        requires { IsWithin limits.now self.old }
+        ensures within { OnOk result (IsWithin limits.now self.new) }
         ensures text { OnOk result (self.new.text.items ≡ self.old.text.items ++ argument_text table.now parts) }
         ensures values { self.new.values ≡ self.old.values }
-        ensures bytes { self.new.bytes ≡ self.old.bytes }
         ensures held { self.new.held ≡ self.old.held }
         ensures stopped { IfErr result (StopsIf (limits.now.value_bytes < length (self.old.text.items ++ argument_text table.now parts))) }
     {
@@ -181,8 +183,8 @@ impl Reader {
         table: &Table,
         parts: List<Part>,
     ) -> Result<(), ValueFault>
-        requires { IsAtRest self.old }
-        ensures rest { OnOk result (IsAtRest self.new) }
+        requires { IsAtRest limits.now self.old }
+        ensures rest { OnOk result (IsAtRest limits.now self.new) }
         ensures values { OnOk result (self.new.values ≡ self.old.values ++ map bare (entries_of (argument_text table.now parts))) }
         ensures stopped { IfErr result (StopsFor limits.now (self.old.values ++ map bare (entries_of (argument_text table.now parts)))) }
     {
@@ -192,8 +194,8 @@ impl Reader {
 
     /// Ends the last entry of an unquoted argument.
     fn end_entries(&mut self, alloc: Global, limits: &ValueLimits) -> Result<(), ValueFault>
-        requires { IsCounted self.old }
-        ensures rest { OnOk result (IsAtRest self.new) }
+        requires { IsWithin limits.now self.old }
+        ensures rest { OnOk result (IsAtRest limits.now self.new) }
         ensures values { OnOk result (self.new.values ≡ entries_with self.old []) }
         ensures stopped { IfErr result (StopsFor limits.now (entries_with self.old [])) }
     {
@@ -208,7 +210,7 @@ impl Reader {
         table: &Table,
         parts: List<Part>,
     ) -> Result<(), ValueFault>
-        requires { IsCounted self.old }
+        requires { IsWithin limits.now self.old }
         ensures { TakesEntries limits.now self.old self.new (argument_text table.now parts) result }
     {
         for part in parts.into_vec() {
@@ -225,7 +227,7 @@ impl Reader {
         table: &Table,
         part: Part,
     ) -> Result<(), ValueFault>
-        requires { IsCounted self.old }
+        requires { IsWithin limits.now self.old }
         ensures { TakesEntries limits.now self.old self.new (part_text table.now part) result }
     {
         match part {
@@ -241,7 +243,7 @@ impl Reader {
         limits: &ValueLimits,
         bytes: Name,
     ) -> Result<(), ValueFault>
-        requires { IsCounted self.old }
+        requires { IsWithin limits.now self.old }
         ensures { TakesEntries limits.now self.old self.new bytes result }
     {
         if bytes.bytes().is_empty() || !are_inner(bytes.bytes()) {
@@ -254,7 +256,7 @@ impl Reader {
     fn take_own_run(&mut self, limits: &ValueLimits, run: Name) -> Result<(), ValueFault>
         requires some { 0 < length run }
         requires inner { list_all is_inner run ≡ true }
-        requires counted { IsCounted self.old }
+        requires within { IsWithin limits.now self.old }
         ensures { TakesEntries limits.now self.old self.new run result }
     {
         self.release(limits)?;
@@ -267,7 +269,7 @@ impl Reader {
         limits: &ValueLimits,
         piece: &[u8],
     ) -> Result<(), ValueFault>
-        requires { IsCounted self.old }
+        requires { IsWithin limits.now self.old }
         ensures { TakesEntries limits.now self.old self.new piece.now result }
     {
         let mut at = 0;
@@ -289,7 +291,7 @@ impl Reader {
     fn take_run(&mut self, limits: &ValueLimits, run: &[u8]) -> Result<(), ValueFault>
         requires some { 0 < length run.now }
         requires inner { list_all is_inner run.now ≡ true }
-        requires counted { IsCounted self.old }
+        requires within { IsWithin limits.now self.old }
         ensures { TakesEntries limits.now self.old self.new run.now result }
     {
         self.release(limits)?;
@@ -298,7 +300,7 @@ impl Reader {
 
     /// Reads one more byte of an unquoted argument.
     fn take_byte(&mut self, alloc: Global, limits: &ValueLimits, byte: u8) -> Result<(), ValueFault>
-        requires { IsCounted self.old }
+        requires { IsWithin limits.now self.old }
         ensures { TakesEntries limits.now self.old self.new (byte ∷ []) result }
     {
         if byte != b';' {
@@ -316,7 +318,7 @@ impl Reader {
     fn take_other(&mut self, limits: &ValueLimits, byte: u8) -> Result<(), ValueFault>
         requires free { self.old.held ≡ false }
         requires other { (byte == semicolon) ≡ false }
-        requires counted { IsCounted self.old }
+        requires within { IsWithin limits.now self.old }
         ensures { TakesEntries limits.now self.old self.new (byte ∷ []) result }
     {
         if byte == b'\\' {
@@ -328,7 +330,7 @@ impl Reader {
 
     /// Reads the backslash that is held back as a byte of the entry, since no `;` comes behind it.
     fn release(&mut self, limits: &ValueLimits) -> Result<(), ValueFault>
-        requires { IsCounted self.old }
+        requires { IsWithin limits.now self.old }
         ensures { Releases limits.now self.old self.new result }
     {
         if !self.held {
@@ -340,8 +342,8 @@ impl Reader {
 
     /// Ends an entry, which is a value if it is not empty.
     fn end_entry(&mut self, alloc: Global, limits: &ValueLimits) -> Result<(), ValueFault>
-        requires { IsCounted self.old }
-        ensures counted { OnOk result (IsCounted self.new) }
+        requires { IsWithin limits.now self.old }
+        ensures within { OnOk result (IsWithin limits.now self.new) }
         ensures values { OnOk result (self.new.values ≡ self.old.values ++ map bare (filter is_entry (self.old.text.items ∷ []))) }
         ensures empty { OnOk result (self.new.text.items ≡ []) }
         ensures held { OnOk result (self.new.held ≡ self.old.held) }
@@ -360,8 +362,8 @@ impl Reader {
         limits: &ValueLimits,
         unquoted: bool,
     ) -> Result<(), ValueFault>
-        requires { IsCounted self.old }
-        ensures counted { OnOk result (IsCounted self.new) }
+        requires { IsWithin limits.now self.old }
+        ensures within { OnOk result (IsWithin limits.now self.new) }
         ensures values { OnOk result (self.new.values ≡ self.old.values ++ record { text = self.old.text.items; unquoted = unquoted } ∷ []) }
         ensures empty { OnOk result (self.new.text.items ≡ []) }
         ensures held { OnOk result (self.new.held ≡ self.old.held) }
@@ -378,14 +380,14 @@ impl Reader {
     }
 }
 
-/// Tells whether a byte belongs to an entry wherever it stands in an unquoted argument.
+/// Returns whether a byte belongs to an entry wherever it stands in an unquoted argument.
 fn is_inner(byte: u8) -> bool
     ensures { result ≡ is_inner byte }
 {
     !(byte == b';' || byte == b'\\')
 }
 
-/// Tells whether each of these bytes belongs to an entry wherever it stands.
+/// Returns whether each of these bytes belongs to an entry wherever it stands.
 fn are_inner(bytes: &[u8]) -> bool
     ensures { result ≡ list_all is_inner bytes.now }
 {
@@ -408,6 +410,7 @@ fn join_part(
     part: Part,
 ) -> Result<(), ValueFault>
     ensures joined { OnOk result (text.new.items ≡ text.old.items ++ part_text table.now part) }
+    ensures within { OnOk result (length text.new.items ≤ limits.now.value_bytes) }
     ensures stopped { IfErr result (StopsIf (limits.now.value_bytes < length (text.old.items ++ part_text table.now part))) }
 {
     match part {
@@ -419,6 +422,7 @@ fn join_part(
 /// Appends a piece to a text as `join_text` does, without a copy if the text is empty.
 fn join_own(limits: &ValueLimits, text: &mut Vec<u8>, piece: Name) -> Result<(), ValueFault>
     ensures joined { OnOk result (text.new.items ≡ text.old.items ++ piece) }
+    ensures within { OnOk result (length text.new.items ≤ limits.now.value_bytes) }
     ensures stopped { IfErr result (StopsIf (limits.now.value_bytes < length (text.old.items ++ piece))) }
 {
     if !text.is_empty() {
@@ -434,6 +438,7 @@ fn join_own(limits: &ValueLimits, text: &mut Vec<u8>, piece: Name) -> Result<(),
 /// Appends a piece to a text, unless the value would be too long.
 fn join_text(limits: &ValueLimits, text: &mut Vec<u8>, piece: &[u8]) -> Result<(), ValueFault>
     ensures joined { OnOk result (text.new.items ≡ text.old.items ++ piece.now) }
+    ensures within { OnOk result (length text.new.items ≤ limits.now.value_bytes) }
     ensures stopped { IfErr result (StopsIf (limits.now.value_bytes < length (text.old.items ++ piece.now))) }
 {
     if raised(limits.value_bytes, text.len() as u64, piece.len() as u64).is_none() {

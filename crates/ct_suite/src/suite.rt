@@ -118,6 +118,9 @@ impl Suite {
         requires { AreShort most_bytes labels.now }
         ensures { IfOk result (λ suite. suite ≡ each_where (is_in_folder dir.now) (taking_labels labels.now) self) }
     {
+        if labels.is_empty() {
+            return Ok(self);
+        }
         let Suite { mut kept } = self;
         let inside: &mut Kept = &mut kept;
         let places = places_at(&inside.by_dir, dir.bytes());

@@ -1,6 +1,6 @@
-ghost use Rattle.std.specs.Prelude.{◌≡◌, ◌-◌, ◌^◌, [], min, unwrap_or, IfErr, IfOk};
+ghost use Rattle.std.specs.Prelude.{◌≡◌, ◌-◌, ◌^◌, [], false, min, unwrap_or, IfErr, IfOk};
 ghost use Rattle.ct_suite.specs.Values.{variable_value, values_of, texts, size};
-ghost use Rattle.ct_suite.specs.Readers.{StopsFor};
+ghost use Rattle.ct_suite.specs.Readers.{StopsFor, are_too_long};
 
 use crate::fault::ValueFault;
 use crate::limits::ValueLimits;
@@ -28,6 +28,7 @@ pub fn values_of(
     args: &Args,
 ) -> Result<List<Value>, ValueFault>
     ensures values { IfOk result (λ values. values ≡ values_of table.now args.now) }
+    ensures within { IfOk result (λ values. are_too_long limits.now values ≡ false) }
     ensures stopped { IfErr result (StopsFor limits.now (values_of table.now args.now)) }
 {
     let mut reader = Reader::new(alloc);

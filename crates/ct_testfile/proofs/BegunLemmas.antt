@@ -7,7 +7,7 @@ use Rattle.ct_lex.specs.declared.call.Arg.{Arg}
 use Rattle.ct_suite.specs.Count.{raised}
 use Rattle.ct_suite.specs.Tests.{AreShort}
 use Rattle.ct_suite.specs.Values.{Variable, is_too_long, size, texts, values_of}
-use Rattle.ct_suite.specs.Readers.{StopsFor}
+use Rattle.ct_suite.specs.Readers.{StopsFor, are_too_long}
 use Rattle.ct_suite.specs.declared.fault.ValueFault.{ValueFault}
 use Rattle.ct_suite.specs.declared.fault.ValueFault.TheVariants as Values
 use Rattle.ct_suite.specs.declared.value.Value.{Value}
@@ -48,6 +48,11 @@ evaluated_by limits values state false is =
 pub stops-evaluated : (limits : Limits) (values : List Value) (state : State) (why : ValueFault) → StopsFor (value_limits limits) values why → Follows {A = List Value × State} (Err (stop_for why)) (evaluated limits values state)
 stops-evaluated limits values state Values.TooLong is = evaluated_by limits values state (list_any (is_too_long limits.value_bytes) values) is
 stops-evaluated limits values state Values.NoMemory is = tt
+
+-- where the values are not too long, what remains is to count their bytes
+pub evaluated_within : (limits : Limits) (values : List Value) (state : State) → are_too_long (value_limits limits) values ≡ false → evaluated limits values state ≡ (taken limits (size values) state >>= λ next. Ok (values, next))
+evaluated_within limits values state within =
+    ap (by_both limits values state) (or_parts (list_any (is_too_long limits.value_bytes) values) (nat_lt limits.all_value_bytes (size values)) within).0
 
 abbrev Short : ℕ → List ℕ → Type 0
 Short most value = length value ≤ most

@@ -98,6 +98,6 @@ TreeAsks held dir config path = AsksWithin tree_limits held dir config path
 abbrev pub Blames : {A : Type 0} → (List ℕ → Type 0) → Result A ReadFault → Type 0
 Blames asks result = IfErr result (λ fault. IfFilesFailed fault asks)
 
--- the same, by what the files tell that they hold
+-- a fault of the files is about a path that is asked for, by what the files tell that they hold
 abbrev pub BlamesBy : {A : Type 0} → Option Held → (Held → List ℕ → Type 0) → Result A ReadFault → Type 0
 BlamesBy told asks result = (held : Held) → TellsHeld held told → Blames (asks held) result

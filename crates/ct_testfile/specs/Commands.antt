@@ -48,7 +48,8 @@ with_command limits state =
 abbrev pub taken : Limits → ℕ → State → Result State ReadKind
 taken limits bytes state =
     or_refused
-    (raised limits.all_value_bytes state.value_bytes bytes) TooLong >>= λ n. Ok (record state { value_bytes = n })
+    (raised limits.all_value_bytes state.value_bytes bytes) TooLong
+    >>= λ n. Ok (record state { value_bytes = n })
 
 -- the values, and the state with their bytes counted; TooLong if one value, or all of the tree, are too long
 abbrev pub evaluated : Limits → List Value → State → Result (List Value × State) ReadKind
@@ -74,7 +75,8 @@ add_test limits dir [] state = Err BadCall
 add_test limits dir (name ∷ command) state =
     if length command == 0 || is_bad_name name then Err BadCall
     else (if is_full limits state.tests then Err TooManyTests
-    else (taken limits (length dir) state >>= λ next. Ok (record next { tests = next.tests ++ new_test dir name command ∷ [] })))
+    else (taken limits (length dir) state
+    >>= λ next. Ok (record next { tests = next.tests ++ new_test dir name command ∷ [] })))
 
 -- set_tests_properties(name .. PROPERTIES key value ..):
 -- each test with one of the names takes the properties;
@@ -98,7 +100,9 @@ abbrev pub set : List (List ℕ) → State → Result State ReadKind
 set [] state = Err BadCall
 set (name ∷ values) state =
     Ok
-    (record state { variables = with_variable state.variables (record { name = name; value = list_value values }) })
+    (record state {
+      variables = with_variable state.variables (record { name = name; value = list_value values });
+    })
 
 -- a command that opens nothing
 abbrev pub no_files : Opens

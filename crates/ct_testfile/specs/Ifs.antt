@@ -116,7 +116,8 @@ flowed limits held dir call ifs state EndIf = left ifs state
 abbrev pub done : Limits → List ℕ → Call → List OpenIf → State → Bool → Result Step ReadKind
 done limits dir call ifs state true =
     carried_out limits dir
-    (command_of call.name) call.args state >>= λ next. Ok (record { ifs = ifs; state = next.0; opens = next.1 })
+    (command_of call.name) call.args state
+    >>= λ next. Ok (record { ifs = ifs; state = next.0; opens = next.1 })
 done limits dir call ifs state false = Ok (record { ifs = ifs; state = state; opens = no_files })
 
 -- the step behind a command, given whether it is one of an `if`

@@ -118,4 +118,5 @@ carried_chosen read limits held file state whole rest ending =
 abbrev pub carried_behind : FileReading
     → Limits → Held → TestFile → State → List Call → List Call → Ending → Result State ReadFault
 carried_behind read limits held file state front rest ending =
-    carried read limits held file [] state front None >>= λ next. carried read limits held file [] next rest ending
+    carried read limits held file [] state front None
+    >>= λ next. carried read limits held file [] next rest ending

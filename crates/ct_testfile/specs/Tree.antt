@@ -72,7 +72,8 @@ abbrev pub carried : FileReading
     → Limits → Held → TestFile → List OpenIf → State → List Call → Ending → Result State ReadFault
 carried read limits held file ifs state [] ending = ended file.path ifs state ending
 carried read limits held file ifs state (call ∷ calls) ending =
-    behind_call read limits held file ifs state call >>= λ next. carried read limits held file next.0 next.1 calls ending
+    behind_call read limits held file ifs state call
+    >>= λ next. carried read limits held file next.0 next.1 calls ending
 
 -- the state that also counts the bytes of a text, which is read as a file;
 -- TooLong if this file, or all files together, are too long
@@ -80,7 +81,8 @@ abbrev pub admitted : Limits → List ℕ → State → Result State ReadKind
 admitted limits text state =
     if nat_lt limits.file_bytes (length text) then Err TooLong
     else (or_refused
-    (raised limits.all_file_bytes state.file_bytes (length text)) TooLong >>= λ n. Ok (record state { file_bytes = n }))
+    (raised limits.all_file_bytes state.file_bytes (length text)) TooLong
+    >>= λ n. Ok (record state { file_bytes = n }))
 
 -- The state behind a text that is read as a file.
 -- At most so many files may be open, this one and those inside it.

@@ -2,7 +2,7 @@ ghost use Rattle.std.specs.Prelude.{◌≡◌};
 ghost use Rattle.ct_testfile.specs.Ifs.{is_taken};
 
 /// What happens to the commands behind the last `if`, `elseif` or `else` of an open `if`.
-#[derive(Clone, Copy, Debug)]
+#[derive(Clone, Copy)]
 pub(crate) enum Branch {
     /// They are carried out.
     Taken,
@@ -19,14 +19,14 @@ pub(crate) enum Branch {
 }
 
 /// An `if` whose `endif` has not come yet.
-#[derive(Clone, Copy, Debug)]
+#[derive(Clone, Copy)]
 pub(crate) struct OpenIf {
     /// The line of the `if`.
     pub(crate) line: u32,
     pub(crate) branch: Branch,
 }
 
-/// Tells whether the commands of a branch are carried out.
+/// Returns whether the commands of a branch are carried out.
 pub(crate) fn is_taken(branch: Branch) -> bool
     ensures { result ≡ is_taken branch }
 {

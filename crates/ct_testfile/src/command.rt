@@ -3,7 +3,7 @@ ghost use Rattle.ct_testfile.specs.Commands.{command_of};
 ghost use Rattle.ct_testfile.specs.Ifs.{flow_of};
 
 /// A command that a test file may use, other than those of `if`.
-#[derive(Clone, Copy, Debug)]
+#[derive(Clone, Copy)]
 pub(crate) enum Command {
     AddTest,
     SetTestsProperties,
@@ -16,7 +16,7 @@ pub(crate) enum Command {
 }
 
 /// A command of an `if`.
-#[derive(Clone, Copy, Debug)]
+#[derive(Clone, Copy)]
 pub(crate) enum Flow {
     If,
     ElseIf,

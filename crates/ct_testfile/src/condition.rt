@@ -13,7 +13,7 @@ use ct_regex::{Regex, RegexFault};
 use ct_suite::{Table, Value};
 use std::alloc::Global;
 
-/// Tells whether a condition holds, on this line of the file.
+/// Returns whether a condition holds, on this line of the file.
 ///
 /// Source: CMake manual, if, Condition Syntax.
 pub(crate) fn holds<F: Files>(
@@ -42,7 +42,7 @@ pub(crate) fn holds<F: Files>(
     here.at_line(line, Err(Stop::Refused(ReadKind::BadCondition)))
 }
 
-/// Tells whether values are `EXISTS path`.
+/// Returns whether values are `EXISTS path`.
 fn is_exists(values: &[Value]) -> bool
     ensures is { result ≡ is_exists values.now }
     ensures two { IsTrue result → length values.now ≡ 2 }
@@ -53,7 +53,7 @@ fn is_exists(values: &[Value]) -> bool
     is_word(&values[0], b"EXISTS")
 }
 
-/// Tells whether values are `text MATCHES pattern`.
+/// Returns whether values are `text MATCHES pattern`.
 fn is_matches(values: &[Value]) -> bool
     ensures is { result ≡ is_matches values.now }
     ensures three { IsTrue result → length values.now ≡ 3 }
@@ -64,7 +64,7 @@ fn is_matches(values: &[Value]) -> bool
     is_word(&values[1], b"MATCHES")
 }
 
-/// Tells whether the files hold the path, taken from a folder.
+/// Returns whether the files hold the path, taken from a folder.
 fn exists<F: Files>(
     alloc: Global,
     files: &mut F,
@@ -81,7 +81,7 @@ fn exists<F: Files>(
     }
 }
 
-/// Tells whether the value is that word of an unquoted argument.
+/// Returns whether the value is that word of an unquoted argument.
 fn is_word(value: &Value, word: &[u8]) -> bool
     ensures { result ≡ is_bare_word word.now value.now }
 {
@@ -101,7 +101,7 @@ fn subject<'a>(table: &'a Table, value: &'a Value) -> &'a [u8]
     }
 }
 
-/// Tells whether a text has a match of a pattern.
+/// Returns whether a text has a match of a pattern.
 fn matched(alloc: Global, text: &[u8], right: &[u8]) -> Result<bool, Stop>
     ensures { Follows result (matched text.now (pattern.reading right.now)) }
 {

@@ -69,7 +69,7 @@ impl From<NoMemory> for ReadFault {
 }
 
 /// Why a command was not carried out, in a file and on a line that the caller knows.
-#[derive(Clone, Copy, Debug)]
+#[derive(Clone, Copy)]
 pub(crate) enum Stop {
     Refused(ReadKind),
     NoMemory,

@@ -52,7 +52,7 @@ impl Ifs {
         }
     }
 
-    /// Tells whether commands are carried out at this point.
+    /// Returns whether commands are carried out at this point.
     pub(crate) fn is_live(&self) -> bool
         ensures { result ≡ is_live self.now }
     {

@@ -5,14 +5,14 @@ use ct_base::{List, Name, NoMemory, join_path};
 use std::alloc::Global;
 
 /// A test file, and the folder that is current while it is read.
-#[derive(Debug, Drop)]
+#[derive(Drop)]
 pub(crate) struct TestFile {
     pub(crate) path: Name,
     pub(crate) dir: Name,
 }
 
 /// A test file that a command opens.
-#[derive(Debug, Drop)]
+#[derive(Drop)]
 pub(crate) struct Opening {
     pub(crate) file: TestFile,
     /// Whether the file is refused if it is absent. If not, it is passed over.
@@ -20,7 +20,7 @@ pub(crate) struct Opening {
 }
 
 /// What a command opens once it has done all else; nothing if there is no name.
-#[derive(Debug, Drop)]
+#[derive(Drop)]
 pub(crate) struct Opens {
     /// Whether the names are those of files, which have to be there. If not, they are those of folders.
     pub(crate) required: bool,

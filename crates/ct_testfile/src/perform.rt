@@ -110,14 +110,14 @@ fn add_test(
     })
 }
 
-/// Tells whether a test may not have this name and command.
+/// Returns whether a test may not have this name and command.
 fn is_bad_test(name: &[u8], command: &List<Name>) -> bool
     ensures { result ≡ (length command.now == 0 || is_bad_name name.now) }
 {
     command.is_empty() || is_bad_name(name)
 }
 
-/// Tells whether there is no room for one more test.
+/// Returns whether there is no room for one more test.
 fn is_full(limits: &Limits, tests: &Suite) -> bool
     ensures { result ≡ is_full limits.now tests.now }
 {

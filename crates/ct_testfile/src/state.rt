@@ -1,8 +1,7 @@
-ghost use Rattle.std.specs.Prelude.{◌≡◌, ◌-◌, ◌^◌, ℕ, min};
-ghost use Rattle.std.specs.List.{list_any};
+ghost use Rattle.std.specs.Prelude.{◌≡◌, ◌-◌, ◌^◌, ℕ, false, min};
 ghost use Rattle.ct_testfile.specs.Says.{Follows};
-ghost use Rattle.ct_testfile.specs.Commands.{begun, with_command, evaluated, taken};
-ghost use Rattle.ct_suite.specs.Values.{is_too_long};
+ghost use Rattle.ct_testfile.specs.Commands.{begun, with_command, evaluated, taken, value_limits};
+ghost use Rattle.ct_suite.specs.Readers.{are_too_long};
 
 use crate::fault::{ReadKind, Stop};
 use crate::limits::{Limits, value_limits};
@@ -62,22 +61,14 @@ impl State {
         state.evaluated(limits, values)
     }
 
-    /// Counts the bytes of values, unless one value, or all of the tree, are too long.
+    /// Counts the bytes of values, unless all of the tree are too long.
+    #[tactic(auto, using(crate::proofs::BegunLemmas::evaluated_within))]
     fn evaluated(self, limits: &Limits, values: List<Value>) -> Result<(List<Value>, State), Stop>
+        requires { are_too_long (value_limits limits.now) values ≡ false }
         ensures { Follows result (evaluated limits.now values self) }
     {
-        if some_too_long(limits, values.as_slice()) {
-            return Err(Stop::Refused(ReadKind::TooLong));
-        }
         let bytes = size(values.as_slice());
         let state = self.taken(limits, bytes)?;
         Ok((values, state))
     }
-}
-
-/// Tells whether a value is longer than one value may be.
-fn some_too_long(limits: &Limits, values: &[Value]) -> bool
-    ensures { result ≡ list_any (is_too_long limits.now.value_bytes) values.now }
-{
-    values.iter().any(|value| value.text.bytes().len() > limits.value_bytes as usize)
 }

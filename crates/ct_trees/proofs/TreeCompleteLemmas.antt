@@ -26,7 +26,7 @@ use Rattle.ct_app.specs.declared.outcome.Outcome.{Outcome}
 use Rattle.ct_app.specs.declared.outcome.Outcome.TheVariants.{Completed, Listed, Usage, Refused, FilesFault, OutputFault, Memory}
 use Rattle.ct_app.specs.declared.outcome.Refusal.{Refusal}
 use Rattle.ct_app.specs.declared.outcome.Refusal.TheVariants.{TestFile, Prop, Spec, Cycle, TooManyEdges}
-use Rattle.ct_app.specs.Ends.{Told, Tells, TellsEnd}
+use Rattle.ct_app.specs.Ends.{PutsFault, ReportsFault, ReportsEnd}
 use Rattle.ct_app.specs.Outcome.{outcome_of_usage}
 use Rattle.ct_app.specs.Reading.{AreRead, RefusesPlan, RefusesReading, RefusesSpec}
 use Rattle.ct_app.specs.SpecFile.{RefusesFile}
@@ -189,17 +189,17 @@ EndsWell (Ok status) = ⊤
 EndsWell (Err outcome) = outcome ≡ Memory
 
 -- such an end is told as Completed or as Memory
-told_well : (names : List (List ℕ)) (ended : Result ℕ Outcome) (outcome : Outcome) (status : ℕ) (before now : SinkTell) → TellsEnd names ended outcome status before now → EndsWell ended → (outcome ≡ Completed) ⊎ (outcome ≡ Memory)
+told_well : (names : List (List ℕ)) (ended : Result ℕ Outcome) (outcome : Outcome) (status : ℕ) (before now : SinkTell) → ReportsEnd names ended outcome status before now → EndsWell ended → (outcome ≡ Completed) ⊎ (outcome ≡ Memory)
 told_well names (Ok done) outcome status before now told well = inl told.0
-told_well names (Err fault) outcome status before now told well = inr (by_line (subst (λ (o : Outcome). Tells names o outcome before now) well told.0))
+told_well names (Err fault) outcome status before now told well = inr (by_line (subst (λ (o : Outcome). ReportsFault names o outcome before now) well told.0))
   where
-    by_line : Told names Memory outcome before now → outcome ≡ Memory
+    by_line : PutsFault names Memory outcome before now → outcome ≡ Memory
     by_line (inl put) = put.0
     by_line (inr short) = short.0
 
 -- a fault of the sink is told without a line
-told_quiet : (names : List (List ℕ)) (ended : Result ℕ Outcome) (outcome : Outcome) (status : ℕ) (before now : SinkTell) → TellsEnd names ended outcome status before now → ended ≡ Err OutputFault → now ≡ before
-told_quiet names ended outcome status before now told is = (subst (λ (e : Result ℕ Outcome). TellsEnd names e outcome status before now) is told).0.1
+told_quiet : (names : List (List ℕ)) (ended : Result ℕ Outcome) (outcome : Outcome) (status : ℕ) (before now : SinkTell) → ReportsEnd names ended outcome status before now → ended ≡ Err OutputFault → now ≡ before
+told_quiet names ended outcome status before now told is = (subst (λ (e : Result ℕ Outcome). ReportsEnd names e outcome status before now) is told).0.1
 
 -- a run in which neither the files nor the sink failed
 module _ (s : RunSides) (ended : Result ℕ Outcome) (calm : Rose s.files.before.faults s.files.after.faults → ⊥) (quiet : ended ≡ Err OutputFault → Rose s.sink.before.faults s.sink.after.faults → ⊥) where

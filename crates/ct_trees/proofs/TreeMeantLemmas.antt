@@ -25,7 +25,7 @@ use Rattle.ct_plan.proofs.CallerLemmas.{length-have_props}
 use Rattle.ct_plan.proofs.WholeLemmas.{AreSound, whole_parts}
 use Rattle.ct_app.specs.declared.outcome.Outcome.{Outcome}
 use Rattle.ct_app.specs.declared.outcome.Outcome.TheVariants.{Completed, Listed, Usage, Refused, FilesFault, OutputFault, Memory}
-use Rattle.ct_app.specs.Ends.{Told as IsToldAs, TellsEnd}
+use Rattle.ct_app.specs.Ends.{PutsFault, ReportsEnd}
 use Rattle.ct_app.specs.Meant.{AreSeen}
 use Rattle.ct_app.specs.MeantTold.{AllTell, seen_in_world}
 use Rattle.ct_app.specs.Outcome.{outcome_of_usage}
@@ -152,11 +152,11 @@ module _ (words : List (List ℕ)) (s : RunSides) (dirs : List (List ℕ)) (invo
   }
 
 -- an outcome other than Completed is not told as Completed
-not_told : (names : List (List ℕ)) (outcome : Outcome) (before now : SinkTell) → (outcome ≡ Completed → ⊥) → IsToldAs names outcome Completed before now → ⊥
+not_told : (names : List (List ℕ)) (outcome : Outcome) (before now : SinkTell) → (outcome ≡ Completed → ⊥) → PutsFault names outcome Completed before now → ⊥
 not_told names outcome before now never (inl put) = never (sym put.0)
 not_told names outcome before now never (inr short) = let is : Completed ≡ Memory = short.0 in absurd (cc)
 
-not_completed : (names : List (List ℕ)) (outcome : Outcome) (status : ℕ) (before now : SinkTell) → (outcome ≡ Completed → ⊥) → TellsEnd names (Err outcome) Completed status before now → ⊥
+not_completed : (names : List (List ℕ)) (outcome : Outcome) (status : ℕ) (before now : SinkTell) → (outcome ≡ Completed → ⊥) → ReportsEnd names (Err outcome) Completed status before now → ⊥
 not_completed names Completed status before now never told = never refl
 not_completed names Listed status before now never told = let is : Completed ≡ Listed = told.0.0 in absurd (cc)
 not_completed names (Usage word kind) status before now never told = not_told names (Usage word kind) before now never told.0
@@ -166,13 +166,13 @@ not_completed names OutputFault status before now never told = let is : Complete
 not_completed names Memory status before now never told = not_told names Memory before now never told.0
 
 -- a call that is told as Completed
-module _ (words : List (List ℕ)) (own : List Pair) (s : RunSides) (middle : SinkTell) (made : TreesMade) (names : List (List ℕ)) (ended : Result ℕ Outcome) (status : ℕ) (told : TellsEnd names ended Completed status middle s.sink.after) where
+module _ (words : List (List ℕ)) (own : List Pair) (s : RunSides) (middle : SinkTell) (made : TreesMade) (names : List (List ℕ)) (ended : Result ℕ Outcome) (status : ℕ) (told : ReportsEnd names ended Completed status middle s.sink.after) where
   abbrev inner : RunSides
   inner = record { files = s.files; gates = s.gates; sink = record { before = s.sink.before; after = middle } }
 
   -- the call did not end with another outcome
   never_ended : (outcome : Outcome) → ended ≡ Err outcome → (outcome ≡ Completed → ⊥) → ⊥
-  never_ended outcome is never = not_completed names outcome status middle s.sink.after never (subst (λ (e : Result ℕ Outcome). TellsEnd names e Completed status middle s.sink.after) is told)
+  never_ended outcome is never = not_completed names outcome status middle s.sink.after never (subst (λ (e : Result ℕ Outcome). ReportsEnd names e Completed status middle s.sink.after) is told)
 
   usage_never : (fault : UsageFault) → ended ≡ Err (outcome_of_usage fault) → ⊥
   usage_never (Usages.At word kind) is = never_ended (Usage word kind) is (λ same. absurd (cc))
@@ -186,7 +186,7 @@ module _ (words : List (List ℕ)) (own : List Pair) (s : RunSides) (middle : Si
     -- the trees ran, and so to the end
     module _ (between : FilesTell) (run : RunTerms) (trees : List Tree) (read : HaveTrees s.files.before.held invocation dirs trees) (plans : List PlanParts) (plans_are : plans ≡ plans_of trees) (whole : PlanParts) (entries : List Entry) (place : Option ℕ) where
       quiet : (e : Result ℕ Outcome) → ended ≡ e → EndsWithTrees run.empty_is_error (map rest_of trees) entries between s.files.after (Ok tt) place e → middle ≡ s.sink.after
-      quiet (Ok left) is leaves = sym (subst (λ (e : Result ℕ Outcome). TellsEnd names e Completed status middle s.sink.after) is told).2
+      quiet (Ok left) is leaves = sym (subst (λ (e : Result ℕ Outcome). ReportsEnd names e Completed status middle s.sink.after) is told).2
       quiet (Err outcome) is leaves =
           absurd (never_ended outcome is (λ same. absurd (subst (λ (o : Outcome). EndsWithTrees run.empty_is_error (map rest_of trees) entries between s.files.after (Ok tt) place (Err o)) same leaves)))
 
@@ -217,4 +217,4 @@ module _ (words : List (List ℕ)) (own : List Pair) (s : RunSides) (middle : Si
 pub trees_as_meant : {words : List (List ℕ)} {own : List Pair} {s : RunSides} {made : TreesMade} {outcome : Outcome} {status : ℕ} → AnswersTrees words own s made outcome status → AnswersTreesAsMeant words s made outcome
 trees_as_meant {words} {own} {s} {made} {outcome} {status} answer is =
     by_ends words own s answer.middle made answer.names answer.ended status
-    (subst (λ (o : Outcome). TellsEnd answer.names answer.ended o status answer.middle s.sink.after) is answer.told) answer.place answer.ends
+    (subst (λ (o : Outcome). ReportsEnd answer.names answer.ended o status answer.middle s.sink.after) is answer.told) answer.place answer.ends

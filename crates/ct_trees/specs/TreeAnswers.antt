@@ -11,7 +11,7 @@ use Rattle.ct_args.specs.Read.{IsFirstFault}
 use Rattle.ct_plan.specs.declared.whole.Tree.{Tree}
 use Rattle.ct_app.specs.declared.outcome.Outcome.{Outcome}
 use Rattle.ct_app.specs.declared.outcome.Outcome.TheVariants.{Completed, Listed, Usage, Refused, FilesFault, OutputFault, Memory}
-use Rattle.ct_app.specs.Ends.{TellsEnd}
+use Rattle.ct_app.specs.Ends.{ReportsEnd}
 use Rattle.ct_app.specs.Outcome.{outcome_of_usage}
 use Rattle.ct_app.specs.RunFiles.{FilesStay}
 use Rattle.ct_trees.specs.declared.tree_run.RunTerms.{RunTerms}
@@ -114,5 +114,5 @@ pub record AnswersTrees
   pub ends : EndsTrees words own
       (record { files = s.files; gates = s.gates; sink = record { before = s.sink.before; after = middle } })
       (record { tree = place; plans = made.plans; whole = made.whole; history = made.history }) names ended
-  pub told : TellsEnd names ended outcome status middle s.sink.after
+  pub told : ReportsEnd names ended outcome status middle s.sink.after
   pub tree_is : made.tree ≡ place_for outcome place

@@ -118,8 +118,8 @@ AreFewRead told invocation count dir =
     × AreRead told (invocation_for invocation dir) defs props
     × (count + length defs ≤ most_tree_tests)
 
--- reading for the tree in this folder, behind so many tests of other trees, may fail at this path: in its tree
--- of test files; or, where its tests are read and are not too many, at its cost data
+-- reading for the tree in this folder, behind so many tests of other trees, may fail at this path: in its
+-- tree of test files; or, where its tests are read and are not too many, at its cost data
 abbrev pub TreeFailsAt : Option Held → Invocation → ℕ → List ℕ → List ℕ → Type 0
 TreeFailsAt told invocation count dir path =
     IfSome told (λ held. TreeAsks held dir invocation.config path)

@@ -90,7 +90,7 @@ fn status(failed: bool) -> u8
     if failed { 8 } else { 0 }
 }
 
-/// Tells whether some tree has no test in its plan, and that is an error.
+/// Returns whether some tree has no test in its plan, and that is an error.
 fn lacks_tests(empty_is_error: bool, trees: &[TreeRest]) -> bool
     ensures { result ≡ lack_tests empty_is_error trees.now }
 {

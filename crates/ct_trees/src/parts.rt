@@ -1,10 +1,9 @@
 ghost use Rattle.std.specs.Prelude.{◌≡◌, ◌-◌, ◌++◌, [], IfOk, OnOk};
 ghost use Rattle.std.specs.List.{cons_option};
-ghost use Rattle.std.specs.Option.{option_copied};
 ghost use Rattle.ct_history.specs.Parts.{cause_back as cause_lowered, entry_of_part, is_in_tree as stands_in_tree};
 
-use ct_alloc::{Pick, Placement};
-use ct_base::{List, NoMemory};
+use ct_alloc::copy_placement;
+use ct_base::NoMemory;
 use ct_history::Entry;
 use ct_verdict::Cause;
 use std::alloc::Global;
@@ -61,7 +60,7 @@ pub(crate) fn own_entry(
     }
 }
 
-/// Tells whether a test of a whole plan is one of the `count` tests behind `offset` others.
+/// Returns whether a test of a whole plan is one of the `count` tests behind `offset` others.
 fn is_in_tree(number: u32, offset: usize, count: usize) -> bool
     ensures { result ≡ stands_in_tree offset count number }
 {
@@ -90,34 +89,4 @@ fn cause_back(offset: usize, cause: Cause) -> Cause
         | Cause::Stopped
         | Cause::Memory => cause,
     }
-}
-
-fn copy_placement(
-    alloc: Global,
-    placement: Option<&Placement>,
-) -> Result<Option<Placement>, NoMemory>
-    ensures { IfOk result (λ copy. copy ≡ option_copied placement.entry) }
-{
-    match placement {
-        Some(placement) => Ok(Some(Placement {
-            picks: copy_picks(alloc, placement.picks.as_slice())?,
-        })),
-        None => Ok(None),
-    }
-}
-
-fn copy_picks(alloc: Global, picks: &[Pick]) -> Result<List<Pick>, NoMemory>
-    ensures { IfOk result (λ copies. copies ≡ picks.now) }
-{
-    let mut copies = List::new(alloc);
-    for pick in picks {
-        copies.push(Pick {
-            group: pick.group,
-            kind: pick.kind.copy(alloc)?,
-            id: pick.id.copy(alloc)?,
-            slots: pick.slots,
-            resource: pick.resource,
-        })?;
-    }
-    Ok(copies)
 }

@@ -8,7 +8,7 @@ ghost use Rattle.ct_trees.specs.TreeRuns.{sides_of_run};
 
 use crate::call::run_words;
 use crate::tree_run::TreesRun;
-use ct_app::{Outcome, tell};
+use ct_app::{Outcome, report_end};
 use ct_base::{Files, List, Name, Pair, Sink};
 use ct_core::Gate;
 use ct_history::{History, Plan};
@@ -84,7 +84,7 @@ pub fn trees_main<R: Threads + Wait + Sync, F: Files, G: Gate + Send, S: Sink + 
         gates,
         mut sink,
     } = run_words(rt, alloc, words, env, &mut files, gates, sink);
-    let (outcome, status) = tell(alloc, &mut sink, names.as_slice(), ended);
+    let (outcome, status) = report_end(alloc, &mut sink, names.as_slice(), ended);
     TreesFinished {
         tree: place_for(&outcome, tree),
         outcome,

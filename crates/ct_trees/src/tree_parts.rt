@@ -118,7 +118,7 @@ fn place_of(spans: &[Span], test: u32) -> usize
     spans.partition_point(|span| ends_before(span, test))
 }
 
-/// Tells whether the last number of a span is in front of a test.
+/// Returns whether the last number of a span is in front of a test.
 fn ends_before(span: &Span, test: u32) -> bool
     ensures { result ≡ nat_lt (last_of_span span.now) test }
 {

@@ -19,7 +19,7 @@ use std::alloc::Global;
 use std::sync::Wait;
 use std::thread::Threads;
 
-/// What the words and the environment of a call tell of the run of its trees.
+/// What the words and the environment of a call say of the run of its trees.
 #[derive(Clone, Copy)]
 pub struct RunTerms<'a> {
     /// The environment of the run.

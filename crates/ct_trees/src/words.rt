@@ -119,7 +119,7 @@ fn read_behind(alloc: Global, behind: &[Name], trees: usize) -> Result<Invocatio
     }
 }
 
-/// Tells whether the words begin with a tree.
+/// Returns whether the words begin with a tree.
 fn begins_tree(words: &[Name]) -> bool
     ensures { result ≡ begins_with_tree words.now }
 {

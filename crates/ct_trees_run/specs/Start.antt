@@ -3,9 +3,7 @@ use Rattle.std.specs.Prelude.{ℕ, List, map, None, Result, Ok, Err, option_map}
 use Rattle.ct_base.specs.declared.defs.Pair.{Pair}
 use Rattle.ct_core.specs.Gate.{GateTell}
 use Rattle.ct_app.specs.Ends.{history_entries}
-use Rattle.ct_edge.specs.Machine.{files_tell, sink_tell}
-use Rattle.ct_edge.specs.declared.real_files.RealFiles.{RealFiles}
-use Rattle.ct_edge.specs.declared.real_sink.RealSink.{RealSink}
+use Rattle.ct_edge.specs.Machine.{RealSinkValue, files_tell, sink_tell}
 use Rattle.ct_start.specs.declared.fault.BeginFault.{BeginFault}
 use Rattle.ct_start.specs.Start.{status_of_fault, unused_gates}
 use Rattle.ct_trees.specs.TreeAnswers.{AnswersTrees, TreesMade}
@@ -23,10 +21,10 @@ made_in finished = record {
 
 -- what a run of these words and variables over several trees came to, on a machine that tells nothing, and of
 -- which no call had failed
-abbrev pub RunsTreesOnMachine : {R G W : Type 0}
-    → (G → GateTell) → List (List ℕ) → List Pair → TreesFinished (RealFiles R) G (RealSink W) → Type 0
+abbrev pub RunsTreesOnMachine : {G W : Type 0}
+    → (G → GateTell) → List (List ℕ) → List Pair → TreesFinished ℕ G (RealSinkValue W) → Type 0
 RunsTreesOnMachine gate_tells words env finished = AnswersTrees words env
-    (sides_of_run (files_tell 0) (files_tell finished.files.faults)
+    (sides_of_run (files_tell 0) (files_tell finished.files)
     unused_gates (map gate_tells finished.gates.items)
     (sink_tell None 0) (sink_tell None finished.sink.faults))
     (made_in finished) finished.outcome finished.status

@@ -8,12 +8,12 @@ use Rattle.std.proofs.lemmas.List.{append-nil}
 use Rattle.ct_history.specs.declared.plan.PlanParts.{PlanParts}
 use Rattle.ct_history.specs.declared.history.Entry.{Entry}
 use Rattle.ct_history.specs.declared.history.Entry.TheVariants.{Start, Stop}
-use Rattle.ct_history.specs.History.{Running, holds_start, is_busy_in, open_starts}
+use Rattle.ct_history.specs.History.{Running, holds_start, is_busy_in, open_starts, open_start_of_worker}
 use Rattle.ct_history.specs.Legal.{is_legal, is_stop_due}
 use Rattle.ct_history.proofs.ApartLemmas.{Differ, differ-head, differ-tail, starts_apart}
 use Rattle.ct_history.proofs.LegalLemmas.{legal_allowed}
 use Rattle.ct_history.proofs.OpenLemmas.{is_of, open_starts-snoc}
-use Rattle.ct_turn.specs.Seen.{AddsOwn, is_own, open_start_of_worker}
+use Rattle.ct_turn.specs.Seen.{AddsOwn, is_own}
 
 finds_none : (p : Running → Bool) (rs : List Running) → find p rs ≡ None → list_any p rs ≡ false
 finds_none p [] none = refl

@@ -9,9 +9,9 @@ use Rattle.std.proofs.lemmas.List.Elements.{All-head, All-tail}
 use Rattle.std.proofs.lemmas.List.Folds.{list_any-append}
 use Rattle.ct_history.specs.declared.history.Entry.{Entry}
 use Rattle.ct_history.specs.declared.history.Entry.TheVariants.{Start, End, Settle, Stop}
-use Rattle.ct_history.specs.History.{Running, is_end_of, open_starts, opened}
+use Rattle.ct_history.specs.History.{Running, is_end_of, open_starts, opened, open_start_of_worker}
 use Rattle.ct_turn.specs.declared.view.Note.{Note}
-use Rattle.ct_turn.specs.Seen.{AddsOwn, HistoryGoesOn, is_by, is_noted, is_own, longer, open_start_of_worker}
+use Rattle.ct_turn.specs.Seen.{AddsOwn, HistoryGoesOn, is_by, is_noted, is_own, longer}
 
 other_number : (v w u : ℕ) → v ≢ w → (u == v) ≡ true → (u == w) ≡ false
 other_number v w u ne is = grind (arith, nat_tests, ne)

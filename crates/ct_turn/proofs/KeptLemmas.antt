@@ -14,13 +14,13 @@ use Rattle.atomic_table.proofs.Lists.{at_set, set_else}
 use Rattle.ct_history.specs.declared.board.Base.{Base}
 use Rattle.ct_history.specs.declared.history.Entry.{Entry}
 use Rattle.ct_history.specs.declared.plan.PlanParts.{PlanParts}
-use Rattle.ct_history.specs.History.{Running, open_starts}
+use Rattle.ct_history.specs.History.{Running, open_starts, open_start_of_worker}
 use Rattle.ct_history.specs.Legal.{is_legal}
 use Rattle.ct_history.proofs.LegalLemmas.{legal-nil}
 use Rattle.ct_turn.specs.declared.view.Moment.{Moment}
 use Rattle.ct_turn.specs.declared.view.Known.{Known}
 use Rattle.ct_turn.specs.declared.view.Note.{Note}
-use Rattle.ct_turn.specs.Seen.{AddsOwn, Continues, HistoryGoesOn, IsTrueNote, Sight, Suits, has_seen, held_start, is_by, is_noted, opener, open_start_of_worker}
+use Rattle.ct_turn.specs.Seen.{AddsOwn, Continues, HistoryGoesOn, IsTrueNote, Sight, Suits, has_seen, held_start, is_by, is_noted, opener}
 use Rattle.ct_turn.specs.Rule.{Assures, AllAgree, IsOwned, SomeOut, passes_at}
 use Rattle.ct_turn.proofs.GoesLemmas.{goes_further, goes_nowhere, noted_is, own_none}
 use Rattle.ct_turn.proofs.SeatLemmas.{only_one, set_there}

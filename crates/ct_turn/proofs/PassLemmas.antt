@@ -15,12 +15,12 @@ use Rattle.atomic_table.proofs.Lists.{at_longer, at_set, set_else}
 use Rattle.ct_history.specs.declared.board.Base.{Base}
 use Rattle.ct_history.specs.declared.history.Entry.{Entry}
 use Rattle.ct_history.specs.declared.plan.PlanParts.{PlanParts}
-use Rattle.ct_history.specs.History.{Running, open_starts}
+use Rattle.ct_history.specs.History.{Running, open_starts, open_start_of_worker}
 use Rattle.ct_history.specs.Legal.{is_legal}
 use Rattle.ct_turn.specs.declared.view.Moment.{Moment}
 use Rattle.ct_turn.specs.declared.view.Known.{Known}
 use Rattle.ct_turn.specs.declared.view.Note.{Note}
-use Rattle.ct_turn.specs.Seen.{Closes, HistoryGoesOn, IsKeptBy, IsTrueNote, Sight, held_start, is_by, is_noted, with_joined, nobody, note_of, one_more, open_start_of_worker, split_off}
+use Rattle.ct_turn.specs.Seen.{Closes, HistoryGoesOn, IsKeptBy, IsTrueNote, Sight, held_start, is_by, is_noted, with_joined, nobody, note_of, one_more, split_off}
 use Rattle.ct_turn.specs.Rule.{Assures, AllAgree, IsOwned, SomeOut, passes_at}
 use Rattle.ct_turn.proofs.GoesLemmas.{goes_longer, longer_whole, none_open}
 use Rattle.ct_turn.proofs.KeptLemmas.{passes-set, some_set, starts_held, unmade_none}

@@ -8,13 +8,13 @@ use Rattle.std.proofs.lemmas.List.{append-nil}
 use Rattle.ct_history.specs.declared.plan.PlanParts.{PlanParts}
 use Rattle.ct_history.specs.declared.history.Entry.{Entry}
 use Rattle.ct_history.specs.declared.history.Entry.TheVariants.{Start, End, Settle, Stop}
-use Rattle.ct_history.specs.History.{Running, holds_start, open_starts}
+use Rattle.ct_history.specs.History.{Running, holds_start, open_starts, open_start_of_worker}
 use Rattle.ct_history.specs.Legal.{are_allowed_behind, is_allowed, is_allowed_so_far, is_legal, is_stop_due}
 use Rattle.ct_history.proofs.ApartLemmas.{Differ, differ-head, differ-tail, starts_apart}
 use Rattle.ct_history.proofs.LegalLemmas.{allowed-snoc, legal_allowed}
 use Rattle.ct_history.proofs.OpenLemmas.{is_of, open_starts-end, open_starts-snoc, filter_none}
 use Rattle.ct_history.proofs.BoolLemmas.{flipped}
-use Rattle.ct_turn.specs.Seen.{HistoryGoesOn, is_by, open_start_of_worker}
+use Rattle.ct_turn.specs.Seen.{HistoryGoesOn, is_by}
 
 -- this attempt of the test, by this worker
 abbrev is_held : ℕ → ℕ → ℕ → Running → Bool

@@ -13,7 +13,7 @@ use Rattle.ct_turn.specs.declared.view.Moment.{Moment}
 use Rattle.ct_turn.specs.declared.view.Known.{Known}
 use Rattle.ct_turn.specs.declared.view.View.{View}
 use Rattle.ct_turn.specs.Seen.{Closes, Continues, Sight, held_start, with_joined, nobody, one_more}
-use Rattle.ct_turn.specs.Rule.{first_view, new_view, spent_view, Counted, Looked, Given, AllAgree, IsOrderly, Lent, Taken, Tried, known_at, with_turn, without_turn}
+use Rattle.ct_turn.specs.Rule.{first_view, new_view, spent_view, Counted, Looked, GivenBack, AllAgree, IsOrderly, Lent, Taken, Tried, known_at, with_turn, without_turn}
 use Rattle.ct_turn.proofs.SeatLemmas.{at_behind, only_one, same_known, set_there}
 use Rattle.ct_turn.proofs.KeptLemmas.{assures, kept-give, kept-open, suits}
 use Rattle.ct_turn.proofs.PassLemmas.{closes, kept-join, kept-split, only_out}
@@ -161,8 +161,8 @@ module _ {T : Type 0} (see : T → Sight) (opened : T) where
 
   -- the turn becomes free
   pub frees-turn : (id : ℕ) (v : View) (t : Moment) (x : T) (m : Me (Option T) View) → m ≡ (v, (0, Some x) ∷ []) → v.taken ≡ Some t → v.known.is_out ≡ true → Continues v.known t (see x)
-      → Allows (IsOrderly see opened) 1 id m 0 (λ n. 0) (λ found n. Given see m n)
-  frees-turn id v t x m is has out fits = subst (λ (y : Me (Option T) View). Allows (IsOrderly see opened) 1 id y 0 (λ n. 0) (λ found n. Given see y n)) (sym is)
+      → Allows (IsOrderly see opened) 1 id m 0 (λ n. 0) (λ found n. GivenBack see m n)
+  frees-turn id v t x m is has out fits = subst (λ (y : Me (Option T) View). Allows (IsOrderly see opened) 1 id y 0 (λ n. 0) (λ found n. GivenBack see y n)) (sym is)
       (λ s g wide me small. (
         without_turn v (see x).now,
         gives,

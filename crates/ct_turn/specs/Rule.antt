@@ -1,4 +1,4 @@
--- The rule of the turn, and what each step tells. This project's own.
+-- The rule of the turn, and what each step shows. This project's own.
 -- Word 0 is 0 while the turn is free. Word 1 is a count of rounds, of which the rule says nothing. Slot 0
 -- has the state.
 use Rattle.std.specs.Prelude.{◌≡◌, ◌≢◌, ℕ, ◌+◌, ◌<◌, ◌≤◌, ◌⊎◌, true, false, All, Contains, sum_by, if◌then◌else◌, List, [], ◌∷◌, map, length, slice_index, Option, Some, None}
@@ -107,8 +107,8 @@ module _ {T : Type 0} (see : T → Sight) where
   Tried m found n = ((found ≡ 0) × Taken m n) ⊎ ((0 < found) × (n ≡ m))
 
   -- the turn was given back with the state in the slot, and the worker has seen it
-  abbrev pub Given : Me (Option T) View → Me (Option T) View → Type 0
-  Given m n = (x : T) × (m.1 ≡ (0, Some x) ∷ []) × (n ≡ (without_turn m.0 (see x).now, []))
+  abbrev pub GivenBack : Me (Option T) View → Me (Option T) View → Type 0
+  GivenBack m n = (x : T) × (m.1 ≡ (0, Some x) ∷ []) × (n ≡ (without_turn m.0 (see x).now, []))
 
 module _ {T : Type 0} where
   -- the empty slot was put back
@@ -119,7 +119,7 @@ module _ {T : Type 0} where
   abbrev pub Counted : Me (Option T) View → Me (Option T) View → Type 0
   Counted m n = n ≡ (record m.0 { is_lent = false }, (0, None) ∷ m.1)
 
-  -- a look leaves the seat as it was, and tells what its worker may rely on
+  -- a look leaves the seat as it was, and shows what its worker may rely on
   abbrev pub Looked : Me (Option T) View → Me (Option T) View → Type 0
   Looked m n = (n ≡ m) × Assures m.0.known
 

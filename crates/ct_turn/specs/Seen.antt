@@ -1,12 +1,12 @@
 -- What a seat of the turn has seen of the state, and how a state goes on from there. This project's own.
-use Rattle.std.specs.Prelude.{◌≡◌, ◌≢◌, ℕ, ◌+◌, Bool, true, false, ◌||◌, List, [], ◌∷◌, ◌++◌, All, find, length, Option, None, ◌==◌, nat_lt, if◌then◌else◌}
+use Rattle.std.specs.Prelude.{◌≡◌, ◌≢◌, ℕ, ◌+◌, Bool, true, false, ◌||◌, List, [], ◌∷◌, ◌++◌, All, length, Option, None, ◌==◌, nat_lt, if◌then◌else◌}
 use Rattle.std.specs.List.{list_all, list_any}
 use Rattle.ct_verdict.specs.declared.repeat.Mode.TheVariants.{Once}
 use Rattle.ct_history.specs.declared.board.Base.{Base}
 use Rattle.ct_history.specs.declared.history.Entry.{Entry}
 use Rattle.ct_history.specs.declared.history.Entry.TheVariants.{Start, End, Settle, Stop}
 use Rattle.ct_history.specs.declared.plan.PlanParts.{PlanParts}
-use Rattle.ct_history.specs.History.{Running, open_starts}
+use Rattle.ct_history.specs.History.{Running, open_starts, open_start_of_worker}
 use Rattle.ct_history.specs.Legal.{is_legal}
 use Rattle.ct_turn.specs.declared.view.Moment.{Moment}
 use Rattle.ct_turn.specs.declared.view.Known.{Known}
@@ -87,7 +87,10 @@ note_of keeper other = record {
 -- either has seen, and one more note
 abbrev pub with_joined : Known → Known → Known
 with_joined keeper other =
-    record keeper { seen = moment (longer keeper.seen.entries other.seen.entries) (keeper.seen.halted || other.seen.halted); notes = keeper.notes ++ note_of keeper other ∷ [] }
+    record keeper {
+      seen = moment (longer keeper.seen.entries other.seen.entries) (keeper.seen.halted || other.seen.halted);
+      notes = keeper.notes ++ note_of keeper other ∷ [];
+    }
 
 -- the worker's pass was joined away
 abbrev pub is_noted : ℕ → List Note → Bool
@@ -118,10 +121,6 @@ pub record AddsOwn (worker : ℕ) (before now : List Entry) : Type 0 where
   pub more : List Entry
   pub is : now ≡ before ++ more
   pub own : list_all (is_own worker) more ≡ true
-
--- the start of the worker that is open, if it has one
-abbrev pub open_start_of_worker : ℕ → List Entry → Option Running
-open_start_of_worker worker entries = find (λ (r : Running). r.worker == worker) (open_starts entries)
 
 -- the start that a worker holds: its own open start in what it has seen
 abbrev pub held_start : Known → Option Running

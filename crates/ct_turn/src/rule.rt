@@ -55,9 +55,9 @@ pub(crate) struct Free<T> {
 
 impl<T: Board> Play<Option<T>, View> for Free<T> {
     ghost use Rattle.ct_turn.specs.Seen.{sight};
-    ghost use Rattle.ct_turn.specs.Rule.{Given};
+    ghost use Rattle.ct_turn.specs.Rule.{GivenBack};
 
-    ghost then = { λ st m found n. Given (sight T.plan T.base T.history T.halted) m n };
+    ghost then = { λ st m found n. GivenBack (sight T.plan T.base T.history T.halted) m n };
 }
 
 /// The step that looks and changes nothing.

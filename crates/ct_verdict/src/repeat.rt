@@ -24,7 +24,7 @@ pub struct Repeat {
 }
 
 impl Repeat {
-    /// Tells whether a test is tried again after `done` attempts, of which the last had this verdict.
+    /// Returns whether a test is tried again after `done` attempts, of which the last had this verdict.
     pub fn again(&self, done: u32, last: Option<Verdict>) -> bool
         requires { IsNone last ↔ (done ≡ 0) }
         ensures { result ≡ is_repeated self.now done last }

@@ -37,7 +37,7 @@ pub enum Verdict {
 }
 
 impl Verdict {
-    /// Tells whether a test with this verdict makes the run fail.
+    /// Returns whether a test with this verdict makes the run fail.
     pub fn is_failing(self) -> bool
         ensures { result ≡ is_failing_verdict self }
     {

@@ -11,7 +11,7 @@ use Rattle.ct_history.specs.declared.plan.PlanTest.{PlanTest}
 use Rattle.ct_history.specs.declared.plan.PlanParts.{PlanParts}
 use Rattle.ct_history.specs.declared.history.Entry.{Entry}
 use Rattle.ct_history.specs.declared.history.Entry.TheVariants as Is
-use Rattle.ct_history.specs.History.{is_busy_in}
+use Rattle.ct_history.specs.History.{is_busy_in, open_start_of_worker}
 use Rattle.ct_history.specs.Legal.{is_legal}
 use Rattle.ct_history.specs.Plan.{test_at}
 use Rattle.ct_history.specs.Rules.{may_start_at}
@@ -27,7 +27,7 @@ use Rattle.ct_core.specs.Ticket.{end_of, holds_ticket, start_of, test_of}
 use Rattle.ct_turn.specs.declared.view.Known.{Known}
 use Rattle.ct_turn.specs.declared.view.Moment.{Moment}
 use Rattle.ct_turn.specs.Pass.{PassValue, idle_pass}
-use Rattle.ct_turn.specs.Seen.{AddsOwn, Continues, HistoryGoesOn, Sight, Suits, has_seen, held_start, is_by, is_own, moment, open_start_of_worker}
+use Rattle.ct_turn.specs.Seen.{AddsOwn, Continues, HistoryGoesOn, Sight, Suits, has_seen, held_start, is_by, is_own, moment}
 use Rattle.ct_turn.proofs.CallerLemmas.{adds_none, adds_one, end_holds_none, holds_own, not_busy, settle_stays, start_holds, adds_due}
 use Rattle.ct_turn.proofs.StartLemmas.{start_stays}
 use Rattle.ct_worker.specs.declared.state.Halt.{Halt}

@@ -10,12 +10,13 @@ use Rattle.ct_history.specs.declared.history.Entry.{Entry}
 use Rattle.ct_core.specs.Gate.{GateTell}
 use Rattle.ct_turn.specs.declared.view.Known.{Known}
 use Rattle.ct_turn.specs.Pass.{PassValue, idle_pass}
-use Rattle.ct_turn.specs.Seen.{has_seen, moment, open_start_of_worker, opener}
+use Rattle.ct_turn.specs.Seen.{has_seen, moment, opener}
 use Rattle.ct_turn.specs.Turn.{TurnValue}
 use Rattle.ct_worker.specs.declared.jobs.Jobs.{Jobs}
 use Rattle.ct_worker.specs.Crew.{AllTookPart, AreReady, AreSplit, HasSplit, IsIdle, IsReady, TookPart, having_made}
 use Rattle.ct_worker.specs.Gates.{IsAsked, Terms}
 use Rattle.ct_worker.specs.Work.{IsEnded, Reach, terms_in}
+use Rattle.ct_history.specs.History.{open_start_of_worker}
 
 -- a worker whose pass has seen nothing is ready
 ready_one : (jobs : Jobs) (turn : TurnValue) (w : ℕ) (pass : PassValue) → pass.turn ≡ turn.id → pass.taken ≡ None → pass.known.worker ≡ w → pass.known.seen ≡ moment [] false → Reach jobs pass.known.plan → IsReady jobs turn w pass

@@ -8,14 +8,15 @@ use Rattle.ct_core.specs.declared.gate.Request.{Request}
 use Rattle.ct_core.specs.declared.ticket.Ticket.{Ticket}
 use Rattle.ct_core.specs.Gate.{GateTell, HasStartCause, is_no_memory}
 use Rattle.ct_worker.specs.Gates.{IsRequestFor, SeesTold, Terms, asked_run}
+use Rattle.ct_core.specs.Ticket.{test_of, attempt_of, worker_of, placement_of}
 
 -- the attempt that a ticket stands for
 abbrev pub run_of : Ticket → Running
 run_of ticket = record {
-  test = ticket.test;
-  attempt = ticket.attempt;
-  worker = ticket.worker;
-  placement = ticket.placement;
+  test = test_of ticket;
+  attempt = attempt_of ticket;
+  worker = worker_of ticket;
+  placement = placement_of ticket;
 }
 
 -- the gate was asked once, for this attempt, and memory was there for it

@@ -23,6 +23,7 @@ use Rattle.ct_core.specs.declared.gate.Request.{Request}
 use Rattle.ct_core.specs.declared.gate.Told.{Told}
 use Rattle.ct_core.specs.Gate.{GateTell, asked_for, is_no_memory, is_not_started, told}
 use Rattle.ct_worker.specs.declared.jobs.Jobs.{Jobs}
+use Rattle.ct_groups.specs.GroupsIn.{count_groups}
 
 -- what a run fixes for its attempts: its own environment, the tests with their properties,
 -- the limit of a test without its own, in microseconds, and whether resources are lent
@@ -91,17 +92,17 @@ limit_of micros = if micros == 0 then None else Some micros
 
 -- the test has groups
 abbrev pub has_groups : Props → Bool
-has_groups props = nat_lt 0 props.groups.count
+has_groups props = nat_lt 0 (count_groups props.groups)
 
 -- a placement without picks
 abbrev pub no_picks : Placement
 no_picks = record { picks = [] }
 
--- the placement that the program of an attempt is told: its own, or else,
+-- the placement that the program of an attempt is shown: its own, or else,
 -- if the test has groups and resources are lent, a placement without picks
-abbrev pub placement_told : Bool → Props → Option Placement → Option Placement
-placement_told lends props (Some placement) = Some placement
-placement_told lends props None = if lends && has_groups props then Some no_picks else None
+abbrev pub placement_shown : Bool → Props → Option Placement → Option Placement
+placement_shown lends props (Some placement) = Some placement
+placement_shown lends props None = if lends && has_groups props then Some no_picks else None
 
 -- what a gate is asked to run for an attempt of this test: its command, in its
 -- folder, with this environment. The limit is the test's own, or else the run's.
@@ -121,7 +122,7 @@ request_in env limit def props run = record {
 -- environment that its properties and its placement make of the run's own
 pub record IsRequestOf (terms : Terms) (def : TestDef) (props : Props) (run : Running) (request : Request)
     : Type 0 where
-  pub env : IsEnvironment terms.own props (placement_told terms.lends props run.placement) request.env
+  pub env : IsEnvironment terms.own props (placement_shown terms.lends props run.placement) request.env
   pub is : request ≡ request_in request.env terms.limit def props run
 
 -- the request is the right one for this attempt, by the

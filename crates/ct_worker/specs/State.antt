@@ -73,7 +73,8 @@ put_of (Some Memory) = Err Sinks.NoMemory
 pub record PutsLine (test : ℕ) (entries : List Entry) (old new : StateValue) : Type 0 where
   pub result : Result (Unit {0}) SinkFault
   pub put : PutsLines
-      (lines_of_test old.plan entries (length (test_lines old.plan old.entries) + 1) (Some test)) old.sink new.sink result
+      (lines_of_test old.plan entries (length (test_lines old.plan old.entries) + 1) (Some test))
+      old.sink new.sink result
   pub is : new ≡ record old { entries = entries; sink = new.sink; halt = halt_of result }
 
 -- how an answer of the core, which has these entries now, changes the state

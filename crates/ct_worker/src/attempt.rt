@@ -4,13 +4,13 @@ ghost use Rattle.ct_env.specs.Environment.{IsEnvironment};
 ghost use Rattle.ct_core.specs.Gate.{is_no_memory};
 ghost use Rattle.ct_core.specs.Ticket.{test_of};
 ghost use Rattle.ct_worker.specs.Attempt.{RunsAttempt, run_of};
-ghost use Rattle.ct_worker.specs.Gates.{IsRequestOf, limit_of, placement_told, terms_of};
+ghost use Rattle.ct_worker.specs.Gates.{IsRequestOf, limit_of, placement_shown, terms_of};
 
 use crate::Jobs;
 use crate::listener::Listener;
 use ct_alloc::Placement;
-use ct_base::{List, NoMemory, Pair, TestDef};
-use ct_core::{Gate, Request, Ticket, copy_names};
+use ct_base::{List, NoMemory, Pair, TestDef, copy_names};
+use ct_core::{Gate, Request, Ticket};
 use ct_env::environment;
 use ct_props::Props;
 use ct_verdict::{How, Seen};
@@ -71,7 +71,7 @@ fn request(
 }
 
 /// Makes the environment of an attempt with this placement. If resources are lent,
-/// a test with groups but without a placement is told a placement without picks.
+/// a test with groups but without a placement is shown a placement without picks.
 ///
 /// Source: CMake manual, ctest(1), Resource Allocation, Environment Variables.
 fn env_of(
@@ -81,7 +81,7 @@ fn env_of(
     props: &Props,
     placement: Option<&Placement>,
 ) -> Result<List<Pair>, NoMemory>
-    ensures { IfOk result (λ pairs. IsEnvironment env.now props.now (placement_told lends props.now (option_copied placement.entry)) pairs) }
+    ensures { IfOk result (λ pairs. IsEnvironment env.now props.now (placement_shown lends props.now (option_copied placement.entry)) pairs) }
 {
     match placement {
         Some(_) => environment(alloc, env, props, placement),

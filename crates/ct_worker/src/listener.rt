@@ -87,7 +87,7 @@ fn feed_all(scans: &mut [Scan], piece: &[u8])
     }
 }
 
-/// Tells whether some scan tells a match, if the text ends here.
+/// Returns whether some scan tells a match, if the text ends here.
 fn some_ended(scans: &[Scan]) -> bool
     ensures { (patterns : List Pattern) (text : List ℕ) →
         AllStandFor patterns text scans.now → result ≡ some_hits patterns text }

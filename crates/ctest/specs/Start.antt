@@ -6,18 +6,16 @@ use Rattle.ct_app.specs.Calls.{sides}
 use Rattle.ct_app.specs.Ends.{history_entries}
 use Rattle.ct_app.specs.declared.outcome.Finished.{Finished}
 use Rattle.ct_core.specs.Gate.{GateTell}
-use Rattle.ct_edge.specs.Machine.{files_tell, sink_tell}
-use Rattle.ct_edge.specs.declared.real_files.RealFiles.{RealFiles}
-use Rattle.ct_edge.specs.declared.real_sink.RealSink.{RealSink}
+use Rattle.ct_edge.specs.Machine.{RealSinkValue, files_tell, sink_tell}
 use Rattle.ct_start.specs.declared.fault.BeginFault.{BeginFault}
 use Rattle.ct_start.specs.Start.{status_of_fault, unused_gates}
 
 -- what a run of these words and variables came to, on a machine that tells
 -- nothing, and of which no call had failed
-abbrev pub RunsOnMachine : {R G W : Type 0}
-    → (G → GateTell) → List (List ℕ) → List Pair → Finished (RealFiles R) G (RealSink W) → Type 0
+abbrev pub RunsOnMachine : {G W : Type 0}
+    → (G → GateTell) → List (List ℕ) → List Pair → Finished ℕ G (RealSinkValue W) → Type 0
 RunsOnMachine gate_tells words env finished = Answers (sides words env
-    (files_tell 0) (files_tell finished.files.faults)
+    (files_tell 0) (files_tell finished.files)
     unused_gates (map gate_tells finished.gates.items)
     (sink_tell None 0) (sink_tell None finished.sink.faults)
     finished.plan (option_map history_entries finished.history)) finished.outcome finished.status

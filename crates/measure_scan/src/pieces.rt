@@ -6,7 +6,7 @@ use ct_base::NoMemory;
 use ct_regex::{Regex, Scan};
 use std::alloc::Global;
 
-/// Tells whether the text has a match anywhere, fed to a scan in pieces of `piece` bytes.
+/// Returns whether the text has a match anywhere, fed to a scan in pieces of `piece` bytes.
 ///
 /// Source: CMake manual, string(REGEX), Regex Specification.
 pub fn is_hit(alloc: Global, regex: &Regex, text: &[u8], piece: usize) -> Result<bool, NoMemory>

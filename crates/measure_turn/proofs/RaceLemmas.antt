@@ -7,7 +7,8 @@ use Rattle.ct_history.specs.declared.history.Entry.TheVariants.{Start, End, Sett
 use Rattle.ct_history.specs.Legal.{is_legal}
 use Rattle.ct_turn.specs.declared.view.Known.{Known}
 use Rattle.ct_turn.specs.Pass.{PassValue, idle_pass}
-use Rattle.ct_turn.specs.Seen.{has_seen, held_start, longer, moment, no_plan, open_start_of_worker, with_joined}
+use Rattle.ct_turn.specs.Seen.{has_seen, held_start, longer, moment, no_plan, with_joined}
+use Rattle.ct_history.specs.History.{open_start_of_worker}
 
 -- the legal history of a plan without tests is the empty one
 pub legal-empty : (es : List Entry) → is_legal no_plan es ≡ true → es ≡ []

@@ -427,7 +427,7 @@ fn ending_by_pieces(alloc: Global, ran: &Ran) -> Result<String, NoMemory> {
     ending_with(alloc, ran, text.as_str())
 }
 
-/// Tells whether a text is one line with its line feed.
+/// Returns whether a text is one line with its line feed.
 fn is_line(text: &str) -> bool {
     text.ends_with('\n') && text.lines().count() == 1
 }

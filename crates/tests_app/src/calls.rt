@@ -9,14 +9,14 @@ use ct_history::History;
 use std::alloc::Global;
 use std::test::Fail;
 use tests_calls::{
-    Call, Inputs, Machine, asked_of, calls_of, entries_of, expect, gates_of, inputs_of,
+    CallRow, Inputs, Machine, asked_of, calls_of, entries_of, expect, gates_of, inputs_of,
     keeps_files, pair_of, requests_of, written,
 };
 
 /// Runs on these gates, with one variable in the environment.
 pub(crate) fn run_on<G: Gate + Send + Drop>(
     rt: &impl Machine,
-    call: &Call<'_>,
+    call: &CallRow<'_>,
     gates: Vec<G>,
 ) -> Result<Finished<MemFiles, G, MemSink>, NoMemory>
     requires { 0 < vec_len gates }
@@ -30,7 +30,7 @@ pub(crate) fn run_on<G: Gate + Send + Drop>(
 /// Runs on these gates, and reports the status and what was written.
 pub(crate) fn report_on<G: Gate + Send + Drop>(
     rt: &impl Machine,
-    call: &Call<'_>,
+    call: &CallRow<'_>,
     gates: Vec<G>,
 ) -> Result<String, NoMemory>
     requires { 0 < vec_len gates }
@@ -49,12 +49,15 @@ pub(crate) fn status_told(alloc: Global, status: u8, sink: &MemSink) -> Result<S
 pub(crate) type Ran = Finished<MemFiles, ScriptGate, MemSink>;
 
 /// Runs on gates that play the attempts of the facts.
-pub(crate) fn run(rt: &impl Machine, call: &Call<'_>) -> Result<Ran, NoMemory> {
+pub(crate) fn run(rt: &impl Machine, call: &CallRow<'_>) -> Result<Ran, NoMemory> {
     run_on(rt, call, gates_of(rt.alloc(), call, call.gates())?)
 }
 
 /// Lists without a gate.
-pub(crate) fn list(alloc: Global, call: &Call<'_>) -> Result<Listed<MemFiles, MemSink>, NoMemory> {
+pub(crate) fn list(
+    alloc: Global,
+    call: &CallRow<'_>,
+) -> Result<Listed<MemFiles, MemSink>, NoMemory> {
     let Inputs { words, files, sink } = inputs_of(alloc, call)?;
     Ok(list_main(alloc, words.as_slice(), files, sink))
 }
@@ -77,7 +80,7 @@ pub(crate) fn run_as_told<F: Fn(Global, &Ran) -> Result<String, NoMemory>>(
 /// Makes a call, and compares its report with the wanted text.
 fn run_one<F: Fn(Global, &Ran) -> Result<String, NoMemory>>(
     rt: &impl Machine,
-    call: &Call<'_>,
+    call: &CallRow<'_>,
     report: &F,
 ) -> Result<(), Fail>
     requires { F.IsAlwaysCallable report.now }
@@ -91,7 +94,7 @@ fn run_one<F: Fn(Global, &Ran) -> Result<String, NoMemory>>(
 /// Compares the report of a run with the wanted text of its call.
 fn compare<F: Fn(Global, &Ran) -> Result<String, NoMemory>>(
     rt: &impl Machine,
-    call: &Call<'_>,
+    call: &CallRow<'_>,
     ran: &Ran,
     report: &F,
 ) -> Result<(), Fail>

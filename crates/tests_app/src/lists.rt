@@ -5,7 +5,7 @@ use ct_app::Outcome;
 use ct_base::{MemFiles, MemSink, NoMemory};
 use std::alloc::Global;
 use std::test::Fail;
-use tests_calls::{Call, Machine, are_asked, calls_of, expect, holds_run_files, written};
+use tests_calls::{CallRow, Machine, are_asked, calls_of, expect, holds_run_files, written};
 
 /// Lists of tests.
 const TESTS: &str = "
@@ -476,7 +476,7 @@ fn listing(alloc: Global, ran: &Ran) -> Result<String, NoMemory> {
 }
 
 /// Reports a list by `list_main`.
-fn plain_listing(alloc: Global, call: &Call<'_>) -> Result<String, NoMemory> {
+fn plain_listing(alloc: Global, call: &CallRow<'_>) -> Result<String, NoMemory> {
     let listed = list(alloc, call)?;
     ending(
         alloc,

@@ -9,7 +9,7 @@ use ct_core::{Ended, Gate, Request, Ticket};
 use ct_verdict::How;
 use std::alloc::{AllocError, Global};
 use std::test::Fail;
-use tests_calls::{Call, Machine, calls_of, expect, written};
+use tests_calls::{CallRow, Machine, calls_of, expect, written};
 
 /// A run of a test that writes 64 MiB of `x` and then `done`, the last word in two pieces.
 const ENDS: &str = "
@@ -167,7 +167,7 @@ impl Gate for Starves {
 /// Runs on this gate, and reports how the run came out, what happened and what was written.
 fn report<G: Gate + Send + Drop>(
     rt: &impl Machine,
-    call: &Call<'_>,
+    call: &CallRow<'_>,
     gate: G,
 ) -> Result<String, Fail> {
     let mut gates = Vec::new(rt.alloc());

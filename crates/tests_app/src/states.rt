@@ -16,7 +16,7 @@ use std::alloc::Global;
 use std::process::Abort;
 use std::sync::Wait;
 use std::test::Fail;
-use tests_calls::{Call, Machine, calls_of, entries_of, expect, sink_of, written};
+use tests_calls::{CallRow, Machine, calls_of, entries_of, expect, sink_of, written};
 
 /// A run of five tests on three processors, whose second put fails.
 const FIVE: &str = "
@@ -52,7 +52,7 @@ End 1/1
 ";
 
 /// Makes the plan of a call.
-fn plan_of(rt: &impl Machine, call: &Call<'_>) -> Result<Plan, Fail> {
+fn plan_of(rt: &impl Machine, call: &CallRow<'_>) -> Result<Plan, Fail> {
     let ran = run(rt, call)?;
     Ok(plan_in(ran).ok_or("no plan")?)
 }
@@ -73,7 +73,7 @@ fn core_of(alloc: Global, plan: Plan) -> Result<Core, NoMemory>
 }
 
 /// Opens a state with the plan of a call.
-fn open(rt: &impl Machine, call: &Call<'_>) -> Result<State<MemSink>, Fail>
+fn open(rt: &impl Machine, call: &CallRow<'_>) -> Result<State<MemSink>, Fail>
     ensures { IfOk result (λ state. (state.entries ≡ []) × (state.halt ≡ None)) }
 {
     let sink = sink_of(rt.alloc(), call)?;
@@ -82,7 +82,7 @@ fn open(rt: &impl Machine, call: &Call<'_>) -> Result<State<MemSink>, Fail>
 }
 
 /// Compares what was written, and the history behind it, with the wanted text of a call.
-fn close(rt: &impl Machine, call: &Call<'_>, state: State<MemSink>) -> Result<(), Fail> {
+fn close(rt: &impl Machine, call: &CallRow<'_>, state: State<MemSink>) -> Result<(), Fail> {
     let (core, sink) = state.into_parts();
     let compared = compare(rt, call, core.history(), &sink);
     drop(core);
@@ -93,7 +93,7 @@ fn close(rt: &impl Machine, call: &Call<'_>, state: State<MemSink>) -> Result<()
 /// Compares what was written, and a history behind it, with the wanted text of a call.
 fn compare(
     rt: &impl Machine,
-    call: &Call<'_>,
+    call: &CallRow<'_>,
     history: &History,
     sink: &MemSink,
 ) -> Result<(), Fail> {

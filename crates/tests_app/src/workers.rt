@@ -12,7 +12,7 @@ use std::alloc::Global;
 use std::hint::spin_loop;
 use std::sync::atomic::{AtomicBool, Ordering};
 use std::test::Fail;
-use tests_calls::{Call, Machine, calls_of, written};
+use tests_calls::{CallRow, Machine, calls_of, written};
 
 /// Runs of tests that pass only if all of them run at the same time.
 const MEETINGS: &str = "
@@ -119,7 +119,7 @@ struct Meeting<'a> {
 }
 
 impl Meeting<'_> {
-    /// Tells whether all gates are asked while this gate waits.
+    /// Returns whether all gates are asked while this gate waits.
     fn is_met(&self) -> bool {
         if let Some(own) = self.asked.get(self.place) {
             own.store(true, Ordering::SeqCst);
@@ -170,7 +170,7 @@ fn meetings<'a>(alloc: Global, asked: &'a [AtomicBool]) -> Result<Vec<Meeting<'a
 }
 
 /// Runs on gates that pass a test only if all of them are asked at the same time.
-fn report(rt: &impl Machine, call: &Call<'_>) -> Result<String, Fail> {
+fn report(rt: &impl Machine, call: &CallRow<'_>) -> Result<String, Fail> {
     let flags = flags(rt.alloc(), call.gates())?;
     let gates = meetings(rt.alloc(), flags.as_slice())?;
     assert!(rt; !gates.is_empty(), "{call}");
@@ -200,7 +200,7 @@ fn halted(alloc: Global, ran: &Ran) -> Result<String, NoMemory> {
     Ok(format!(in alloc; "{name}, status {status}, {lines} lines, {open}")?)
 }
 
-/// Tells whether some attempt has not ended.
+/// Returns whether some attempt has not ended.
 fn is_some_open(entries: &[Entry]) -> bool {
     for entry in entries {
         if let Entry::Start { worker, .. } = entry {

@@ -25,7 +25,7 @@ use std::fmt;
 
 /// A call of a table.
 #[derive(Clone, Copy)]
-pub struct Call<'a> {
+pub struct CallRow<'a> {
     /// What the row shows, and its facts.
     pub facts: &'a str,
     /// The files, each from its path on, if the row has files.
@@ -36,17 +36,17 @@ pub struct Call<'a> {
     pub want: &'a str,
 }
 
-impl<'a> Call<'a> {
+impl<'a> CallRow<'a> {
     /// Reads a call of a row from the facts and files of the row, the text of the call, and `before`,
     /// the wanted text of the call before.
-    fn of(given: &'a str, call: &'a str, before: &'a str) -> Call<'a> {
+    fn of(given: &'a str, call: &'a str, before: &'a str) -> CallRow<'a> {
         let (facts, files) = match given.split_once("\n---") {
             Some((facts, files)) => (facts, Some(files)),
             None => (given, None),
         };
         let (words, want) = call.split_once('\n').unwrap_or((call, ""));
         let want = want.trim_end();
-        Call {
+        CallRow {
             facts,
             files,
             words,
@@ -74,7 +74,7 @@ impl<'a> Call<'a> {
         gates.parse().unwrap_or(1).max(1)
     }
 
-    /// Tells whether a text is one of the allowed texts.
+    /// Returns whether a text is one of the allowed texts.
     pub fn allows(&self, text: &str) -> bool {
         for allowed in self.want.split("\nor\n") {
             if allowed == text {
@@ -85,26 +85,26 @@ impl<'a> Call<'a> {
     }
 }
 
-impl fmt::Display for Call<'_> {
+impl fmt::Display for CallRow<'_> {
     fn fmt<W: fmt::Write>(&self, f: &mut fmt::Formatter<W>) -> fmt::Result {
         write!(f, "{} >>>{}", self.facts, self.words)
     }
 }
 
 /// Reads the calls of a table.
-pub fn calls_of<'a>(alloc: Global, table: &'a str) -> Result<Vec<Call<'a>>, NoMemory> {
+pub fn calls_of<'a>(alloc: Global, table: &'a str) -> Result<Vec<CallRow<'a>>, NoMemory> {
     let mut calls = Vec::new(alloc);
     for row in table.split("\n===").skip(1) {
         let (given, of_row) = row.split_once("\n>>>").unwrap_or((row, ""));
         for call in of_row.split("\n>>>") {
-            calls.push(Call::of(given, call, last_want(calls.as_slice())))?;
+            calls.push(CallRow::of(given, call, last_want(calls.as_slice())))?;
         }
     }
     Ok(calls)
 }
 
 /// Returns the wanted text of the last of these calls.
-fn last_want<'a>(calls: &[Call<'a>]) -> &'a str {
+fn last_want<'a>(calls: &[CallRow<'a>]) -> &'a str {
     match calls {
         [.., last] => last.want,
         [] => "",

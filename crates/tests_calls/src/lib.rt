@@ -1,6 +1,6 @@
 //! Tables of calls in text, and the words, files, sinks and gates that their rows name.
 //!
-//! Hands up: `calls_of`, which reads a table; what each `Call` names; `written` and others, which tell of
+//! Hands up: `calls_of`, which reads a table; what each `CallRow` names; `written` and others, which tell of
 //! a sink and of files.
 //! Read first: `call.rt`, then `outside.rt`.
 #![tactic(auto)]
@@ -10,7 +10,7 @@ mod machine;
 mod outside;
 mod tell;
 
-pub use crate::call::{Call, calls_of};
+pub use crate::call::{CallRow, calls_of};
 pub use crate::machine::Machine;
 pub use crate::outside::{
     COSTS, Inputs, LOG, gates_of, inputs_of, pair_of, sink_failing_at, sink_of, words_of,

@@ -2,7 +2,7 @@
 
 ghost use Rattle.std.specs.Prelude.{◌≡◌, ◌<◌, IfOk, length, vec_len};
 
-use crate::call::Call;
+use crate::call::CallRow;
 use ct_base::{Blob, List, MemFiles, MemSink, Name, NoMemory, Pair};
 use ct_core::{Ended, ScriptGate, Told};
 use ct_verdict::How;
@@ -29,7 +29,7 @@ pub struct Inputs {
 }
 
 /// Makes what a call is given. Of 200 words or more it gives none.
-pub fn inputs_of(alloc: Global, call: &Call<'_>) -> Result<Inputs, NoMemory>
+pub fn inputs_of(alloc: Global, call: &CallRow<'_>) -> Result<Inputs, NoMemory>
     ensures { IfOk result (λ inputs. length inputs.words < 200) }
 {
     Ok(Inputs {
@@ -62,7 +62,7 @@ fn read_words(alloc: Global, line: &str) -> Result<List<Name>, NoMemory> {
 }
 
 /// Makes the files of a call, with the files that the last run left.
-fn files_of(alloc: Global, call: &Call<'_>) -> Result<MemFiles, NoMemory> {
+fn files_of(alloc: Global, call: &CallRow<'_>) -> Result<MemFiles, NoMemory> {
     let mut held = named_files(alloc, call)?;
     if let Some(costs) = call.fact("costs ") {
         held.push(file(alloc, COSTS, costs_of(alloc, call, costs)?)?)?;
@@ -74,7 +74,7 @@ fn files_of(alloc: Global, call: &Call<'_>) -> Result<MemFiles, NoMemory> {
 }
 
 /// Makes the files that the row of a call names, with a line feed at the end of each.
-pub(crate) fn named_files(alloc: Global, call: &Call<'_>) -> Result<List<Pair>, NoMemory> {
+pub(crate) fn named_files(alloc: Global, call: &CallRow<'_>) -> Result<List<Pair>, NoMemory> {
     let mut files = List::new(alloc);
     let Some(texts) = call.files else {
         return Ok(files);
@@ -95,7 +95,7 @@ fn named_file(alloc: Global, file_text: &str) -> Result<Pair, NoMemory> {
 }
 
 /// Makes the text of the cost file from its fact.
-fn costs_of(alloc: Global, call: &Call<'_>, costs: &str) -> Result<Vec<u8>, NoMemory> {
+fn costs_of(alloc: Global, call: &CallRow<'_>, costs: &str) -> Result<Vec<u8>, NoMemory> {
     let mut text = lines_in(alloc, costs)?;
     if let Some(len) = call.fact("fill ") {
         text.resize(len.parse().unwrap_or(0), b'x')?;
@@ -137,7 +137,7 @@ fn failing(alloc: Global, facts: &str, kind: &str) -> Result<List<u64>, NoMemory
 }
 
 /// Makes the sink of a call.
-pub fn sink_of(alloc: Global, call: &Call<'_>) -> Result<MemSink, NoMemory> {
+pub fn sink_of(alloc: Global, call: &CallRow<'_>) -> Result<MemSink, NoMemory> {
     Ok(MemSink::new(alloc, failing(alloc, call.facts, "put ")?))
 }
 
@@ -151,7 +151,11 @@ pub fn sink_failing_at(alloc: Global, number: &str) -> Result<MemSink, NoMemory>
 }
 
 /// Makes so many gates that play the attempts of the facts.
-pub fn gates_of(alloc: Global, call: &Call<'_>, count: usize) -> Result<Vec<ScriptGate>, NoMemory>
+pub fn gates_of(
+    alloc: Global,
+    call: &CallRow<'_>,
+    count: usize,
+) -> Result<Vec<ScriptGate>, NoMemory>
     ensures { IfOk result (λ gates. vec_len gates ≡ count) }
 {
     let mut gates = Vec::new(alloc);
@@ -162,7 +166,7 @@ pub fn gates_of(alloc: Global, call: &Call<'_>, count: usize) -> Result<Vec<Scri
 }
 
 /// Makes a gate that plays the attempts of the facts.
-fn gate_of(alloc: Global, call: &Call<'_>) -> Result<ScriptGate, NoMemory> {
+fn gate_of(alloc: Global, call: &CallRow<'_>) -> Result<ScriptGate, NoMemory> {
     let mut world = List::new(alloc);
     for fact in call.facts.lines() {
         if let Some(cells) = fact.strip_prefix("told ") {

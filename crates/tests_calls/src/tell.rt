@@ -1,6 +1,6 @@
 //! What was written, what files hold, and what gates were asked for behind a call.
 
-use crate::call::Call;
+use crate::call::CallRow;
 use crate::outside::{COSTS, LOG, named_files};
 use ct_base::{List, MemFiles, MemSink, Name, NoMemory, Pair};
 use ct_core::{Request, ScriptGate};
@@ -10,7 +10,7 @@ use std::str;
 use std::test::Fail;
 
 /// Fails unless a call comes to one of the texts that it may come to.
-pub fn expect(call: &Call<'_>, text: &str) -> Result<(), Fail> {
+pub fn expect(call: &CallRow<'_>, text: &str) -> Result<(), Fail> {
     let text = text.trim_end();
     if call.allows(text) {
         return Ok(());
@@ -54,8 +54,8 @@ pub fn left_in(
     }
 }
 
-/// Tells whether the files that the row of a call names hold what they held before it.
-pub fn keeps_files(alloc: Global, call: &Call<'_>, files: &MemFiles) -> Result<bool, NoMemory> {
+/// Returns whether the files that the row of a call names hold what they held before it.
+pub fn keeps_files(alloc: Global, call: &CallRow<'_>, files: &MemFiles) -> Result<bool, NoMemory> {
     for pair in named_files(alloc, call)?.as_slice() {
         match files.held(&pair.name) {
             Some(text) if text.is(&pair.value) => {}
@@ -65,7 +65,7 @@ pub fn keeps_files(alloc: Global, call: &Call<'_>, files: &MemFiles) -> Result<b
     Ok(true)
 }
 
-/// Tells whether there are files of a run in the folder that a call is made in, or in `build` below it.
+/// Returns whether there are files of a run in the folder that a call is made in, or in `build` below it.
 pub fn holds_run_files(alloc: Global, files: &MemFiles) -> Result<bool, NoMemory> {
     for path in [
         COSTS,
@@ -80,7 +80,7 @@ pub fn holds_run_files(alloc: Global, files: &MemFiles) -> Result<bool, NoMemory
     Ok(false)
 }
 
-/// Tells whether a gate was asked for an attempt, or sent a request.
+/// Returns whether a gate was asked for an attempt, or sent a request.
 pub fn are_asked(gates: &[ScriptGate]) -> bool {
     gates
         .iter()

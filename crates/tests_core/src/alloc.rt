@@ -89,7 +89,7 @@ fn check_places(rt: &impl Abort, placement: &Placement, places: &str, row: &str)
     }
 }
 
-/// Tells whether a card has as many needs of as many slots as the text says, and at least one.
+/// Returns whether a card has as many needs of as many slots as the text says, and at least one.
 fn is_place(placement: &Placement, text: &str) -> bool {
     let (times, rest) = text.split_once(" of ").unwrap_or((text, ""));
     let (slots, card) = rest.split_once(" on ").unwrap_or((rest, ""));
@@ -134,7 +134,7 @@ fn load(wanted: &[u32], way: u32, card: u32) -> u32 {
     load
 }
 
-/// Tells whether the needs fit when they are placed this way. A card beyond the last has no slots.
+/// Returns whether the needs fit when they are placed this way. A card beyond the last has no slots.
 fn fits(free: &[u32], wanted: &[u32], way: u32) -> bool {
     for card in 0..4 {
         let slots = free.get(card as usize).copied().unwrap_or(0);

@@ -35,7 +35,7 @@ impl Trial<'_> {
         Ok(is_legal)
     }
 
-    /// Tells whether a test may be settled with some cause.
+    /// Returns whether a test may be settled with some cause.
     fn allows_settle(&mut self, test: u32) -> Result<bool, NoMemory> {
         for cause in CAUSES {
             if self.allows(Entry::Settle { test, cause })? {
@@ -45,7 +45,7 @@ impl Trial<'_> {
         self.allows_settle_for_setup(test)
     }
 
-    /// Tells whether a test may be settled for some setup that did not pass.
+    /// Returns whether a test may be settled for some setup that did not pass.
     fn allows_settle_for_setup(&mut self, test: u32) -> Result<bool, NoMemory> {
         for setup in 1..LAST + 1 {
             let cause = Cause::Fixture(setup);
@@ -56,7 +56,7 @@ impl Trial<'_> {
         Ok(false)
     }
 
-    /// Tells whether the next attempt of a test may start with some placement.
+    /// Returns whether the next attempt of a test may start with some placement.
     fn allows_start(&mut self, alloc: Global, test: &PlanTest) -> Result<bool, NoMemory> {
         let attempt = next_attempt(self.history.entries.as_slice(), test.number);
         if self.allows(start(test.number, attempt, None))? {
@@ -65,7 +65,7 @@ impl Trial<'_> {
         Ok(!test.needs.is_empty() && self.allows_placed(alloc, test, attempt)?)
     }
 
-    /// Tells whether an attempt may start with one of all placements.
+    /// Returns whether an attempt may start with one of all placements.
     fn allows_placed(
         &mut self,
         alloc: Global,
@@ -90,7 +90,7 @@ impl Trial<'_> {
         Ok(true)
     }
 
-    /// Tells whether no test of the queue in front of this one may
+    /// Returns whether no test of the queue in front of this one may
     /// start; with `None`, whether no test may.
     fn starts_none_before(&mut self, alloc: Global, first: Option<u32>) -> Result<bool, NoMemory> {
         let parts = self.plan.parts();
@@ -173,7 +173,7 @@ fn check_choice(
     Ok(())
 }
 
-/// Takes one drawn step, and tells whether the run goes on.
+/// Takes one drawn step, and returns whether the run goes on.
 fn checked_step(
     rt: &impl Abort,
     alloc: Global,

@@ -156,7 +156,7 @@ fn draw_needs(
     Ok(())
 }
 
-/// Tells whether needs can be placed, or no cards are lent, so that the needs are not looked at.
+/// Returns whether needs can be placed, or no cards are lent, so that the needs are not looked at.
 fn are_met(
     alloc: Global,
     needs: &List<Need>,
@@ -190,7 +190,7 @@ pub(crate) fn drawn_seen(dice: &mut Dice) -> Seen {
     })
 }
 
-/// Takes one drawn step, and tells whether the run goes on.
+/// Takes one drawn step, and returns whether the run goes on.
 fn draw_step(rt: &impl Abort, dice: &mut Dice, run: &mut Run) -> bool {
     let worker = dice.roll(4);
     if !run.hands.is_free(worker) {
@@ -251,7 +251,7 @@ const CHANGES: [Change; 9] = [
 ];
 
 impl Change {
-    /// Tells whether this change at this entry makes each history illegal in which each start is
+    /// Returns whether this change at this entry makes each history illegal in which each start is
     /// ended. No entry is allowed a second time, and an end fits no other start.
     fn is_always_wrong(self, entry: &Entry) -> bool {
         match self {
@@ -327,7 +327,7 @@ fn moved(
     Ok(Some(Placement { picks }))
 }
 
-/// Changes an entry in place, and tells whether there was something to change.
+/// Changes an entry in place, and returns whether there was something to change.
 fn alter(alloc: Global, entry: &mut Entry, change: Change) -> Result<bool, NoMemory> {
     match change {
         Change::OtherTest => Ok(alter_test(entry)),
@@ -419,7 +419,7 @@ fn changed(
     Ok(None)
 }
 
-/// Changes a history at a place, and tells whether there was something to change.
+/// Changes a history at a place, and returns whether there was something to change.
 fn change_at(
     alloc: Global,
     entries: &mut Vec<Entry>,

@@ -34,7 +34,7 @@ fn find_bunches_as_told(rt: &impl Abort, ready: &Ready, row: &str) {
     }
 }
 
-/// Tells whether two places have the only two heads of a bunch, in this order.
+/// Returns whether two places have the only two heads of a bunch, in this order.
 fn are_heads(ready: &Ready, first: u32, last: u32) -> bool
     requires first { first < length ready.now.order }
     requires last { last < length ready.now.order }

@@ -69,7 +69,7 @@ fn crowd(alloc: Global, entry: Entry) -> Result<Entry, NoMemory> {
     }
 }
 
-/// Tells whether the third test has the card of the test that ended first, and the
+/// Returns whether the third test has the card of the test that ended first, and the
 /// first two tests had different cards.
 fn takes_the_card(history: &History, first: u32) -> bool {
     let third = card(history, 3);

@@ -40,7 +40,7 @@ fn jobs(rt: HostRuntime) -> Result<Vec<Job>, Fail> {
     Ok(jobs)
 }
 
-/// Tells whether the times are those of a long run and of a short one, by turns.
+/// Returns whether the times are those of a long run and of a short one, by turns.
 fn are_by_turns(times: &[u64]) -> bool {
     for (at, time) in times.iter().enumerate() {
         let is_right = if at % 2 == 0 {

@@ -98,7 +98,7 @@ fn are_absent(rt: &(impl Abort + AllocGlobal), files: &mut impl Files) -> Result
     Ok(())
 }
 
-/// Tells whether a look and a read both find nothing.
+/// Returns whether a look and a read both find nothing.
 fn is_absent(files: &mut impl Files, alloc: Global, row: &str) -> Result<bool, FilesFault> {
     let path = path(alloc, row)?;
     let is_there = files.exists(alloc, &path)?;

@@ -4,7 +4,7 @@ use ct_base::{MemFiles, MemSink, NoMemory};
 use ct_journal::{Checked, check_main};
 use std::alloc::Global;
 use std::test::Fail;
-use tests_calls::{Call, Inputs, calls_of, expect, inputs_of, written};
+use tests_calls::{CallRow, Inputs, calls_of, expect, inputs_of, written};
 
 /// Checks of journals that are read.
 const JOURNALS: &str = "
@@ -133,7 +133,7 @@ ctest: ./CTestTestfile.cmake:1: unknown command
 ";
 
 /// Checks a journal, and reports the status and what was written.
-fn report(alloc: Global, call: &Call<'_>) -> Result<String, NoMemory> {
+fn report(alloc: Global, call: &CallRow<'_>) -> Result<String, NoMemory> {
     let checked = checked(alloc, call)?;
     let told = told(alloc, &checked);
     drop(checked);
@@ -147,7 +147,7 @@ fn told(alloc: Global, checked: &Checked<MemFiles, MemSink>) -> Result<String, N
 }
 
 /// Checks a journal.
-fn checked(alloc: Global, call: &Call<'_>) -> Result<Checked<MemFiles, MemSink>, NoMemory> {
+fn checked(alloc: Global, call: &CallRow<'_>) -> Result<Checked<MemFiles, MemSink>, NoMemory> {
     let Inputs { words, files, sink } = inputs_of(alloc, call)?;
     Ok(check_main(alloc, words.as_slice(), files, sink))
 }

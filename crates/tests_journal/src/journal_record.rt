@@ -7,7 +7,7 @@ use ct_journal::{JournalEnd, Recorded, check_main, record_main};
 use std::alloc::Global;
 use std::test::Fail;
 use tests_calls::{
-    Call, Inputs, Machine, calls_of, expect, gates_of, inputs_of, left_in, words_of, written,
+    CallRow, Inputs, Machine, calls_of, expect, gates_of, inputs_of, left_in, words_of, written,
 };
 
 /// The path of the journal in each row that has a word.
@@ -203,7 +203,7 @@ impl Behind {
 }
 
 /// Records the run of a call.
-fn record(rt: &impl Machine, call: &Call<'_>) -> Result<Behind, NoMemory> {
+fn record(rt: &impl Machine, call: &CallRow<'_>) -> Result<Behind, NoMemory> {
     let alloc = rt.alloc();
     let gates = gates_of(alloc, call, 1)?;
     let Inputs { words, files, sink } = inputs_of(alloc, call)?;
@@ -224,7 +224,7 @@ fn outcome_of(alloc: Global, behind: &Behind) -> Result<String, NoMemory> {
 }
 
 /// Records a run, checks a journal that was written, and reports what came of both.
-fn report(rt: &impl Machine, call: &Call<'_>) -> Result<String, NoMemory> {
+fn report(rt: &impl Machine, call: &CallRow<'_>) -> Result<String, NoMemory> {
     let behind = record(rt, call)?;
     let text = outcome_of(rt.alloc(), &behind)?;
     if behind.journal == JournalEnd::Written {
@@ -237,7 +237,7 @@ fn report(rt: &impl Machine, call: &Call<'_>) -> Result<String, NoMemory> {
 /// Puts the status of the check of a journal behind this text.
 fn with_check(
     alloc: Global,
-    call: &Call<'_>,
+    call: &CallRow<'_>,
     text: String,
     files: MemFiles,
 ) -> Result<String, NoMemory> {
@@ -246,7 +246,7 @@ fn with_check(
 }
 
 /// Checks the journal of a call over the files that the run left, and returns the status.
-fn check(alloc: Global, call: &Call<'_>, files: MemFiles) -> Result<u8, NoMemory> {
+fn check(alloc: Global, call: &CallRow<'_>, files: MemFiles) -> Result<u8, NoMemory> {
     let words = words_of(alloc, call.words)?;
     let sink = MemSink::new(alloc, List::new(alloc));
     let checked = check_main(alloc, words.as_slice(), files, sink);

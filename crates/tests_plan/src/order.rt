@@ -97,7 +97,7 @@ c cleanup=f required=g, s setup=g depends=u, u required=f depends=c | all is 1<2
 c cleanup=f required=g, d cleanup=g required=f | all is 1<2 2<1
 ";
 
-/// Tells whether each number is less than the next.
+/// Returns whether each number is less than the next.
 fn ascend(numbers: &[u32]) -> bool
     ensures { OnTrue result (IsStrictlyIncreasing numbers.now) }
 {
@@ -165,21 +165,21 @@ fn links_told(alloc: Global, links: &[Links]) -> Result<String, AllocError> {
     Ok(told)
 }
 
-/// Tells whether a rank is greater than the rank of each of these tests.
+/// Returns whether a rank is greater than the rank of each of these tests.
 fn is_above(links: &[Links], tests: &[u32], rank: u32) -> bool {
     links
         .iter()
         .all(|link| link.rank < rank || !tests.contains(&link.number))
 }
 
-/// Tells whether the rank of each member is greater than the rank of each test before it.
+/// Returns whether the rank of each member is greater than the rank of each test before it.
 fn are_ranked(links: &[Links]) -> bool {
     links
         .iter()
         .all(|link| is_above(links, link.before.as_slice(), link.rank))
 }
 
-/// Tells whether one test comes before another, by the links of a row.
+/// Returns whether one test comes before another, by the links of a row.
 fn is_before(rows: &str, earlier: u32, later: u32) -> bool {
     for row in rows.split(' ') {
         let (number, before) = row.split_once('<').unwrap_or((row, ""));
@@ -190,7 +190,7 @@ fn is_before(rows: &str, earlier: u32, later: u32) -> bool {
     false
 }
 
-/// Tells whether each test comes after the next one in the list, and the last after the first.
+/// Returns whether each test comes after the next one in the list, and the last after the first.
 fn is_cycle(rows: &str, tests: &[u32]) -> bool {
     let Some(last) = tests.last() else {
         return false;

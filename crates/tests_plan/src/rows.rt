@@ -100,7 +100,7 @@ pub(crate) fn invocation_of(
     read_words(alloc, words.as_slice())
 }
 
-/// Tells whether each number is from 1 to `count`.
+/// Returns whether each number is from 1 to `count`.
 pub(crate) fn are_within(numbers: &[u32], count: usize) -> bool
     ensures { OnTrue result (All (λ number. (0 < number) × (number ≤ count)) numbers.now) }
 {

@@ -175,7 +175,7 @@ fn hits_where_a_match_exists(rt: HostRuntime) -> Result<(), Fail> {
     check(&rt, rt.alloc(), HITS)
 }
 
-/// Tells whether the pattern says the same of the text in one piece, in each two pieces, and byte
+/// Returns whether the pattern says the same of the text in one piece, in each two pieces, and byte
 /// by byte. Between two pieces a scan has to tell what the first one hits.
 fn agrees(alloc: Global, pattern: &[u8], text: &[u8]) -> Result<bool, RegexFault> {
     let regex = Regex::parse(alloc, pattern)?;
@@ -218,7 +218,7 @@ error error,er,ror,error +--+
 ^a.$ ab,aab,ba,ac +--+
 ";
 
-/// Tells whether one scan, set back for each text, and one matcher say of each what the row says.
+/// Returns whether one scan, set back for each text, and one matcher say of each what the row says.
 fn says_of_each(alloc: Global, row: &str) -> Result<bool, RegexFault> {
     let (pattern, rest) = cell(row);
     let (texts, says) = cell(rest);
@@ -226,7 +226,7 @@ fn says_of_each(alloc: Global, row: &str) -> Result<bool, RegexFault> {
     Ok(both_say(alloc, &regex, texts, says.as_bytes())?)
 }
 
-/// Tells whether a scan and a matcher say of each text what is wanted of it.
+/// Returns whether a scan and a matcher say of each text what is wanted of it.
 fn both_say(alloc: Global, regex: &Regex, texts: &str, says: &[u8]) -> Result<bool, NoMemory> {
     let mut scan = Scan::new(alloc, regex)?;
     let mut matcher = Matcher::new(alloc, regex)?;
@@ -239,7 +239,7 @@ fn both_say(alloc: Global, regex: &Regex, texts: &str, says: &[u8]) -> Result<bo
     Ok(is_right)
 }
 
-/// Tells whether a scan, set back for the text, says what is wanted of it.
+/// Returns whether a scan, set back for the text, says what is wanted of it.
 fn scan_says(scan: &mut Scan, text: &[u8], is_hit: bool) -> bool {
     let (front, rest) = text.split_at(text.len() / 2);
     scan.restart();

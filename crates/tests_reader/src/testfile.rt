@@ -313,7 +313,7 @@ fn told_within(alloc: Global, files: &mut CalmFiles, limits: &Limits) -> Result<
     told(alloc, &read_within(alloc, files, limits))
 }
 
-/// Tells whether the tree of the folder `.` is read within these limits.
+/// Returns whether the tree of the folder `.` is read within these limits.
 fn is_read(alloc: Global, files: &mut CalmFiles, limits: &Limits) -> bool
     requires { AreBounded limits.now }
 {
@@ -545,7 +545,7 @@ fn answers_each_beginning_of_a_file(rt: HostRuntime) -> Result<(), Fail> {
     Ok(())
 }
 
-/// Tells whether a beginning of the file may be read so: as no test, as its test, or as one that ends
+/// Returns whether a beginning of the file may be read so: as no test, as its test, or as one that ends
 /// inside a command.
 fn is_answer(told: &str) -> bool {
     let kinds = ["OpenString", "OpenBracket", "OpenCall"];

@@ -119,7 +119,7 @@ fn looks_costs_and_failures_up(rt: HostRuntime) -> Result<(), Fail> {
     Ok(())
 }
 
-/// Tells whether the cost and the end of a test are known as the text says.
+/// Returns whether the cost and the end of a test are known as the text says.
 fn is_known(costs: &CostData, name: &Name, want: &str) -> bool {
     let (cost, end) = want.split_once(' ').unwrap_or((want, ""));
     let cost: Option<u64> = cost.parse().ok();

@@ -11,7 +11,7 @@ use std::str;
 use std::test::Fail;
 use tests_samples::{cards, needs};
 
-/// Tells whether a text is the wanted one, in which `|` stands for a line feed.
+/// Returns whether a text is the wanted one, in which `|` stands for a line feed.
 fn says(rt: &impl Abort, text: &Blob, want: &str) {
     let said = str::from_utf8(text.bytes()).unwrap_or("?");
     assert!(rt;

@@ -152,7 +152,7 @@ pub fn unused(alloc: Global, resources: &List<Resource>) -> Result<Free, NoMemor
     Free::all(alloc, resources)
 }
 
-/// Tells whether a plan can be made of the parts.
+/// Returns whether a plan can be made of the parts.
 fn is_sound(alloc: Global, parts: &PlanParts) -> Result<bool, NoMemory>
     ensures { IfOk result (λ yes. OnTrue yes (IsSound parts.now)) }
 {
@@ -289,7 +289,7 @@ fn is_fixed(cause: Option<Cause>, resources: &Option<List<Resource>>) -> bool
     }
 }
 
-/// Tells whether the resources are distinct, and each test without a
+/// Returns whether the resources are distinct, and each test without a
 /// fixed cause can be placed on them.
 fn are_met(alloc: Global, parts: &PlanParts) -> Result<bool, NoMemory>
     ensures apart { IfOk result (λ yes. OnTrue yes (IfSome parts.now.resources AreDistinct)) }
@@ -351,7 +351,7 @@ fn is_placeable(
     has_room(alloc, &free, &test.needs)
 }
 
-/// Tells whether needs can be placed on resources of which nothing is used.
+/// Returns whether needs can be placed on resources of which nothing is used.
 fn has_room(alloc: Global, free: &Free, needs: &List<Need>) -> Result<bool, NoMemory>
     requires unused { (place : ℕ) → used_at free.now place ≡ 0 }
     ensures { IfOk result (λ yes. OnTrue yes (SomeFits free.now.resources needs.now (λ place. 0))) }
@@ -359,7 +359,7 @@ fn has_room(alloc: Global, free: &Free, needs: &List<Need>) -> Result<bool, NoMe
     Ok(free.place(alloc, needs)?.is_some())
 }
 
-/// Tells whether each test that is not disabled stands in the queue once.
+/// Returns whether each test that is not disabled stands in the queue once.
 fn is_queued(alloc: Global, parts: &PlanParts) -> Result<bool, NoMemory>
     ensures { IfOk result (λ yes. OnTrue yes
         (IsPermutation parts.now.queue (map (λ t. t.number) (enabled parts.now.tests)))) }

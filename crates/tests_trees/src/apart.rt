@@ -5,7 +5,7 @@ use ct_base::NoMemory;
 use ct_history::{Entry, History, Plan, judge};
 use std::alloc::Global;
 use std::test::Fail;
-use tests_calls::{Call, Machine, calls_of, expect};
+use tests_calls::{CallRow, Machine, calls_of, expect};
 
 /// Two tests that each take all slots of one card, at a level that admits both, and what happens.
 const ROWS: &str = "
@@ -55,7 +55,7 @@ fn start_both_first(entries: &mut [Entry]) {
 }
 
 /// Checks a run, and what the judge says of it.
-fn check(rt: &impl Machine, call: &Call<'_>) -> Result<(), Fail> {
+fn check(rt: &impl Machine, call: &CallRow<'_>) -> Result<(), Fail> {
     let mut ran = run(rt, call, 2)?;
     assert_eq!(rt; ran.status, 0);
     match (&ran.whole, ran.history.take()) {
@@ -67,7 +67,7 @@ fn check(rt: &impl Machine, call: &Call<'_>) -> Result<(), Fail> {
 /// Checks a history, and what the judge says of it.
 fn check_history(
     rt: &impl Machine,
-    call: &Call<'_>,
+    call: &CallRow<'_>,
     whole: &Plan,
     history: History,
 ) -> Result<(), Fail> {

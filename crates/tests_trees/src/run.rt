@@ -5,13 +5,13 @@ ghost use Rattle.std.specs.Prelude.{◌<◌};
 use ct_base::{MemFiles, MemSink, NoMemory};
 use ct_core::ScriptGate;
 use ct_trees::{TreesFinished, trees_main};
-use tests_calls::{Call, Inputs, Machine, gates_of, inputs_of};
+use tests_calls::{CallRow, Inputs, Machine, gates_of, inputs_of};
 
 /// What a call over stand-ins returns.
 pub(crate) type Ran = TreesFinished<MemFiles, ScriptGate, MemSink>;
 
 /// Makes the call, on so many gates.
-pub(crate) fn run(rt: &impl Machine, call: &Call<'_>, count: usize) -> Result<Ran, NoMemory>
+pub(crate) fn run(rt: &impl Machine, call: &CallRow<'_>, count: usize) -> Result<Ran, NoMemory>
     requires { 0 < count }
 {
     let alloc = rt.alloc();

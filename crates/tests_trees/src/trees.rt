@@ -5,7 +5,7 @@ use crate::run::{Ran, run};
 use ct_base::{MemFiles, NoMemory};
 use std::alloc::Global;
 use std::test::Fail;
-use tests_calls::{Call, Machine, calls_of, expect, line_of, written};
+use tests_calls::{CallRow, Machine, calls_of, expect, line_of, written};
 
 /// Calls, each with its status, the tree of its fault, the number of plans, its report, and what its trees
 /// hold.
@@ -267,7 +267,7 @@ pub(crate) fn run_as_told(rt: &impl Machine, table: &str) -> Result<(), Fail> {
 }
 
 /// Makes a call, and reports its ending.
-fn report(rt: &impl Machine, call: &Call<'_>) -> Result<String, NoMemory> {
+fn report(rt: &impl Machine, call: &CallRow<'_>) -> Result<String, NoMemory> {
     let ran = run(rt, call, 1)?;
     let ended = ending(rt.alloc(), &ran);
     drop(ran);

@@ -16,9 +16,10 @@ use Rattle.ct_core.specs.Core.{IsNext, no_base, with_due_stop, with_entry, with_
 use Rattle.ct_core.specs.CoreValue.{CoreValue}
 use Rattle.ct_core.specs.Ticket.{end_of, start_of}
 use Rattle.ct_turn.specs.declared.view.Known.{Known}
-use Rattle.ct_turn.specs.Seen.{AddsOwn, Continues, is_own, moment, open_start_of_worker}
+use Rattle.ct_turn.specs.Seen.{AddsOwn, Continues, is_own, moment}
 use Rattle.ct_turn.proofs.CallerLemmas.{adds_none, adds_one, end_holds_none, settle_stays, start_holds, adds_due}
 use Rattle.tests_turn.specs.Held.{held_behind, open_start_of_ticket}
+use Rattle.ct_history.specs.History.{open_start_of_worker}
 
 -- what one call of a worker does to the core
 pub record Works (worker : ℕ) (old new : CoreValue) : Type 0 where

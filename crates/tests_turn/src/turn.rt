@@ -319,7 +319,7 @@ fn counts(entries: &[Entry]) -> (u32, u32) {
     (starts, ends)
 }
 
-/// Tells whether worker 0 started test 1 and ended it, and nothing else happened.
+/// Returns whether worker 0 started test 1 and ended it, and nothing else happened.
 fn is_one_attempt(entries: &[Entry]) -> bool {
     matches!(
         entries,

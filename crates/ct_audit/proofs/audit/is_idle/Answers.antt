@@ -1,5 +1,5 @@
 use Rattle.std.proofs.Common.{◌∙◌}
-use Rattle.ct_audit.proofs.TellLemmas.{open_none}
+use Rattle.ct_audit.proofs.AuditedLemmas.{open_none}
 use Rattle.ct_audit.proofs.audit.is_idle.Goals as goal
 
 pub returns : goal.returns

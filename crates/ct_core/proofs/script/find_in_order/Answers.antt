@@ -4,7 +4,7 @@ use Rattle.std.specs.List.{AllWithin}
 use Rattle.std.proofs.lemmas.Bool.{and_from, and_parts, cases_lt, false_from_ne_true, ltb-false, ltb-true}
 use Rattle.std.proofs.lemmas.List.{get_or_read}
 use Rattle.ct_core.specs.declared.gate.Told.{Told}
-use Rattle.ct_core.specs.ScriptValue.{AreInOrder, IsPlaceOf, rank}
+use Rattle.ct_core.specs.ScriptValue.{AreInOrder, IsPlaceInScript, rank}
 use Rattle.ct_core.proofs.script.find_in_order.Goals as goal
 
 -- if an element passes and none in front of it does, the search finds it
@@ -37,7 +37,7 @@ module _ (test attempt : ℕ) where
           let attempts : t.attempt ≡ attempt = eqb-true t.attempt attempt both.1 in
           differs (λ i. rank (tests i) (attempts i))
 
-  module _ (told : List Told) (place : ℕ) (ordered : AreInOrder told) (point : IsPlaceOf (rank test attempt) told place) where
+  module _ (told : List Told) (place : ℕ) (ordered : AreInOrder told) (point : IsPlaceInScript (rank test attempt) told place) where
     none_before : AllWithin (λ (t : Told). (t.test == test && t.attempt == attempt) ≡ false) told 0 place
     none_before k d low high =
         let t = get_or told k d in
@@ -80,19 +80,19 @@ pub returns-in_err-found : goal.returns-in_err-found
 returns-in_err-found c =
     let told = c.args.told.now in
     let place = c.place_near-place.result in
-    let point = subst (λ (rank : ℕ). IsPlaceOf rank told place) c.rank_of-sought.ensures c.place_near-place.ensures in
+    let point = subst (λ (rank : ℕ). IsPlaceInScript rank told place) c.rank_of-sought.ensures c.place_near-place.ensures in
     rw c.from_residual.ensures (sym (past c.args.test c.args.attempt told place c.requires point (ltb-false place (length told) (sym c.in_err-found.ensures.lookup.0))))
 
 pub returns-then-rank-sought : goal.returns-then-rank-sought
 returns-then-rank-sought c =
     let told = c.args.told.now in
     let place = c.place_near-place.result in
-    let point = subst (λ (rank : ℕ). IsPlaceOf rank told place) c.rank_of-sought.ensures c.place_near-place.ensures in
+    let point = subst (λ (rank : ℕ). IsPlaceInScript rank told place) c.rank_of-sought.ensures c.place_near-place.ensures in
     here c.args.test c.args.attempt told place c.requires point c.in_ok-found.found.now (ltb-true place (length told) (sym c.in_ok-found.ensures.lookup.0)) c.in_ok-found.ensures.lookup.1 (sym c.rank.ensures.is ∙ c.if-rank-sought.true ∙ c.rank_of-sought.ensures) c.rank.ensures.low c.ranges.attempt.fits
 
 pub returns-else-rank-sought : goal.returns-else-rank-sought
 returns-else-rank-sought c =
     let told = c.args.told.now in
     let place = c.place_near-place.result in
-    let point = subst (λ (rank : ℕ). IsPlaceOf rank told place) c.rank_of-sought.ensures c.place_near-place.ensures in
+    let point = subst (λ (rank : ℕ). IsPlaceInScript rank told place) c.rank_of-sought.ensures c.place_near-place.ensures in
     nowhere c.args.test c.args.attempt told place c.requires point c.in_ok-found.found.now (ltb-true place (length told) (sym c.in_ok-found.ensures.lookup.0)) c.in_ok-found.ensures.lookup.1 (λ same. c.if-rank-sought.false (c.rank.ensures.is ∙ same ∙ sym c.rank_of-sought.ensures))

@@ -12,7 +12,7 @@ returns-in_default-place_of c =
     let end = c.in-End in
     let micros = c.args.micros.now.items in
     subst (λ (e : Entry). NotesEntry c.args.tests.now e micros micros) (sym end.is)
-    (notes_unplanned end.test end.attempt end.worker end.seen c.args.tests.now micros (sym c.in_default-place_of.ensures.there))
+    (notes_unplanned end.test end.attempt end.worker end.seen c.args.tests.now micros c.in_default-place_of.ensures)
 
 pub returns : goal.returns
 returns c =

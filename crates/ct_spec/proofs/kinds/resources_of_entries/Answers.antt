@@ -1,9 +1,9 @@
 use Rattle.std.proofs.Common.{rules, ◌≡◌, ◌<◌, ◌++◌, ◌∷◌, ◌∙◌, [], length, get_or, ap, sym, ◌+◌}
 use Rattle.std.proofs.lemmas.List.{map_push}
 use Rattle.ct_base.specs.declared.defs.Resource.{Resource}
-use Rattle.ct_spec.specs.Entry.{stood_before}
 use Rattle.ct_spec.proofs.ReadLemmas.{entry_more, from_place, ids_of}
 use Rattle.ct_spec.proofs.kinds.resources_of_entries.Goals as goal
+use Rattle.ct_base.specs.Names.{is_among}
 
 pub loop-place-preserved : goal.loop-place-preserved
 loop-place-preserved c =
@@ -19,5 +19,5 @@ loop-place-preserved c =
     let taken = c.in_ok-ids.ensures (ids_of found) c.loop-place.invariant.1 in (
       ap (from_place c.args.kind.now entries (c.loop-place.place + 1)) pushed
           ∙ entry_more c.args.kind.now entries c.loop-place.place found entry one (from_place c.args.kind.now entries 0 []) within is said c.loop-place.invariant.0,
-      λ id. taken id ∙ ap (stood_before id) ((λ i. ids_of found ++ bytes i ∷ []) ∙ sym (map_push (λ (r : Resource). r.id) found one) ∙ ap ids_of (sym pushed)),
+      λ id. taken id ∙ ap (is_among id) ((λ i. ids_of found ++ bytes i ∷ []) ∙ sym (map_push (λ (r : Resource). r.id) found one) ∙ ap ids_of (sym pushed)),
     )

@@ -5,7 +5,7 @@ use Rattle.ct_suite.proofs.value.values_of.Given as goal
 
 abbrev pub invariant-reads : goal.invariant-reads
 invariant-reads l = record {
-  rest : IsAtRest l.reader;
+  rest : IsAtRest l.limits l.reader;
   same : l.reader.values ++ values_of l.table l.left ≡ values_of l.table l.args;
 }
 

@@ -1,5 +1,5 @@
 use Rattle.std.proofs.Common.{List, ℕ, subst}
-use Rattle.ct_app.specs.Ends.{TellsEnd}
+use Rattle.ct_app.specs.Ends.{ReportsEnd}
 use Rattle.ct_trees.proofs.TreeCompleteLemmas.{trees_complete}
 use Rattle.ct_trees.proofs.TreeMeantLemmas.{trees_as_meant}
 use Rattle.ct_trees.proofs.top.trees_main.Goals as goal
@@ -13,7 +13,7 @@ returns-clause-answer g c =
       ended = ran.result.ended;
       middle = g.S.Sink.tells ran.result.sink;
       ends = ran.ensures.ends;
-      told = subst (λ (names : List (List ℕ)). TellsEnd names ran.result.ended c.tell-outcome.result.0 c.tell-outcome.result.1 (g.S.Sink.tells ran.result.sink) (g.S.Sink.tells c.tell-outcome.new.sink)) c.as_slice.ensures c.tell-outcome.ensures;
+      told = subst (λ (names : List (List ℕ)). ReportsEnd names ran.result.ended c.report_end-outcome.result.0 c.report_end-outcome.result.1 (g.S.Sink.tells ran.result.sink) (g.S.Sink.tells c.report_end-outcome.new.sink)) c.as_slice.ensures c.report_end-outcome.ensures;
       tree_is = c.place_for.ensures;
     }
 

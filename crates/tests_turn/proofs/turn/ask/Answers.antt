@@ -2,10 +2,11 @@ use Rattle.std.proofs.Common.{rules, ◌≡◌, ◌∙◌, sym, ap, subst, ℕ}
 use Rattle.std.specs.Prelude.{None, IsSomeAnd}
 use Rattle.ct_core.specs.Core.{no_base}
 use Rattle.ct_turn.specs.Pass.{PassValue}
-use Rattle.ct_turn.specs.Seen.{Continues, held_start, moment, open_start_of_worker}
+use Rattle.ct_turn.specs.Seen.{Continues, held_start, moment}
 use Rattle.ct_turn.proofs.CallerLemmas.{not_busy}
 use Rattle.tests_turn.proofs.TurnLemmas.{continues, next_holds, next_works}
 use Rattle.tests_turn.proofs.turn.ask.Goals as goal
+use Rattle.ct_history.specs.History.{open_start_of_worker}
 
 pub next-next-requires : goal.next-next-requires
 next-next-requires g c =

@@ -3,11 +3,12 @@ use Rattle.std.specs.Prelude.{Some, IsSomeAnd}
 use Rattle.ct_history.specs.Legal.{is_legal}
 use Rattle.ct_core.specs.Core.{no_base}
 use Rattle.ct_turn.specs.Pass.{PassValue}
-use Rattle.ct_turn.specs.Seen.{Continues, held_start, moment, open_start_of_worker}
+use Rattle.ct_turn.specs.Seen.{Continues, held_start, moment}
 use Rattle.ct_turn.proofs.CallerLemmas.{holds_own}
 use Rattle.tests_turn.specs.Held.{open_start_of_ticket}
 use Rattle.tests_turn.proofs.TurnLemmas.{continues, end_frees, end_works}
 use Rattle.tests_turn.proofs.turn.finish.Goals as goal
+use Rattle.ct_history.specs.History.{open_start_of_worker}
 
 pub finish-requires : goal.finish-requires
 finish-requires g c =

@@ -1,5 +1,5 @@
 use Rattle.std.proofs.Common.{◌∙◌, ◌<◌, ◌^◌, arith}
-use Rattle.ct_audit.proofs.TellLemmas.{says_allowed}
+use Rattle.ct_audit.proofs.AuditedLemmas.{says_allowed}
 use Rattle.ct_audit.proofs.audit.Audit.allows_for.Goals as goal
 
 pub returns : goal.returns

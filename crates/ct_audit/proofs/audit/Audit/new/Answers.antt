@@ -1,6 +1,6 @@
 use Rattle.std.proofs.Common.{rules, ◌≡◌, ℕ, refl}
 use Rattle.ct_audit.specs.Course.{course_at, untouched}
-use Rattle.ct_audit.proofs.TellLemmas.{tells_none}
+use Rattle.ct_audit.proofs.AuditedLemmas.{tells_none}
 use Rattle.ct_audit.proofs.audit.Audit.new.Goals as goal
 
 pub returns : goal.returns

@@ -3,8 +3,7 @@ use Rattle.std.specs.Prelude.{◌&&◌, is_some, vec_capacity}
 use Rattle.ct_verdict.specs.Verdict.{is_failing_verdict}
 use Rattle.ct_history.specs.declared.plan.PlanParts.{PlanParts}
 use Rattle.ct_history.specs.declared.plan.PlanTest.{PlanTest}
-use Rattle.ct_history.specs.Plan.{test_at}
-use Rattle.ct_core.specs.Standing.{IsPlaceOf}
+use Rattle.ct_history.specs.Plan.{IsPlaceOf, test_at}
 use Rattle.ct_history.specs.declared.history.Entry.{Entry}
 use Rattle.ct_history.specs.History.{has_stop}
 use Rattle.ct_core.specs.Parts.{IsKept}
@@ -24,20 +23,20 @@ pub lower_followers-requires-clause-queued : goal.lower_followers-requires-claus
 lower_followers-requires-clause-queued c =
     let run = c.args.self.now in
     let es = history_of_run run in
-    let told = c.requires.concluding.told in
-    let going : has_stop es ≡ false = sym told.stopped ∙ c.if-self.false in
+    let current = c.requires.concluding.current in
+    let going : has_stop es ≡ false = sym current.stopped ∙ c.if-self.false in
     let tests : c.as_slice.result.now ≡ run.plan.tests = c.as_slice.ensures ∙ ap (λ (p : PlanParts). p.tests) c.parts-else-stops_at.ensures.is in
     let at = subst (λ (ts : List PlanTest). IsPlaceOf ts c.args.number c.expect_place-place.result) tests c.expect_place-place.ensures in
     followers_here run.plan es (vec_capacity run.history.entries) c.args.number c.args.verdict run.parts c.requires.concluding c.expect_place-place.result at
-    (followers_are run.plan es run.parts c.args.number c.expect_place-place.result told at) going
+    (followers_are run.plan es run.parts c.args.number c.expect_place-place.result current at) going
 
 pub returns-then-stops_at-clause-kept : goal.returns-then-stops_at-clause-kept
 returns-then-stops_at-clause-kept c =
     let run = c.args.self.now in
     let es = history_of_run run in
-    let told = c.requires.concluding.told in
+    let current = c.requires.concluding.current in
     let room = vec_capacity run.history.entries in
-    let going : has_stop es ≡ false = sym told.stopped ∙ c.if-self.false in
+    let going : has_stop es ≡ false = sym current.stopped ∙ c.if-self.false in
     let stops : (run.plan.stop_on_failure && is_failing_verdict c.args.verdict) ≡ true = sym (ap (λ (p : PlanParts). p.stop_on_failure && is_failing_verdict c.args.verdict) c.parts.ensures.is) ∙ sym c.stops_at.ensures ∙ c.if-stops_at.true in
     let due = due_here run.plan es room c.args.number c.args.verdict run.parts c.requires.concluding going true stops in
     subst (λ (xs : List Entry). IsKept run.plan xs (vec_capacity c.append_reserved.new.entries) c.stop.new.self) (sym c.append_reserved.ensures.items)

@@ -11,7 +11,7 @@ use Rattle.ct_history.specs.declared.plan.PlanParts.{PlanParts}
 use Rattle.ct_history.specs.declared.history.Entry.{Entry}
 use Rattle.ct_history.specs.declared.history.Entry.TheVariants.{End}
 use Rattle.ct_history.specs.Verdicts.{verdict_of_test}
-use Rattle.ct_history.specs.Plan.{test_at}
+use Rattle.ct_history.specs.Plan.{IsPlaceOf, test_at}
 use Rattle.ct_history.proofs.LegalLemmas.{legal_allowed}
 use Rattle.ct_core.specs.declared.in_use.InUse.{InUse}
 use Rattle.ct_core.specs.declared.parts.Parts.{Parts}
@@ -19,7 +19,6 @@ use Rattle.ct_core.specs.declared.state.State.TheVariants.{Final, Pending}
 use Rattle.ct_core.specs.InUse.{CanGive, GivesBack}
 use Rattle.ct_core.specs.Parts.{IsConcluding, IsKept}
 use Rattle.ct_core.proofs.OpenStartLemmas.{held_open}
-use Rattle.ct_core.specs.Standing.{IsPlaceOf}
 use Rattle.ct_core.specs.Run.{history_of_run}
 use Rattle.ct_core.proofs.DueLemmas.{verdict_with_stop}
 use Rattle.ct_core.proofs.EndLemmas.{IsClosed, can_give, concluding-ended, ended, final, is_gone, kept-again, next, no_verdict, none_added, open_here, open_is, open_read, placement, stands_queued, within_states}

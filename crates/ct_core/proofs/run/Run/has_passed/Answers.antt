@@ -1,8 +1,8 @@
 use Rattle.std.proofs.Common.{◌∙◌, ap, subst, List}
+use Rattle.ct_history.specs.Plan.{IsPlaceOf}
 use Rattle.ct_history.specs.declared.plan.PlanTest.{PlanTest}
 use Rattle.ct_history.specs.declared.plan.PlanParts.{PlanParts}
 use Rattle.ct_core.specs.Run.{history_of_run}
-use Rattle.ct_core.specs.Standing.{IsPlaceOf}
 use Rattle.ct_core.proofs.ChoiceLemmas.{passed_there}
 use Rattle.ct_core.proofs.run.Run.has_passed.Goals as goal
 

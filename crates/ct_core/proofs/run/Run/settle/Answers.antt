@@ -1,11 +1,11 @@
 use Rattle.std.proofs.Common.{◌≡◌, ◌∙◌, ◌++◌, ◌∷◌, [], ◌+◌, ◌≤◌, List, ap, subst, sym, length, arith}
 use Rattle.std.specs.Prelude.{vec_capacity}
 use Rattle.ct_verdict.specs.declared.verdict.Verdict.TheVariants.{NotRun}
+use Rattle.ct_history.specs.Plan.{IsPlaceOf}
 use Rattle.ct_history.specs.declared.plan.PlanTest.{PlanTest}
 use Rattle.ct_history.specs.declared.plan.PlanParts.{PlanParts}
 use Rattle.ct_history.specs.declared.history.Entry.{Entry}
 use Rattle.ct_history.specs.declared.history.Entry.TheVariants.{Settle}
-use Rattle.ct_core.specs.Standing.{IsPlaceOf}
 use Rattle.ct_core.specs.Parts.{IsConcluding}
 use Rattle.ct_core.specs.Run.{history_of_run}
 use Rattle.ct_core.proofs.SettleLemmas.{concluding-settled, is_member, stands_queued}

@@ -2,6 +2,7 @@ use Rattle.std.proofs.Common.{◌≡◌, ◌∙◌, ◌++◌, ◌∷◌, [], ◌
 use Rattle.std.specs.Prelude.{Option, slice_set, vec_capacity}
 use Rattle.std.specs.Vec.{with_item}
 use Rattle.ct_alloc.specs.declared.placement.Placement.{Placement}
+use Rattle.ct_history.specs.Plan.{IsPlaceOf}
 use Rattle.ct_history.specs.declared.plan.PlanTest.{PlanTest}
 use Rattle.ct_history.specs.declared.plan.PlanParts.{PlanParts}
 use Rattle.ct_history.specs.declared.history.Entry.{Entry}
@@ -9,7 +10,6 @@ use Rattle.ct_history.specs.declared.history.Entry.TheVariants.{Start}
 use Rattle.ct_core.specs.declared.parts.Parts.{Parts}
 use Rattle.ct_core.specs.declared.state.State.TheVariants.{Open}
 use Rattle.ct_core.specs.InUse.{CanTake, Takes}
-use Rattle.ct_core.specs.Standing.{IsPlaceOf}
 use Rattle.ct_core.specs.Parts.{IsKept}
 use Rattle.ct_core.specs.Run.{history_of_run}
 use Rattle.ct_core.proofs.NoteLemmas.{found_here}
@@ -96,11 +96,11 @@ returns-clause-kept c =
       stopped = refl;
       unfinished = refl;
     } in
-    let told : c.in_ok-told.told ≡ start.placement = c.in_ok-told.ensures ∙ c.as_ref.ensures.value in
+    let lent : c.in_ok-lent.lent ≡ start.placement = c.in_ok-lent.ensures ∙ c.as_ref.ensures.value in
     let appended : c.append_reserved.new.entries.items ≡ es ++ Start start.test start.attempt c.args.worker start.placement ∷ [] =
     c.append_reserved.ensures.items
-    ∙ ap (λ (xs : List Entry). xs ++ Start start.test start.attempt c.args.worker c.in_ok-told.told ∷ []) c.in_ok-reserve.ensures.items
-    ∙ ap (λ (p : Option Placement). es ++ Start start.test start.attempt c.args.worker p ∷ []) told in
+    ∙ ap (λ (xs : List Entry). xs ++ Start start.test start.attempt c.args.worker c.in_ok-lent.lent ∷ []) c.in_ok-reserve.ensures.items
+    ∙ ap (λ (p : Option Placement). es ++ Start start.test start.attempt c.args.worker p ∷ []) lent in
     let fits : length es + (run.parts.in_use.open_count + 3) ≤ room' = omega (arith, c.in_ok-reserve.ensures.ok, c.append_reserved.ensures.room) in
     subst (λ (xs : List Entry). IsKept run.plan xs room' parts) (sym appended)
     (kept-started run.plan es room run.parts c.requires.kept c.args.worker c.requires.free start c.requires.startable place at t found parts begun room' fits)

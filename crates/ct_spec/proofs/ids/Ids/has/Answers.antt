@@ -1,7 +1,7 @@
 use Rattle.std.proofs.Common.{ap, ◌∙◌}
-use Rattle.ct_spec.specs.Entry.{stood_before}
-use Rattle.ct_spec.proofs.IdLemmas.{stood_before-keys}
+use Rattle.ct_spec.proofs.IdLemmas.{is_among-keys}
 use Rattle.ct_spec.proofs.ids.Ids.has.Goals as goal
+use Rattle.ct_base.specs.Names.{is_among}
 
 pub returns : goal.returns
-returns c = c.contains.ensures ∙ stood_before-keys c.args.id.now c.self.inside.ids.keys ∙ ap (stood_before c.args.id.now) c.self.view_is
+returns c = c.contains.ensures ∙ is_among-keys c.args.id.now c.self.inside.ids.keys ∙ ap (is_among c.args.id.now) c.self.view_is

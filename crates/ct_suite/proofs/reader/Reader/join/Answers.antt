@@ -8,8 +8,12 @@ loop-part-preserved c =
     let texts = argument_text c.args.table.now in
     let text = c.loop-part.self.text.items in
     let more = into_iter_items c.next.new.self in record {
+      within = record {
+        counted = c.loop-part.invariant.within.counted;
+        values = c.loop-part.invariant.within.values;
+        text = c.in_ok-join_part.ensures.within;
+      };
       values = c.loop-part.invariant.values;
-      bytes = c.loop-part.invariant.bytes;
       held = c.loop-part.invariant.held;
       same = ap (λ items. items ++ texts more) c.in_ok-join_part.ensures.joined
           ∙ append_assoc text (part_text c.args.table.now c.in-Some.part) (texts more)

@@ -10,8 +10,8 @@ returns-then-byte-ne59 c =
 
 pub returns-then-self : goal.returns-then-self
 returns-then-self c =
-    takes-joined c.args.limits.now c.args.self.now (record { values = c.args.self.now.values; bytes = c.args.self.now.bytes; text = c.join_text.new.text; held = false }) (c.args.byte ∷ []) (c.args.byte ∷ []) c.join_text.result refl c.requires (escape-same c.args.byte c.args.self.now.held c.if-self.true c.if-byte-ne59.false) c.join_text.ensures.joined c.join_text.ensures.stopped
+    takes-joined c.args.limits.now c.args.self.now (record { values = c.args.self.now.values; bytes = c.args.self.now.bytes; text = c.join_text.new.text; held = false }) (c.args.byte ∷ []) (c.args.byte ∷ []) c.join_text.result refl refl c.requires (escape-same c.args.byte c.args.self.now.held c.if-self.true c.if-byte-ne59.false) c.join_text.ensures.joined c.join_text.ensures.within c.join_text.ensures.stopped
 
 pub returns : goal.returns
 returns c =
-    takes-ended c.args.limits.now c.args.self.now c.end_entry.new.self c.args.byte c.end_entry.result c.if-byte-ne59.false c.if-self.false c.end_entry.ensures.counted c.end_entry.ensures.values c.end_entry.ensures.empty c.end_entry.ensures.held c.end_entry.ensures.stopped
+    takes-ended c.args.limits.now c.args.self.now c.end_entry.new.self c.args.byte c.end_entry.result c.if-byte-ne59.false c.if-self.false c.end_entry.ensures.within c.end_entry.ensures.values c.end_entry.ensures.empty c.end_entry.ensures.held c.end_entry.ensures.stopped

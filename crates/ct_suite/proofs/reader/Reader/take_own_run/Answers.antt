@@ -11,4 +11,4 @@ returns-in_err-release c =
 pub returns : goal.returns
 returns c =
     let between = c.release.new.self in
-    takes-run c.args.limits.now c.args.self.now between c.args.run c.requires.some c.requires.inner (record { values = between.values; bytes = between.bytes; text = c.join_own.new.text; held = between.held }) c.join_own.result c.in_ok-release.ensures.held c.in_ok-release.ensures.counted c.in_ok-release.ensures.taken refl refl c.join_own.ensures.joined c.join_own.ensures.stopped
+    takes-run c.args.limits.now c.args.self.now between c.args.run c.requires.some c.requires.inner (record { values = between.values; bytes = between.bytes; text = c.join_own.new.text; held = between.held }) c.join_own.result c.in_ok-release.ensures.held c.in_ok-release.ensures.within c.in_ok-release.ensures.taken refl refl refl c.join_own.ensures.joined c.join_own.ensures.within c.join_own.ensures.stopped

@@ -19,7 +19,7 @@ loop-part-preserved c =
     let texts = argument_text c.args.table.now in
     let behind = into_iter_items c.loop-part.part-iterator in
     let more = into_iter_items c.next.new.self in record {
-      counted = c.in_ok-take_part.ensures.counted;
+      within = c.in_ok-take_part.ensures.within;
       same = stands-on c.args.self.now c.loop-part.self c.take_part.new.self (texts c.args.parts) (texts behind) (part_text c.args.table.now c.in-Some.part) (texts more) (ap texts c.in-Some.ensures.steps.0) c.loop-part.invariant.same c.in_ok-take_part.ensures.taken;
     }
 
@@ -28,4 +28,4 @@ returns c =
     let texts = argument_text c.args.table.now in
     let done : into_iter_items c.loop-part.part-iterator ≡ [] =
     nil_from_length _ (sym c.loop-part.part-iterator.rest.ok.0 ∙ c.in-None.ensures.steps.0) in
-    takes-done c.args.limits.now c.args.self.now c.loop-part.self (texts c.args.parts) (texts (into_iter_items c.loop-part.part-iterator)) (ap texts done) c.loop-part.invariant.counted c.loop-part.invariant.same
+    takes-done c.args.limits.now c.args.self.now c.loop-part.self (texts c.args.parts) (texts (into_iter_items c.loop-part.part-iterator)) (ap texts done) c.loop-part.invariant.within c.loop-part.invariant.same

@@ -31,7 +31,7 @@ loop-at-preserved-then-inner-eq0 c =
     let piece = c.args.piece.now in
     let i = c.loop-at.at in record {
       fits = omega (arith, c.loop-at-test.true);
-      counted = c.in_ok-take_byte.ensures.counted;
+      within = c.in_ok-take_byte.ensures.within;
       same = stands-on c.args.self.now c.loop-at.self c.take_byte.new.self piece (drop i piece) (slice_index piece i ∷ []) (drop (i + 1) piece) (drop_more piece i 0 c.loop-at-test.true) c.loop-at.invariant.same c.in_ok-take_byte.ensures.taken;
     }
 
@@ -43,6 +43,6 @@ loop-at-preserved c =
     let run = rw take_rest at c.inner_len-inner.ensures in
     let took = rw take_rest at c.in_ok-take_run.ensures in record {
       fits = omega (arith, length-drop i piece, run.within, c.loop-at-test.true);
-      counted = took.counted;
+      within = took.within;
       same = stands-on c.args.self.now c.loop-at.self c.take_run.new.self piece (drop i piece) (take n (drop i piece)) (drop (i + n) piece) (run-next piece i n) c.loop-at.invariant.same took.taken;
     }

@@ -1,12 +1,19 @@
-use Rattle.std.proofs.Common.{◌≡◌, ◌∙◌, ap, map, length, bytes_eq, vec_len, arith, refl}
-use Rattle.std.proofs.lemmas.List.{length-map}
+use Rattle.std.proofs.Common.{◌≡◌, ◌∙◌, [], ap, sym, map, length, bytes_eq, vec_len, arith, refl}
+use Rattle.std.proofs.lemmas.Bool.{eqb-true}
+use Rattle.std.proofs.lemmas.List.{length-map, nil_from_length}
 use Rattle.ct_base.specs.declared.defs.TestDef.{TestDef}
-use Rattle.ct_suite.specs.Tests.{each_where, most_bytes, taking_labels}
+use Rattle.ct_suite.specs.Tests.{each_where, is_in_folder, most_bytes, taking_labels}
 use Rattle.ct_suite.specs.Entries.{def_of, names_of, dirs_of}
 use Rattle.ct_suite.proofs.PlaceLemmas.{changed-all, places-within, AreIndexed-same, keys-each_where, length-each_where}
 use Rattle.ct_suite.proofs.ShortLemmas.{each_where-short, taking_labels-short, tests-same}
-use Rattle.ct_suite.proofs.SuiteLemmas.{tests_in, holds-same}
+use Rattle.ct_suite.proofs.SuiteLemmas.{tests_in, holds-same, labels-none}
 use Rattle.ct_suite.proofs.suite.Suite.with_labels.Goals as goal
+
+pub returns-then-is_empty : goal.returns-then-is_empty
+returns-then-is_empty c =
+    let labels = c.args.labels.now in
+    let none : labels ≡ [] = nil_from_length labels (eqb-true (length labels) 0 (sym c.is_empty.ensures ∙ c.if-is_empty.true)) in
+    labels-none (is_in_folder c.args.dir.now) labels c.args.self none
 
 pub label_each-requires : goal.label_each-requires
 label_each-requires c =

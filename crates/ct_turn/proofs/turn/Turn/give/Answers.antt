@@ -5,7 +5,7 @@ use Rattle.ct_turn.specs.declared.view.Known.{Known}
 use Rattle.ct_turn.specs.declared.view.View.{View}
 use Rattle.ct_turn.specs.Pass.{PassValue, away, known_in, taken_in}
 use Rattle.ct_turn.specs.Seen.{Continues, sight}
-use Rattle.ct_turn.specs.Rule.{Counted, Given, IsOrderly}
+use Rattle.ct_turn.specs.Rule.{Counted, GivenBack, IsOrderly}
 use Rattle.ct_turn.proofs.StepLemmas.{counts-round, frees-turn, some_of}
 use Rattle.ct_turn.proofs.turn.Turn.give.Goals as goal
 
@@ -41,6 +41,6 @@ swap-found-requires g c =
     let fits = subst (λ (k : Known). Continues k t.0 (see c.args.state)) (sym known) t.2 in (
       search rules,
       search rules,
-      subst (λ n. Allows (IsOrderly see opened) n seat.id seat.me 0 (λ k. 0) (λ found m. Given see seat.me m)) (sym c.self.invariant.1)
+      subst (λ n. Allows (IsOrderly see opened) n seat.id seat.me 0 (λ k. 0) (λ found m. GivenBack see seat.me m)) (sym c.self.invariant.1)
           (frees-turn see opened seat.id v t.0 c.args.state seat.me is has out fits),
     )
