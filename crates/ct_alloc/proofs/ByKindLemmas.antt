@@ -16,15 +16,16 @@ use Rattle.ct_base.specs.declared.defs.Resource.{Resource}
 use Rattle.ct_base.proofs.KeyLemmas.{kept_apart}
 use Rattle.ct_base.proofs.NameLemmas.{bytes_eq_comm}
 use Rattle.ct_alloc.specs.Free.{FreeValue, free_at}
-use Rattle.ct_alloc.specs.ByKind.{found_places, places_for}
+use Rattle.ct_base.specs.Found.{or_none}
+use Rattle.ct_alloc.specs.ByKind.{places_for}
 use Rattle.ct_alloc.specs.Spread.{HasRoom, cards_from, is_of_kind}
 use Rattle.ct_alloc.proofs.SpreadLemmas.{card-kind, card-there, index-at, index_of}
 
 module _ {Y Z : Type 0} where
   module _ {S : Type 0} where
     updated : (before now : IndexMap (Vec ℕ Y) (Vec ℕ Z) S) (kind asked : List ℕ) (places : Vec ℕ Z) → UpdatesBy (λ (one other : Vec ℕ Y). bytes_eq one.items other.items) (λ (name : Vec ℕ Y). bytes_eq kind name.items) before now (Some places) → (is : Bool) → bytes_eq kind asked ≡ is → places_for now asked ≡ cond is places.items (places_for before asked)
-    updated before now kind asked places updates true is = ap (places_for now) (sym ((bytes_eq-Decides kind asked).0 is)) ∙ ap found_places updates.1
-    updated before now kind asked places updates false is = ap found_places (kept_apart kind asked before.entries now.entries (bytes_eq_comm asked kind ∙ is) updates.3)
+    updated before now kind asked places updates true is = ap (places_for now) (sym ((bytes_eq-Decides kind asked).0 is)) ∙ ap or_none updates.1
+    updated before now kind asked places updates false is = ap or_none (kept_apart kind asked before.entries now.entries (bytes_eq_comm asked kind ∙ is) updates.3)
 
     noted_by : (before now : IndexMap (Vec ℕ Y) (Vec ℕ Z) S) (kind asked places : List ℕ) (place : ℕ) (is : Bool) → bytes_eq kind asked ≡ is → places ≡ places_for before kind ++ place ∷ [] → places_for now asked ≡ cond is places (places_for before asked) → places_for now asked ≡ cond is (places_for before asked ++ place ∷ []) (places_for before asked)
     noted_by before now kind asked places place true is pushed put = put ∙ pushed ∙ ap (λ k. places_for before k ++ place ∷ []) ((bytes_eq-Decides kind asked).0 is)

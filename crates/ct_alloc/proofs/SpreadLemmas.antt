@@ -5,6 +5,7 @@ use Rattle.std.specs.Prelude.{not, ◌&&◌, slice_get, Option, Some, None, filt
 use Rattle.std.specs.List.{list_all}
 use Rattle.std.proofs.lemmas.Bool.{and_parts, and_from, true≢false, not-true}
 use Rattle.std.proofs.lemmas.Bool.Decides.{nat_tests}
+use Rattle.std.proofs.lemmas.List.Sums.{count_by-le-length, length-filter}
 use Rattle.std.proofs.lemmas.Slice.Eq.{bytes_eq-Decides}
 use Rattle.ct_base.specs.declared.defs.Need.{Need}
 use Rattle.ct_base.specs.declared.defs.Resource.{Resource}
@@ -372,28 +373,20 @@ packed-spread free kind needs places alike spread =
 pub none-packed : (free : FreeValue) (kind : List ℕ) (needs : List Need) → list_all (asks_kind kind) needs ≡ true → (CanPack (free_of free kind) (sizes_of needs) → ⊥) → NoneSpread free needs
 none-packed free kind needs alike none = λ places spread. none (map (λ place. index_of place (cards_of free kind)) places, packed-spread free kind needs places alike spread)
 
--- the filtered needs all pass the test, and are no more than before
-pub filter-all : (p : Need → Bool) (needs : List Need) → list_all p (filter p needs) ≡ true
-filter-all p [] = refl
-filter-all p (need ∷ needs) = by_test (filter-all p needs) (p need) refl
+-- each element that a filter keeps passes its test
+pub all-filter : {A : Type 0} (p : A → Bool) (xs : List A) → list_all p (filter p xs) ≡ true
+all-filter p [] = refl
+all-filter p (x ∷ xs) = by_test (all-filter p xs) (p x) refl
   where
-    by_test : list_all p (filter p needs) ≡ true → (test : Bool) → p need ≡ test → list_all p (filter p (need ∷ needs)) ≡ true
-    by_test again true t = rw t (and_from (p need) (list_all p (filter p needs)) t again)
+    by_test : list_all p (filter p xs) ≡ true → (test : Bool) → p x ≡ test → list_all p (filter p (x ∷ xs)) ≡ true
+    by_test again true t = rw t (and_from (p x) (list_all p (filter p xs)) t again)
     by_test again false t = rw t again
-
-filter-less : (p : Need → Bool) (needs : List Need) → length (filter p needs) ≤ length needs
-filter-less p [] = omega arith
-filter-less p (need ∷ needs) = by_test (filter-less p needs) (p need) refl
-  where
-    by_test : length (filter p needs) ≤ length needs → (test : Bool) → p need ≡ test → length (filter p (need ∷ needs)) ≤ suc (length needs)
-    by_test again true t = rw t (omega arith)
-    by_test again false t = rw t (omega arith)
 
 -- without the needs of the first need's kind there are fewer needs
 pub others-less : (need : Need) (needs : List Need) → length (filter (asks_other need.kind) (need ∷ needs)) < suc (length needs)
 others-less need needs =
     let own : asks_other need.kind need ≡ false = ap (λ b. not b) (bytes_eq-refl need.kind) in
-    rw own (omega (arith, filter-less (asks_other need.kind) needs))
+    rw own (omega (arith, length-filter (asks_other need.kind) needs, count_by-le-length (asks_other need.kind) needs))
 
 pub others-fewer : {X : Type 0} (f : X → Need) (needs : List X) (first : X) → slice_get needs 0 ≡ Some first → length (filter (asks_other (f first).kind) (map f needs)) < length needs
 others-fewer f [] first is = cc

@@ -4,3 +4,5 @@ pub mod Free
 pub mod Packing
 pub mod Spread
 pub mod ByKind
+pub mod Lent
+pub mod NamesInOrder

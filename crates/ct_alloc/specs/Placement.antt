@@ -1,6 +1,6 @@
 -- When a placement meets a test's needs, and when it fits beside what is used.
 -- Source: CMake manual, ctest(1), Resource Allocation. One pick for each need is this project's choice.
-use Rattle.std.specs.Prelude.{AllPairs, ◌≡◌, ℕ, ◌+◌, Bool, true, false, ◌&&◌, List, [], ◌∷◌, filter, sum_by, Option, Some, None, slice_get, bytes_eq, nat_le, ◌==◌}
+use Rattle.std.specs.Prelude.{◌≡◌, ℕ, ◌+◌, Bool, true, false, ◌&&◌, List, [], ◌∷◌, filter, sum_by, Option, Some, None, slice_get, bytes_eq, nat_le, ◌==◌}
 use Rattle.ct_base.specs.declared.defs.Need.{Need}
 use Rattle.ct_base.specs.declared.defs.Resource.{Resource}
 use Rattle.ct_alloc.specs.declared.placement.Pick.{Pick}
@@ -47,11 +47,3 @@ pub record SomeFits (resources : List Resource) (needs : List Need) (used : ℕ 
   pub picks : List Pick
   pub placed : is_placement resources needs picks ≡ true
   pub fits : fits_beside resources used picks ≡ true
-
--- the resource has this kind and this id
-abbrev pub same_resource : Resource → Resource → Bool
-same_resource one other = bytes_eq one.kind other.kind && bytes_eq one.id other.id
-
--- no two resources have the same kind and id
-abbrev pub AreDistinct : List Resource → Type 0
-AreDistinct resources = AllPairs (λ one other. same_resource one other ≡ false) resources

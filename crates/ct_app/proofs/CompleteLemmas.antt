@@ -41,10 +41,6 @@ use Rattle.ct_app.proofs.AnswerLemmas.{run_none}
 use Rattle.ct_app.proofs.RerunLemmas.{only_same}
 use Rattle.ct_app.proofs.SourceLemmas.{IsSameChoice, before_same, edges_same, same_ok}
 
--- where the files tell what they hold, a fact of what is told is a fact of what they hold
-pub of_told : (told : Option Held) (held : Held) (P : Held → Type 0) → told ≡ Some held → IfSome told P → P held
-of_told told held P is holds = subst (λ (t : Option Held). IfSome t P) is holds
-
 -- a result is not both Ok and Err
 pub not_both : {T E : Type 0} (result : Result T E) (value : T) (fault : E) → result ≡ Ok value → result ≡ Err fault → ⊥
 not_both result value fault is but = absurd (cc)
@@ -107,7 +103,8 @@ module _ (s : Sides) (can : IsListable s) where
       let same = same_asked s.words can.invocation invocation can.words words in
       let dir = ap (λ (v : InvocationValue). v.dir) same in
       let config = ap (λ (v : InvocationValue). v.config) same in
-      let here = of_told s.files.before.held can.held (λ held. tree_of held invocation.wanted.dir invocation.config ≡ result) can.told read in
+      let here : tree_of can.held invocation.wanted.dir invocation.config ≡ result =
+      subst (λ (told : Option Held). IfSome told (λ held. tree_of held invocation.wanted.dir invocation.config ≡ result)) can.told read in
       sym here ∙ ap (λ (dir : List ℕ). tree_of can.held dir invocation.config) (sym dir) ∙ ap (tree_of can.held can.invocation.wanted.dir) (sym config) ∙ can.read.tree
 
   reading_never : (invocation : Invocation) → AskFor s.words invocation → (refusal : Refusal) → RefusesReading s.files.before.held invocation refusal → ⊥

@@ -28,7 +28,7 @@ use Rattle.ct_history.proofs.LegalLemmas.{stop-snoc}
 use Rattle.ct_history.proofs.OpenLemmas.{is_of, open_starts-end, open_starts-snoc}
 use Rattle.ct_history.specs.Endings.{last_seen, seen_at_end}
 use Rattle.ct_history.proofs.FinalLemmas.{attempts-snoc}
-use Rattle.ct_history.proofs.AttemptLemmas.{last_behind-snoc}
+use Rattle.ct_history.proofs.AttemptLemmas.{last_or-snoc}
 
 pub first-append : {A : Type 0} (xs ys : List A) → first_of_list xs ≡ None → first_of_list (xs ++ ys) ≡ first_of_list ys
 first-append [] ys none = refl
@@ -53,7 +53,7 @@ last-snoc n es e none =
 pub last-end : (n : ℕ) (es : List Entry) (a w : ℕ) (s : Seen) → last_seen n (es ++ End n a w s ∷ []) ≡ Some s
 last-end n es a w s =
     ap last_of_list (filter_map-append (seen_at_end n) es (End n a w s ∷ []) ∙ ap (λ (b : Bool). filter_map (seen_at_end n) es ++ cons_option (if b then Some s else None) []) (eq_same n))
-    ∙ last_behind-snoc None (filter_map (seen_at_end n) es) s
+    ∙ last_or-snoc None (filter_map (seen_at_end n) es) s
 
 pub stops : (es : List Entry) (e : Entry) → has_stop es ≡ true → has_stop (es ++ e ∷ []) ≡ true
 stops es e is = stop-snoc es e ∙ ap (λ (b : Bool). b || (is_stop e || false)) is

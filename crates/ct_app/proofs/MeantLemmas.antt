@@ -16,16 +16,10 @@ use Rattle.ct_history.specs.declared.plan.PlanParts.{PlanParts}
 use Rattle.ct_history.specs.Plan.{IsAscendingFrom, has_sound_links, is_before_rank, test_at}
 use Rattle.ct_history.specs.Verdicts.{is_over, is_passed_verdict, last_of_list, settled_or}
 use Rattle.ct_history.specs.Rules.{cause_behind}
-use Rattle.ct_history.proofs.AttemptLemmas.{empty_of_no_last, last_behind-snoc}
+use Rattle.ct_history.proofs.AttemptLemmas.{empty_of_no_last, last_or-snoc}
+use Rattle.ct_history.proofs.PartListLemmas.{find_where}
 use Rattle.ct_history.proofs.ProgressLemmas.{all_found}
 use Rattle.ct_app.specs.Meant.{first_verdicts, last_attempt, meant_by_setups, meant_of_attempts, meant_verdict, meant_within}
-
--- two tests that agree on the elements find the same one
-pub find_same : {A : Type 0} (p q ok : A → Bool) (xs : List A) → list_all ok xs ≡ true → ((x : A) → ok x ≡ true → p x ≡ q x) → find p xs ≡ find q xs
-find_same p q ok [] all same = refl
-find_same p q ok (x ∷ xs) all same =
-    let both = and_parts (ok x) (list_all ok xs) all in
-    ap (λ (b : Bool). cond b (Some x) (find p xs)) (same x both.0) ∙ ap (λ (o : Option _). cond (q x) (Some x) o) (find_same p q ok xs both.1 same)
 
 one_among : (p : ℕ → Bool) (s : ℕ) (all : List ℕ) → list_any (λ j. j == s) all ≡ true → list_all p all ≡ true → p s ≡ true
 one_among p s [] is passes = cc
@@ -128,7 +122,7 @@ depth_few tests number t found =
 by_setups_same : (repeat : Repeat) (seen : ℕ → ℕ → Seen) (one other : ℕ → Option Verdict) (t : PlanTest) (ok : ℕ → Bool) → list_all ok t.setups ≡ true → ((s : ℕ) → ok s ≡ true → one s ≡ other s) → meant_by_setups repeat seen one (Some t) ≡ meant_by_setups repeat seen other (Some t)
 by_setups_same repeat seen one other t ok all same =
     ap (λ (o : Option ℕ). if t.disabled then Some Disabled else settled_or (cause_behind o t.fixed) (meant_of_attempts repeat t.rules (seen t.number)))
-    (find_same (λ s. not (is_passed_verdict (one s))) (λ s. not (is_passed_verdict (other s))) ok t.setups all (λ s passes. ap (λ (o : Option Verdict). not (is_passed_verdict o)) (same s passes)))
+    (find_where ok (λ s. not (is_passed_verdict (one s))) (λ s. not (is_passed_verdict (other s))) (λ s passes. ap (λ (o : Option Verdict). not (is_passed_verdict o)) (same s passes)) t.setups all)
 
 -- what each sound plan has: numbers that ascend, predecessors with lesser ranks, and at least one attempt
 pub record IsRanked (plan : PlanParts) : Type 0 where
@@ -187,7 +181,7 @@ first_verdicts-more rules seen count = map-range_with_len_more (λ k. verdict_of
 
 -- the last of the first attempts has the verdict of what was seen of it
 pub last_of_first : (rules : Rules) (seen : ℕ → Seen) (count : ℕ) → last_of_list (first_verdicts rules seen (count + 1)) ≡ Some (verdict_of rules (seen (count + 1)))
-last_of_first rules seen count = ap last_of_list (first_verdicts-more rules seen count) ∙ last_behind-snoc None (first_verdicts rules seen count) (verdict_of rules (seen (count + 1)))
+last_of_first rules seen count = ap last_of_list (first_verdicts-more rules seen count) ∙ last_or-snoc None (first_verdicts rules seen count) (verdict_of rules (seen (count + 1)))
 
 -- attempts that are not over are none, or fewer than the times of the repeat
 not_over_few : (repeat : Repeat) (vs : List Verdict) → is_over repeat vs ≡ false → (length vs ≡ 0) ⊎ (length vs < repeat.times)

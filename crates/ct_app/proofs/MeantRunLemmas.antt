@@ -30,10 +30,11 @@ use Rattle.ct_history.proofs.FinalLemmas.{start_ends_none, settled-snoc, attempt
 use Rattle.ct_history.proofs.LegalLemmas.{legal_allowed, stop_failed}
 use Rattle.ct_history.proofs.MayLemmas.{may_start-parts, pending-parts}
 use Rattle.ct_history.proofs.OpenLemmas.{is_of, open_starts-end, open_starts-snoc, opens_settle, opens_stop}
+use Rattle.ct_history.proofs.PartListLemmas.{find_where}
 use Rattle.ct_history.proofs.PlanLemmas.{find_passes, found_at}
 use Rattle.ct_history.specs.Endings.{last_seen}
 use Rattle.ct_app.specs.Meant.{AreMeant, AreSeen, IsMeant, IsSeen, first_unpassed_setup, first_verdicts, is_meant_to_fail, last_attempt, meant_by_setups, meant_cause, meant_of_attempts, meant_verdict}
-use Rattle.ct_app.proofs.MeantLemmas.{IsRanked, attempts_meant, find_same, first_verdicts-more, last_attempt-is, last_of_first, meant_verdict-is, setups_before, some_attempt}
+use Rattle.ct_app.proofs.MeantLemmas.{IsRanked, attempts_meant, first_verdicts-more, last_attempt-is, last_of_first, meant_verdict-is, setups_before, some_attempt}
 use Rattle.ct_app.proofs.EntryLemmas.{Keeps, all_filter, any_from, apart, attempts-end, cause-is, held_attempt, is_numbered, keeps-end, keeps-quiet, keeps-start, last-end, last-snoc, none_passes, over_last, passed_over, settled-first, settled_so, stops, unfinished, verdict_from, verdict_kept}
 use Rattle.ct_history.proofs.ProgressLemmas.{all_found}
 
@@ -134,8 +135,8 @@ module _ (plan : PlanParts) (ranked : IsRanked plan) (seen : ℕ → ℕ → See
     -- to pass
     setups_agree : (t : PlanTest) → test_at plan.tests t.number ≡ Some t → has_stop es ≡ false → follows_finals plan t es ≡ true → first_unpassed_setup (meant_verdict plan seen) t ≡ first_unpassed plan t es
     setups_agree t own on follows =
-        find_same (λ s. not (is_passed_verdict (meant_verdict plan seen s))) (λ s. not (is_passed_verdict (verdict_of_test plan es s))) (λ s. is_some (verdict_of_test plan es s)) t.setups
-        (setups_before plan ranked t.number t own (λ s. is_some (verdict_of_test plan es s)) follows) (λ s final. ap (λ (o : Option Verdict). not (is_passed_verdict o)) (agrees on s final))
+        find_where (λ s. is_some (verdict_of_test plan es s)) (λ s. not (is_passed_verdict (meant_verdict plan seen s))) (λ s. not (is_passed_verdict (verdict_of_test plan es s)))
+        (λ s final. ap (λ (o : Option Verdict). not (is_passed_verdict o)) (agrees on s final)) t.setups (setups_before plan ranked t.number t own (λ s. is_some (verdict_of_test plan es s)) follows)
 
     cause_agrees : (t : PlanTest) → test_at plan.tests t.number ≡ Some t → has_stop es ≡ false → follows_finals plan t es ≡ true → meant_cause (meant_verdict plan seen) t ≡ cause_behind (first_unpassed plan t es) t.fixed
     cause_agrees t own on follows = ap (λ (o : Option ℕ). cause_behind o t.fixed) (setups_agree t own on follows)

@@ -11,13 +11,14 @@ use Rattle.ct_history.specs.declared.history.Entry.{Entry}
 use Rattle.ct_history.specs.Plan.{enabled, test_at}
 use Rattle.ct_history.specs.Legal.{is_legal}
 use Rattle.ct_history.specs.Verdicts.{are_all_final, is_failing_in, is_passed_verdict, verdict_at, verdict_in}
+use Rattle.ct_history.specs.Failed.{failed_tests}
 use Rattle.ct_history.proofs.PlanLemmas.{contained_at}
 use Rattle.ct_cost.specs.declared.cost_data.CostData.{CostData}
-use Rattle.ct_cost.specs.After.{after_test, counted_micros, failed_tests, logged, passed_tests}
+use Rattle.ct_cost.specs.After.{after_test, counted_micros, logged, passed_tests}
 use Rattle.ct_history.specs.Endings.{last_seen}
 use Rattle.ct_cost.specs.CostLine.{CostLine, after_run, each_once}
 use Rattle.ct_cost.specs.Costs.{costs_after}
-use Rattle.ct_report.specs.Report.{counts_line, counts_with, failed_lines, failing_tests, good_count, has_label, is_good_in, is_unrun_in, label_line, label_lines, labelled_count, labelled_good_count, labels_in_order, listed_line, listed_with, summary_lines, under, unrun_tests}
+use Rattle.ct_report.specs.Report.{counts_line, counts_with, failed_lines, good_count, has_label, is_good_in, is_unrun_in, label_line, label_lines, labelled_count, labelled_good_count, labels_in_order, listed_line, listed_with, summary_lines, under, unrun_tests}
 use Rattle.ct_app.specs.Meant.{AreSeen, last_attempt, meant_verdict}
 use Rattle.ct_app.specs.MeantTexts.{HasMeantTexts, HaveSameTexts}
 use Rattle.ct_app.proofs.MeantLemmas.{IsRanked}
@@ -74,7 +75,7 @@ module _ (plan : PlanParts) (one other : List Entry) (same : AllByRecursion (λ 
   counts_same : counts_line plan one ≡ counts_line plan other
   counts_same =
       let good : good_count plan one ≡ good_count plan other = counted_same by_one by_other (λ t v. is_good_in v) 0 plan.tests same in
-      let failing : failing_tests plan one ≡ failing_tests plan other = kept_same by_one by_other is_failing_in plan.tests same in
+      let failing : failed_tests plan one ≡ failed_tests plan other = kept_same by_one by_other is_failing_in plan.tests same in
       λ i. counts_with (good i) (length (failing i)) (length (enabled plan.tests))
 
   labelled_same : (label : List ℕ) → labelled_good_count plan one label ≡ labelled_good_count plan other label
@@ -86,7 +87,7 @@ module _ (plan : PlanParts) (one other : List Entry) (same : AllByRecursion (λ 
   unrun_same : map (listed_line plan one) (unrun_tests plan one) ≡ map (listed_line plan other) (unrun_tests plan other)
   unrun_same = mapped_same by_one by_other listed_with is_unrun_in plan.tests same
 
-  failing_same : map (listed_line plan one) (failing_tests plan one) ≡ map (listed_line plan other) (failing_tests plan other)
+  failing_same : map (listed_line plan one) (failed_tests plan one) ≡ map (listed_line plan other) (failed_tests plan other)
   failing_same = mapped_same by_one by_other listed_with is_failing_in plan.tests same
 
   summary_same : summary_lines plan one ≡ summary_lines plan other

@@ -177,21 +177,9 @@ fn append_spec_fault(text: &mut Blob, fault: &SpecFault) -> Result<(), NoMemory>
         SpecFault::BadKind { kind } => append_both(text, b"bad type ", kind),
         SpecFault::BadId { kind, .. } => append_both(text, b"bad id in ", kind),
         SpecFault::TwiceId { kind, .. } => append_both(text, b"repeated id in ", kind),
-        SpecFault::BadSlots { .. } | SpecFault::TooMany | SpecFault::NoMemory => {
-            append_late_fault(text, fault)
-        }
-    }
-}
-
-/// Appends the text of a fault that is found behind the ids of a specification, or out of memory.
-fn append_late_fault(text: &mut Blob, fault: &SpecFault) -> Result<(), NoMemory>
-    ensures { OnOk result (text.new ≡ text.old ++ spec_fault_text fault.now) }
-{
-    match fault {
         SpecFault::BadSlots { kind, .. } => append_both(text, b"bad slots in ", kind),
         SpecFault::TooMany => text.append(b"too many resources"),
         SpecFault::NoMemory => text.append(b"out of memory"),
-        _ => Err(NoMemory),
     }
 }
 

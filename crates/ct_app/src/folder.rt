@@ -70,7 +70,7 @@ pub(crate) fn run_folder<R: Threads + Wait + Sync, F: Files, G: Gate + Send, S: 
     let (timeout, empty_is_error) = (invocation.timeout, invocation.empty_is_error);
     let PlannedFolder { tests, costs, plan } = match plan_folder(alloc, files, invocation) {
         Ok(folder) => folder,
-        Err(bad) => return unrun(bad, gates, sink),
+        Err(bad) => return unplanned(bad, gates, sink),
     };
     hand_out_sound(&plan);
     let tests = without_links(alloc, tests);
@@ -99,7 +99,7 @@ pub(crate) fn run_folder<R: Threads + Wait + Sync, F: Files, G: Gate + Send, S: 
 }
 
 /// Makes the end of a call whose folder has no plan.
-fn unrun<G, S>(bad: Unplanned, gates: Vec<G>, sink: S) -> Ran<G, S>
+fn unplanned<G, S>(bad: Unplanned, gates: Vec<G>, sink: S) -> Ran<G, S>
     ensures { result ≡ record { ended = Err bad.outcome; names = bad.names; plan = None; history = None; gates = gates; sink = sink } }
 {
     Ran {
@@ -113,7 +113,7 @@ fn unrun<G, S>(bad: Unplanned, gates: Vec<G>, sink: S) -> Ran<G, S>
 }
 
 /// Makes the end of a call that made no plan.
-pub(crate) fn unplanned<G, S>(alloc: Global, outcome: Outcome, gates: Vec<G>, sink: S) -> Ran<G, S>
+pub(crate) fn unrun<G, S>(alloc: Global, outcome: Outcome, gates: Vec<G>, sink: S) -> Ran<G, S>
     ensures { result ≡ record { ended = Err outcome; names = []; plan = None; history = None; gates = gates; sink = sink } }
 {
     Ran {

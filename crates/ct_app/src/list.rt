@@ -31,7 +31,9 @@ pub(crate) fn list_folder<F: Files, S: Sink>(
 ) -> Outcome
     ensures { ListEndsFor invocation (λ words. list_sides words (F.tells files.old) (F.tells files.new) (S.tells sink.old) (S.tells sink.new)) result }
 {
-    list_asked(alloc, &mut invocation, files, sink)
+    let outcome = list_asked(alloc, &mut invocation, files, sink);
+    drop(invocation);
+    outcome
 }
 
 /// Puts the list as `list_folder` does, and leaves the choice of the invocation limited.

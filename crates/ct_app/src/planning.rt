@@ -136,7 +136,9 @@ pub(crate) fn plan_folder<F: Files>(
     ensures ok { IfOk result (λ folder. IsPlannedFolder invocation (F.tells files.old) (F.tells files.new) folder.tests folder.costs folder.plan) }
     ensures err { IfErr result (λ bad. IsUnplannedFolder invocation (F.tells files.old) (F.tells files.new) bad.names bad.outcome) }
 {
-    plan_asked(alloc, files, &mut invocation)
+    let planned = plan_asked(alloc, files, &mut invocation);
+    drop(invocation);
+    planned
 }
 
 /// Plans the folder as `plan_folder` does, and leaves the choice of the invocation limited.
@@ -171,7 +173,10 @@ fn plan_read(
     limit_choice(invocation, folder.inputs.only.take());
     match folder.plan(alloc, &invocation.wanted) {
         Ok(plan) => Ok(folder.with_plan(plan)),
-        Err(bad) => Err(bad),
+        Err(bad) => {
+            drop(folder);
+            Err(bad)
+        }
     }
 }
 

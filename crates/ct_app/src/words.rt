@@ -5,7 +5,7 @@ ghost use Rattle.ct_app.specs.Reading.{ask_for_list};
 ghost use Rattle.ct_app.specs.Run.{OthersStay};
 
 use crate::Outcome;
-use crate::folder::{Ran, run_folder, unplanned};
+use crate::folder::{Ran, run_folder, unrun};
 use crate::list::list_folder;
 use ct_args::{Task, read_words};
 use ct_base::{Files, Name, Pair, Sink};
@@ -39,10 +39,10 @@ pub(crate) fn run_words<R: Threads + Wait + Sync, F: Files, G: Gate + Send, S: S
             Task::Run => run_folder(rt, alloc, invocation, env, files, gates, sink),
             Task::ListTests | Task::ListLabels | Task::ListJson => {
                 let outcome = list_folder(alloc, invocation, files, &mut sink);
-                unplanned(alloc, outcome, gates, sink)
+                unrun(alloc, outcome, gates, sink)
             }
         },
-        Err(fault) => unplanned(alloc, Outcome::from(fault), gates, sink),
+        Err(fault) => unrun(alloc, Outcome::from(fault), gates, sink),
     }
 }
 

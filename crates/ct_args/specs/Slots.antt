@@ -1,6 +1,5 @@
--- What the reader keeps of the options in front of a word. proofs/ shows that it gives what the options ask
--- for, or the
--- first fault. This project's own.
+-- What the reader keeps of the options in front of a word. proofs/ shows that it gives what the options
+-- ask for, or the first fault. This project's own.
 use Rattle.std.specs.Prelude.{ℕ, Bool, false, ◌||◌, List, [], ◌∷◌, ◌++◌, map, Option, Some, None, is_some, unwrap_or, option_map, option_to_list, Result, Ok, Err, if◌then◌else◌}
 use Rattle.std.specs.Result.{result_ok}
 use Rattle.ct_regex.specs.Tree.{Tree}

@@ -1,13 +1,13 @@
 -- What the value of each option says, or why it is refused. Source: CMake manual, ctest(1), Options.
 -- The bounds, what is refused, and that a zero in -I stands for 1 are this project's choice.
 use Rattle.std.specs.Prelude.{ℕ, ◌+◌, ◌-◌, ◌^◌, min, max, nat_lt, bytes_eq, Bool, true, false, ◌||◌, List, [], ◌∷◌, take, drop, Option, Some, None, slice_get, unwrap_or, ok_or, Result, Ok, Err, codes, ◌==◌, if◌then◌else◌}
-use Rattle.std.specs.List.{position, slice_split, filter_map}
+use Rattle.std.specs.List.{position, filter_map}
 use Rattle.std.specs.Option.{option_flatten}
 use Rattle.std.specs.Result.{result_or}
 use Rattle.ct_base.specs.Seconds.{number_in, micros_in}
 use Rattle.ct_regex.specs.Tree.{Tree}
 use Rattle.ct_regex.specs.Reading.{reading}
-use Rattle.ct_groups.specs.Description.{comma, colon}
+use Rattle.ct_groups.specs.Description.{colon, pieces_of}
 use Rattle.ct_props.specs.declared.wanted.Numbers.{Numbers}
 use Rattle.ct_verdict.specs.declared.repeat.Mode.{Mode}
 use Rattle.ct_verdict.specs.declared.repeat.Mode.TheVariants.{UntilFail, UntilPass, AfterTimeout}
@@ -90,10 +90,6 @@ entries_in [] = Ok []
 entries_in (text ∷ texts) =
     then_read (entry_in text) (λ entry. then_read (entries_in texts) (λ entries. Ok (entry ∷ entries)))
 
--- the pieces of a text between its commas
-abbrev pub pieces_between : List ℕ → List (List ℕ)
-pieces_between text = slice_split (λ byte. byte == comma) text
-
 -- the number at a place of the entries, from 0, where one stands there
 abbrev pub number_at : ℕ → List (Option ℕ) → Option ℕ
 number_at at entries = option_flatten (slice_get entries at)
@@ -117,7 +113,7 @@ numbers_of entries = record {
 
 -- -I: entries with a comma between
 unfoldable pub numbers_in : List ℕ → Result Numbers UsageKind
-numbers_in text = then_read (entries_in (pieces_between text)) (λ entries. Ok (numbers_of entries))
+numbers_in text = then_read (entries_in (pieces_of text)) (λ entries. Ok (numbers_of entries))
 
 -- a text, which is never refused
 abbrev pub text_in : List ℕ → Result (List ℕ) UsageKind

@@ -1,5 +1,6 @@
 ghost use Rattle.std.specs.Prelude.{◌≡◌, IfOk, drop, map};
-ghost use Rattle.ct_args.specs.Values.{numbers_in, pieces_between, numbers_of as numbers_by, entry_in as entry_by, entries_in as entries_by, number_at as number_by, numbers_among as numbers_found, or_one as one_for_none};
+ghost use Rattle.ct_groups.specs.Description.{pieces_of as parts};
+ghost use Rattle.ct_args.specs.Values.{numbers_in, numbers_of as numbers_by, entry_in as entry_by, entries_in as entries_by, number_at as number_by, numbers_among as numbers_found, or_one as one_for_none};
 ghost use Rattle.ct_args.specs.Read.{IsValue};
 
 use crate::usage::{UsageKind, ValueFault};
@@ -20,7 +21,7 @@ pub fn numbers(alloc: Global, text: &[u8]) -> Result<Numbers, ValueFault>
 }
 
 fn entries_in(alloc: Global, text: &[u8]) -> Result<List<Option<u32>>, ValueFault>
-    ensures { IsValue (λ x. x) (entries_by (pieces_between text.now)) result }
+    ensures { IsValue (λ x. x) (entries_by (parts text.now)) result }
 {
     let pieces = pieces_of(alloc, text)?;
     let mut entries = List::new(alloc);
@@ -32,7 +33,7 @@ fn entries_in(alloc: Global, text: &[u8]) -> Result<List<Option<u32>>, ValueFaul
 
 /// The pieces of a text between its commas.
 fn pieces_of(alloc: Global, text: &[u8]) -> Result<Vec<&[u8]>, NoMemory>
-    ensures { IfOk result (λ pieces. map (λ piece. piece.now) pieces.items ≡ pieces_between text.now) }
+    ensures { IfOk result (λ pieces. map (λ piece. piece.now) pieces.items ≡ parts text.now) }
 {
     Ok(text.split(|byte| *byte == b',').collect(alloc)?)
 }

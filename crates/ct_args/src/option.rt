@@ -64,7 +64,22 @@ impl CommandOption {
             | CommandOption::PrintLabels
             | CommandOption::RerunFailed
             | CommandOption::Verbosity => false,
-            _ => true,
+            CommandOption::TestsRegex
+            | CommandOption::ExcludeRegex
+            | CommandOption::LabelRegex
+            | CommandOption::LabelExclude
+            | CommandOption::FixtureExcludeAny
+            | CommandOption::FixtureExcludeSetup
+            | CommandOption::FixtureExcludeCleanup
+            | CommandOption::TestsInformation
+            | CommandOption::Parallel
+            | CommandOption::BuildConfig
+            | CommandOption::TestDir
+            | CommandOption::ResourceSpecFile
+            | CommandOption::Timeout
+            | CommandOption::Repeat
+            | CommandOption::NoTests
+            | CommandOption::ShowOnlyAs => true,
         }
     }
 }

@@ -195,7 +195,23 @@ impl Settings {
             CommandOption::ShowOnly => self.show_only = true,
             CommandOption::PrintLabels => self.print_labels = true,
             CommandOption::RerunFailed => self.rerun = true,
-            _ => {}
+            CommandOption::Verbosity
+            | CommandOption::TestsRegex
+            | CommandOption::ExcludeRegex
+            | CommandOption::LabelRegex
+            | CommandOption::LabelExclude
+            | CommandOption::FixtureExcludeAny
+            | CommandOption::FixtureExcludeSetup
+            | CommandOption::FixtureExcludeCleanup
+            | CommandOption::TestsInformation
+            | CommandOption::Parallel
+            | CommandOption::BuildConfig
+            | CommandOption::TestDir
+            | CommandOption::ResourceSpecFile
+            | CommandOption::Timeout
+            | CommandOption::Repeat
+            | CommandOption::NoTests
+            | CommandOption::ShowOnlyAs => {}
         }
     }
 
@@ -229,7 +245,12 @@ impl Settings {
                 json(text)?;
                 self.show_json = true
             }
-            _ => {}
+            CommandOption::Union
+            | CommandOption::StopOnFailure
+            | CommandOption::ShowOnly
+            | CommandOption::PrintLabels
+            | CommandOption::RerunFailed
+            | CommandOption::Verbosity => {}
         }
         Ok(())
     }

@@ -1,7 +1,7 @@
 -- How each test has fared, with one entry more, and the verdict that follows.
 use Rattle.std.proofs.Common.{length-append, ◌≡◌, ◌∙◌, sym, ap, ℕ, ◌+◌, ◌-◌, ◌^◌, ◌<◌, min, Bool, true, false, not, ◌&&◌, List, [], ◌∷◌, ◌++◌, length, map, filter_map, refl, arith, cond, Option, Some, None, option_map}
 use Rattle.std.specs.Prelude.{if◌then◌else◌, ◌==◌}
-use Rattle.std.specs.List.{cons_option}
+use Rattle.std.specs.List.{cons_option, last_or}
 use Rattle.std.proofs.lemmas.Bool.Decides.{nat_tests}
 use Rattle.std.proofs.lemmas.List.{append-nil, length-map}
 use Rattle.std.proofs.lemmas.List.Elements.{filter_map-append}
@@ -15,9 +15,9 @@ use Rattle.ct_history.specs.declared.plan.PlanTest.{PlanTest}
 use Rattle.ct_history.specs.declared.history.Entry.{Entry}
 use Rattle.ct_history.specs.declared.history.Entry.TheVariants.{Start, End, Settle, Stop}
 use Rattle.ct_history.specs.History.{attempts_of, is_open_in, open_starts, settled_by}
-use Rattle.ct_history.specs.Verdicts.{first_of_list, is_over, last_behind, last_of_list, settled_cause, settled_or, verdict_in}
+use Rattle.ct_history.specs.Verdicts.{first_of_list, is_over, last_of_list, settled_cause, settled_or, verdict_in}
 use Rattle.ct_history.specs.Endings.{seen_at_end}
-use Rattle.ct_history.proofs.AttemptLemmas.{repeated_few, last_behind-snoc}
+use Rattle.ct_history.proofs.AttemptLemmas.{repeated_few, last_or-snoc}
 use Rattle.ct_history.proofs.EndingLemmas.{first_snoc}
 use Rattle.ct_audit.specs.declared.course.Ended.{Ended}
 use Rattle.ct_audit.specs.Course.{course_after, course_in, ended_after, ended_in, ended_with, most_attempts_seen, seens_of}
@@ -27,7 +27,7 @@ last_there : {A : Type 0} (x : A) (xs : List A) → (y : A) × (last_of_list (x 
 last_there x [] = (x, refl)
 last_there x (y ∷ ys) = last_there y ys
 
-last_map : {A B : Type 0} (f : A → B) (o : Option A) (xs : List A) → last_behind (option_map f o) (map f xs) ≡ option_map f (last_behind o xs)
+last_map : {A B : Type 0} (f : A → B) (o : Option A) (xs : List A) → last_or (option_map f o) (map f xs) ≡ option_map f (last_or o xs)
 last_map f o [] = refl
 last_map f o (x ∷ xs) = last_map f (Some x) xs
 
@@ -42,7 +42,7 @@ ended_one (x ∷ xs) seen =
     let found = last_there x xs in
     let count : length (x ∷ xs ++ seen ∷ []) ≡ length (x ∷ xs) + 1 = length-append (x ∷ xs) (seen ∷ []) in
     let same : min (length (x ∷ xs ++ seen ∷ []) - 1) most_attempts_seen ≡ min (min (length (x ∷ xs) - 1) most_attempts_seen + 1) most_attempts_seen = omega (arith, count) in
-    ap (λ (o : Option Seen). option_map (λ (s : Seen). made (min (length (x ∷ xs ++ seen ∷ []) - 1) most_attempts_seen) s) o) (last_behind-snoc (Some x) xs seen)
+    ap (λ (o : Option Seen). option_map (λ (s : Seen). made (min (length (x ∷ xs ++ seen ∷ []) - 1) most_attempts_seen) s) o) (last_or-snoc (Some x) xs seen)
     ∙ ap (λ (n : ℕ). Some (made n seen)) same
     ∙ sym (ap (λ (o : Option Seen). Some (ended_after (option_map (λ (s : Seen). made (min (length (x ∷ xs) - 1) most_attempts_seen) s) o) seen)) (found.1))
 

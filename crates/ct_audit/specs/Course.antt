@@ -1,13 +1,13 @@
 -- How a test has fared so far: what settled it, and what was seen of its attempts. This project's own.
 use Rattle.std.specs.Prelude.{ℕ, ◌+◌, ◌-◌, ◌^◌, min, List, [], ◌++◌, filter, map, length, filter_map, nat_eq, not, ◌&&◌, ◌==◌, ◌∷◌, Option, Some, None, option_map}
-use Rattle.std.specs.Option.{unwrap_or}
+use Rattle.std.specs.Option.{unwrap_or, option_or}
 use Rattle.indexmap.specs.IndexMap.{IndexMap, get}
 use Rattle.ct_verdict.specs.declared.attempt.Seen.{Seen}
 use Rattle.ct_history.specs.declared.history.Entry.{Entry}
 use Rattle.ct_history.specs.declared.history.Entry.TheVariants.{Start, End, Settle, Stop}
 use Rattle.ct_history.specs.History.{Running, settled_by}
 use Rattle.ct_history.specs.Verdicts.{last_of_list, settled_cause}
-use Rattle.ct_history.specs.Endings.{first_there, seen_at_end}
+use Rattle.ct_history.specs.Endings.{seen_at_end}
 use Rattle.ct_audit.specs.declared.course.Course.{Course}
 use Rattle.ct_audit.specs.declared.course.Ended.{Ended}
 use Rattle.ct_audit.specs.declared.open_start.OpenStart.{OpenStart}
@@ -54,7 +54,7 @@ ended_with ended (Some seen) = Some (ended_after ended seen)
 -- how a test has fared, with one entry more
 abbrev pub course_after : ℕ → Course → Entry → Course
 course_after test course entry = record {
-  settled = first_there course.settled (settled_by test entry);
+  settled = option_or course.settled (settled_by test entry);
   ended = ended_with course.ended (seen_at_end test entry);
 }
 

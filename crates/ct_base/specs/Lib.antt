@@ -7,3 +7,5 @@ pub mod Memory
 pub mod Names
 pub mod TypeNames
 pub mod NameSets
+pub mod Resources
+pub mod Found

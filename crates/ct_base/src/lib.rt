@@ -33,7 +33,7 @@ pub use mem_files::{CalmFiles, MemFiles};
 pub use mem_sink::{CalmSink, MemSink};
 pub use memory::NoMemory;
 pub use name::Name;
-pub use names::{copy_names, name_set};
+pub use names::{copy_names, copy_pairs, is_among, name_set};
 pub use path::join_path;
 pub use seconds::{first_place, is_numeral, micros, number};
 pub use sink::{Sink, SinkFault};

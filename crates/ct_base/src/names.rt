@@ -1,7 +1,8 @@
 ghost use Rattle.std.specs.Prelude.{◌≡◌, IfOk};
+ghost use Rattle.ct_base.specs.Names.{is_among};
 ghost use Rattle.ct_base.specs.NameSets.{AreNames};
 
-use crate::{List, Name, NoMemory};
+use crate::{List, Name, NoMemory, Pair};
 use std::alloc::Global;
 use std::collections::BTreeSet;
 
@@ -25,4 +26,25 @@ pub fn copy_names(alloc: Global, names: &[Name]) -> Result<List<Name>, NoMemory>
         copies.push(name.copy(alloc)?)?;
     }
     Ok(copies)
+}
+
+/// Copies pairs, in order.
+pub fn copy_pairs(alloc: Global, pairs: &[Pair]) -> Result<List<Pair>, NoMemory>
+    ensures { IfOk result (λ copies. copies ≡ pairs.now) }
+{
+    let mut copies = List::from_vec(Vec::with_capacity(alloc, pairs.len())?);
+    for pair in pairs {
+        copies.push(Pair {
+            name: pair.name.copy(alloc)?,
+            value: pair.value.copy(alloc)?,
+        })?;
+    }
+    Ok(copies)
+}
+
+/// Returns whether a name is one of these.
+pub fn is_among(name: &Name, others: &[Name]) -> bool
+    ensures { result ≡ is_among name.now others.now }
+{
+    others.iter().any(|other| name.is(other))
 }

@@ -33,7 +33,8 @@ use Rattle.ct_core.specs.declared.state.State.TheVariants.{Pending}
 use Rattle.ct_core.specs.Choice.{HasProgress, IsLeastToSettle, IsStartOf, IsStartable, IsStuck, NoneSettles, NoneStarts, SomeIsToPlace, SomeSettles, SomeStarts, TakesMemory, attempt_after, may_start_if_placed_at}
 use Rattle.ct_core.specs.InUse.{IsInUse, has_room_beside}
 use Rattle.ct_core.specs.Parts.{AreCurrent, IsKept}
-use Rattle.ct_core.specs.Slots.{IsFreeBeside, given_resources, used_of}
+use Rattle.ct_alloc.specs.Lent.{lent}
+use Rattle.ct_core.specs.Slots.{IsFreeBeside, used_of}
 use Rattle.ct_core.specs.Standing.{count_unfinished, state_of, states_of, verdict_of_state}
 use Rattle.ct_core.specs.Waiting.{IsDue, cause_then}
 use Rattle.ct_core.proofs.CallerLemmas.{done_settles_none, done_starts_none}
@@ -50,7 +51,7 @@ none_placed free (need ∷ needs) none some (Some p) placed =
     none (record { picks = p.picks; placed = both.0; fits = both.1 })
 
 -- a placement is right beside what is free exactly if it is right beside the open starts
-same_placed : (plan : PlanParts) (es : List Entry) (free : Option FreeValue) (needs : List Need) (p : Option Placement) → IsFreeBeside plan es free → is_placed (given_resources free) needs (used_of free) p ≡ is_placed plan.resources needs (used_slots es) p
+same_placed : (plan : PlanParts) (es : List Entry) (free : Option FreeValue) (needs : List Need) (p : Option Placement) → IsFreeBeside plan es free → is_placed (lent free) needs (used_of free) p ≡ is_placed plan.resources needs (used_slots es) p
 same_placed plan es None needs p beside = ap (λ (o : Option (List Resource)). is_placed o needs (used_slots es) p) beside.resources
 same_placed plan es (Some free) needs p beside =
     let used : used_at free ≡ used_slots es = fun_ext (λ place. beside.used place) in
@@ -62,7 +63,7 @@ module _ (plan : PlanParts) (es : List Entry) where
   may_of t p may placed = and_from (may_start_if_placed plan t es) (is_placed plan.resources t.needs (used_slots es) p) may placed
 
   -- a test with a right placement may start with it
-  pub starts_of : (free : Option FreeValue) (t : PlanTest) (n a : ℕ) (p : Option Placement) → IsFreeBeside plan es free → test_at plan.tests n ≡ Some t → may_start_if_placed plan t es ≡ true → is_placed (given_resources free) t.needs (used_of free) p ≡ true → a ≡ attempt_after es (Some t) → IsStartOf plan es n (record { test = n; attempt = a; placement = p })
+  pub starts_of : (free : Option FreeValue) (t : PlanTest) (n a : ℕ) (p : Option Placement) → IsFreeBeside plan es free → test_at plan.tests n ≡ Some t → may_start_if_placed plan t es ≡ true → is_placed (lent free) t.needs (used_of free) p ≡ true → a ≡ attempt_after es (Some t) → IsStartOf plan es n (record { test = n; attempt = a; placement = p })
   starts_of free t n a p beside found may placed next = record {
     test = refl;
     may = ap (λ (o : Option PlanTest). may_start_at plan es p o) found ∙ may_of t p may (sym (same_placed plan es free t.needs p beside) ∙ placed);
@@ -79,7 +80,7 @@ module _ (plan : PlanParts) (es : List Entry) where
       true≢false (sym both.0 ∙ may_not)
 
   -- a test without a right placement can't start
-  pub nowhere : (free : Option FreeValue) (t : PlanTest) (n : ℕ) → IsFreeBeside plan es free → test_at plan.tests n ≡ Some t → ((p : Option Placement) → is_placed (given_resources free) t.needs (used_of free) p ≡ true → ⊥) → CanStart plan es n → ⊥
+  pub nowhere : (free : Option FreeValue) (t : PlanTest) (n : ℕ) → IsFreeBeside plan es free → test_at plan.tests n ≡ Some t → ((p : Option Placement) → is_placed (lent free) t.needs (used_of free) p ≡ true → ⊥) → CanStart plan es n → ⊥
   nowhere free t n beside found none can =
       let both = and_parts (may_start_if_placed plan t es) (is_placed plan.resources t.needs (used_slots es) can.placement) (found_may t n found can) in
       none can.placement (same_placed plan es free t.needs can.placement beside ∙ both.1)

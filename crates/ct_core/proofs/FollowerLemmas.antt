@@ -10,16 +10,12 @@ use Rattle.std.proofs.lemmas.List.Folds.{list_any_more}
 use Rattle.std.proofs.lemmas.Option.{slice_get-get_or}
 use Rattle.ct_history.specs.declared.plan.PlanTest.{PlanTest}
 use Rattle.ct_history.specs.Plan.{AllAscend, IsAscendingFrom, IsPlaceOf, test_at}
-use Rattle.ct_history.proofs.PlanLemmas.{find_passes}
+use Rattle.ct_history.proofs.PlanLemmas.{find_passes, numbers_of}
 use Rattle.ct_core.specs.Followers.{follows, followers_among, followers_of, is_one_of_numbers}
-
--- the numbers of tests, in order
-abbrev pub numbers : List PlanTest → List ℕ
-numbers tests = map (λ (t : PlanTest). t.number) tests
 
 -- the number of the test at a place
 abbrev pub number_at : List PlanTest → ℕ → ℕ
-number_at tests place = get_or (numbers tests) place 0
+number_at tests place = get_or (numbers_of tests) place 0
 
 -- a list of this number if true, else the empty list
 abbrev pub one_if : Bool → ℕ → List ℕ
@@ -52,7 +48,7 @@ map-agrees f g (t ∷ tests) same =
 abbrev pub put_behind : (ℕ → List ℕ) → ℕ → ℕ → ℕ → List ℕ
 put_behind f j number other = f other ++ one_if (j == other) number
 
-later_unchanged : (f : ℕ → List ℕ) (j number least : ℕ) (tests : List PlanTest) → IsAscendingFrom least (numbers tests) → j < least → map (λ (t : PlanTest). f t.number) tests ≡ map (λ (t : PlanTest). put_behind f j number t.number) tests
+later_unchanged : (f : ℕ → List ℕ) (j number least : ℕ) (tests : List PlanTest) → IsAscendingFrom least (numbers_of tests) → j < least → map (λ (t : PlanTest). f t.number) tests ≡ map (λ (t : PlanTest). put_behind f j number t.number) tests
 later_unchanged f j number least [] ascends less = refl
 later_unchanged f j number least (t ∷ tests) ascends less =
     let other : (j == t.number) ≡ false = eq_less j t.number (omega (arith, ascends.0, less)) in
@@ -60,7 +56,7 @@ later_unchanged f j number least (t ∷ tests) ascends less =
     ∙ ap (λ (rest : List (List ℕ)). put_behind f j number t.number ∷ rest) (later_unchanged f j number (t.number + 1) tests ascends.1 (omega (arith, ascends.0, less)))
 
 -- the list at the test's place is longer by one, and the others stay
-pub put-at : (f : ℕ → List ℕ) (j number least : ℕ) (tests : List PlanTest) (place : ℕ) → IsAscendingFrom least (numbers tests) → place < length tests → number_at tests place ≡ j → set (map (λ (t : PlanTest). f t.number) tests) place (get_or (map (λ (t : PlanTest). f t.number) tests) place [] ++ number ∷ []) ≡ map (λ (t : PlanTest). put_behind f j number t.number) tests
+pub put-at : (f : ℕ → List ℕ) (j number least : ℕ) (tests : List PlanTest) (place : ℕ) → IsAscendingFrom least (numbers_of tests) → place < length tests → number_at tests place ≡ j → set (map (λ (t : PlanTest). f t.number) tests) place (get_or (map (λ (t : PlanTest). f t.number) tests) place [] ++ number ∷ []) ≡ map (λ (t : PlanTest). put_behind f j number t.number) tests
 put-at f j number least [] place ascends lt is = absurd (omega (arith, lt))
 put-at f j number least (t ∷ tests) zero ascends lt is =
     let here : t.number ≡ j = is in
@@ -74,7 +70,7 @@ put-at f j number least (t ∷ tests) (suc place) ascends lt is =
     ap (λ (ns : List ℕ). ns ∷ set (map (λ (x : PlanTest). f x.number) tests) place (get_or (map (λ (x : PlanTest). f x.number) tests) place [] ++ number ∷ [])) (sym (append-nil (f t.number)) ∙ ap (λ (b : Bool). f t.number ++ one_if b number) (sym other))
     ∙ ap (λ (rest : List (List ℕ)). put_behind f j number t.number ∷ rest) (put-at f j number (t.number + 1) tests place ascends.1 inner there)
   where
-    later_bound : (from : ℕ) (ts : List PlanTest) (k : ℕ) → IsAscendingFrom from (numbers ts) → k < length ts → from ≤ number_at ts k
+    later_bound : (from : ℕ) (ts : List PlanTest) (k : ℕ) → IsAscendingFrom from (numbers_of ts) → k < length ts → from ≤ number_at ts k
     later_bound from [] k up in' = absurd (omega (arith, in'))
     later_bound from (x ∷ ts) zero up in' = up.0
     later_bound from (x ∷ ts) (suc k) up in' = omega (arith, up.0, later_bound (x.number + 1) ts k up.1 (omega (arith, in')))
@@ -142,7 +138,7 @@ number_found tests j place d is =
     let found : test_at tests j ≡ Some x = sym is.there ∙ slice_get-get_or tests place d is.within in
     get_or-map (λ (y : PlanTest). y.number) tests place d 0 is.within ∙ eqb-true x.number j (find_passes (λ (y : PlanTest). y.number == j) tests x found)
 
-module _ (tests earlier : List PlanTest) (t : PlanTest) (before : List ℕ) (i j : ℕ) (ascends : IsAscendingFrom 1 (numbers tests)) (up : IsAscendingFrom 1 before) (lt : i < length before) (is : j ≡ get_or before i j) where
+module _ (tests earlier : List PlanTest) (t : PlanTest) (before : List ℕ) (i j : ℕ) (ascends : IsAscendingFrom 1 (numbers_of tests)) (up : IsAscendingFrom 1 before) (lt : i < length before) (is : j ≡ get_or before i j) where
   all-more : map (λ (x : PlanTest). put_behind (listed earlier t (take i before)) j t.number x.number) tests ≡ map (λ (x : PlanTest). listed earlier t (take (i + 1) before) x.number) tests
   all-more = map-agrees (put_behind (listed earlier t (take i before)) j t.number) (listed earlier t (take (i + 1) before)) tests (λ k inner. listed-more earlier t before i j (number_at tests k) up lt is)
 

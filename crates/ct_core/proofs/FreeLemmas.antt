@@ -10,11 +10,12 @@ use Rattle.ct_alloc.specs.Free.{FreeValue, used_at}
 use Rattle.ct_alloc.proofs.PlaceLemmas.{placed-there}
 use Rattle.ct_history.specs.History.{placed_slots}
 use Rattle.ct_history.specs.Rules.{is_placed}
-use Rattle.ct_core.specs.Slots.{given_resources, used_of}
+use Rattle.ct_alloc.specs.Lent.{lent}
+use Rattle.ct_core.specs.Slots.{used_of}
 use Rattle.ct_core.specs.InUse.{HasFreeFor, HasTaken}
 
 -- the resources of a right placement are there and have its slots free
-pub free_for : (free : Option FreeValue) (needs : List Need) (placement : Option Placement) → is_placed (given_resources free) needs (used_of free) placement ≡ true → HasFreeFor free placement
+pub free_for : (free : Option FreeValue) (needs : List Need) (placement : Option Placement) → is_placed (lent free) needs (used_of free) placement ≡ true → HasFreeFor free placement
 free_for None needs None placed = tt
 free_for None needs (Some p) placed = cc
 free_for (Some free) needs None placed = tt
@@ -24,7 +25,7 @@ free_for (Some free) (need ∷ needs) (Some p) placed =
     (placed-there free.resources (need ∷ needs) p.picks both.0, both.1)
 
 -- a placement that was right once can be given back, if its slots are among those in use
-pub taken_for : (free : Option FreeValue) (resources : Option (List Resource)) (needs : List Need) (used : ℕ → ℕ) (placement : Option Placement) → given_resources free ≡ resources → is_placed resources needs used placement ≡ true → ((place : ℕ) → placed_slots place placement ≤ used_of free place) → HasTaken free placement
+pub taken_for : (free : Option FreeValue) (resources : Option (List Resource)) (needs : List Need) (used : ℕ → ℕ) (placement : Option Placement) → lent free ≡ resources → is_placed resources needs used placement ≡ true → ((place : ℕ) → placed_slots place placement ≤ used_of free place) → HasTaken free placement
 taken_for None resources needs used None same placed most = tt
 taken_for None resources needs used (Some p) same placed most =
     let none : is_placed None needs used (Some p) ≡ true = subst (λ (o : Option (List Resource)). is_placed o needs used (Some p) ≡ true) (sym same) placed in

@@ -20,11 +20,12 @@ use Rattle.ct_history.proofs.BoolLemmas.{eq_same}
 use Rattle.ct_queue.specs.Ready.{ReadyValue, StandsIn, place_of, predecessors_left, is_out, is_in_ready_set, lowered}
 use Rattle.ct_queue.specs.Marks.{is_marked}
 use Rattle.ct_queue.proofs.CallerLemmas.{count_lowered, places_apart}
+use Rattle.ct_history.proofs.PlanLemmas.{numbers_of}
 use Rattle.ct_core.specs.Standing.{open_before}
 use Rattle.ct_core.specs.Waiting.{AreSettleable, IsQueued, cause_then, followers_of, is_one_of_numbers, is_pending_at, open_before_at, settles_but}
 use Rattle.ct_core.proofs.AllowedLemmas.{number_at}
 use Rattle.ct_core.proofs.EnabledLemmas.{enabled_stands}
-use Rattle.ct_core.proofs.QueueLemmas.{ascend-drop, ascend-filter, none_lesser, numbers_of, one_place}
+use Rattle.ct_core.proofs.QueueLemmas.{ascend-drop, ascend-filter, none_lesser, one_place}
 
 -- each predecessor is final exactly if the number of predecessors that are not final is 0
 none_left : (verdict : ℕ → Option Verdict) (js : List ℕ) → list_all (λ j. is_some (verdict j)) js ≡ (length (filter (λ j. is_none (verdict j)) js) == 0)

@@ -1,5 +1,5 @@
 -- The places of the tests of a plan: by their number, by their place, and in the queue.
-use Rattle.std.proofs.Common.{◌≡◌, ◌∙◌, sym, subst, Bool, false, not, cond, ◌==◌, eqb, ℕ, zero, suc, ◌+◌, ◌<◌, ◌≤◌, List, [], ◌∷◌, length, map, filter, get_or, drop, Contains, slice_get, refl, arith, inl, inr}
+use Rattle.std.proofs.Common.{◌≡◌, ◌∙◌, sym, subst, Bool, false, not, cond, ◌==◌, eqb, ℕ, zero, suc, ◌+◌, ◌<◌, ◌≤◌, List, [], ◌∷◌, length, filter, get_or, drop, Contains, slice_get, refl, arith, inl, inr}
 use Rattle.std.specs.Prelude.{Some}
 use Rattle.std.specs.List.{IsDistinct}
 use Rattle.std.proofs.lemmas.Bool.{true≢false, cases_Bool, cases_eq, cases_lt, cases_order, eq-eqb, ne_eqb, or_from}
@@ -15,21 +15,12 @@ use Rattle.ct_history.specs.declared.plan.PlanTest.{PlanTest}
 use Rattle.ct_history.specs.declared.plan.PlanParts.{PlanParts}
 use Rattle.ct_history.specs.Plan.{IsAscendingFrom, IsSound, enabled, test_at}
 use Rattle.ct_history.proofs.BoolLemmas.{eq_more}
-use Rattle.ct_history.proofs.PlanLemmas.{contained_at}
+use Rattle.ct_history.proofs.PlanLemmas.{contained_at, numbers_of}
 use Rattle.ct_history.proofs.ProgressLemmas.{found_contains}
-use Rattle.ct_history.proofs.AscendLemmas.{pairs_ascend}
+use Rattle.ct_history.proofs.AscendLemmas.{ascends_sooner, pairs_ascend}
 use Rattle.ct_queue.specs.Ready.{NamesOnce, StandsIn, place_of}
 use Rattle.ct_queue.proofs.CallerLemmas.{place_of_test}
 use Rattle.ct_core.specs.Waiting.{is_one_of_numbers}
-
--- the numbers of tests
-abbrev pub numbers_of : List PlanTest → List ℕ
-numbers_of tests = map (λ (t : PlanTest). t.number) tests
-
--- numbers that ascend from one bound also ascend from a lower bound
-ascend_sooner : (most least : ℕ) (ns : List ℕ) → least ≤ most → IsAscendingFrom most ns → IsAscendingFrom least ns
-ascend_sooner most least [] le ascends = tt
-ascend_sooner most least (n ∷ ns) le ascends = (omega (arith, le, ascends.0), ascends.1)
 
 pub ascend-filter : (p : PlanTest → Bool) (least : ℕ) (ts : List PlanTest) → IsAscendingFrom least (numbers_of ts) → IsAscendingFrom least (numbers_of (filter p ts))
 ascend-filter p least [] ascends = tt
@@ -39,13 +30,13 @@ ascend-filter p least (t ∷ ts) ascends =
       | inl kept ↦ subst (λ (b : Bool). IsAscendingFrom least (numbers_of (cond b (t ∷ filter p ts) (filter p ts)))) (sym kept) (ascends.0, rest)
       | inr gone ↦
           subst (λ (b : Bool). IsAscendingFrom least (numbers_of (cond b (t ∷ filter p ts) (filter p ts)))) (sym gone)
-          (ascend_sooner (t.number + 1) least (numbers_of (filter p ts)) (omega (arith, ascends.0)) rest)
+          (ascends_sooner least (t.number + 1) (numbers_of (filter p ts)) (omega (arith, ascends.0)) rest)
     ]
 
 pub ascend-drop : (least at : ℕ) (ns : List ℕ) → IsAscendingFrom least ns → IsAscendingFrom least (drop at ns)
 ascend-drop least zero ns ascends = ascends
 ascend-drop least (suc at) [] ascends = tt
-ascend-drop least (suc at) (n ∷ ns) ascends = ascend_sooner (n + 1) least (drop at ns) (omega (arith, ascends.0)) (ascend-drop (n + 1) at ns ascends.1)
+ascend-drop least (suc at) (n ∷ ns) ascends = ascends_sooner least (n + 1) (drop at ns) (omega (arith, ascends.0)) (ascend-drop (n + 1) at ns ascends.1)
 
 -- a number below the bound is not among the numbers
 pub none_lesser : (least n : ℕ) (ns : List ℕ) → IsAscendingFrom least ns → n < least → is_one_of_numbers n ns ≡ false

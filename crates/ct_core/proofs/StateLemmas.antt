@@ -2,7 +2,7 @@
 use Rattle.std.proofs.Common.{◌≡◌, ◌∙◌, sym, ap, subst, Bool, true, false, ℕ, ◌+◌, ◌<◌, ◌^◌, List, [], ◌∷◌, ◌++◌, length, refl, arith, inl, inr, length-append}
 use Rattle.std.specs.Prelude.{Option, Some, None, is_some, not, ◌&&◌, ◌||◌, ◌==◌, cond, find, filter, filter_map, if◌then◌else◌}
 use Rattle.std.specs.List.{list_any, cons_option}
-use Rattle.std.proofs.lemmas.Bool.{cases_Bool, false_from_ne_true, true≢false, eq-eqb}
+use Rattle.std.proofs.lemmas.Bool.{cases_Bool, eq-eqb}
 use Rattle.std.proofs.lemmas.Bool.Decides.{nat_tests}
 use Rattle.std.proofs.lemmas.List.Elements.{filter_map-append}
 use Rattle.ct_alloc.specs.declared.placement.Placement.{Placement}
@@ -23,9 +23,11 @@ use Rattle.ct_history.specs.Rules.{is_pending}
 use Rattle.ct_history.proofs.BoolLemmas.{eq_one}
 use Rattle.ct_history.specs.Legal.{is_allowed_so_far}
 use Rattle.ct_history.proofs.OpenLemmas.{is_of, open_starts-end, opens_settle, opens_stop}
-use Rattle.ct_history.proofs.AttemptLemmas.{last_behind-snoc}
+use Rattle.ct_history.proofs.AttemptLemmas.{last_or-snoc}
 use Rattle.ct_history.proofs.OtherLemmas.{verdict_in_other, attempts_other, is_about, settled_other}
 use Rattle.ct_history.proofs.FinalLemmas.{attempts-snoc, settled-snoc}
+use Rattle.ct_history.proofs.PartListLemmas.{find-filter}
+use Rattle.ct_history.proofs.PlanLemmas.{find_new}
 use Rattle.ct_core.specs.declared.state.State.{State}
 use Rattle.ct_core.specs.declared.state.State.TheVariants.{Pending, Open, Final}
 use Rattle.ct_core.specs.Standing.{is_pending_state, standing, state_of, verdict_of_state}
@@ -76,29 +78,6 @@ find_more : {A : Type 0} (p : A → Bool) (xs : List A) (y : A) → p y ≡ fals
 find_more p [] y fails = ap (λ (b : Bool). cond b (Some y) None) fails
 find_more p (x ∷ xs) y fails = ap (λ o. cond (p x) (Some x) o) (find_more p xs y fails)
 
-find_new : {A : Type 0} (p : A → Bool) (xs : List A) (y : A) → find p xs ≡ None → p y ≡ true → find p (xs ++ y ∷ []) ≡ Some y
-find_new p [] y none passes = ap (λ (b : Bool). cond b (Some y) None) passes
-find_new p (x ∷ xs) y none passes = elim (cases_Bool (p x)) [
-  | inl here ↦
-      let found : Some x ≡ None = sym (ap (λ (b : Bool). cond b (Some x) (find p xs)) here) ∙ none in
-      absurd (cc)
-  | inr other ↦
-      ap (λ (b : Bool). cond b (Some x) (find p (xs ++ y ∷ []))) other
-      ∙ find_new p xs y (sym (ap (λ (b : Bool). cond b (Some x) (find p xs)) other) ∙ none) passes
-]
-
-find_filter : {A : Type 0} (p q : A → Bool) (xs : List A) → ((x : A) → p x ≡ true → q x ≡ true) → find p (filter q xs) ≡ find p xs
-find_filter p q [] keeps = refl
-find_filter p q (x ∷ xs) keeps = elim (cases_Bool (q x)) [
-  | inl kept ↦
-      ap (λ (b : Bool). find p (cond b (x ∷ filter q xs) (filter q xs))) kept ∙ ap (λ o. cond (p x) (Some x) o) (find_filter p q xs keeps)
-  | inr gone ↦
-      let fails : p x ≡ false = false_from_ne_true (p x) (λ is. true≢false (sym (keeps x is) ∙ gone)) in
-      ap (λ (b : Bool). find p (cond b (x ∷ filter q xs) (filter q xs))) gone
-      ∙ find_filter p q xs keeps
-      ∙ sym (ap (λ (b : Bool). cond b (Some x) (find p xs)) fails)
-]
-
 find_gone : {A : Type 0} (p : A → Bool) (xs : List A) → find p (filter (λ x. not (p x)) xs) ≡ None
 find_gone p [] = refl
 find_gone p (x ∷ xs) = elim (cases_Bool (p x)) [
@@ -116,7 +95,7 @@ open_other n es (Start m a w p) other =
     ∙ find_more (λ (r : Running). r.test == n) (open_starts es) (record { test = m; attempt = a; worker = w; placement = p }) other
 open_other n es (End m a w s) other =
     ap (λ (rs : List Running). find (λ (r : Running). r.test == n) rs) (open_starts-end es m a w s)
-    ∙ find_filter (λ (r : Running). r.test == n) (λ r. not (is_of m a r)) (open_starts es) (λ r is. ap (λ (b : Bool). not (b && r.attempt == a)) (eq_one n m r.test other is))
+    ∙ find-filter (λ (r : Running). r.test == n) (λ r. not (is_of m a r)) (λ r is. ap (λ (b : Bool). not (b && r.attempt == a)) (eq_one n m r.test other is)) (open_starts es)
 open_other n es (Settle m c) other = ap (λ (rs : List Running). find (λ (r : Running). r.test == n) rs) (opens_settle es m c)
 open_other n es Stop other = ap (λ (rs : List Running). find (λ (r : Running). r.test == n) rs) (opens_stop es)
 
@@ -252,7 +231,7 @@ module _ (plan : PlanParts) (es : List Entry) (n : ℕ) (t : PlanTest) (found : 
       } in
       state_by plan.repeat (es ++ end ∷ []) t None None (vs ++ v ∷ []) says
       ∙ ap (λ (d : Bool). standing (if d then Some Disabled else (if is_over plan.repeat (vs ++ v ∷ []) then last_of_list (vs ++ v ∷ []) else None)) None (length (vs ++ v ∷ []))) enabled
-      ∙ ap (λ (o : Option Verdict). standing (if not (is_repeated plan.repeat (length (vs ++ v ∷ [])) o) then o else None) None (length (vs ++ v ∷ []))) (last_behind-snoc None vs v)
+      ∙ ap (λ (o : Option Verdict). standing (if not (is_repeated plan.repeat (length (vs ++ v ∷ [])) o) then o else None) None (length (vs ++ v ∷ []))) (last_or-snoc None vs v)
       ∙ ap (λ (k : ℕ). standing (if not (is_repeated plan.repeat k (Some v)) then Some v else None) None k) (length-append vs (v ∷ []))
       ∙ by_again (is_repeated plan.repeat (length vs + 1) (Some v)) (length vs + 1) v
     where

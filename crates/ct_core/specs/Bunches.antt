@@ -1,7 +1,6 @@
 -- The bunches of a queue: tests with the same key, which is a lock to hold or to share, or, without a key,
--- with
--- the same demand. Source: CMake manual, cmake-properties(7), RESOURCE_LOCK. The bunches are this project's
--- own.
+-- with the same demand. Source: CMake manual, cmake-properties(7), RESOURCE_LOCK. The bunches are this
+-- project's own.
 use Rattle.std.specs.Prelude.{◌≡◌, ℕ, ◌<◌, ⊤, Bool, true, false, not, ◌==◌, List, length, All, Option, Some, None, option_and_then, option_map, slice_get, slice_index, slice_index_or, if◌then◌else◌}
 use Rattle.ct_history.specs.declared.plan.PlanTest.{PlanTest}
 use Rattle.ct_history.specs.declared.plan.PlanParts.{PlanParts}

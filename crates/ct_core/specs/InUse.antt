@@ -9,7 +9,8 @@ use Rattle.ct_history.specs.declared.plan.PlanTest.{PlanTest}
 use Rattle.ct_history.specs.declared.plan.PlanParts.{PlanParts}
 use Rattle.ct_history.specs.History.{Running, placed_slots, processors_of, test_at}
 use Rattle.ct_history.specs.Rules.{is_placed, is_serial, locks_of, shared_of}
-use Rattle.ct_core.specs.Slots.{given_resources, used_of}
+use Rattle.ct_alloc.specs.Lent.{lent}
+use Rattle.ct_core.specs.Slots.{used_of}
 use Rattle.ct_core.specs.Locks.{is_held, knows}
 use Rattle.ct_core.specs.Sharers.{sharers_of, counts_sharers, is_shared, one_if}
 use Rattle.ct_core.specs.declared.in_use.InUse.{InUse}
@@ -37,7 +38,7 @@ pub record IsInUse (plan : PlanParts) (starts : List Running) (u : InUse) : Type
   pub shares : (name : List ℕ)
       → sharers_of u.sharers name ≡ sum_by (λ (r : Running).
       one_if (is_among name (shared_of (test_at plan.tests r.test)))) starts
-  pub resources : given_resources u.free ≡ plan.resources
+  pub resources : lent u.free ≡ plan.resources
   pub slots :
       (place : ℕ) → used_of u.free place ≡ sum_by (λ (r : Running). placed_slots place r.placement) starts
 
@@ -51,7 +52,7 @@ pub record Takes (t : PlanTest) (placement : Option Placement) (old new : InUse)
   pub counted : (name : List ℕ) → counts_sharers new.sharers name ≡ counts_sharers old.sharers name
   pub shares : (name : List ℕ)
       → sharers_of new.sharers name ≡ sharers_of old.sharers name + one_if (is_among name t.shared)
-  pub resources : given_resources new.free ≡ given_resources old.free
+  pub resources : lent new.free ≡ lent old.free
   pub slots : (place : ℕ) → used_of new.free place ≡ used_of old.free place + placed_slots place placement
 
 -- what is in use after a test with this placement has ended, if no other test held its locks
@@ -65,7 +66,7 @@ pub record GivesBack (t : PlanTest) (placement : Option Placement) (old new : In
   pub counted : (name : List ℕ) → counts_sharers new.sharers name ≡ counts_sharers old.sharers name
   pub shares : (name : List ℕ)
       → sharers_of new.sharers name ≡ sharers_of old.sharers name - one_if (is_among name t.shared)
-  pub resources : given_resources new.free ≡ given_resources old.free
+  pub resources : lent new.free ≡ lent old.free
   pub slots : (place : ℕ) → used_of new.free place ≡ used_of old.free place - placed_slots place placement
 
 -- some open test holds the lock alone or shares it
@@ -116,7 +117,7 @@ pub record CanTake (t : PlanTest) (placement : Option Placement) (u : InUse) : T
   pub known : list_all (knows u.locks) t.locks ≡ true
   pub counted : list_all (counts_sharers u.sharers) t.shared ≡ true
   pub few : (name : List ℕ) → sharers_of u.sharers name + 1 < 2 ^ 64
-  pub placed : is_placed (given_resources u.free) t.needs (used_of u.free) placement ≡ true
+  pub placed : is_placed (lent u.free) t.needs (used_of u.free) placement ≡ true
 
 -- a test with this placement can give back what it took
 pub record CanGive (t : PlanTest) (placement : Option Placement) (u : InUse) : Type 0 where

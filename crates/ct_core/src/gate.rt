@@ -3,7 +3,7 @@ ghost use Rattle.ct_core.specs.Gate.{GateTell, RunsRequest, is_no_memory};
 ghost use Rattle.ct_core.specs.Ticket.{attempt_of, test_of};
 
 use crate::Ticket;
-use ct_base::{Blob, Ear, List, Name, NoMemory, Pair, copy_names};
+use ct_base::{Blob, Ear, List, Name, NoMemory, Pair, copy_names, copy_pairs};
 use ct_verdict::How;
 use std::alloc::Global;
 
@@ -45,20 +45,6 @@ impl Request {
             required: copy_names(alloc, self.required.as_slice())?,
         })
     }
-}
-
-/// Copies pairs, in order.
-fn copy_pairs(alloc: Global, pairs: &[Pair]) -> Result<List<Pair>, NoMemory>
-    ensures { IfOk result (λ copies. copies ≡ pairs.now) }
-{
-    let mut copies = List::from_vec(Vec::with_capacity(alloc, pairs.len())?);
-    for pair in pairs {
-        copies.push(Pair {
-            name: pair.name.copy(alloc)?,
-            value: pair.value.copy(alloc)?,
-        })?;
-    }
-    Ok(copies)
 }
 
 /// How a program ended, and how long it took.

@@ -2,7 +2,8 @@ ghost use Rattle.std.specs.Prelude.{◌≡◌, ℕ, ◌+◌, ◌-◌, ◌||◌, 
 ghost use Rattle.std.specs.List.{list_any};
 ghost use Rattle.std.specs.Option.{option_copied};
 ghost use Rattle.ct_history.specs.History.{placed_slots};
-ghost use Rattle.ct_core.specs.Slots.{given_resources, used_of};
+ghost use Rattle.ct_alloc.specs.Lent.{lent};
+ghost use Rattle.ct_core.specs.Slots.{used_of};
 ghost use Rattle.ct_core.specs.InUse.{CanGive, CanTake, GivesBack, HasFreeFor, HasTaken, IsInUse, Takes, has_room_beside, is_closed, is_excluded_beside, is_locked};
 
 use crate::both::both;
@@ -50,7 +51,7 @@ pub(crate) fn nothing(alloc: Global, plan: &PlanParts) -> Result<InUse, NoMemory
 /// Copies the plan's resources, if there are any. It also returns
 /// `NoMemory` if there are more resources than 32-bit places can name.
 fn all_free(alloc: Global, plan: &PlanParts) -> Result<Option<Free>, NoMemory>
-    ensures whole { IfOk result (λ free. given_resources free ≡ plan.now.resources) }
+    ensures whole { IfOk result (λ free. lent free ≡ plan.now.resources) }
     ensures unused { IfOk result (λ free. (place : ℕ) → used_of free place ≡ 0) }
 {
     let Some(resources) = &plan.resources else {
@@ -146,7 +147,7 @@ impl InUse {
 
 fn take_slots(free: &mut Option<Free>, placement: Option<&Placement>)
     requires { HasFreeFor free.old (option_copied placement) }
-    ensures kept { given_resources free.new ≡ given_resources free.old }
+    ensures kept { lent free.new ≡ lent free.old }
     ensures used { (place : ℕ) → used_of free.new place
         ≡ used_of free.old place + placed_slots place (option_copied placement.entry) }
 {
@@ -159,7 +160,7 @@ fn take_slots(free: &mut Option<Free>, placement: Option<&Placement>)
 
 fn give_slots(free: &mut Option<Free>, placement: Option<&Placement>)
     requires { HasTaken free.old (option_copied placement) }
-    ensures kept { given_resources free.new ≡ given_resources free.old }
+    ensures kept { lent free.new ≡ lent free.old }
     ensures used { (place : ℕ) → used_of free.new place
         ≡ used_of free.old place - placed_slots place (option_copied placement.entry) }
 {

@@ -41,6 +41,7 @@ impl Run {
         let alloc = *self.history.entries.allocator();
         let lent = copy_placement(alloc, start.placement.as_ref())?;
         let kept = copy_placement(alloc, start.placement.as_ref())?;
+        // Room for this Start, for the End of each open attempt and of this one, and for a Stop.
         self.history
             .entries
             .reserve(self.parts.in_use.open_count + 3)?;
@@ -117,6 +118,7 @@ impl Run {
         ensures settled { OnOk result (history_of_run self.new ≡ with_due_stop self.old.plan (history_of_run self.old ++ Settle number cause ∷ [])) }
         ensures unsettled { OnErr result (history_of_run self.new ≡ history_of_run self.old) }
     {
+        // Room for this Settle, for the End of each open attempt, and for a Stop.
         self.history
             .entries
             .reserve(self.parts.in_use.open_count + 2)?;

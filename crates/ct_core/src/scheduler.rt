@@ -60,7 +60,8 @@ impl Core {
     ghost use Rattle.ct_history.specs.Plan.{IsSound};
     ghost use Rattle.ct_history.specs.Verdicts.{verdict_of_test};
 
-    /// Opens a run of the plan, with the empty history. If memory is wanting it returns the plan.
+    /// Opens a run of the plan, with the empty history. It returns the plan if memory is wanting, or if the
+    /// plan has more tests or resources than can be numbered.
     pub fn open(alloc: Global, plan: Plan) -> Result<Core, Plan>
         ensures ok { IfOk result (λ core. core ≡ record { plan = plan; entries = []; aborted = false }) }
         ensures err { IfErr result (λ back. back ≡ plan) }

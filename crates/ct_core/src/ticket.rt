@@ -37,6 +37,7 @@ impl Ticket {
         self.worker
     }
 
+    /// Returns where the slots of the attempt lie, if the run lends resources and the test has needs.
     pub fn placement(&self) -> Option<&Placement>
         ensures { option_copied result ≡ placement_of self.now }
     {

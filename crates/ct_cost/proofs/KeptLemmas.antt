@@ -1,8 +1,8 @@
 -- Lines and names that are kept by their names, and what contracts see of them.
-use Rattle.std.proofs.Common.{◌≡◌, ℕ, Bool, true, false, cond, bytes_eq, List, [], ◌∷◌, ◌++◌, map, Option, Some, None, option_map, IfSome, is_some, refl, sym, ap, ◌∙◌}
+use Rattle.std.proofs.Common.{◌≡◌, ℕ, Bool, true, false, cond, bytes_eq, List, [], ◌∷◌, ◌++◌, map, Option, Some, None, option_map, unwrap_or, IfSome, is_some, refl, sym, ap, ◌∙◌}
 use Rattle.std.specs.List.{AllZip}
 use Rattle.std.specs.Option.{option_map_or}
-use Rattle.std.specs.Map.{lookup}
+use Rattle.std.specs.Map.{lookup, set_value}
 use Rattle.std.specs.declared.vec.Vec.{Vec}
 use Rattle.std.proofs.lemmas.Slice.Eq.{bytes_eq-Decides}
 use Rattle.indexmap.specs.IndexMap.{insert_entry}
@@ -33,6 +33,19 @@ module _ {Z : Type 0} where
   lines-insert_entry (entry ∷ entries) key durations =
       insert_by entry entries (insert_entry (λ (one other : Vec ℕ Z). bytes_eq one.items other.items) entries key durations) key durations (lines-insert_entry entries key durations) (bytes_eq key.items entry.0.items) refl
 
+  set_by : (entry : Vec ℕ Z × List ℕ) (entries more : List (Vec ℕ Z × List ℕ)) (name durations old : List ℕ) (found : Option (List ℕ)) → (found ≡ Some old → map kept_line more ≡ with_line (map kept_line entries) (line_for name durations)) → (is : Bool) → bytes_eq name entry.0.items ≡ is → cond is (Some entry.1) found ≡ Some old
+      → map kept_line (cond is ((entry.0, durations) ∷ entries) (entry ∷ more)) ≡ cond is (line_for name durations ∷ map kept_line entries) (kept_line entry ∷ with_line (map kept_line entries) (line_for name durations))
+  set_by entry entries more name durations old found rest true is there =
+      ap (λ bytes. line_for bytes durations ∷ map kept_line entries) (sym ((bytes_eq-Decides name entry.0.items).0 is))
+  set_by entry entries more name durations old found rest false is there =
+      ap (λ lines. kept_line entry ∷ lines) (rest there)
+
+  -- durations that replace those of a name are its line
+  pub lines-set_value : (entries : List (Vec ℕ Z × List ℕ)) (name durations old : List ℕ) → lookup (λ (key : Vec ℕ Z). bytes_eq name key.items) entries ≡ Some old → map kept_line (set_value (λ (key : Vec ℕ Z). bytes_eq name key.items) entries durations) ≡ with_line (map kept_line entries) (line_for name durations)
+  lines-set_value [] name durations old there = cc
+  lines-set_value (entry ∷ entries) name durations old there =
+      set_by entry entries (set_value (λ (key : Vec ℕ Z). bytes_eq name key.items) entries durations) name durations old (lookup (λ (key : Vec ℕ Z). bytes_eq name key.items) entries) (lines-set_value entries name durations old) (bytes_eq name entry.0.items) refl there
+
 none_left : (is : Bool) (first : CostLine) (found : Option CostLine) → is_some (cond is (Some first) found) ≡ false → (is ≡ false) × (is_some found ≡ false)
 none_left true first found none = cc
 none_left false first found none = (refl, none)
@@ -57,6 +70,11 @@ run_by : (name : List ℕ) (micros : ℕ) (found : Option CostLine) → IfSome f
     → line_for name (last_durations (option_map_or durations_of found [] ++ micros ∷ [])) ≡ option_map_or (with_run micros) found (with_run micros (unrun name))
 run_by name micros None named = refl
 run_by name micros (Some line) named = λ i. record { name = sym named i; durations = last_durations (line.durations ++ micros ∷ []) }
+
+-- the durations of a line, or none, by what was found of them
+pub found_or_none : (found : Option CostLine) (said : Option (List ℕ)) → said ≡ option_map durations_of found → unwrap_or said [] ≡ option_map_or durations_of found []
+found_or_none None said is = ap (λ o. unwrap_or o []) is
+found_or_none (Some line) said is = ap (λ o. unwrap_or o []) is
 
 -- the durations of a name after one more run are those of its line
 pub run-line : (lines : List CostLine) (name : List ℕ) (micros : ℕ) (before after : List ℕ) → before ≡ option_map_or durations_of (line_of lines name) [] → after ≡ last_durations (before ++ micros ∷ [])

@@ -7,7 +7,8 @@ use Rattle.ct_history.specs.declared.plan.PlanTest.{PlanTest}
 use Rattle.ct_history.specs.declared.plan.PlanParts.{PlanParts}
 use Rattle.ct_history.specs.declared.history.Entry.{Entry}
 use Rattle.ct_history.specs.Endings.{last_seen}
-use Rattle.ct_history.specs.Verdicts.{verdict_in, is_passed_verdict, is_failing_in}
+use Rattle.ct_history.specs.Verdicts.{verdict_in, is_passed_verdict}
+use Rattle.ct_history.specs.Failed.{failed_tests}
 use Rattle.ct_cost.specs.CostLine.{CostLine, after_run}
 
 -- the microseconds that an attempt counts for, at most 10^15
@@ -19,11 +20,6 @@ counted_micros (Some seen) = min seen.micros most_micros
 abbrev pub passed_tests : PlanParts → List Entry → List PlanTest
 passed_tests plan entries =
     filter (λ (t : PlanTest). is_passed_verdict (verdict_in plan.repeat t entries)) plan.tests
-
--- the tests of the failing class, in order of number
-abbrev pub failed_tests : PlanParts → List Entry → List PlanTest
-failed_tests plan entries =
-    filter (λ (t : PlanTest). is_failing_in (verdict_in plan.repeat t entries)) plan.tests
 
 -- the lines after one more test that passed: its name has one more run, the test's last attempt
 abbrev pub after_test : List Entry → List CostLine → PlanTest → List CostLine

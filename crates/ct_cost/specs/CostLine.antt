@@ -1,6 +1,5 @@
--- The lines of cost data. Source: CMake manual, cmake-properties(7), COST. That a name has one line with its
--- last
--- durations, and costs the greatest of them, is this project's choice.
+-- The lines of cost data. Source: CMake manual, cmake-properties(7), COST. That a name has one line with
+-- its last durations, and costs the greatest of them, is this project's choice.
 use Rattle.std.specs.Prelude.{ℕ, ◌-◌, max, List, [], ◌∷◌, ◌++◌, drop, length, find, bytes_eq, Option, is_some, option_and_then, fold, if◌then◌else◌}
 use Rattle.std.specs.List.{reduce}
 use Rattle.std.specs.Option.{option_map_or}

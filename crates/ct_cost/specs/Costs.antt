@@ -5,13 +5,14 @@ use Rattle.std.specs.List.{before_first, after_first}
 use Rattle.ct_history.specs.declared.plan.PlanTest.{PlanTest}
 use Rattle.ct_history.specs.declared.plan.PlanParts.{PlanParts}
 use Rattle.ct_history.specs.declared.history.Entry.{Entry}
+use Rattle.ct_history.specs.Failed.{failed_tests}
 use Rattle.ct_cost.specs.declared.cost_data.CostData.{CostData}
 use Rattle.ct_cost.specs.declared.line.Version.{Version}
 use Rattle.ct_cost.specs.declared.line.Version.TheVariants.{One, Two}
 use Rattle.ct_base.specs.Names.{is_among}
 use Rattle.ct_cost.specs.CostLine.{cost_of, with_new_line, each_once}
 use Rattle.ct_cost.specs.Text.{is_divider, is_mark, lines_in, line_in, is_named, cost_line_text, failed_text}
-use Rattle.ct_cost.specs.After.{after_test, passed_tests, failed_tests}
+use Rattle.ct_cost.specs.After.{after_test, passed_tests}
 
 -- what a test of this name costs, if that is known: the greatest duration of the name
 abbrev pub cost_of_name : CostData → List ℕ → Option ℕ

@@ -67,9 +67,8 @@ line_before cut =
     (λ (front : List ℕ × List ℕ). named_line front.0 (only_duration (number_in front.1) (micros_in cut.1)))
     (rsplit_once piece_separator cut.0)
 
--- a line of cost data. In version 1 it is a name, a space, runs, a space and a cost; in version 2 a name, a
--- space and
--- durations. The name is all in front of these pieces.
+-- a line of cost data. In version 1 it is a name, a space, runs, a space and a cost; in version 2 a name,
+-- a space and durations. The name is all in front of these pieces.
 abbrev pub line_in : Version → List ℕ → Option CostLine
 line_in One text = option_and_then line_before (rsplit_once piece_separator text)
 line_in Two text =

@@ -1,8 +1,9 @@
 ghost use Rattle.std.specs.Prelude.{◌≡◌, ◌++◌, IfOk, OnOk, true, codes, flat_map, fold, map};
 ghost use Rattle.ct_history.specs.Verdicts.{are_all_final};
+ghost use Rattle.ct_history.specs.Failed.{failed_tests};
 ghost use Rattle.ct_base.specs.Names.{with_new_name};
 ghost use Rattle.ct_cost.specs.Endings.{after_ending, with_failed};
-ghost use Rattle.ct_cost.specs.After.{after_test, failed_tests, passed_tests};
+ghost use Rattle.ct_cost.specs.After.{after_test, passed_tests};
 ghost use Rattle.ct_cost.specs.Text.{cost_line_text, failed_text};
 ghost use Rattle.ct_cost.specs.Costs.{cost_of_name, costs_after, costs_in, costs_text, failed_last};
 

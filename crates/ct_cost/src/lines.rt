@@ -1,5 +1,4 @@
 ghost use Rattle.std.specs.Prelude.{◌≡◌, ◌++◌, [], IfOk, OnOk, flat_map, fold, option_map};
-ghost use Rattle.std.specs.Option.{option_map_or};
 ghost use Rattle.ct_cost.specs.CostLine.{cost_of, line_of as line_by_name, with_line as with_line_of, after_run as run_counted};
 ghost use Rattle.ct_cost.specs.Text.{line_in as line_read, cost_line_text};
 ghost use Rattle.ct_cost.specs.Kept.{durations_of, line_for, with_read};
@@ -82,22 +81,20 @@ impl Lines {
         self.add(alloc, line.name, line.durations)
     }
 
-    fn durations_or_none(&self, alloc: Global, name: &[u8]) -> Result<Durations, NoMemory>
-        ensures { IfOk result (λ durations. durations ≡ option_map_or durations_of (line_by_name self.now name.now) []) }
-    {
-        match self.durations(name) {
-            Some(durations) => Ok(durations.clone()?),
-            None => Ok(Durations::new(alloc)),
-        }
-    }
-
     /// Counts one more run of a name.
     fn add_run(&mut self, alloc: Global, name: &[u8], micros: u64) -> Result<(), NoMemory>
         ensures { OnOk result (self.new ≡ run_counted self.old name.now micros) }
     {
-        let mut durations = self.durations_or_none(alloc, name)?;
-        durations.push(micros)?;
-        self.add(alloc, name, durations)
+        match self.durations.get_mut(name) {
+            Some(durations) => {
+                durations.push(micros)?;
+                Ok(())
+            }
+            None => {
+                let first = Durations::of(alloc, micros)?;
+                self.add(alloc, name, first)
+            }
+        }
     }
 
     pub(crate) fn copy(&self) -> Result<Lines, NoMemory>

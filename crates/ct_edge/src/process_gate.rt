@@ -116,7 +116,7 @@ fn run_program<E: Ear>(
     ensures kept { E.kept ear.new ≡ E.kept ear.old }
 {
     let required = request.required.as_slice();
-    if let Some(place) = first_missing(&mut RealFiles::new(rt), alloc, required)? {
+    if let Some(place) = first_missing(alloc, &mut RealFiles::new(rt), required)? {
         return Ok(How::Lacks(u32::try_from(place).unwrap_or(u32::MAX)));
     }
     let beside = is_beside(&rt, alloc, request)?;

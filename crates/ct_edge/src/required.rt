@@ -5,13 +5,13 @@ ghost use Rattle.ct_edge.specs.Required.{IsFirstMissing, IsMissing};
 use ct_base::{Files, FilesFault, Name, NoMemory};
 use std::alloc::Global;
 
-/// Finds the place, from 0, of the first file that is
-/// missing. A file that cannot be looked at is missing.
+/// Finds the place, from 0, of the first file that is missing. A file that cannot be looked at is
+/// missing.
 ///
 /// Source: CMake manual, cmake-properties(7), REQUIRED_FILES.
 pub fn first_missing<F: Files>(
-    files: &mut F,
     alloc: Global,
+    files: &mut F,
     required: &[Name],
 ) -> Result<Option<usize>, NoMemory>
     ensures { IfOk result (λ place. IfSome (F.tells files.old).held (λ held.

@@ -16,6 +16,7 @@ use Rattle.std.proofs.lemmas.Slice.Eq.{bytes_eq-Decides}
 use Rattle.ct_base.specs.declared.defs.Pair.{Pair}
 use Rattle.ct_base.proofs.TruthLemmas.{same_truth}
 use Rattle.ct_base.proofs.NameLemmas.{by_bytes, same_name}
+use Rattle.ct_base.proofs.OptionLemmas.{apart, twice}
 use Rattle.ct_props.specs.Values.{value_of_key}
 use Rattle.ct_env.specs.Environment.{IsAscending}
 use Rattle.ct_env.specs.Variables.{pair_of}
@@ -34,15 +35,6 @@ value_of_key-cons pair pairs name = by (bytes_eq pair.name name)
 value_by : {Z : Type 0} (value : Vec ℕ Z) (found : Option (Vec ℕ Z)) (is : Bool) → option_map (λ (v : Vec ℕ Z). v.items) (cond is (Some value) found) ≡ cond is (Some value.items) (option_map (λ (v : Vec ℕ Z). v.items) found)
 value_by value found true = refl
 value_by value found false = refl
-
-twice : (value old : List ℕ) (found : Option (List ℕ)) (is : Bool) → cond is (Some value) found ≡ cond is (Some value) (cond is (Some old) found)
-twice value old found true = refl
-twice value old found false = refl
-
-apart : (value old : List ℕ) (found : Option (List ℕ)) (here there : Bool) → (here ≡ true → there ≡ true → ⊥) → cond here (Some old) (cond there (Some value) found) ≡ cond there (Some value) (cond here (Some old) found)
-apart value old found true true differ = absurd (differ refl refl)
-apart value old found true false differ = refl
-apart value old found false there differ = refl
 
 nothing : (is : Bool) (found : Option (List ℕ)) → found ≡ None → found ≡ cond is None found
 nothing true found none = none

@@ -46,7 +46,8 @@ modified_value own props name =
 -- modification
 abbrev pub value_for : List Pair → Props → Option Placement → List ℕ → Option (List ℕ)
 value_for own props given name =
-    option_or (held_by (given_variables (count_groups props.groups) given) name) (modified_value own props name)
+    option_or (held_by (given_variables (count_groups props.groups) given) name)
+    (modified_value own props name)
 
 -- the names ascend in byte order, so that each stands once
 abbrev pub IsAscending : List Pair → Type 0

@@ -1,16 +1,14 @@
 -- The variables that show a test its resources. Source: CMake manual, ctest(1), Resource Allocation,
 -- Environment Variables. That a group without needs has a variable too is this project's choice.
 use Rattle.std.specs.Prelude.{ℕ, bytes_eq, ◌&&◌, ◌==◌, List, [], ◌∷◌, ◌++◌, map, filter, flat_map, Option, Some, None, codes, decimal}
-use Rattle.std.specs.List.{fold, join_by, range_with_len}
+use Rattle.std.specs.List.{join_by, range_with_len}
 use Rattle.std.specs.Char.{to_ascii_uppercase}
-use Rattle.std.specs.Ordering.{nat_cmp}
-use Rattle.std.specs.Cmp.Lexicographic.{slice_cmp}
-use Rattle.std.specs.BTreeSet.{insert_key}
 use Rattle.ct_base.specs.Entries.{semicolon}
 use Rattle.ct_groups.specs.Description.{comma}
 use Rattle.ct_base.specs.declared.defs.Pair.{Pair}
 use Rattle.ct_alloc.specs.declared.placement.Pick.{Pick}
 use Rattle.ct_alloc.specs.declared.placement.Placement.{Placement}
+use Rattle.ct_alloc.specs.NamesInOrder.{names_in_order}
 
 -- the name of the variable with the number of groups
 abbrev pub group_count : List ℕ
@@ -19,10 +17,6 @@ group_count = codes "CTEST_RESOURCE_GROUP_COUNT"
 -- the name of the variable of a group
 abbrev pub group_name : ℕ → List ℕ
 group_name group = codes "CTEST_RESOURCE_GROUP_" ++ decimal group
-
--- some names, each once, in byte order
-abbrev pub names_in_order : List (List ℕ) → List (List ℕ)
-names_in_order names = fold (insert_key (slice_cmp nat_cmp)) [] names
 
 -- the types of which a group has resources, each once, in byte order
 abbrev pub kinds_in : ℕ → List Pick → List (List ℕ)

@@ -8,7 +8,8 @@ use Rattle.std.proofs.lemmas.List.{nil_from_length}
 use Rattle.indexmap.specs.IndexMap.{IndexMap, UpdatesBy, index_map_len}
 use Rattle.ct_base.proofs.KeyLemmas.{kept_apart}
 use Rattle.ct_props.specs.Numbered.{is_in}
-use Rattle.ct_fixture.specs.Kept.{found_tests, fixture_tests}
+use Rattle.ct_base.specs.Found.{or_none}
+use Rattle.ct_fixture.specs.Kept.{fixture_tests}
 
 and_all : (a : Bool) → (a || false) ≡ (a && true)
 and_all true = refl
@@ -26,17 +27,17 @@ cond_same false tests none = refl
 
 module _ {Y Z : Type 0} where
   module _ {S : Type 0} where
-    updated_by : (before now : IndexMap (Vec ℕ Y) (Vec ℕ Z) S) (fixture asked : List ℕ) (tests : Option (Vec ℕ Z)) → UpdatesBy (λ (one other : Vec ℕ Y). bytes_eq one.items other.items) (λ (name : Vec ℕ Y). bytes_eq fixture name.items) before now tests → (is : Bool) → bytes_eq asked fixture ≡ is → fixture_tests now asked ≡ cond is (found_tests tests) (fixture_tests before asked)
-    updated_by before now fixture asked tests updates true is = ap (fixture_tests now) ((bytes_eq-Decides asked fixture).0 is) ∙ ap found_tests updates.1
-    updated_by before now fixture asked tests updates false is = ap found_tests (kept_apart fixture asked before.entries now.entries is updates.3)
+    updated_by : (before now : IndexMap (Vec ℕ Y) (Vec ℕ Z) S) (fixture asked : List ℕ) (tests : Option (Vec ℕ Z)) → UpdatesBy (λ (one other : Vec ℕ Y). bytes_eq one.items other.items) (λ (name : Vec ℕ Y). bytes_eq fixture name.items) before now tests → (is : Bool) → bytes_eq asked fixture ≡ is → fixture_tests now asked ≡ cond is (or_none tests) (fixture_tests before asked)
+    updated_by before now fixture asked tests updates true is = ap (fixture_tests now) ((bytes_eq-Decides asked fixture).0 is) ∙ ap or_none updates.1
+    updated_by before now fixture asked tests updates false is = ap or_none (kept_apart fixture asked before.entries now.entries is updates.3)
 
     -- the tests of one fixture were changed
-    pub updated : (before now : IndexMap (Vec ℕ Y) (Vec ℕ Z) S) (fixture : List ℕ) (tests : Option (Vec ℕ Z)) → UpdatesBy (λ (one other : Vec ℕ Y). bytes_eq one.items other.items) (λ (name : Vec ℕ Y). bytes_eq fixture name.items) before now tests → (asked : List ℕ) → fixture_tests now asked ≡ cond (bytes_eq asked fixture) (found_tests tests) (fixture_tests before asked)
+    pub updated : (before now : IndexMap (Vec ℕ Y) (Vec ℕ Z) S) (fixture : List ℕ) (tests : Option (Vec ℕ Z)) → UpdatesBy (λ (one other : Vec ℕ Y). bytes_eq one.items other.items) (λ (name : Vec ℕ Y). bytes_eq fixture name.items) before now tests → (asked : List ℕ) → fixture_tests now asked ≡ cond (bytes_eq asked fixture) (or_none tests) (fixture_tests before asked)
     updated before now fixture tests updates asked = updated_by before now fixture asked tests updates (bytes_eq asked fixture) refl
 
     -- where no fixture has tests, none has
     pub none_there : (tests : IndexMap (Vec ℕ Y) (Vec ℕ Z) S) → index_map_len tests ≡ 0 → (asked : List ℕ) → fixture_tests tests asked ≡ []
-    none_there tests none asked = ap (λ entries. found_tests (lookup (λ (name : Vec ℕ Y). bytes_eq asked name.items) entries)) (nil_from_length tests.entries none)
+    none_there tests none asked = ap (λ entries. or_none (lookup (λ (name : Vec ℕ Y). bytes_eq asked name.items) entries)) (nil_from_length tests.entries none)
 
     noted_by : (before now : IndexMap (Vec ℕ Y) (Vec ℕ Z) S) (fixture asked tests : List ℕ) (number test : ℕ) (is : Bool) → bytes_eq asked fixture ≡ is → tests ≡ fixture_tests before fixture ++ number ∷ [] → fixture_tests now asked ≡ cond is tests (fixture_tests before asked) → is_in (fixture_tests now asked) test ≡ (is_in (fixture_tests before asked) test || (eqb number test && is))
     noted_by before now fixture asked tests number test true is pushed put =

@@ -24,15 +24,6 @@ use Rattle.ct_base.specs.Names.{is_among}
 pub all_in : (P : ℕ → Type 0) (numbers : List ℕ) → ((number : ℕ) → is_in numbers number ≡ true → P number) → All P numbers
 all_in P numbers each = λ k d within. each (get_or numbers k d) (list_any_at (λ n. eqb n (get_or numbers k d)) numbers k d within (eq-eqb (get_or numbers k d) (get_or numbers k d) refl))
 
--- what holds of all numbers of a list holds of each number in it
-pub in_all : (P : ℕ → Type 0) (numbers : List ℕ) → All P numbers → (number : ℕ) → is_in numbers number ≡ true → P number
-in_all P [] all number there = absurd (false≢true there)
-in_all P (first ∷ numbers) all number there =
-    elim (or_cases (eqb first number) (is_in numbers number) there) [
-      | inl here ↦ subst P (eqb-true first number here) (all 0 first (omega arith))
-      | inr later ↦ in_all P numbers (λ k d within. all (suc k) d (omega (arith, within))) number later
-    ]
-
 names_there : (property : Props → List (List ℕ)) (props : List Props) (fixture : List ℕ) (number : ℕ) (own : Option Props) → at_number props number ≡ own → names_fixture property fixture own ≡ true → (1 ≤ number) × (number ≤ length props)
 names_there property props fixture number None is named = absurd (false≢true named)
 names_there property props fixture number (Some own) is named = number_within props number own is

@@ -9,7 +9,8 @@ use Rattle.ct_fixture.specs.declared.members.Members.{Members}
 use Rattle.ct_props.specs.Numbered.{at_number, is_in}
 use Rattle.ct_fixture.specs.Drawing.{is_drawn, members_of, required_by, keeps_cleanups, keeps_setups}
 use Rattle.ct_fixture.specs.Kept.{AddsTests, AreLeft, AreUntaken, Draws, is_drawn_in}
-use Rattle.ct_fixture.proofs.KeptLemmas.{in_all, left_first}
+use Rattle.ct_props.proofs.NumberedLemmas.{in_all}
+use Rattle.ct_fixture.proofs.KeptLemmas.{left_first}
 use Rattle.ct_fixture.proofs.MemberLemmas.{waits_more}
 use Rattle.ct_fixture.proofs.RoundLemmas.{IsNumber, chosen_member, draws_test, member_number, members_closed, members_listed}
 

@@ -12,15 +12,11 @@ use Rattle.ct_props.specs.Numbered.{at_number, is_in}
 use Rattle.ct_fixture.specs.Drawing.{is_drawn, keeps_setups, keeps_cleanups}
 use Rattle.ct_fixture.specs.Matching.{AreFixtureMatchersOf}
 use Rattle.ct_base.specs.Names.{is_among}
-
--- the tests that a look-up found, or none
-abbrev pub found_tests : {Z : Type 0} → Option (Vec ℕ Z) → List ℕ
-found_tests None = []
-found_tests (Some tests) = tests.items
+use Rattle.ct_base.specs.Found.{or_none}
 
 -- the tests that are kept for a fixture
 abbrev pub fixture_tests : {Y Z S : Type 0} → IndexMap (Vec ℕ Y) (Vec ℕ Z) S → List ℕ → List ℕ
-fixture_tests {Y} tests fixture = found_tests (get_by (λ (name : Vec ℕ Y). bytes_eq fixture name.items) tests)
+fixture_tests {Y} tests fixture = or_none (get_by (λ (name : Vec ℕ Y). bytes_eq fixture name.items) tests)
 
 -- the test is not disabled, and names the fixture in this property
 abbrev pub names_fixture : (Props → List (List ℕ)) → List ℕ → Option Props → Bool

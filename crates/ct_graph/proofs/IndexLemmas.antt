@@ -7,7 +7,7 @@ use Rattle.std.proofs.lemmas.Bool.{eqb-true, ne_eqb}
 use Rattle.std.proofs.lemmas.List.Folds.{list_any_more}
 use Rattle.std.proofs.lemmas.Map.Keys.{any_passes_from_place}
 use Rattle.std.proofs.lemmas.List.Kept.{IsStrictlyIncreasing-filter}
-use Rattle.ct_props.proofs.NumberedLemmas.{at_number_within}
+use Rattle.ct_props.proofs.NumberedLemmas.{at_number_within, in_all}
 use Rattle.ct_base.specs.declared.defs.TestDef.{TestDef}
 use Rattle.ct_props.specs.declared.props.Props.{Props}
 use Rattle.ct_props.specs.Numbered.{at_number, is_in}
@@ -16,7 +16,7 @@ use Rattle.ct_graph.specs.ByName.{tests_of, is_found_in}
 use Rattle.ct_graph.specs.Found.{AreFound}
 use Rattle.ct_graph.specs.Index.{has_own_name, has_setup, has_required, cleans_some, has_cleanup, IsIndex, IsIndexAt, Indexed, AddsTest, AreMembers, FindsBefore}
 use Rattle.ct_graph.specs.declared.index.Index.{Index}
-use Rattle.ct_graph.proofs.TestLemmas.{is_in-filter, same_increasing, all_in}
+use Rattle.ct_graph.proofs.TestLemmas.{is_in-filter, same_increasing}
 use Rattle.ct_base.specs.Names.{is_among, shares_name}
 use Rattle.ct_base.proofs.NameLemmas.{bytes_eq_comm}
 use Rattle.std.proofs.Math.Bool.{and-or_distrib_left}
@@ -156,10 +156,10 @@ ways m def earlier later enabled =
 module _ (defs : List TestDef) (props : List Props) (members : List ℕ) (names setups users : List ℕ → List ℕ) (index : IsIndex defs props members names setups users) (inside : AreMembers (length props) members) (paired : length props ≡ length defs) (ascending : IsStrictlyIncreasing members) (number : ℕ) (later : Props) (is_later : at_number props number ≡ Some later) where
   -- a member has a definition and properties
   def_of : (n : ℕ) → is_in members n ≡ true → (def : TestDef) × (at_number defs n ≡ Some def)
-  def_of n is = let within = all_in members (λ m. (0 < m) × (m ≤ length props)) inside n is in at_number_within defs n within.0 (let few : n ≤ length props = within.1 in omega arith)
+  def_of n is = let within = in_all (λ m. (0 < m) × (m ≤ length props)) members inside n is in at_number_within defs n within.0 (let few : n ≤ length props = within.1 in omega arith)
 
   props_of : (n : ℕ) → is_in members n ≡ true → (earlier : Props) × (at_number props n ≡ Some earlier)
-  props_of n is = let within = all_in members (λ m. (0 < m) × (m ≤ length props)) inside n is in at_number_within props n within.0 within.1
+  props_of n is = let within = in_all (λ m. (0 < m) × (m ≤ length props)) members inside n is in at_number_within props n within.0 within.1
 
   found_by : (n : ℕ) → later.disabled ≡ false → any_of (is_in members n) (list_any (λ name. has_own_name name (at_number defs n) (at_number props n)) later.depends) (list_any (λ fixture. has_setup fixture (at_number props n)) later.required) (list_any (λ fixture. has_required fixture (at_number props n)) later.cleanup) (list_any (λ fixture. has_setup fixture (at_number props n)) later.cleanup) ≡ (comes_before (at_number defs n) (at_number props n) (at_number props number) && is_in members n)
   found_by n enabled = by (is_in members n) refl

@@ -9,7 +9,8 @@ use Rattle.indexmap.specs.IndexMap.{IndexMap, UpdatesBy, get_by}
 use Rattle.std.proofs.lemmas.Slice.Eq.{bytes_eq-Decides}
 use Rattle.ct_base.proofs.NameLemmas.{bytes_eq_comm}
 use Rattle.ct_props.specs.Numbered.{is_in}
-use Rattle.ct_graph.specs.ByName.{or_none, tests_at}
+use Rattle.ct_base.specs.Found.{or_none}
+use Rattle.ct_graph.specs.ByName.{tests_at}
 
 or_none-cond : {Y : Type 0} (b : Bool) (tests : Vec ℕ Y) (found : Option (Vec ℕ Y)) → or_none (cond b (Some tests) found) ≡ cond b tests.items (or_none found)
 or_none-cond true tests found = refl

@@ -7,7 +7,6 @@ use Rattle.std.specs.declared.cmp.Ordering.TheVariants.{Less}
 use Rattle.std.proofs.lemmas.Bool.{false≢true, and_parts, and_from, or_left, or_right, or_cases, eq-eqb, eqb-true, false_from_ne_true}
 use Rattle.std.proofs.lemmas.Bool.Decides.{nat_tests}
 use Rattle.std.proofs.lemmas.List.Folds.{list_any_at, Any-from_list_any}
-use Rattle.std.proofs.lemmas.List.Elements.{All-contains}
 use Rattle.std.proofs.lemmas.List.{length-take-le, get_or-take, get_or_default}
 use Rattle.std.proofs.lemmas.List.Kept.{AllPairs-from_increasing}
 use Rattle.std.proofs.lemmas.Map.Views.{any-filter_same}
@@ -85,12 +84,6 @@ same_sorted (x ∷ xs) (y ∷ ys) up ups same =
 -- two ascending lists with the same numbers are equal
 pub same_increasing : (xs ys : List ℕ) → IsStrictlyIncreasing xs → IsStrictlyIncreasing ys → ((n : ℕ) → is_in xs n ≡ is_in ys n) → xs ≡ ys
 same_increasing xs ys up ups same = same_sorted xs ys (sorted_from_strictly_increasing xs up) (sorted_from_strictly_increasing ys ups) same
-
--- what holds of each number holds of one that is in the list
-pub all_in : (numbers : List ℕ) (P : ℕ → Type 0) → All P numbers → (n : ℕ) → is_in numbers n ≡ true → P n
-all_in numbers P all n is =
-    let one = Any-from_list_any (λ m. eqb m n) numbers is in
-    subst P (eqb-true one.1 n one.4) (All-contains P numbers one.1 all (one.0, one.2, one.3))
 
 -- where each number of a list passes a test, all numbers do
 pub list_all-from : (p : ℕ → Bool) (numbers : List ℕ) → ((n : ℕ) → is_in numbers n ≡ true → p n ≡ true) → list_all p numbers ≡ true

@@ -1,16 +1,12 @@
 -- The tests that are kept by names. This project's own.
-use Rattle.std.specs.Prelude.{ℕ, Bool, List, [], Option, Some, None, bytes_eq}
+use Rattle.std.specs.Prelude.{ℕ, Bool, List, bytes_eq}
 use Rattle.std.specs.List.{list_any}
 use Rattle.std.specs.Borrow.{Bor}
 use Rattle.std.specs.declared.vec.Vec.{Vec}
 use Rattle.indexmap.specs.IndexMap.{IndexMap, get_by}
 use Rattle.ct_props.specs.Numbered.{is_in}
 use Rattle.ct_graph.specs.declared.by_name.ByName.{ByName}
-
--- the numbers of a vector, or none where there is no vector
-abbrev pub or_none : {Y : Type 0} → Option (Vec ℕ Y) → List ℕ
-or_none None = []
-or_none (Some tests) = tests.items
+use Rattle.ct_base.specs.Found.{or_none}
 
 -- the tests that stand with a name in a map
 abbrev pub tests_at : {Y S : Type 0} → IndexMap (Bor (List ℕ)) (Vec ℕ Y) S → List ℕ → List ℕ

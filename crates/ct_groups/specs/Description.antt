@@ -71,7 +71,7 @@ abbrev pub first_number : List (List ℕ) → Option ℕ
 first_number [] = None
 first_number (first ∷ pieces) = number_in first
 
--- the pieces of a description: what stands between its commas
+-- the pieces of a text: what stands between its commas
 abbrev pub pieces_of : List ℕ → List (List ℕ)
 pieces_of text = slice_split (λ byte. byte == comma) text
 

@@ -2,6 +2,7 @@
 use Rattle.std.proofs.Common.{◌≡◌, ℕ, ◌-◌, ◌^◌, ◌<◌, min, List, [], ◌∷◌, length, refl, ap, None, Some, is_none, arith, ◌++◌}
 use Rattle.std.specs.Prelude.{IsNone, Option, Bool, true, false, ◌&&◌, ◌⊎◌, not, is_some, nat_lt, if◌then◌else◌}
 use Rattle.std.proofs.Common.{◌∙◌, sym, subst, inl, inr}
+use Rattle.std.specs.List.{last_or}
 use Rattle.std.proofs.lemmas.Bool.{and_parts, ltb-true}
 use Rattle.std.proofs.lemmas.Bool.Decides.{nat_tests}
 use Rattle.ct_verdict.specs.declared.repeat.Repeat.{Repeat}
@@ -13,11 +14,11 @@ use Rattle.ct_history.specs.declared.plan.PlanTest.{PlanTest}
 use Rattle.ct_history.specs.declared.plan.PlanParts.{PlanParts}
 use Rattle.ct_history.specs.declared.history.Entry.{Entry}
 use Rattle.ct_history.specs.History.{attempts_of, is_open_in}
-use Rattle.ct_history.specs.Verdicts.{last_behind, last_of_list, settled_cause, settled_or}
+use Rattle.ct_history.specs.Verdicts.{last_of_list, settled_cause, settled_or}
 use Rattle.ct_history.specs.Rules.{is_pending}
 use Rattle.ct_history.proofs.MayLemmas.{pending-parts}
 
-pub has_last : {A : Type 0} (x : A) (xs : List A) → is_none (last_behind (Some x) xs) ≡ false
+pub has_last : {A : Type 0} (x : A) (xs : List A) → is_none (last_or (Some x) xs) ≡ false
 has_last x [] = refl
 has_last x (y ∷ ys) = has_last y ys
 
@@ -65,6 +66,6 @@ attempts_left plan t es pending =
         let here : (nat_lt (length vs) plan.repeat.times && asks_again plan.repeat.mode v) ≡ true = sym (ap (λ (o : Option Verdict). is_repeated plan.repeat (length vs) o) is) ∙ again in
         inr (ltb-true (length vs) plan.repeat.times (and_parts (nat_lt (length vs) plan.repeat.times) (asks_again plan.repeat.mode v) here).0)
 
-pub last_behind-snoc : {A : Type 0} (found : Option A) (xs : List A) (x : A) → last_behind found (xs ++ x ∷ []) ≡ Some x
-last_behind-snoc found [] x = refl
-last_behind-snoc found (y ∷ ys) x = last_behind-snoc (Some y) ys x
+pub last_or-snoc : {A : Type 0} (found : Option A) (xs : List A) (x : A) → last_or found (xs ++ x ∷ []) ≡ Some x
+last_or-snoc found [] x = refl
+last_or-snoc found (y ∷ ys) x = last_or-snoc (Some y) ys x

@@ -30,7 +30,8 @@ use Rattle.ct_history.proofs.LegalLemmas.{legal_allowed, legal_from, same_cause_
 use Rattle.ct_history.proofs.MayLemmas.{may_start-parts, no_cause}
 use Rattle.ct_history.proofs.PlanLemmas.{find_passes}
 use Rattle.ct_history.proofs.PartLemmas.{attempts-part, back_there, busy_less, final-part, found_in, holds-part, some_back, open-part, open_starts-part, part_goes_on, passed_back, running_of_part, test_at-part, tests_in, there_back, verdict_of_test-part}
-use Rattle.ct_history.proofs.PartListLemmas.{all_kept, all_where, among_all, any_less, count_some, find-map, find_where, found_all, is_some_and, sum_less}
+use Rattle.ct_history.proofs.PartListLemmas.{all_kept, all_where, among_all, any_less, count_some, find-map, find_where, is_some_and, sum_less}
+use Rattle.ct_history.proofs.ProgressLemmas.{all_found}
 
 -- what fits beside used slots fits where fewer are used
 fits_less : (k : ℕ) (rs : List Resource) (used less : ℕ → ℕ) (picks : List Pick) → ((place : ℕ) → less place ≤ used place) → fits_from k rs used picks ≡ true → fits_from k rs less picks ≡ true
@@ -99,13 +100,13 @@ module _ (whole : PlanParts) (o c : ℕ) (part : PlanParts) (is : IsPartOfPlan w
   stays_inside : (m : ℕ) (t : PlanTest) → test_at part.tests m ≡ Some t → StaysInside o c t
   stays_inside m t found =
       let p : PlanTest → Bool = λ u. u.number == m in
-      let links = found_all p (has_sound_links part.tests) part.tests t found sound.links in
+      let links = all_found (has_sound_links part.tests) p part.tests t sound.links found in
       let both = and_parts (list_all (λ j. is_before_rank t.rank (test_at part.tests j)) t.before) (list_all (λ s. list_any (λ j. j == s) t.before) t.setups) links in
       let before = inside t.rank t.before both.0 in
       record {
         before = before;
         setups = among t.before before t.setups both.1;
-        fixed = fixed_back o part.resources t.fixed (found_all p (λ (u : PlanTest). is_fixed_cause part.resources u.fixed) part.tests t found sound.fixed);
+        fixed = fixed_back o part.resources t.fixed (all_found (λ (u : PlanTest). is_fixed_cause part.resources u.fixed) p part.tests t sound.fixed found);
       }
     where
       found_rank : (j rank : ℕ) (u : Option PlanTest) → u ≡ test_at part.tests j → is_before_rank rank u ≡ true → is_in_tree o c (j + o) ≡ true

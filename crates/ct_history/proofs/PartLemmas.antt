@@ -5,6 +5,7 @@ use Rattle.std.specs.Prelude.{Option, Some, None, option_map, option_and_then, n
 use Rattle.std.specs.List.{list_all, list_any, cons_option}
 use Rattle.std.proofs.lemmas.Bool.{and_parts, cases_Bool, ltb-true}
 use Rattle.std.proofs.lemmas.Bool.Decides.{nat_tests}
+use Rattle.ct_alloc.proofs.SpreadLemmas.{all-filter}
 use Rattle.ct_verdict.specs.declared.attempt.How.{How}
 use Rattle.ct_verdict.specs.declared.attempt.How.TheVariants as Ends
 use Rattle.ct_verdict.specs.declared.attempt.Seen.{Seen}
@@ -23,7 +24,8 @@ use Rattle.ct_history.specs.History.{Running, attempt_by, attempts_of, has_stop,
 use Rattle.ct_history.specs.Verdicts.{attempted_verdict, first_of_list, is_final_in, is_over, is_passed_verdict, last_of_list, settled_cause, settled_or, verdict_at, verdict_in, verdict_of_test}
 use Rattle.ct_history.specs.Parts.{IsPartOfPlan, cause_back, entry_of_part, is_in_tree, part_of, renumbered, verdict_back}
 use Rattle.ct_history.proofs.PlanLemmas.{find_passes}
-use Rattle.ct_history.proofs.PartListLemmas.{all-filter, any-filter_map, any_less, filter_map-cons, filter_map-twice, find-filter, find-map, first-filter_map, found_all, is_some_and, last-filter_map}
+use Rattle.ct_history.proofs.PartListLemmas.{any-filter_map, any_less, filter_map-cons, filter_map-twice, find-filter, find-map, first-filter_map, is_some_and, last-filter_map}
+use Rattle.ct_history.proofs.ProgressLemmas.{all_found}
 
 -- a number of the tree, between its bounds
 pub above : (o c n : ℕ) → is_in_tree o c n ≡ true → o < n
@@ -348,7 +350,7 @@ module _ (whole : PlanParts) (o c : ℕ) (part : PlanParts) (is : IsPartOfPlan w
       let passes = find_passes (λ (u : PlanTest). u.number == m) part.tests t found in
       let number : t.number ≡ m = grind (arith, nat_tests) in
       ap (λ (n : ℕ). is_in_tree o c (n + o)) (sym number)
-      ∙ found_all (λ (u : PlanTest). u.number == m) (λ (u : PlanTest). is_in_tree o c (u.number + o)) part.tests t found tests_in
+      ∙ all_found (λ (u : PlanTest). is_in_tree o c (u.number + o)) (λ (u : PlanTest). u.number == m) part.tests t tests_in found
 
   -- the verdict of a test by its number is the same in the part
   pub verdict_of_test-part : (es : List Entry) (m : ℕ) → is_in_tree o c (m + o) ≡ true → verdict_of_test part (part_of o c es) m ≡ option_map (verdict_back o) (verdict_of_test whole es (m + o))

@@ -1,11 +1,11 @@
 -- Lists of which a function keeps some elements and changes them: what tests, sums and look-ups give there.
 use Rattle.std.proofs.Common.{◌≡◌, ◌∙◌, sym, ap, subst, Bool, true, false, ℕ, ◌+◌, ◌≤◌, List, [], ◌∷◌, refl, arith, inl, inr}
 use Rattle.std.specs.Prelude.{Option, Some, None, option_map, option_and_then, ◌&&◌, ◌||◌, ◌==◌, cond, filter, filter_map, find, map, sum_by}
-use Rattle.std.specs.List.{list_all, list_any, cons_option}
+use Rattle.std.specs.List.{list_all, list_any, cons_option, last_or}
 use Rattle.std.proofs.lemmas.Bool.{and_parts, cases_Bool}
 use Rattle.std.proofs.lemmas.Bool.Decides.{nat_tests}
 use Rattle.std.proofs.lemmas.List.Sums.{sum_by-cons}
-use Rattle.ct_history.specs.Verdicts.{first_of_list, last_behind, last_of_list}
+use Rattle.ct_history.specs.Verdicts.{first_of_list, last_of_list}
 
 -- the value is there, and passes the test
 abbrev pub is_some_and : {A : Type 0} → (A → Bool) → Option A → Bool
@@ -70,11 +70,11 @@ first-filter_map {B = B} k h (x ∷ xs) = by_kept (h x) (first-filter_map k h xs
     by_kept None later = later
     by_kept (Some y) later = refl
 
-last_kept : {A B : Type 0} (k : B → B) (h : A → Option B) → ((x : A) → option_map k (h x) ≡ h x) → (found : Option B) → option_map k found ≡ found → (xs : List A) → option_map k (last_behind found (filter_map h xs)) ≡ last_behind found (filter_map h xs)
+last_kept : {A B : Type 0} (k : B → B) (h : A → Option B) → ((x : A) → option_map k (h x) ≡ h x) → (found : Option B) → option_map k found ≡ found → (xs : List A) → option_map k (last_or found (filter_map h xs)) ≡ last_or found (filter_map h xs)
 last_kept k h same found is [] = is
 last_kept {B = B} k h same found is (x ∷ xs) = by_kept (h x) (same x) (λ more kept. last_kept k h same more kept xs)
   where
-    by_kept : (o : Option B) → option_map k o ≡ o → ((more : Option B) → option_map k more ≡ more → option_map k (last_behind more (filter_map h xs)) ≡ last_behind more (filter_map h xs)) → option_map k (last_behind found (cons_option o (filter_map h xs))) ≡ last_behind found (cons_option o (filter_map h xs))
+    by_kept : (o : Option B) → option_map k o ≡ o → ((more : Option B) → option_map k more ≡ more → option_map k (last_or more (filter_map h xs)) ≡ last_or more (filter_map h xs)) → option_map k (last_or found (cons_option o (filter_map h xs))) ≡ last_or found (cons_option o (filter_map h xs))
     by_kept None kept later = later found is
     by_kept (Some y) kept later = later (Some y) kept
 
@@ -117,17 +117,6 @@ all_where r p q same (x ∷ xs) all =
     let both = and_parts (r x) (list_all r xs) all in
     ap (λ (b : Bool). b && list_all p xs) (same x both.0) ∙ ap (λ (b : Bool). q x && b) (all_where r p q same xs both.1)
 
--- what is found passes each test that all pass
-pub found_all : {A : Type 0} (p r : A → Bool) (xs : List A) (x : A) → find p xs ≡ Some x → list_all r xs ≡ true → r x ≡ true
-found_all p r [] x is all = cc
-found_all p r (y ∷ ys) x is all = elim (cases_Bool (p y)) [
-  | inl passes ↦
-      let here : Some y ≡ Some x = sym (ap (λ (b : Bool). cond b (Some y) (find p ys)) passes) ∙ is in
-      let same : y ≡ x = cc in
-      ap r (sym same) ∙ (and_parts (r y) (list_all r ys) all).0
-  | inr fails ↦ found_all p r ys x (sym (ap (λ (b : Bool). cond b (Some y) (find p ys)) fails) ∙ is) (and_parts (r y) (list_all r ys) all).1
-]
-
 -- where some number is this one, it passes each test that all pass
 pub among_all : (n : ℕ) (r : ℕ → Bool) (xs : List ℕ) → list_any (λ m. m == n) xs ≡ true → list_all r xs ≡ true → r n ≡ true
 among_all n r [] any all = cc
@@ -136,14 +125,6 @@ among_all n r (x ∷ xs) any all = elim (cases_Bool (x == n)) [
       let same : x ≡ n = grind (arith, nat_tests) in
       ap r (sym same) ∙ (and_parts (r x) (list_all r xs) all).0
   | inr other ↦ among_all n r xs (sym (ap (λ (b : Bool). b || list_any (λ m. m == n) xs) other) ∙ any) (and_parts (r x) (list_all r xs) all).1
-]
-
--- each element that a filter keeps passes its test
-pub all-filter : {A : Type 0} (p : A → Bool) (xs : List A) → list_all p (filter p xs) ≡ true
-all-filter p [] = refl
-all-filter p (x ∷ xs) = elim (cases_Bool (p x)) [
-  | inl kept ↦ ap (λ (b : Bool). list_all p (cond b (x ∷ filter p xs) (filter p xs))) kept ∙ ap (λ (b : Bool). b && list_all p (filter p xs)) kept ∙ all-filter p xs
-  | inr gone ↦ ap (λ (b : Bool). list_all p (cond b (x ∷ filter p xs) (filter p xs))) gone ∙ all-filter p xs
 ]
 
 -- what all elements pass, those that a filter keeps pass

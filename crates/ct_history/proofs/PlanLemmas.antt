@@ -1,11 +1,17 @@
 -- Looking up the tests of a plan, whose numbers ascend.
-use Rattle.std.proofs.Common.{◌≡◌, ◌∙◌, sym, ap, Bool, true, false, ℕ, zero, suc, ◌+◌, ◌≤◌, List, [], ◌∷◌, arith, subst}
-use Rattle.std.specs.Prelude.{map, find, Contains, Some, ◌==◌, cond}
+use Rattle.std.proofs.Common.{◌≡◌, ◌∙◌, sym, ap, Bool, true, false, ℕ, zero, suc, ◌+◌, ◌≤◌, List, [], ◌∷◌, ◌++◌, arith, subst}
+use Rattle.std.specs.Prelude.{Option, map, find, Contains, Some, None, ◌==◌, cond}
+use Rattle.std.specs.Option.{option_or}
 use Rattle.std.proofs.lemmas.Bool.{cases_Bool}
 use Rattle.std.proofs.lemmas.Bool.Decides.{nat_tests}
+use Rattle.std.proofs.lemmas.List.Folds.{find-append}
 use Rattle.std.proofs.Common.{inl, inr}
 use Rattle.ct_history.specs.declared.plan.PlanTest.{PlanTest}
 use Rattle.ct_history.specs.Plan.{IsAscendingFrom, test_at}
+
+-- the numbers of tests
+abbrev pub numbers_of : List PlanTest → List ℕ
+numbers_of tests = map (λ (t : PlanTest). t.number) tests
 
 -- what is found passes the test
 pub find_passes : {A : Type 0} (p : A → Bool) (xs : List A) (x : A) → find p xs ≡ Some x → p x ≡ true
@@ -17,6 +23,11 @@ find_passes p (y ∷ ys) x is = elim (cases_Bool (p y)) [
       ap p (sym same) ∙ passes
   | inr fails ↦ find_passes p ys x (sym (ap (λ (b : Bool). cond b (Some y) (find p ys)) fails) ∙ is)
 ]
+
+-- where none is found, one more that passes the test is found
+pub find_new : {A : Type 0} (p : A → Bool) (xs : List A) (y : A) → find p xs ≡ None → p y ≡ true → find p (xs ++ y ∷ []) ≡ Some y
+find_new {A = A} p xs y none passes =
+    find-append p xs (y ∷ []) ∙ ap (λ (o : Option A). option_or o (find p (y ∷ []))) none ∙ ap (λ (b : Bool). cond b (Some y) None) passes
 
 -- a found test's number is at least the least one
 pub found_bound : (p : PlanTest → Bool) (least : ℕ) (ts : List PlanTest) (t : PlanTest) → IsAscendingFrom least (map (λ (x : PlanTest). x.number) ts) → find p ts ≡ Some t → least ≤ t.number

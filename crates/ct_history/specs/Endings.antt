@@ -1,6 +1,6 @@
 -- How the tests of a history ended, kept by their numbers, and the verdicts that follow. This project's own.
 use Rattle.std.specs.Prelude.{◌≡◌, ℕ, true, List, filter_map, nat_eq, Option, Some, None, option_map, ◌==◌, if◌then◌else◌}
-use Rattle.std.specs.Option.{unwrap_or}
+use Rattle.std.specs.Option.{unwrap_or, option_or}
 use Rattle.ct_verdict.specs.declared.attempt.Seen.{Seen}
 use Rattle.ct_verdict.specs.declared.repeat.Repeat.{Repeat}
 use Rattle.ct_verdict.specs.declared.verdict.Verdict.{Verdict}
@@ -37,16 +37,11 @@ ending_at endings test = unwrap_or (get nat_eq endings test) unended
 abbrev pub ending_in : List Entry → ℕ → Ending
 ending_in entries test = record { settled = settled_cause test entries; last = last_seen test entries }
 
--- the first of two values if it is there, else the second
-abbrev pub first_there : {A : Type 0} → Option A → Option A → Option A
-first_there None other = other
-first_there (Some x) other = Some x
-
 -- how a test ended, with one more entry: the first Settle counts, and the last End
 abbrev pub ending_after : ℕ → Ending → Entry → Ending
 ending_after test ending entry = record {
-  settled = first_there ending.settled (settled_by test entry);
-  last = first_there (seen_at_end test entry) ending.last;
+  settled = option_or ending.settled (settled_by test entry);
+  last = option_or (seen_at_end test entry) ending.last;
 }
 
 -- the verdict of a test that is final, by how it ended

@@ -2,6 +2,7 @@
 pub mod Plan
 pub mod History
 pub mod Verdicts
+pub mod Failed
 pub mod Endings
 pub mod Rules
 pub mod Legal

@@ -2,7 +2,8 @@
 use Rattle.std.specs.Prelude.{◌≡◌, ℕ, ◌+◌, ◌<◌, ◌≤◌, Bool, true, false, not, ◌&&◌, List, [], ◌∷◌, length, map, filter, slice_get, find, All, Option, Some, None, IfSome, nat_le, nat_lt, ◌==◌, IsPermutation, is_some}
 use Rattle.std.specs.List.{list_any, list_all}
 use Rattle.ct_base.specs.declared.defs.Resource.{Resource}
-use Rattle.ct_alloc.specs.Placement.{AreDistinct, SomeFits}
+use Rattle.ct_base.specs.Resources.{AreDistinct}
+use Rattle.ct_alloc.specs.Placement.{SomeFits}
 use Rattle.ct_verdict.specs.declared.verdict.Cause.{Cause}
 use Rattle.ct_verdict.specs.declared.verdict.Cause.TheVariants.{NotAvailable, BadOperation, Insufficient}
 use Rattle.ct_history.specs.declared.plan.PlanTest.{PlanTest}

@@ -1,7 +1,7 @@
 -- The verdict that a history gives to a test. Source: CMake manual, ctest(1), --repeat;
 -- this project's own for settled tests.
 use Rattle.std.specs.Prelude.{ℕ, Bool, true, false, not, ◌&&◌, List, [], ◌∷◌, length, filter_map, Option, Some, None, is_some, if◌then◌else◌}
-use Rattle.std.specs.List.{list_all}
+use Rattle.std.specs.List.{list_all, last_or}
 use Rattle.ct_verdict.specs.declared.verdict.Cause.{Cause}
 use Rattle.ct_verdict.specs.declared.verdict.Verdict.{Verdict}
 use Rattle.ct_verdict.specs.declared.verdict.Verdict.TheVariants.{Passed, NotRun, Disabled}
@@ -18,14 +18,9 @@ abbrev pub first_of_list : {A : Type 0} → List A → Option A
 first_of_list [] = None
 first_of_list (x ∷ xs) = Some x
 
--- the last element of a list, or `found` where the list is empty
-abbrev pub last_behind : {A : Type 0} → Option A → List A → Option A
-last_behind found [] = found
-last_behind found (x ∷ xs) = last_behind (Some x) xs
-
 -- the last element of a list, if there is one
 abbrev pub last_of_list : {A : Type 0} → List A → Option A
-last_of_list xs = last_behind None xs
+last_of_list xs = last_or None xs
 
 -- the cause of the first Settle of the test
 abbrev pub settled_cause : ℕ → List Entry → Option Cause

@@ -9,7 +9,7 @@ use crate::history::is_ended;
 use crate::plan::test_at;
 use crate::{Entry, PlanTest};
 use ct_alloc::Placement;
-use ct_base::Name;
+use ct_base::{Name, is_among};
 
 /// A start that no End behind it closes.
 #[derive(Clone, Copy)]
@@ -153,12 +153,6 @@ fn shares_name(names: &[Name], others: &[Name]) -> bool
     ensures { result ≡ Among.shares_name names.now others.now }
 {
     names.iter().any(|name| is_among(name, others))
-}
-
-fn is_among(name: &Name, others: &[Name]) -> bool
-    ensures { result ≡ Among.is_among name.now others.now }
-{
-    others.iter().any(|other| name.is(other))
 }
 
 /// Adds up the processors of the open starts. A greater sum counts as 2^64 - 1.

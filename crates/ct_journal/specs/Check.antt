@@ -98,17 +98,12 @@ no_path_line = fault_line [] (Ends.Usage 1 NoValue)
 
 -- what each outcome and status of a check without any word means. The files are as before.
 abbrev pub AnswersNoPath : FilesTell → FilesTell → SinkTell → SinkTell → CheckOutcome → ℕ → Type 0
-AnswersNoPath files files_now sink sink_now Yes status = ⊥
-AnswersNoPath files files_now sink sink_now (No line) status = ⊥
-AnswersNoPath files files_now sink sink_now TooLong status = ⊥
 AnswersNoPath files files_now sink sink_now (Usage word kind) status =
     (word ≡ 1) × (kind ≡ NoValue) × (files_now ≡ files) × PutsOrFails no_path_line sink sink_now
     × (status ≡ 1)
-AnswersNoPath files files_now sink sink_now (Refused refusal) status = ⊥
-AnswersNoPath files files_now sink sink_now (FilesFault failed) status = ⊥
-AnswersNoPath files files_now sink sink_now OutputFault status = ⊥
 AnswersNoPath files files_now sink sink_now Memory status =
     (files_now ≡ files) × PutsLines (no_path_line ∷ []) sink sink_now (Err Sinks.NoMemory) × (status ≡ 5)
+AnswersNoPath files files_now sink sink_now outcome status = ⊥
 
 -- what each outcome and status of a check means: the first word is the path of the journal, and the others
 -- are words of a run
@@ -123,12 +118,8 @@ AnswersCheck (path ∷ words) files files_now sink sink_now outcome status =
 abbrev pub SaysYesOrNo : CheckOutcome → Type 0
 SaysYesOrNo Yes = ⊤
 SaysYesOrNo (No line) = ⊤
-SaysYesOrNo TooLong = ⊥
-SaysYesOrNo (Usage word kind) = ⊥
-SaysYesOrNo (Refused refusal) = ⊥
-SaysYesOrNo (FilesFault failed) = ⊥
-SaysYesOrNo OutputFault = ⊥
 SaysYesOrNo Memory = ⊤
+SaysYesOrNo outcome = ⊥
 
 -- the path holds no text that is longer than a journal may be, where the files tell
 abbrev pub IsShortEnough : List ℕ → Sides → Type 0

@@ -3,9 +3,9 @@ ghost use Rattle.ct_base.specs.Outside.{Becomes, SameHeld};
 ghost use Rattle.ct_journal.specs.Check.{AnswersCheck, CompletesCheck};
 ghost use Rattle.ct_journal.specs.CheckSteps.{LeadsTo};
 
-use crate::check_find::{Finding, find_for, unfound};
+use crate::check_find::{Finding, find_for};
 use crate::check_report::report_check;
-use ct_app::{Outcome, Refusal, Unplanned, UsageKind};
+use ct_app::{Outcome, Refusal, Unplanned, UsageKind, unread};
 use ct_base::{Files, Name, Sink};
 use std::alloc::Global;
 
@@ -78,7 +78,7 @@ fn check_words<F: Files>(alloc: Global, words: &[Name], files: &mut F) -> Result
 {
     match words {
         [path, others @ ..] => find_for(alloc, path, others, files),
-        [] => Err(unfound(
+        [] => Err(unread(
             alloc,
             Outcome::Usage {
                 word: 1,

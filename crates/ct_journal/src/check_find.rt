@@ -1,11 +1,11 @@
-ghost use Rattle.std.specs.Prelude.{◌≡◌, ◌∷◌, ◌<◌, ◌-◌, ◌^◌, [], Some, IfOk, IfErr, length};
+ghost use Rattle.std.specs.Prelude.{◌≡◌, ◌∷◌, ◌<◌, ◌-◌, ◌^◌, Some, IfOk, IfErr, length};
 ghost use Rattle.ct_journal.specs.File.{HasJournalSize};
 ghost use Rattle.ct_journal.specs.CheckFound.{IsFinding};
 ghost use Rattle.ct_journal.specs.CheckSteps.{IsFoundAt, IsUnfound, LeadsTo};
 
 use crate::limit::MOST_JOURNAL_BYTES;
-use ct_app::{Outcome, Unplanned, plan_words};
-use ct_base::{Blob, Files, FilesFault, List, Name, NoMemory};
+use ct_app::{Outcome, Unplanned, plan_words, unread};
+use ct_base::{Blob, Files, FilesFault, Name, NoMemory};
 use ct_history::Plan;
 use ct_journal_text::check_text;
 use std::alloc::Global;
@@ -35,17 +35,7 @@ pub(crate) fn find_for<F: Files>(
     let plan = plan_words(alloc, words, files)?;
     match find_at(alloc, path, &plan, files) {
         Ok(finding) => Ok(finding),
-        Err(outcome) => Err(unfound(alloc, outcome)),
-    }
-}
-
-/// Says why nothing was found, without the names of the tests of a cycle.
-pub(crate) fn unfound(alloc: Global, outcome: Outcome) -> Unplanned
-    ensures { result ≡ record { outcome = outcome; names = [] } }
-{
-    Unplanned {
-        outcome,
-        names: List::new(alloc),
+        Err(outcome) => Err(unread(alloc, outcome)),
     }
 }
 

@@ -1,18 +1,17 @@
 -- A text is found to be one thing: it is accepted, or one of its lines is the first that is not good.
-use Rattle.std.proofs.Common.{ℕ, ◌+◌, ◌<◌, ◌≤◌, ◌^◌, ◌≡◌, ◌==◌, ◌⊎◌, inl, inr, not, ◌&&◌, true, false, List, [], ◌∷◌, ◌++◌, length, Option, Some, None, refl, sym, ap, subst, ◌∙◌, arith, codes, decimal, append_assoc, append-nil, length-append}
-use Rattle.std.specs.List.{list_all, list_any}
+use Rattle.std.proofs.Common.{ℕ, ◌+◌, ◌<◌, ◌≤◌, ◌^◌, ◌≡◌, ◌==◌, inl, inr, not, ◌&&◌, true, false, List, [], ◌∷◌, ◌++◌, length, Option, Some, None, refl, sym, ap, subst, ◌∙◌, arith, codes, decimal, append_assoc, append-nil, length-append}
+use Rattle.std.specs.List.{list_any}
 use Rattle.std.proofs.lemmas.Bool.{and_parts, eq-eqb, or_parts, and_from}
 use Rattle.std.proofs.lemmas.List.{append_cancel_left}
 use Rattle.std.proofs.lemmas.List.Folds.{list_all-append}
 use Rattle.ct_base.specs.declared.defs.Resource.{Resource}
 use Rattle.ct_alloc.specs.declared.placement.Placement.{Placement}
-use Rattle.ct_verdict.specs.declared.attempt.Seen.{Seen}
 use Rattle.ct_history.specs.declared.plan.PlanTest.{PlanTest}
 use Rattle.ct_history.specs.declared.plan.PlanParts.{PlanParts}
 use Rattle.ct_history.specs.declared.history.Entry.{Entry}
 use Rattle.ct_history.specs.declared.history.Entry.TheVariants as Happened
 use Rattle.ct_history.specs.Plan.{test_at}
-use Rattle.ct_history.specs.History.{Running, open_starts}
+use Rattle.ct_history.specs.History.{Running}
 use Rattle.ct_history.specs.Rules.{is_idle}
 use Rattle.ct_history.specs.Verdicts.{are_all_final}
 use Rattle.ct_history.specs.Legal.{IsComplete, are_allowed_behind, is_allowed, is_allowed_so_far, is_legal, is_stop_due}
@@ -21,11 +20,10 @@ use Rattle.ct_journal_text.specs.declared.lines.EntryLine.{EntryLine}
 use Rattle.ct_journal_text.specs.declared.lines.EntryLine.TheVariants.{Start, End, Settle, Stop}
 use Rattle.ct_journal_text.specs.declared.lines.JournalLine.{JournalLine}
 use Rattle.ct_journal_text.specs.declared.lines.JournalLine.TheVariants as Line
-use Rattle.ct_journal_text.specs.Journal.{EntriesFit, EntryFits, Fits, IsOf32Bits, PlacesFit, attempt_text, entry_lines, entry_text, full_line, hits_text, how_text, journal_line_text, journal_of, listed, not_run_word, noted, places_of_placement, places_text, seen_text}
-use Rattle.ct_journal_text.specs.Completed.{of_picks, picks_by}
+use Rattle.ct_journal_text.specs.Journal.{EntriesFit, EntryFits, IsOf32Bits, PlacesFit, attempt_text, entry_lines, entry_text, full_line, hits_text, how_text, journal_line_text, journal_of, listed, not_run_word, noted, places_of_placement, places_text, seen_text}
 use Rattle.ct_journal_text.specs.Guess.{guess_in}
 use Rattle.ct_journal_text.specs.Checked.{HasPlacement, IsPlacementFor}
-use Rattle.ct_journal_text.specs.Found.{Finds, IsAccepted, IsBadLine, IsOneLine, IsRefusedAt, IsRefusedBehind, LacksFirst}
+use Rattle.ct_journal_text.specs.Found.{Finds, IsAccepted, IsBadLine, IsOneLine, IsRefusedBehind}
 use Rattle.ct_journal_text.proofs.NumberLemmas.{is_free, decimal_free}
 use Rattle.ct_journal_text.proofs.WordLemmas.{cause_free, hits_free, how_free, listed_free}
 use Rattle.ct_journal_text.proofs.LineLemmas.{line_again}

@@ -1,11 +1,11 @@
 -- A text that is read line by line: what was read so far, and what the last line says of it.
-use Rattle.std.proofs.Common.{◌≡◌, ◌∙◌, sym, ap, subst, ℕ, ◌+◌, ◌<◌, ◌^◌, Bool, true, false, not, ◌&&◌, List, [], ◌∷◌, ◌++◌, length, get_or, drop, inr, length-append, append_assoc, refl, arith, Option, Some, None}
+use Rattle.std.proofs.Common.{◌≡◌, ◌∙◌, sym, ap, subst, ℕ, ◌+◌, ◌-◌, ◌≤◌, take, ◌<◌, ◌^◌, Bool, true, false, not, ◌&&◌, List, [], ◌∷◌, ◌++◌, length, get_or, drop, inr, length-append, append_assoc, refl, arith, Option, Some, None}
 use Rattle.std.specs.Prelude.{◌==◌, ◌||◌, if◌then◌else◌}
 use Rattle.std.specs.List.{list_any}
 use Rattle.std.proofs.lemmas.Bool.{and_parts, and_from}
 use Rattle.std.proofs.lemmas.Bool.Decides.{nat_tests}
 use Rattle.std.proofs.lemmas.Grind.{flat_map-append}
-use Rattle.std.proofs.lemmas.List.{append-nil, drop_all, drop_more, length-drop}
+use Rattle.std.proofs.lemmas.List.{append-nil, drop_all, drop_more, get_or-drop, length-drop, take_more}
 use Rattle.std.proofs.lemmas.List.Folds.{list_any-append}
 use Rattle.ct_history.specs.declared.plan.PlanParts.{PlanParts}
 use Rattle.ct_history.specs.declared.history.Entry.{Entry}
@@ -27,6 +27,20 @@ use Rattle.ct_journal_text.proofs.LineLemmas.{line_again}
 fit_snoc : (entries : List Entry) (e : Entry) → EntriesFit entries → EntryFits (noted e) → EntriesFit (entries ++ e ∷ [])
 fit_snoc [] e fit one = (one, tt)
 fit_snoc (first ∷ rest) e fit one = (fit.0, fit_snoc rest e fit.1 one)
+
+-- a line with one byte more of its text
+pub line_more : (text : List ℕ) (start at : ℕ) → start ≤ at → at < length text → take (at + 1 - start) (drop start text) ≡ take (at - start) (drop start text) ++ get_or text at 0 ∷ []
+line_more text start at le lt =
+    let more : at + 1 - start ≡ (at - start) + 1 = omega (arith, le) in
+    let here : start + (at - start) ≡ at = omega (arith, le) in
+    let within : at - start < length (drop start text) = omega (arith, length-drop start text, le, lt) in
+    ap (λ (n : ℕ). take n (drop start text)) more
+    ∙ take_more (drop start text) (at - start) 0 within
+    ∙ ap (λ (b : ℕ). take (at - start) (drop start text) ++ b ∷ []) (get_or-drop start text (at - start) 0 ∙ ap (λ (n : ℕ). get_or text n 0) here)
+
+-- a line of which nothing was read
+pub line_none : (text : List ℕ) (at : ℕ) → take (at - at) (drop at text) ≡ []
+line_none text at = let none : at - at ≡ 0 = omega arith in ap (λ (n : ℕ). take n (drop at text)) none
 
 module _ (plan : PlanParts) (text : List ℕ) where
   -- nothing was read yet

@@ -1,5 +1,5 @@
 -- A journal is no shorter than its beginning, so one whose beginning passes a limit passes it.
-use Rattle.std.proofs.Common.{◌≡◌, ◌∙◌, ◌++◌, ◌+◌, ◌<◌, ◌≤◌, sym, ap, subst, arith, ℕ, List, length, take, drop, true, flat_map}
+use Rattle.std.proofs.Common.{◌≡◌, ◌∙◌, ◌++◌, ◌≤◌, sym, ap, subst, arith, ℕ, List, length, take, drop, true}
 use Rattle.std.specs.Prelude.{false, not, nat_lt}
 use Rattle.std.proofs.lemmas.Bool.{ltb-true, lt-ltb}
 use Rattle.std.proofs.lemmas.Grind.{flat_map-append}

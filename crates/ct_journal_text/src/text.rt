@@ -41,35 +41,31 @@ fn check_lines(alloc: Global, plan: &Plan, text: &[u8]) -> Result<Option<u64>, N
     ensures { IfOk result (λ found. FindsBehind plan.now text.now found) }
 {
     let mut audit = Audit::new(alloc, plan);
-    let mut line = Vec::new(alloc);
-    check_by(alloc, plan, text, &mut audit, &mut line)
+    check_by(alloc, plan, text, &mut audit)
 }
 
-/// Checks the same text by an audit that has noted nothing so far. `line` gets each line in turn.
+/// Checks the same text by an audit that has noted nothing so far.
 fn check_by(
     alloc: Global,
     plan: &Plan,
     text: &[u8],
     audit: &mut Audit,
-    line: &mut Vec<u8>,
 ) -> Result<Option<u64>, NoMemory>
     requires fresh { IsAuditOf plan.now [] audit.old }
-    requires empty { line.old.items ≡ [] }
     ensures { IfOk result (λ found. FindsBehind plan.now text.now found) }
 {
     let mut count: u64 = 0;
+    let mut start = 0;
     for at in 0..text.len() {
         if text[at] == b'\n' {
-            match take_line(alloc, plan, audit, count, line)? {
+            match take_line(alloc, plan, audit, count, &text[start..at])? {
                 Step::GoesOn => {
                     count += 1;
-                    line.clear();
+                    start = at + 1;
                 }
                 Step::Ends => return Ok(behind_last(at + 1 == text.len(), count)),
                 Step::IsBad => return Ok(Some(count + 2)),
             }
-        } else {
-            line.push(text[at])?;
         }
     }
     Ok(Some(count + 2))

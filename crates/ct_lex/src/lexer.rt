@@ -14,7 +14,9 @@ use std::marker::Model;
 #[derive(Debug, Drop)]
 pub struct Lexer<'a> {
     rest: &'a [u8],
+    /// The line on which the rest begins, counted from 1.
     line: u32,
+    /// Whether the rest begins behind a command on the same line.
     behind: bool,
 }
 

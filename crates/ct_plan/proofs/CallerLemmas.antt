@@ -1,10 +1,10 @@
 -- Tests and their properties that go together, and the members among them, for the crates above.
-use Rattle.std.proofs.Common.{◌≡◌, Bool, ℕ, zero, suc, ◌+◌, ◌≤◌, List, [], ◌∷◌, ◌++◌, length, refl, arith, inl, inr, min, max, Option, Some, None, Ok}
+use Rattle.std.proofs.Common.{◌≡◌, Bool, ℕ, zero, suc, ◌+◌, ◌≤◌, List, [], ◌∷◌, ◌++◌, length, refl, arith, min, max, Option, Some, None, Ok}
 use Rattle.std.specs.Prelude.{All, filter, ◌||◌, codes, option_map}
 use Rattle.std.specs.List.{range_with_len}
-use Rattle.std.proofs.lemmas.Bool.{cases_Bool}
 use Rattle.std.proofs.lemmas.List.Elements.{All-cons, All-nil}
 use Rattle.std.proofs.lemmas.List.FromFn.{length-range_with_len}
+use Rattle.std.proofs.lemmas.List.Sums.{count_by-le-length, length-filter}
 use Rattle.ct_base.specs.Seconds.{number_in}
 use Rattle.ct_base.specs.declared.defs.TestDef.{TestDef}
 use Rattle.ct_props.specs.declared.props.Props.{Props}
@@ -51,12 +51,11 @@ have_props-snoc [] (p ∷ ps) def own have has = absurd have
 have_props-snoc (d ∷ ds) [] def own have has = absurd have
 have_props-snoc (d ∷ ds) (p ∷ ps) def own have has = (have.0, have_props-snoc ds ps def own have.1 has)
 
-length-filter : {A : Type 0} (p : A → Bool) (xs : List A) → length (filter p xs) ≤ length xs
-length-filter p [] = omega arith
-length-filter p (x ∷ xs) = elim (cases_Bool (p x)) [
-  | inl passes ↦ rw passes (omega (arith, length-filter p xs))
-  | inr fails ↦ rw fails (omega (arith, length-filter p xs))
-]
+-- of the numbers up to one, no more than there are pass a test
+few_pass : (p : ℕ → Bool) (count : ℕ) → length (filter p (range_with_len 1 count)) ≤ count
+few_pass p count =
+    let numbers = range_with_len 1 count in
+    omega (arith, length-filter p numbers, count_by-le-length p numbers, length-range_with_len 1 count)
 
 -- there are no more members than tests
 pub few_members : (choice : Choice) (defs : List TestDef) (props : List Props) → length props ≡ length defs → length (members_in choice defs props) ≤ length defs
@@ -65,11 +64,8 @@ few_members choice defs props same = by (length props) refl
     round : (rounds : ℕ) → length (next_round choice props (after_rounds choice props (chosen_tests defs props choice) rounds)) ≤ length props
     round rounds =
         let tests = after_rounds choice props (chosen_tests defs props choice) rounds in
-        let most = length-filter (λ number. is_in tests number || is_drawn choice (fixtures_required props tests) (at_number props number)) (range_with_len 1 (length props)) in
-        omega (arith, most, length-range_with_len 1 (length props))
+        few_pass (λ number. is_in tests number || is_drawn choice (fixtures_required props tests) (at_number props number)) (length props)
 
     by : (rounds : ℕ) → length props ≡ rounds → length (after_rounds choice props (chosen_tests defs props choice) rounds) ≤ length defs
-    by zero is =
-        let most = length-filter (is_chosen_at defs props choice) (range_with_len 1 (length defs)) in
-        omega (arith, most, length-range_with_len 1 (length defs))
+    by zero is = few_pass (is_chosen_at defs props choice) (length defs)
     by (suc rounds) is = omega (arith, round rounds, same)

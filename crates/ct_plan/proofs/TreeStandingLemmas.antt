@@ -11,19 +11,20 @@ use Rattle.ct_props.proofs.NumberedLemmas.{at_number_within}
 use Rattle.ct_history.specs.declared.plan.PlanTest.{PlanTest}
 use Rattle.ct_history.specs.Parts.{renumbered}
 use Rattle.ct_history.specs.Plan.{IsAscendingFrom, IsSound, enabled}
+use Rattle.ct_history.proofs.PlanLemmas.{numbers_of}
 use Rattle.ct_plan.specs.declared.standing.Standing.{Standing}
 use Rattle.ct_plan.specs.declared.whole.Tree.{Tree}
 use Rattle.ct_plan.specs.Queue.{cost_in, standing_there}
 use Rattle.ct_plan.specs.Whole.{IsPlannedTree, standing_behind, standing_in_trees, tests_of_trees}
 use Rattle.ct_plan.proofs.NumberLemmas.{AreOfTests, enabled_ascend, enabled_of_tests}
 use Rattle.ct_plan.proofs.UrgencyLemmas.{IsKnown, IsOwn, standing_number}
-use Rattle.ct_plan.proofs.WholeLemmas.{AreSound, numbers_ascend, numbers_in}
+use Rattle.ct_plan.proofs.WholeLemmas.{AreSound, numbers_ascend}
 
 -- what each tree tells of its tests that are not disabled, one tree behind the other
 abbrev pub told_standings : ℕ → List Tree → List (Option Standing)
 told_standings o [] = []
 told_standings o (tree ∷ trees) =
-    map (standing_behind o tree.defs tree.props tree.costs) (numbers_in (enabled tree.plan.tests)) ++ told_standings (o + length tree.defs) trees
+    map (standing_behind o tree.defs tree.props tree.costs) (numbers_of (enabled tree.plan.tests)) ++ told_standings (o + length tree.defs) trees
 
 -- each standing has the number that was asked for
 pub own_in_trees : (o : ℕ) (trees : List Tree) → IsOwn (standing_in_trees o trees)
@@ -34,19 +35,19 @@ own_in_trees o (tree ∷ trees) number x is = by_here (nat_le number (o + length
     by_here true later has = standing_number tree.costs number (at_number tree.defs (number - o)) (at_number tree.props (number - o)) x has
     by_here false later has = later has
 
-enabled_raised : (o : ℕ) (ts : List PlanTest) → numbers_in (enabled (map (renumbered o) ts)) ≡ map (λ n. n + o) (numbers_in (enabled ts))
+enabled_raised : (o : ℕ) (ts : List PlanTest) → numbers_of (enabled (map (renumbered o) ts)) ≡ map (λ n. n + o) (numbers_of (enabled ts))
 enabled_raised o [] = refl
 enabled_raised o (t ∷ ts) = by_enabled (not t.disabled) (enabled_raised o ts)
   where
-    by_enabled : (b : Bool) → numbers_in (enabled (map (renumbered o) ts)) ≡ map (λ n. n + o) (numbers_in (enabled ts)) → numbers_in (cond b (renumbered o t ∷ enabled (map (renumbered o) ts)) (enabled (map (renumbered o) ts))) ≡ map (λ n. n + o) (numbers_in (cond b (t ∷ enabled ts) (enabled ts)))
+    by_enabled : (b : Bool) → numbers_of (enabled (map (renumbered o) ts)) ≡ map (λ n. n + o) (numbers_of (enabled ts)) → numbers_of (cond b (renumbered o t ∷ enabled (map (renumbered o) ts)) (enabled (map (renumbered o) ts))) ≡ map (λ n. n + o) (numbers_of (cond b (t ∷ enabled ts) (enabled ts)))
     by_enabled true later = ap (λ (ns : List ℕ). (t.number + o) ∷ ns) later
     by_enabled false later = later
 
-enabled_numbers_joined : (o : ℕ) (ts later : List PlanTest) → numbers_in (enabled (map (renumbered o) ts ++ later)) ≡ map (λ n. n + o) (numbers_in (enabled ts)) ++ numbers_in (enabled later)
+enabled_numbers_joined : (o : ℕ) (ts later : List PlanTest) → numbers_of (enabled (map (renumbered o) ts ++ later)) ≡ map (λ n. n + o) (numbers_of (enabled ts)) ++ numbers_of (enabled later)
 enabled_numbers_joined o ts later =
-    ap numbers_in (filter-append (λ (t : PlanTest). not t.disabled) (map (renumbered o) ts) later)
+    ap numbers_of (filter-append (λ (t : PlanTest). not t.disabled) (map (renumbered o) ts) later)
     ∙ map-append (λ (t : PlanTest). t.number) (enabled (map (renumbered o) ts)) (enabled later)
-    ∙ ap (λ (ns : List ℕ). ns ++ numbers_in (enabled later)) (enabled_raised o ts)
+    ∙ ap (λ (ns : List ℕ). ns ++ numbers_of (enabled later)) (enabled_raised o ts)
 
 module _ (o : ℕ) (tree : Tree) (trees : List Tree) where
   -- a test of the first tree
@@ -98,33 +99,33 @@ module _ (o : ℕ) (tree : Tree) (trees : List Tree) where
       (known_later (n + 1) ns (omega (arith, above, ascends.0)) ascends.1 (All-tail (IsKnown (standing_in_trees (o + length tree.defs) trees)) n ns known))
 
 -- what the trees tell is how the tests of all trees stand
-pub told_is : (o : ℕ) (trees : List Tree) → All IsPlannedTree trees → AreSound trees → told_standings o trees ≡ map (standing_in_trees o trees) (numbers_in (enabled (tests_of_trees o trees)))
+pub told_is : (o : ℕ) (trees : List Tree) → All IsPlannedTree trees → AreSound trees → told_standings o trees ≡ map (standing_in_trees o trees) (numbers_of (enabled (tests_of_trees o trees)))
 told_is o [] planned sound = refl
 told_is o (tree ∷ trees) planned sound =
     let here = All-head IsPlannedTree tree trees planned in
     let rest = All-tail IsPlannedTree tree trees planned in
     let sounds = All-tail (λ (x : Tree). IsSound x.plan) tree trees sound in
-    let own = numbers_in (enabled tree.plan.tests) in
+    let own = numbers_of (enabled tree.plan.tests) in
     let next = o + length tree.defs in
     let later = tests_of_trees next trees in
     let up = enabled_ascend (next + 1) later (numbers_ascend next trees rest sounds) in
-    ap (λ (ss : List (Option Standing)). map (standing_behind o tree.defs tree.props tree.costs) own ++ ss) (told_is next trees rest sounds ∙ sym (all_later o tree trees (next + 1) (numbers_in (enabled later)) (omega arith) up))
-    ∙ ap (λ (ss : List (Option Standing)). ss ++ map (standing_in_trees o (tree ∷ trees)) (numbers_in (enabled later))) (sym (all_here o tree trees own (enabled_of_tests (length tree.defs) tree.plan.tests here.within)))
-    ∙ sym (map-append (standing_in_trees o (tree ∷ trees)) (map (λ n. n + o) own) (numbers_in (enabled later)))
+    ap (λ (ss : List (Option Standing)). map (standing_behind o tree.defs tree.props tree.costs) own ++ ss) (told_is next trees rest sounds ∙ sym (all_later o tree trees (next + 1) (numbers_of (enabled later)) (omega arith) up))
+    ∙ ap (λ (ss : List (Option Standing)). ss ++ map (standing_in_trees o (tree ∷ trees)) (numbers_of (enabled later))) (sym (all_here o tree trees own (enabled_of_tests (length tree.defs) tree.plan.tests here.within)))
+    ∙ sym (map-append (standing_in_trees o (tree ∷ trees)) (map (λ n. n + o) own) (numbers_of (enabled later)))
     ∙ ap (map (standing_in_trees o (tree ∷ trees))) (sym (enabled_numbers_joined o tree.plan.tests later))
 
 -- it is known how each test of all trees stands
-pub known_in_trees : (o : ℕ) (trees : List Tree) → All IsPlannedTree trees → AreSound trees → All (IsKnown (standing_in_trees o trees)) (numbers_in (enabled (tests_of_trees o trees)))
+pub known_in_trees : (o : ℕ) (trees : List Tree) → All IsPlannedTree trees → AreSound trees → All (IsKnown (standing_in_trees o trees)) (numbers_of (enabled (tests_of_trees o trees)))
 known_in_trees o [] planned sound = All-nil (IsKnown (standing_in_trees o []))
 known_in_trees o (tree ∷ trees) planned sound =
     let here = All-head IsPlannedTree tree trees planned in
     let rest = All-tail IsPlannedTree tree trees planned in
     let sounds = All-tail (λ (x : Tree). IsSound x.plan) tree trees sound in
-    let own = numbers_in (enabled tree.plan.tests) in
+    let own = numbers_of (enabled tree.plan.tests) in
     let next = o + length tree.defs in
     let later = tests_of_trees next trees in
     let up = enabled_ascend (next + 1) later (numbers_ascend next trees rest sounds) in
     subst (All (IsKnown (standing_in_trees o (tree ∷ trees)))) (sym (enabled_numbers_joined o tree.plan.tests later))
-    (All-append (IsKnown (standing_in_trees o (tree ∷ trees))) (map (λ n. n + o) own) (numbers_in (enabled later))
+    (All-append (IsKnown (standing_in_trees o (tree ∷ trees))) (map (λ n. n + o) own) (numbers_of (enabled later))
     (known_here o tree trees here.paired own (enabled_of_tests (length tree.defs) tree.plan.tests here.within))
-    (known_later o tree trees (next + 1) (numbers_in (enabled later)) (omega arith) up (known_in_trees next trees rest sounds)))
+    (known_later o tree trees (next + 1) (numbers_of (enabled later)) (omega arith) up (known_in_trees next trees rest sounds)))

@@ -1,22 +1,23 @@
 -- The tests of several trees one behind the other are sound, and each tree's plan is a part of theirs.
-use Rattle.std.proofs.Common.{◌≡◌, ◌∙◌, sym, ap, subst, Bool, true, false, ℕ, suc, ◌+◌, ◌<◌, ◌≤◌, ◌^◌, All, List, [], ◌∷◌, ◌++◌, length, get_or, take, drop, drop-cons, map, filter, Option, Some, None, refl, arith, inl, inr, ◌==◌, nat_lt, nat_le, append_assoc}
+use Rattle.std.proofs.Common.{◌≡◌, ◌∙◌, sym, ap, subst, Bool, true, false, ℕ, ◌+◌, ◌<◌, ◌≤◌, ◌^◌, All, List, [], ◌∷◌, ◌++◌, length, get_or, take, drop, map, filter, Option, Some, None, refl, arith, inl, inr, ◌==◌, nat_lt, nat_le, append_assoc}
 use Rattle.std.specs.Prelude.{◌||◌, cond, IfSome, option_map}
 use Rattle.std.specs.List.{list_all, list_any}
 use Rattle.std.proofs.lemmas.Bool.{and_from, and_parts, cases_Bool, le-leb, leb-true, lt-ltb}
 use Rattle.std.proofs.lemmas.Bool.Decides.{nat_tests}
-use Rattle.std.proofs.lemmas.List.{append-nil, take_more}
+use Rattle.std.proofs.lemmas.List.{append-nil, drop_more, take_more}
 use Rattle.std.proofs.lemmas.List.Elements.{All-append, All-cons, All-head, All-nil, All-tail, filter-append}
 use Rattle.std.proofs.lemmas.List.Folds.{list_all-append}
 use Rattle.ct_base.specs.declared.defs.Resource.{Resource}
-use Rattle.ct_alloc.specs.Placement.{AreDistinct}
+use Rattle.ct_base.specs.Resources.{AreDistinct}
 use Rattle.ct_verdict.specs.declared.repeat.Repeat.{Repeat}
 use Rattle.ct_history.specs.declared.plan.PlanTest.{PlanTest}
 use Rattle.ct_history.specs.declared.plan.PlanParts.{PlanParts}
 use Rattle.ct_history.specs.Parts.{IsPartOfPlan, is_in_tree, renumbered}
 use Rattle.ct_history.specs.Plan.{AllAscend, IsAscendingFrom, IsPlaceable, IsSound, has_sound_links, has_sound_processors, is_before_rank, is_fixed_cause, test_at}
 use Rattle.ct_history.proofs.BoolLemmas.{all_at}
-use Rattle.ct_history.proofs.PlanLemmas.{find_passes}
-use Rattle.ct_history.proofs.PartListLemmas.{among_all, found_all}
+use Rattle.ct_history.proofs.PlanLemmas.{find_passes, numbers_of}
+use Rattle.ct_history.proofs.PartListLemmas.{among_all}
+use Rattle.ct_history.proofs.ProgressLemmas.{all_found}
 use Rattle.ct_history.proofs.PartLemmas.{found_in, test_at-part}
 use Rattle.ct_history.proofs.AscendLemmas.{ascends_sooner}
 use Rattle.ct_plan.specs.declared.standing.Standing.{Standing}
@@ -25,26 +26,22 @@ use Rattle.ct_plan.specs.Queue.{IsQueue}
 use Rattle.ct_plan.specs.Whole.{AreTreeParts, IsPlannedTree, RunAlike, RunsLike, StaysNumbered, defined_in, tests_of_trees}
 use Rattle.ct_plan.proofs.NumberLemmas.{AreOfTests}
 
--- the numbers of tests
-abbrev pub numbers_in : List PlanTest → List ℕ
-numbers_in tests = map (λ (t : PlanTest). t.number) tests
-
 -- each of these trees has a sound plan
 abbrev pub AreSound : List Tree → Type 0
 AreSound trees = All (λ (tree : Tree). IsSound tree.plan) trees
 
 -- numbers that ascend, raised, with greater ones behind them
-joined : (o most least : ℕ) (ts later : List PlanTest) → least ≤ most + 1 → IsAscendingFrom least (numbers_in ts) → AreOfTests most (numbers_in ts) → IsAscendingFrom (o + most + 1) (numbers_in later) → IsAscendingFrom (o + least) (numbers_in (map (renumbered o) ts ++ later))
-joined o most least [] later below ascends within rest = ascends_sooner (o + least) (o + most + 1) (numbers_in later) (omega (arith, below)) rest
+joined : (o most least : ℕ) (ts later : List PlanTest) → least ≤ most + 1 → IsAscendingFrom least (numbers_of ts) → AreOfTests most (numbers_of ts) → IsAscendingFrom (o + most + 1) (numbers_of later) → IsAscendingFrom (o + least) (numbers_of (map (renumbered o) ts ++ later))
+joined o most least [] later below ascends within rest = ascends_sooner (o + least) (o + most + 1) (numbers_of later) (omega (arith, below)) rest
 joined o most least (t ∷ ts) later below ascends within rest =
     let P : ℕ → Type 0 = λ number. (0 < number) × (number ≤ most) in
-    let here = All-head P t.number (numbers_in ts) within in
-    let more = joined o most (t.number + 1) ts later (omega (arith, here.1)) ascends.1 (All-tail P t.number (numbers_in ts) within) rest in
+    let here = All-head P t.number (numbers_of ts) within in
+    let more = joined o most (t.number + 1) ts later (omega (arith, here.1)) ascends.1 (All-tail P t.number (numbers_of ts) within) rest in
     let next : o + (t.number + 1) ≡ t.number + o + 1 = omega arith in
-    (omega (arith, ascends.0), subst (λ (n : ℕ). IsAscendingFrom n (numbers_in (map (renumbered o) ts ++ later))) next more)
+    (omega (arith, ascends.0), subst (λ (n : ℕ). IsAscendingFrom n (numbers_of (map (renumbered o) ts ++ later))) next more)
 
 -- the numbers of the tests of all trees ascend
-pub numbers_ascend : (o : ℕ) (trees : List Tree) → All IsPlannedTree trees → AreSound trees → IsAscendingFrom (o + 1) (numbers_in (tests_of_trees o trees))
+pub numbers_ascend : (o : ℕ) (trees : List Tree) → All IsPlannedTree trees → AreSound trees → IsAscendingFrom (o + 1) (numbers_of (tests_of_trees o trees))
 numbers_ascend o [] planned sound = tt
 numbers_ascend o (tree ∷ trees) planned sound =
     let here = All-head IsPlannedTree tree trees planned in
@@ -52,7 +49,7 @@ numbers_ascend o (tree ∷ trees) planned sound =
     (All-head (λ (x : Tree). IsSound x.plan) tree trees sound).numbers here.within
     (numbers_ascend (o + length tree.defs) trees (All-tail IsPlannedTree tree trees planned) (All-tail (λ (x : Tree). IsSound x.plan) tree trees sound))
 
-pub whole_ascends : (trees : List Tree) → All IsPlannedTree trees → AreSound trees → IsAscendingFrom 1 (numbers_in (tests_of_trees 0 trees))
+pub whole_ascends : (trees : List Tree) → All IsPlannedTree trees → AreSound trees → IsAscendingFrom 1 (numbers_of (tests_of_trees 0 trees))
 whole_ascends trees planned sound = numbers_ascend 0 trees planned sound
 
 -- the links of each test ascend
@@ -125,16 +122,16 @@ module _ (o c : ℕ) where
         ∙ filter_none ts (sym (ap (λ (b : Bool). b || list_any in_range ts) other) ∙ none)
   ]
 
-  own_in_range : (ts : List PlanTest) → AreOfTests c (numbers_in ts) → list_all in_range (map (renumbered o) ts) ≡ true
+  own_in_range : (ts : List PlanTest) → AreOfTests c (numbers_of ts) → list_all in_range (map (renumbered o) ts) ≡ true
   own_in_range [] within = refl
   own_in_range (t ∷ ts) within =
       let P : ℕ → Type 0 = λ number. (0 < number) × (number ≤ c) in
-      let here = All-head P t.number (numbers_in ts) within in
+      let here = All-head P t.number (numbers_of ts) within in
       and_from (in_range (renumbered o t)) (list_all in_range (map (renumbered o) ts))
       (and_from (nat_lt o (t.number + o)) (nat_le (t.number + o) (o + c)) (lt-ltb _ _ (omega (arith, here.0))) (le-leb _ _ (omega (arith, here.1))))
-      (own_in_range ts (All-tail P t.number (numbers_in ts) within))
+      (own_in_range ts (All-tail P t.number (numbers_of ts) within))
 
-  later_out : (least : ℕ) (ts : List PlanTest) → o + c < least → IsAscendingFrom least (numbers_in ts) → list_any in_range ts ≡ false
+  later_out : (least : ℕ) (ts : List PlanTest) → o + c < least → IsAscendingFrom least (numbers_of ts) → list_any in_range ts ≡ false
   later_out least [] above ascends = refl
   later_out least (t ∷ ts) above ascends =
       let out : in_range t ≡ false = (let more : o + c < t.number = omega (arith, above, ascends.0) in grind (arith, nat_tests)) in
@@ -159,13 +156,13 @@ up_further o more (t ∷ ts) up =
     let low = leb-true t.number o both.0 in
     and_from (nat_le t.number (o + more)) (list_all (λ (u : PlanTest). nat_le u.number (o + more)) ts) (le-leb _ _ (omega (arith, low))) (up_further o more ts both.1)
 
-own_up : (o c : ℕ) (ts : List PlanTest) → AreOfTests c (numbers_in ts) → AreUpTo (o + c) (map (renumbered o) ts)
+own_up : (o c : ℕ) (ts : List PlanTest) → AreOfTests c (numbers_of ts) → AreUpTo (o + c) (map (renumbered o) ts)
 own_up o c [] within = refl
 own_up o c (t ∷ ts) within =
     let P : ℕ → Type 0 = λ number. (0 < number) × (number ≤ c) in
-    let here = All-head P t.number (numbers_in ts) within in
+    let here = All-head P t.number (numbers_of ts) within in
     and_from (nat_le (t.number + o) (o + c)) (list_all (λ (u : PlanTest). nat_le u.number (o + c)) (map (renumbered o) ts)) (le-leb _ _ (omega (arith, here.1)))
-    (own_up o c ts (All-tail P t.number (numbers_in ts) within))
+    (own_up o c ts (All-tail P t.number (numbers_of ts) within))
 
 -- the plan of each tree is the part of a plan of all tests
 module _ (whole : PlanParts) where
@@ -262,7 +259,7 @@ module _ (whole : PlanParts) (trees : List Tree) (planned : All IsPlannedTree tr
   -- the whole plan is sound
   pub whole_sound : (first : Tree) → IsSound first.plan → RunsLike whole first → (standing : ℕ → Option Standing) → IsQueue whole.level standing whole.tests whole.queue → IsSound whole
   whole_sound first first_sound first_alike standing queued = record {
-    numbers = subst (λ (ts : List PlanTest). IsAscendingFrom 1 (numbers_in ts)) (sym is) (whole_ascends trees planned sound);
+    numbers = subst (λ (ts : List PlanTest). IsAscendingFrom 1 (numbers_of ts)) (sym is) (whole_ascends trees planned sound);
     before = subst (λ (ts : List PlanTest). AllAscend (λ (t : PlanTest). t.before) ts) (sym is)
         (links_ascend (λ (t : PlanTest). t.before) (λ o t. refl) 0 trees (λ k d lt. (sound k d lt).before));
     setups = subst (λ (ts : List PlanTest). AllAscend (λ (t : PlanTest). t.setups) ts) (sym is)
@@ -280,12 +277,12 @@ module _ (whole : PlanParts) (trees : List Tree) (planned : All IsPlannedTree tr
         (placeable_all whole.resources (λ k d lt. subst (λ (given : Option (List Resource)). IfSome given (λ (rs : List Resource). All (IsPlaceable rs) (get_or trees k d).plan.tests)) (alike k d lt).resources (sound k d lt).placeable));
   }
 
-up_of_tests : (most : ℕ) (ts : List PlanTest) → AreOfTests most (numbers_in ts) → AreUpTo most ts
+up_of_tests : (most : ℕ) (ts : List PlanTest) → AreOfTests most (numbers_of ts) → AreUpTo most ts
 up_of_tests most [] within = refl
 up_of_tests most (t ∷ ts) within =
     let P : ℕ → Type 0 = λ number. (0 < number) × (number ≤ most) in
-    and_from (nat_le t.number most) (list_all (λ (u : PlanTest). nat_le u.number most) ts) (le-leb _ _ (All-head P t.number (numbers_in ts) within).1)
-    (up_of_tests most ts (All-tail P t.number (numbers_in ts) within))
+    and_from (nat_le t.number most) (list_all (λ (u : PlanTest). nat_le u.number most) ts) (le-leb _ _ (All-head P t.number (numbers_of ts) within).1)
+    (up_of_tests most ts (All-tail P t.number (numbers_of ts) within))
 
 -- the numbers that a test of a tree names can be raised
 pub stays_numbered : (o : ℕ) (tree : Tree) → IsPlannedTree tree → IsSound tree.plan → length tree.defs + o < 2 ^ 32 → All (StaysNumbered o) tree.plan.tests
@@ -310,15 +307,13 @@ stays_numbered o tree planned sound few = λ k d lt.
     low_rank up rank j None at below = cc
     low_rank up rank j (Some u) at below =
         let passes = find_passes (λ (t : PlanTest). t.number == j) tree.plan.tests u (sym at) in
-        let most = leb-true u.number (length tree.defs) (found_all (λ (t : PlanTest). t.number == j) (λ (t : PlanTest). nat_le t.number (length tree.defs)) tree.plan.tests u (sym at) up) in
+        let most = leb-true u.number (length tree.defs) (all_found (λ (t : PlanTest). nat_le t.number (length tree.defs)) (λ (t : PlanTest). t.number == j) tree.plan.tests u up (sym at)) in
         let same : u.number ≡ j = grind (arith, nat_tests) in
         omega (arith, most, same)
 
--- the trees from this one on
-pub trees_from : (trees : List Tree) (i : ℕ) (tree : Tree) → i < length trees → tree ≡ get_or trees i tree → drop i trees ≡ tree ∷ drop (i + 1) trees
-trees_from trees i tree lt is =
-    let next : suc i ≡ i + 1 = omega arith in
-    drop-cons trees i tree lt ∙ ap (λ (x : Tree). x ∷ drop (suc i) trees) (sym is) ∙ ap (λ (n : ℕ). tree ∷ drop n trees) next
+-- the trees from this one on, whatever each of them is
+pub trees_from : {A : Type 0} (trees : List A) (i : ℕ) (tree : A) → i < length trees → tree ≡ get_or trees i tree → drop i trees ≡ tree ∷ drop (i + 1) trees
+trees_from {A = A} trees i tree lt is = drop_more trees i tree lt ∙ ap (λ (x : A). x ∷ drop (i + 1) trees) (sym is)
 
 -- the tests that the trees in front define are, with those of this tree, no more than all
 pub defined_here : (trees : List Tree) (i o : ℕ) (tree : Tree) → i < length trees → tree ≡ get_or trees i tree → o + defined_in (drop i trees) ≡ defined_in trees → o + length tree.defs + defined_in (drop (i + 1) trees) ≡ defined_in trees

@@ -1,5 +1,5 @@
 -- The tests of a plan, each made of its links, and how they stand in the queue. This project's own.
-use Rattle.std.specs.Prelude.{◌≡◌, ℕ, ⊤, min, List, [], ◌∷◌, Option, Some, option_map}
+use Rattle.std.specs.Prelude.{◌≡◌, ℕ, ⊤, min, List, [], ◌∷◌, Option, Some}
 use Rattle.ct_base.specs.declared.defs.Resource.{Resource}
 use Rattle.ct_base.specs.declared.defs.TestDef.{TestDef}
 use Rattle.ct_props.specs.declared.props.Props.{Props}
@@ -17,10 +17,6 @@ use Rattle.ct_plan.specs.declared.standing.Standing.{Standing}
 use Rattle.ct_plan.specs.Planned.{IsFixed, rules_of, shared_by}
 use Rattle.ct_plan.specs.Queue.{standing_there}
 use Rattle.ct_groups.specs.GroupsIn.{needs_of_groups}
-
--- the resources that are lent, if any are, by the value of what is free of them
-abbrev pub lent : Option FreeValue → Option (List Resource)
-lent free = option_map (λ (f : FreeValue). f.resources) free
 
 -- nothing is used of any resource
 abbrev pub IsUnused : FreeValue → Type 0

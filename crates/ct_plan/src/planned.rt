@@ -1,6 +1,7 @@
 ghost use Rattle.std.specs.Prelude.{◌≡◌, ◌<◌, ◌≤◌, ◌^◌, All, IfOk, IfSome, None, length, map};
 ghost use Rattle.std.specs.Option.{option_copied};
-ghost use Rattle.ct_plan.specs.Linked.{AreLinked, IsUnused, lent, test_from};
+ghost use Rattle.ct_alloc.specs.Lent.{lent};
+ghost use Rattle.ct_plan.specs.Linked.{AreLinked, IsUnused, test_from};
 ghost use Rattle.ct_plan.specs.Planned.{ArePlaceable, IsFixed, IsFixedBy, is_not_available as stands_for_none, own_cause as cause_of_words, rules_of, without as names_without};
 
 use ct_alloc::Free;

@@ -1,9 +1,10 @@
 ghost use Rattle.std.specs.Prelude.{◌≡◌, ◌<◌, ◌≤◌, ◌-◌, ◌^◌, All, IfOk, IfSome, OnOk, length};
 ghost use Rattle.std.specs.Option.{option_copied};
-ghost use Rattle.ct_alloc.specs.Placement.{AreDistinct};
+ghost use Rattle.ct_base.specs.Resources.{AreDistinct};
 ghost use Rattle.ct_graph.specs.Cycle.{HasCycle};
 ghost use Rattle.ct_graph.specs.Order.{IsOrder, most_edges};
-ghost use Rattle.ct_plan.specs.Linked.{IsUnused, lent};
+ghost use Rattle.ct_alloc.specs.Lent.{lent};
+ghost use Rattle.ct_plan.specs.Linked.{IsUnused};
 ghost use Rattle.ct_plan.specs.PlanOf.{IsPlanAnswer, IsPlanOf};
 ghost use Rattle.ct_plan.specs.Source.{members_before, members_in, run_members, source};
 

@@ -4,12 +4,12 @@ use Rattle.std.proofs.Common.{ℕ, ◌≡◌, ◌<◌, ◌≤◌, false, List, l
 use Rattle.std.proofs.lemmas.Bool.{cases_lt, true≢false}
 use Rattle.std.proofs.lemmas.List.{get_or_past, get_or-replicate, length-replicate}
 use Rattle.ct_queue.specs.Marks.{is_marked}
-use Rattle.ct_queue.specs.Lines.{BunchedValue, LinesValue, IsHeadIn, IsLeastHeadFrom, IsNextHeadOfBunch, IsNextOfLine, IsOfBunchBefore, IsOfNewBunchFrom, NoHeadFrom, NoHeadOfBunchBehind, NoNewBunchFrom, NoneOfLineBehind, none_in}
+use Rattle.ct_queue.specs.Lines.{LinesValue, MembersValue, IsHeadIn, IsLeastHeadFrom, IsNextHeadOfBunch, IsNextOfLine, IsOfBunchBefore, IsOfNewBunchFrom, NoHeadFrom, NoHeadOfBunchBehind, NoNewBunchFrom, NoneOfLineBehind, none_in}
 use Rattle.ct_queue.specs.Spots.{AreHeads, AreHeadsInBunches}
 use Rattle.ct_queue.proofs.CallerLemmas.{head_of}
 use Rattle.ct_queue.proofs.HeadLemmas.{heads_none}
 
-abbrev pub bunched_of : LinesValue → LinesValue → BunchedValue
+abbrev pub bunched_of : MembersValue → MembersValue → LinesValue
 bunched_of value heads = record { lines = value.lines; bunches = heads.lines; members = value.members }
 
 -- without members there are no heads
@@ -26,7 +26,7 @@ bunches_none lines bunches many = record {
         (λ (past : length bunches ≤ place). get_or_past (replicate (length bunches) false) place false (omega (arith, length-replicate (length bunches) false)))
         (cases_lt place (length bunches))
 
-module _ (value heads : LinesValue) (kept : AreHeads value heads.members) where
+module _ (value heads : MembersValue) (kept : AreHeads value heads.members) where
   -- if no place between `from` and a head has the first head of
   -- a bunch, the bunch of that head has a head before `from`
   of_bunch_before : (from place : ℕ) → IsHeadIn value place → ((at : ℕ) → at ≤ place → from ≤ at → IsHeadIn heads at → ⊥) → IsOfBunchBefore heads.lines (IsHeadIn value) from place

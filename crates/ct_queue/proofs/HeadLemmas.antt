@@ -4,13 +4,13 @@ use Rattle.std.proofs.lemmas.Bool.{cases_eq, cases_lt, true≢false}
 use Rattle.std.proofs.lemmas.Grind.{get_or-set_at}
 use Rattle.std.proofs.lemmas.List.{get_or_past, get_or-replicate, get_or-set_other, length-replicate, length-set}
 use Rattle.ct_queue.specs.Marks.{is_marked, with_mark, NoneWithin, IsLeastWithin}
-use Rattle.ct_queue.specs.Lines.{IsHeadIn, IsHeadOfLine, IsLeastHeadFrom, LinesValue, NoHeadFrom, NoneOfLine, none_in, with_member}
+use Rattle.ct_queue.specs.Lines.{IsHeadIn, IsHeadOfLine, IsLeastHeadFrom, MembersValue, NoHeadFrom, NoneOfLine, none_in, with_member}
 use Rattle.ct_queue.specs.Spots.{AreHeads}
 
-abbrev pub line_in : LinesValue → ℕ → ℕ
+abbrev pub line_in : MembersValue → ℕ → ℕ
 line_in value place = get_or value.lines place 0
 
-module _ (value : LinesValue) (heads : List Bool) (kept : AreHeads value heads) (from : ℕ) where
+module _ (value : MembersValue) (heads : List Bool) (kept : AreHeads value heads) (from : ℕ) where
   pub no_head_from : NoneWithin heads from 0 (length heads) → NoHeadFrom value from
   no_head_from none place behind head =
       ⊎_elim
@@ -41,18 +41,18 @@ heads_none lines heads room none = record {
         (cases_lt place (length lines))
 
 -- what was found of a line: its head, or that it has no member
-abbrev pub IsFoundIn : LinesValue → ℕ → Option ℕ → Type 0
+abbrev pub IsFoundIn : MembersValue → ℕ → Option ℕ → Type 0
 IsFoundIn value line found = MatchOption found (NoneOfLine value line) (IsHeadOfLine value line)
 
 -- the marks are right for all lines but this one, whose places have no mark
-record AreHeadsBut (value : LinesValue) (line : ℕ) (heads : List Bool) : Type 0 where
+record AreHeadsBut (value : MembersValue) (line : ℕ) (heads : List Bool) : Type 0 where
   pub room : length value.lines ≤ length heads
   pub marked : (place : ℕ) → is_marked heads place ≡ true → IsHeadIn value place
   pub apart : (place : ℕ) → is_marked heads place ≡ true → line_in value place ≡ line → ⊥
   pub all : (place : ℕ) → IsHeadIn value place → (line_in value place ≡ line → ⊥) → is_marked heads place ≡ true
 
 -- a line has one head
-one_head : (value : LinesValue) (place other : ℕ) → IsHeadIn value place → IsHeadIn value other → line_in value place ≡ line_in value other → place ≡ other
+one_head : (value : MembersValue) (place other : ℕ) → IsHeadIn value place → IsHeadIn value other → line_in value place ≡ line_in value other → place ≡ other
 one_head value place other here there same =
     ⊎_elim
     (λ (before : place < other). absurd (true≢false (sym here.member ∙ there.first place before same)))
@@ -63,11 +63,11 @@ one_head value place other here there same =
     (cases_lt other place))
     (cases_lt place other)
 
-pub head_within : (value : LinesValue) (line : ℕ) (found : Option ℕ) (heads : List Bool) → length value.lines ≤ length heads → IsFoundIn value line found → IfSome found (λ at. at < length heads)
+pub head_within : (value : MembersValue) (line : ℕ) (found : Option ℕ) (heads : List Bool) → length value.lines ≤ length heads → IsFoundIn value line found → IfSome found (λ at. at < length heads)
 head_within value line None heads room is = tt
 head_within value line (Some at) heads room is = omega (arith, is.within)
 
-heads_lowered : (value : LinesValue) (line : ℕ) (found : Option ℕ) (heads : List Bool) → AreHeads value heads → IsFoundIn value line found → AreHeadsBut value line (with_mark heads found false)
+heads_lowered : (value : MembersValue) (line : ℕ) (found : Option ℕ) (heads : List Bool) → AreHeads value heads → IsFoundIn value line found → AreHeadsBut value line (with_mark heads found false)
 heads_lowered value line None heads kept none = record {
   room = kept.room;
   marked = kept.marked;
@@ -92,7 +92,7 @@ heads_lowered value line (Some at) heads kept is = record {
     was place marked = sym (get_or-set_other heads at place false false (other place marked)) ∙ marked
 
 -- one change in a line leaves the heads of the others
-module _ (value : LinesValue) (changed : ℕ) (member : Bool) where
+module _ (value : MembersValue) (changed : ℕ) (member : Bool) where
   member_stays : (place : ℕ) → (line_in value place ≡ line_in value changed → ⊥) → is_marked (set value.members changed member) place ≡ is_marked value.members place
   member_stays place apart = get_or-set_other value.members changed place member false (λ same. apart (ap (λ (p : ℕ). line_in value p) same))
 
@@ -115,7 +115,7 @@ module _ (value : LinesValue) (changed : ℕ) (member : Bool) where
         apart;
   }
 
-heads_raised : (value : LinesValue) (line : ℕ) (found : Option ℕ) (heads : List Bool) → AreHeadsBut value line heads → IsFoundIn value line found → AreHeads value (with_mark heads found true)
+heads_raised : (value : MembersValue) (line : ℕ) (found : Option ℕ) (heads : List Bool) → AreHeadsBut value line heads → IsFoundIn value line found → AreHeads value (with_mark heads found true)
 heads_raised value line None heads kept none = record {
   room = kept.room;
   marked = kept.marked;
@@ -141,7 +141,7 @@ heads_raised value line (Some at) heads kept is = record {
     here place same = get_or-set_at heads at place true false same (let room = kept.room in omega (arith, is.within))
 
 -- the marks are right once the old head of the changed line loses its mark and its new head gets one
-pub heads_set : (value : LinesValue) (heads : List Bool) (changed : ℕ) (member : Bool) (before after : Option ℕ) → AreHeads value heads → IsFoundIn value (line_in value changed) before → IsFoundIn (with_member value changed member) (line_in value changed) after → AreHeads (with_member value changed member) (with_mark (with_mark heads before false) after true)
+pub heads_set : (value : MembersValue) (heads : List Bool) (changed : ℕ) (member : Bool) (before after : Option ℕ) → AreHeads value heads → IsFoundIn value (line_in value changed) before → IsFoundIn (with_member value changed member) (line_in value changed) after → AreHeads (with_member value changed member) (with_mark (with_mark heads before false) after true)
 heads_set value heads changed member before after kept was is =
     heads_raised (with_member value changed member) (line_in value changed) after (with_mark heads before false)
     (heads_stay value changed member (with_mark heads before false) (heads_lowered value (line_in value changed) before heads kept was))

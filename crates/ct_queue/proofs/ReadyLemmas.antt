@@ -10,7 +10,7 @@ use Rattle.std.proofs.lemmas.Grind.{get_or-set_at}
 use Rattle.ct_base.proofs.ListLemmas.{none_new}
 use Rattle.ct_queue.specs.Ready.{ReadyValue, NamesOnce, StandsIn, place_of, count_at, is_out_at, is_member, none_out, lowered, with_out, IsBehind, NoneBehind, IsLeastBehind, IsHead, IsOfSeenBunch, NoNewBunch, IsOfNewBunch, NoHeadBehind, IsNextHead}
 use Rattle.ct_queue.specs.Marks.{is_marked}
-use Rattle.ct_queue.specs.Lines.{AreNumbered, BunchedValue, own_lines, without_bunches, IsHeadIn, IsOfBunchBefore, IsOfNewBunchFrom, NoNewBunchFrom, IsNextHeadOfBunch, NoHeadOfBunchBehind, with_bunched}
+use Rattle.ct_queue.specs.Lines.{AreNumbered, LinesValue, own_lines, without_bunches, IsHeadIn, IsOfBunchBefore, IsOfNewBunchFrom, NoNewBunchFrom, IsNextHeadOfBunch, NoHeadOfBunchBehind, with_bunched}
 use Rattle.ct_queue.specs.Kept.{AreFoundByNumber, AreMarkedAtZero, IsReadySet, waiting, ready_of, standing_at, with_standing}
 use Rattle.ct_queue.specs.declared.ready.Standing.{Standing}
 use Rattle.ct_queue.proofs.CallerLemmas.{test_at_place}
@@ -53,7 +53,7 @@ same_member here there count other is was e f g =
     ap (λ (b : Bool). b && eqb count 0 && not is) e ∙ ap (λ (n : ℕ). there && eqb n 0 && not is) f ∙ ap (λ (b : Bool). there && eqb other 0 && not b) g
 
 -- the test at a place gets this standing, and the place has a member exactly if the test is ready
-module _ (order : List ℕ) (places : tree.BTreeMap ℕ ℕ) (standings : List Standing) (lines : BunchedValue) (place : ℕ) (s : Standing) (mark : Bool) (kept : IsReadySet order places standings lines) (within : place < length order) (is : mark ≡ (eqb s.count 0 && not s.is_out)) where
+module _ (order : List ℕ) (places : tree.BTreeMap ℕ ℕ) (standings : List Standing) (lines : LinesValue) (place : ℕ) (s : Standing) (mark : Bool) (kept : IsReadySet order places standings lines) (within : place < length order) (is : mark ≡ (eqb s.count 0 && not s.is_out)) where
   marked_here : (q : ℕ) → q ≡ place → is_marked (set lines.members place mark) q ≡ is_member (ready_of order (set standings place s) lines.lines lines.bunches) q
   marked_here q same =
       let counts : place < length (map count_in standings) = omega (arith, length-map standings count_in, kept.stand) in
@@ -132,7 +132,7 @@ marked_new order counts lines bunches marks one marked q =
     and_true true = refl
     and_true false = refl
 
-pub kept_new : (order counts : List ℕ) (places : tree.BTreeMap ℕ ℕ) (lines : BunchedValue) → length order < 2 ^ 32 - 1 → AreFoundByNumber places order → length counts ≡ length order → length lines.lines ≡ length order → length lines.bunches ≡ length order → length lines.members ≡ length order → AreMarkedAtZero counts lines.members → IsReadySet order places (map waiting counts) lines
+pub kept_new : (order counts : List ℕ) (places : tree.BTreeMap ℕ ℕ) (lines : LinesValue) → length order < 2 ^ 32 - 1 → AreFoundByNumber places order → length counts ≡ length order → length lines.lines ≡ length order → length lines.bunches ≡ length order → length lines.members ≡ length order → AreMarkedAtZero counts lines.members → IsReadySet order places (map waiting counts) lines
 kept_new order counts places lines few found one lined bunched seated in_lines = record {
   few = few;
   found = found;
@@ -175,7 +175,7 @@ module _ (ready : ReadyValue) (given : Option ℕ) (from : ℕ) (reaches : (plac
     least = λ place behind before. none place (reaches place behind) before;
   }
 
-module _ (order : List ℕ) (places : tree.BTreeMap ℕ ℕ) (standings : List Standing) (lines : BunchedValue) (kept : IsReadySet order places standings lines) where
+module _ (order : List ℕ) (places : tree.BTreeMap ℕ ℕ) (standings : List Standing) (lines : LinesValue) (kept : IsReadySet order places standings lines) where
   -- a place has a head of the ready set exactly if it has a head of the lines
   head_here : (place : ℕ) → IsHeadIn (without_bunches lines) place → IsHead (ready_of order standings lines.lines lines.bunches) place
   head_here place head = record {

@@ -7,10 +7,10 @@ use Rattle.std.proofs.lemmas.Grind.{get_or-set_at}
 use Rattle.std.proofs.lemmas.List.{ext_get_or, get_or_default, get_or_past, get_or-map, get_or-replicate, get_or-set_other, length-map, length-replicate, length-set, take-take}
 use Rattle.std.proofs.lemmas.List.Sums.{count_by-le-length, count_by_more_no, count_by_more_yes, sum_by-cons, sum_by-take-le}
 use Rattle.ct_queue.specs.Marks.{is_marked, NoneWithin, IsLeastWithin}
-use Rattle.ct_queue.specs.Lines.{AreNumbered, IsHeadOfLine, IsNextOfLine, LinesValue, NoneOfLine, NoneOfLineBehind, none_in, with_member}
-use Rattle.ct_queue.specs.Spots.{AreOnSpots, AreSpots, IsSpot, IsTable, first_spot, lines_value, size_of, spot_of}
+use Rattle.ct_queue.specs.Lines.{AreNumbered, IsHeadOfLine, IsNextOfLine, MembersValue, NoneOfLine, NoneOfLineBehind, none_in, with_member}
+use Rattle.ct_queue.specs.Spots.{AreOnSpots, AreSpots, IsSpot, IsTable, first_spot, members_value, size_of, spot_of}
 
-abbrev members_in : List ℕ → List Bool → LinesValue
+abbrev members_in : List ℕ → List Bool → MembersValue
 members_in lines members = record { lines = lines; members = members }
 
 one_more : (x line : ℕ) → cond (ltb x (line + 1)) 1 0 ≡ cond (ltb x line) 1 0 + cond (eqb x line) 1 0
@@ -162,7 +162,7 @@ module _ (lines firsts spots places : List ℕ) (marks : List Bool) (kept : AreO
         let same = ap (λ (l : ℕ). first_spot lines l) is in
         omega arith
 
-    pub none_of_line : NoneWithin marks (get_or firsts line 0) 0 (length marks) → NoneOfLine (lines_value lines spots marks) line
+    pub none_of_line : NoneWithin marks (get_or firsts line 0) 0 (length marks) → NoneOfLine (members_value lines spots marks) line
     none_of_line none place is =
         ⊎_elim
         (λ (within : place < length lines).
@@ -176,7 +176,7 @@ module _ (lines firsts spots places : List ℕ) (marks : List Bool) (kept : AreO
       pub spot_has : IsSpot lines spots places spot
       spot_has = kept.marked spot least.marked
 
-      pub head_found : get_or lines (get_or places spot 0) 0 ≡ line → IsHeadOfLine (lines_value lines spots marks) line (get_or places spot 0)
+      pub head_found : get_or lines (get_or places spot 0) 0 ≡ line → IsHeadOfLine (members_value lines spots marks) line (get_or places spot 0)
       head_found is =
           let has = spot_has in
           record {
@@ -194,7 +194,7 @@ module _ (lines firsts spots places : List ℕ) (marks : List Bool) (kept : AreO
             };
           }
 
-      pub head_of_other : (get_or lines (get_or places spot 0) 0 ≡ line → ⊥) → NoneOfLine (lines_value lines spots marks) line
+      pub head_of_other : (get_or lines (get_or places spot 0) 0 ≡ line → ⊥) → NoneOfLine (members_value lines spots marks) line
       head_of_other apart place is =
           let has = spot_has in
           ⊎_elim
@@ -222,7 +222,7 @@ module _ (lines firsts spots places : List ℕ) (marks : List Bool) (kept : AreO
         let two = kept.all.stand.reads other there in
         omega arith
 
-    pub none_behind_place : NoneWithin marks (get_or spots place 0 + 1) 0 (length marks) → NoneOfLineBehind (lines_value lines spots marks) place
+    pub none_behind_place : NoneWithin marks (get_or spots place 0 + 1) 0 (length marks) → NoneOfLineBehind (members_value lines spots marks) place
     none_behind_place none other behind same =
         ⊎_elim
         (λ (there : other < length lines).
@@ -256,7 +256,7 @@ module _ (lines firsts spots places : List ℕ) (marks : List Bool) (kept : AreO
           (cases_eq (get_or places spot 0) place))
           (cases_lt (get_or places spot 0) place)
 
-      pub next_found : get_or lines (get_or places spot 0) 0 ≡ get_or lines place 0 → IsNextOfLine (lines_value lines spots marks) place (get_or places spot 0)
+      pub next_found : get_or lines (get_or places spot 0) 0 ≡ get_or lines place 0 → IsNextOfLine (members_value lines spots marks) place (get_or places spot 0)
       next_found is =
           let has = next_has in
           record {
@@ -273,7 +273,7 @@ module _ (lines firsts spots places : List ℕ) (marks : List Bool) (kept : AreO
                 member_at other there ∙ least.least (get_or spots other 0) (spot_behind other behind there same) (omega arith) (omega arith);
           }
 
-      pub none_next : (get_or lines (get_or places spot 0) 0 ≡ get_or lines place 0 → ⊥) → NoneOfLineBehind (lines_value lines spots marks) place
+      pub none_next : (get_or lines (get_or places spot 0) 0 ≡ get_or lines place 0 → ⊥) → NoneOfLineBehind (members_value lines spots marks) place
       none_next apart other behind same =
           let has = next_has in
           ⊎_elim
@@ -328,7 +328,7 @@ module _ (lines firsts spots places : List ℕ) (marks : List Bool) (kept : AreO
         ∙ sym (get_or-set_other (map (is_marked marks) spots) place at mark false other))
         (cases_eq at place)
 
-    pub value_set : lines_value lines spots (set marks (get_or spots place 0) mark) ≡ with_member (lines_value lines spots marks) place mark
+    pub value_set : members_value lines spots (set marks (get_or spots place 0) mark) ≡ with_member (members_value lines spots marks) place mark
     value_set =
         ap (λ (members : List Bool). members_in lines members)
         (ext_get_or false (map (is_marked (set marks (get_or spots place 0) mark)) spots) (set (map (is_marked marks) spots) place mark)
@@ -343,7 +343,7 @@ on_spots_none lines firsts spots places marks all room none = record {
   marked = λ spot is. absurd (true≢false (sym is ∙ none spot));
 }
 
-pub value_none : (lines spots : List ℕ) (marks : List Bool) → length spots ≡ length lines → ((spot : ℕ) → is_marked marks spot ≡ false) → lines_value lines spots marks ≡ none_in lines
+pub value_none : (lines spots : List ℕ) (marks : List Bool) → length spots ≡ length lines → ((spot : ℕ) → is_marked marks spot ≡ false) → members_value lines spots marks ≡ none_in lines
 value_none lines spots marks long none =
     ap (λ (members : List Bool). members_in lines members)
     (ext_get_or false (map (is_marked marks) spots) (replicate (length lines) false)

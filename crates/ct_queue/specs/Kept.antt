@@ -5,7 +5,7 @@ use Rattle.std.specs.BTreeMap as tree
 use Rattle.std.specs.Ordering.{nat_cmp}
 use Rattle.ct_queue.specs.Ready.{ReadyValue, count_at, is_out_at, is_member}
 use Rattle.ct_queue.specs.Marks.{is_marked}
-use Rattle.ct_queue.specs.Lines.{BunchedValue}
+use Rattle.ct_queue.specs.Lines.{LinesValue}
 use Rattle.ct_queue.specs.declared.ready.Standing.{Standing}
 
 -- each test of the order is found by its number
@@ -51,7 +51,7 @@ with_standing ready place s =
 -- what holds of each ready set: each test is found by its number,
 -- and exactly the ready tests are members in their lines and bunches
 pub record IsReadySet
-    (order : List ℕ) (places : tree.BTreeMap ℕ ℕ) (standings : List Standing) (lines : BunchedValue)
+    (order : List ℕ) (places : tree.BTreeMap ℕ ℕ) (standings : List Standing) (lines : LinesValue)
     : Type 0 where
   pub few : length order < 2 ^ 32 - 1
   pub found : AreFoundByNumber places order

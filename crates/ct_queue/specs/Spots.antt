@@ -1,7 +1,7 @@
 -- The spots of places in lines. The spots of one line lie side by
 -- side, in the order of the line's places. This project's own.
 use Rattle.std.specs.Prelude.{◌≡◌, ℕ, ◌+◌, ◌<◌, ◌≤◌, ◌==◌, Bool, true, List, length, map, take, count_by, nat_lt, slice_index}
-use Rattle.ct_queue.specs.Lines.{LinesValue, AreNumbered, IsHeadIn}
+use Rattle.ct_queue.specs.Lines.{MembersValue, AreNumbered, IsHeadIn}
 use Rattle.ct_queue.specs.Marks.{is_marked}
 
 -- how many places a line has
@@ -35,8 +35,8 @@ pub record AreSpots (lines firsts spots places : List ℕ) : Type 0 where
   pub found : AreFoundBySpot spots places
 
 -- the members in these lines: a place has a member if its spot is marked
-abbrev pub lines_value : List ℕ → List ℕ → List Bool → LinesValue
-lines_value lines spots marks = record { lines = lines; members = map (is_marked marks) spots }
+abbrev pub members_value : List ℕ → List ℕ → List Bool → MembersValue
+members_value lines spots marks = record { lines = lines; members = map (is_marked marks) spots }
 
 -- the spot is the spot of a place
 pub record IsSpot (lines spots places : List ℕ) (spot : ℕ) : Type 0 where
@@ -52,12 +52,12 @@ pub record AreOnSpots (lines firsts spots places : List ℕ) (marks : List Bool)
   pub marked : (spot : ℕ) → is_marked marks spot ≡ true → IsSpot lines spots places spot
 
 -- the heads of the lines are exactly the marked places
-pub record AreHeads (value : LinesValue) (heads : List Bool) : Type 0 where
+pub record AreHeads (value : MembersValue) (heads : List Bool) : Type 0 where
   pub room : length value.lines ≤ length heads
   pub marked : (place : ℕ) → is_marked heads place ≡ true → IsHeadIn value place
   pub all : (place : ℕ) → IsHeadIn value place → is_marked heads place ≡ true
 
 -- the members of the bunches are exactly the heads of the lines
-pub record AreHeadsInBunches (value heads : LinesValue) : Type 0 where
+pub record AreHeadsInBunches (value heads : MembersValue) : Type 0 where
   pub bunched : length heads.lines ≡ length value.lines
   pub marked : AreHeads value heads.members

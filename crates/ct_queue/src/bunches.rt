@@ -19,9 +19,9 @@ pub(crate) struct Bunches {
 }
 
 impl Model for Bunches {
-    ghost use Rattle.ct_queue.specs.Lines.{LinesValue};
+    ghost use Rattle.ct_queue.specs.Lines.{MembersValue};
 
-    ghost Value = { LinesValue };
+    ghost Value = { MembersValue };
 
     ghost use Rattle.ct_queue.specs.Spots.{AreHeads};
 

@@ -20,9 +20,9 @@ pub(crate) struct Lines {
 }
 
 impl Model for Lines {
-    ghost use Rattle.ct_queue.specs.Lines.{BunchedValue};
+    ghost use Rattle.ct_queue.specs.Lines.{LinesValue};
 
-    ghost Value = { BunchedValue };
+    ghost Value = { LinesValue };
 
     ghost use Rattle.ct_queue.specs.Spots.{AreHeadsInBunches};
 

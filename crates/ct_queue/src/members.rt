@@ -12,23 +12,26 @@ use std::marker::Model;
 /// Each place has a spot. The spots of a line lie side by side, in the order of the line's places.
 #[derive(Drop)]
 pub(crate) struct Members {
+    /// By place, its line.
     lines: Vec<u32>,
-    // By line, its first spot; by place, its spot; by spot, its place.
+    /// By line, its first spot.
     firsts: Vec<u32>,
+    /// By place, its spot.
     spots: Vec<u32>,
+    /// By spot, its place.
     places: Vec<u32>,
-    // By spot, whether its place has a member.
+    /// By spot, whether its place has a member.
     marks: Marks,
 }
 
 impl Model for Members {
-    ghost use Rattle.ct_queue.specs.Lines.{LinesValue};
+    ghost use Rattle.ct_queue.specs.Lines.{MembersValue};
 
-    ghost Value = { LinesValue };
+    ghost Value = { MembersValue };
 
-    ghost use Rattle.ct_queue.specs.Spots.{AreOnSpots, lines_value};
+    ghost use Rattle.ct_queue.specs.Spots.{AreOnSpots, members_value};
 
-    ghost view = { λ m. lines_value m.lines.items m.spots.items m.marks };
+    ghost view = { λ m. members_value m.lines.items m.spots.items m.marks };
 
     ghost invariant = { λ m. AreOnSpots m.lines.items m.firsts.items m.spots.items m.places.items m.marks };
 }

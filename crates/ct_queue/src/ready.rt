@@ -34,8 +34,11 @@ impl Standing {
 #[derive(Drop)]
 pub struct Ready {
     order: Snapshot<List<u32>>,
+    /// By test, its place in the order.
     places: BTreeMap<u32, u32>,
+    /// By place, the state of its test.
     standings: Vec<Standing>,
+    /// By place, the line and the bunch of its test, and whether it is a member.
     lines: Lines,
 }
 

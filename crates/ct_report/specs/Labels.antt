@@ -1,5 +1,6 @@
 -- How tests are counted by their labels. This project's own.
 use Rattle.std.specs.Prelude.{ℕ, ◌≡◌, ◌+◌, ◌-◌, ◌^◌, ◌<◌, Bool, ◌&&◌, List, map, bytes_eq, if◌then◌else◌, Vec}
+use Rattle.std.specs.Borrow.{Bor}
 use Rattle.std.specs.List.{list_any}
 use Rattle.std.specs.Option.{unwrap_or}
 use Rattle.std.specs.Ordering.{nat_cmp}
@@ -9,8 +10,8 @@ use Rattle.ct_history.specs.declared.plan.PlanTest.{PlanTest}
 use Rattle.ct_report.specs.Report.{has_label}
 
 -- the labels that a set keeps
-abbrev pub kept_labels : {Y : Type 0} → List (Vec ℕ Y) → List (List ℕ)
-kept_labels kept = map (λ label. label.items) kept
+abbrev pub kept_labels : List (Bor (List ℕ)) → List (List ℕ)
+kept_labels kept = map (λ label. label.now) kept
 
 module _ {Y : Type 0} where
   -- how many tests are counted at a label

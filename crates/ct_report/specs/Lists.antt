@@ -1,7 +1,8 @@
 -- The lists of the labels and of the tests of a folder. Each is a list of lines with their line feeds.
 -- Source: CMake manual, ctest(1), --print-labels and --show-only. The wording is ctest's.
 use Rattle.std.specs.Prelude.{ℕ, Bool, not, List, [], ◌∷◌, ◌++◌, map, count_by, codes, decimal, if◌then◌else◌}
-use Rattle.ct_report.specs.Report.{in_order, project_line}
+use Rattle.ct_alloc.specs.NamesInOrder.{names_in_order}
+use Rattle.ct_report.specs.Report.{project_line}
 
 -- the first line of a list of labels
 abbrev pub labels_heading : List (List ℕ) → List ℕ
@@ -14,7 +15,7 @@ label_entry label = codes "  " ++ label ++ codes "\n"
 
 -- the list of these labels, each once, in byte order
 abbrev pub label_list : List (List ℕ) → List (List ℕ)
-label_list labels = labels_heading (in_order labels) ∷ map label_entry (in_order labels)
+label_list labels = labels_heading (names_in_order labels) ∷ map label_entry (names_in_order labels)
 
 -- a test that is listed
 pub record Listed : Type 0 where

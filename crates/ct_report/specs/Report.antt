@@ -1,10 +1,8 @@
 -- The texts of a run. Each is a list of lines with their line feeds; the report is the lines in a row.
 -- Source: this project's choice, after what ctest(1) prints.
-use Rattle.std.specs.Prelude.{ℕ, ◌+◌, ◌*◌, ◌/◌, ◌%◌, ◌^◌, min, Bool, true, false, not, ◌&&◌, List, [], ◌∷◌, ◌++◌, map, filter, length, flat_map, fold, sum_by, count_by, Option, Some, None, codes, decimal, bytes_eq, ◌==◌, if◌then◌else◌}
+use Rattle.std.specs.Prelude.{ℕ, ◌+◌, ◌*◌, ◌/◌, ◌%◌, ◌^◌, min, Bool, true, false, not, ◌&&◌, List, [], ◌∷◌, ◌++◌, map, filter, length, flat_map, sum_by, count_by, Option, Some, None, codes, decimal, bytes_eq, ◌==◌, if◌then◌else◌}
 use Rattle.std.specs.List.{list_any}
-use Rattle.std.specs.Ordering.{nat_cmp}
-use Rattle.std.specs.Cmp.Lexicographic.{slice_cmp}
-use Rattle.std.specs.BTreeSet.{insert_key}
+use Rattle.ct_alloc.specs.NamesInOrder.{names_in_order}
 use Rattle.ct_verdict.specs.declared.verdict.Cause.{Cause}
 use Rattle.ct_verdict.specs.declared.verdict.Cause.TheVariants.{Unstarted, Lacks, Fixture, NotAvailable, BadOperation, Insufficient, Stopped, Memory}
 use Rattle.ct_verdict.specs.declared.verdict.Verdict.{Verdict}
@@ -14,7 +12,8 @@ use Rattle.ct_history.specs.declared.plan.PlanParts.{PlanParts}
 use Rattle.ct_history.specs.declared.history.Entry.{Entry}
 use Rattle.ct_history.specs.declared.history.Entry.TheVariants.{Start, End, Settle, Stop}
 use Rattle.ct_history.specs.Plan.{test_at, enabled}
-use Rattle.ct_history.specs.Verdicts.{verdict_in, verdict_of_test, are_all_final, is_failing_in}
+use Rattle.ct_history.specs.Verdicts.{verdict_in, verdict_of_test, are_all_final}
+use Rattle.ct_history.specs.Failed.{failed_tests}
 
 -- the bytes of these lines
 abbrev pub text_of : List (List ℕ) → List ℕ
@@ -124,10 +123,6 @@ is_good_in (Some Passed) = true
 is_good_in (Some Skipped) = true
 is_good_in _ = false
 
--- the tests of the failing class, in order of number
-abbrev pub failing_tests : PlanParts → List Entry → List PlanTest
-failing_tests plan entries = filter (λ t. is_failing_in (verdict_in plan.repeat t entries)) plan.tests
-
 -- how many tests count as passed
 abbrev pub good_count : PlanParts → List Entry → ℕ
 good_count plan entries = count_by (λ t. is_good_in (verdict_in plan.repeat t entries)) plan.tests
@@ -149,7 +144,7 @@ counts_with good failing all =
 -- the line of counts of a run, in which disabled tests are not counted
 abbrev pub counts_line : PlanParts → List Entry → List ℕ
 counts_line plan entries =
-    counts_with (good_count plan entries) (length (failing_tests plan entries)) (length (enabled plan.tests))
+    counts_with (good_count plan entries) (length (failed_tests plan entries)) (length (enabled plan.tests))
 
 -- the word of a test in the lists of the summary, by its verdict, if it has one
 abbrev pub word_of : Option Verdict → List ℕ
@@ -174,13 +169,9 @@ under heading (line ∷ lines) = codes "\n" ∷ heading ∷ line ∷ lines
 abbrev pub has_label : List ℕ → PlanTest → Bool
 has_label label t = list_any (bytes_eq label) t.labels
 
--- these labels, each once, in byte order
-abbrev pub in_order : List (List ℕ) → List (List ℕ)
-in_order labels = fold (insert_key (slice_cmp nat_cmp)) [] labels
-
 -- the labels of the tests that are not disabled, each once, in byte order
 abbrev pub labels_in_order : List PlanTest → List (List ℕ)
-labels_in_order tests = in_order (flat_map (λ (t : PlanTest). t.labels) (enabled tests))
+labels_in_order tests = names_in_order (flat_map (λ (t : PlanTest). t.labels) (enabled tests))
 
 -- how many tests that are not disabled have the label
 abbrev pub labelled_count : PlanParts → List ℕ → ℕ
@@ -226,7 +217,7 @@ summary_lines plan entries =
     ∷ under (codes "Label Summary:\n") (label_lines plan entries)
     ++ under (codes "The following tests did not run:\n")
     (map (listed_line plan entries) (unrun_tests plan entries))
-    ++ failed_lines (map (listed_line plan entries) (failing_tests plan entries))
+    ++ failed_lines (map (listed_line plan entries) (failed_tests plan entries))
 
 -- the test that an entry may make final
 abbrev pub finished_by : Entry → Option ℕ

@@ -1,10 +1,10 @@
-ghost use Rattle.std.specs.Prelude.{◌≡◌, ◌<◌, ◌-◌, ◌^◌, ◌++◌, ◌∷◌, [], map, fold, bytes_eq, IfOk, OnOk};
-ghost use Rattle.std.specs.List.{list_any};
+ghost use Rattle.std.specs.Prelude.{◌≡◌, ◌<◌, ◌-◌, ◌^◌, ◌++◌, ◌∷◌, [], map, fold, IfOk, OnOk};
 ghost use Rattle.std.specs.Ordering.{nat_cmp};
 ghost use Rattle.std.specs.Cmp.Lexicographic.{slice_cmp};
 ghost use Rattle.std.specs.BTreeSet.{insert_key};
 ghost use Rattle.ct_report.specs.Labels.{CountsLabel, CountsLabels, CountsTest, CanCountMore, label_count, kept_labels};
-ghost use Rattle.ct_report.specs.Report.{in_order, label_line, labels_in_order};
+ghost use Rattle.ct_alloc.specs.NamesInOrder.{names_in_order};
+ghost use Rattle.ct_report.specs.Report.{label_line, labels_in_order};
 
 use crate::numbers::append_number_and;
 use ct_base::{Blob, List, Name, NoMemory};
@@ -23,7 +23,7 @@ pub(crate) fn labels_in_order(alloc: Global, tests: &[PlanTest]) -> Result<List<
     let mut labels = BTreeSet::new(alloc);
     for test in tests {
         if !test.disabled {
-            put_labels(alloc, &mut labels, test.labels.as_slice())?;
+            put_labels(&mut labels, test.labels.as_slice())?;
         }
     }
     names_of(alloc, labels)
@@ -31,35 +31,35 @@ pub(crate) fn labels_in_order(alloc: Global, tests: &[PlanTest]) -> Result<List<
 
 /// Gathers these labels, each once, in byte order.
 pub(crate) fn in_order(alloc: Global, labels: &[Name]) -> Result<List<Name>, NoMemory>
-    ensures { IfOk result (λ ordered. ordered ≡ in_order labels.now) }
+    ensures { IfOk result (λ ordered. ordered ≡ names_in_order labels.now) }
 {
     let mut kept = BTreeSet::new(alloc);
-    put_labels(alloc, &mut kept, labels)?;
+    put_labels(&mut kept, labels)?;
     names_of(alloc, kept)
 }
 
-fn put_labels(alloc: Global, labels: &mut BTreeSet<Vec<u8>>, names: &[Name]) -> Result<(), NoMemory>
+fn put_labels<'a>(labels: &mut BTreeSet<&'a [u8]>, names: &'a [Name]) -> Result<(), NoMemory>
     ensures { OnOk result (kept_labels labels.new.keys ≡ fold (insert_key (slice_cmp nat_cmp)) (kept_labels labels.old.keys) names.now) }
 {
     for name in names {
-        put_label(alloc, labels, name)?;
+        put_label(labels, name)?;
     }
     Ok(())
 }
 
-fn put_label(alloc: Global, labels: &mut BTreeSet<Vec<u8>>, name: &Name) -> Result<(), NoMemory>
+fn put_label<'a>(labels: &mut BTreeSet<&'a [u8]>, name: &'a Name) -> Result<(), NoMemory>
     ensures { OnOk result (kept_labels labels.new.keys ≡ insert_key (slice_cmp nat_cmp) (kept_labels labels.old.keys) name.now) }
 {
-    labels.insert(Vec::from_slice(alloc, name.bytes())?)?;
+    labels.insert(name.bytes())?;
     Ok(())
 }
 
-fn names_of(alloc: Global, labels: BTreeSet<Vec<u8>>) -> Result<List<Name>, NoMemory>
-    ensures { IfOk result (λ names. names ≡ kept_labels labels.keys) }
+fn names_of(alloc: Global, labels: BTreeSet<&[u8]>) -> Result<List<Name>, NoMemory>
+    ensures { IfOk result (λ names. names ≡ kept_labels labels.entry.keys) }
 {
     let mut names = List::new(alloc);
     for label in labels {
-        names.push(Name::from_vec(label))?;
+        names.push(Name::of(alloc, label)?)?;
     }
     Ok(names)
 }
@@ -85,27 +85,30 @@ fn count_labels(alloc: Global, counts: &mut LabelCounts, labels: &[Name]) -> Res
     requires room { CanCountMore counts.old }
     ensures { OnOk result (CountsLabels labels.now counts.old counts.new) }
 {
-    for at in 0..labels.len() {
-        if !is_among(&labels[..at], &labels[at]) {
-            count_label(alloc, counts, &labels[at])?;
+    let mut seen = BTreeSet::new(alloc);
+    for label in labels {
+        let is_new = seen.insert(label.bytes())?;
+        if is_new {
+            count_label(alloc, counts, label)?;
         }
     }
     Ok(())
-}
-
-fn is_among(labels: &[Name], label: &Name) -> bool
-    ensures { result ≡ list_any (bytes_eq label.now) labels.now }
-{
-    labels.iter().any(|other| label.is(other))
 }
 
 fn count_label(alloc: Global, counts: &mut LabelCounts, label: &Name) -> Result<(), NoMemory>
     requires room { label_count counts.old label.now < 2 ^ 64 - 1 }
     ensures { OnOk result (CountsLabel label.now counts.old counts.new) }
 {
-    let count = count_of(counts, label) + 1;
-    counts.insert(Vec::from_slice(alloc, label.bytes())?, count)?;
-    Ok(())
+    match counts.get_mut(label.bytes()) {
+        Some(count) => {
+            *count += 1;
+            Ok(())
+        }
+        None => {
+            counts.insert(Vec::from_slice(alloc, label.bytes())?, 1)?;
+            Ok(())
+        }
+    }
 }
 
 fn count_of(counts: &LabelCounts, label: &Name) -> usize

@@ -18,7 +18,8 @@ use Rattle.ct_base.specs.declared.defs.Resource.{Resource}
 use Rattle.ct_spec.specs.declared.fault.SpecFault.{SpecFault}
 use Rattle.ct_spec.specs.declared.fault.SpecFault.TheVariants.{BadKind}
 use Rattle.ct_spec.specs.Entry.{id_in, slots_in, resource_with, resource_for, resource_in}
-use Rattle.ct_spec.specs.Specification.{goes_on, entries_from, resources_in_array, resources_of_kind, resources_of_kinds, is_one_resource, AreApart}
+use Rattle.ct_base.specs.Resources.{AreDistinct, same_resource}
+use Rattle.ct_spec.specs.Specification.{goes_on, entries_from, resources_in_array, resources_of_kind, resources_of_kinds}
 use Rattle.ct_spec.proofs.ReadLemmas.{Kind}
 use Rattle.ct_base.specs.Names.{is_among}
 use Rattle.ct_base.specs.TypeNames.{is_type_name}
@@ -46,17 +47,17 @@ neither false true none = cc
 neither false false none = (refl, refl)
 
 -- resources with different ids, or of different kinds, are different resources
-other_id : (one other : Resource) → bytes_eq one.id other.id ≡ false → is_one_resource one other ≡ false
+other_id : (one other : Resource) → bytes_eq one.id other.id ≡ false → same_resource one other ≡ false
 other_id one other differ = and_right (bytes_eq one.kind other.kind) (bytes_eq one.id other.id) differ
 
-other_kind : (one other : Resource) → bytes_eq one.kind other.kind ≡ false → is_one_resource one other ≡ false
+other_kind : (one other : Resource) → bytes_eq one.kind other.kind ≡ false → same_resource one other ≡ false
 other_kind one other differ = ap (λ b. b && bytes_eq one.id other.id) differ
 
 -- what holds of the resources that the entries of a kind declare, behind entries with these ids
 record AreDeclared (kind : List ℕ) (ids : List (List ℕ)) (resources : List Resource) : Type 0 where
   kinds : All (λ (r : Resource). r.kind ≡ kind) resources
   fresh : All (λ (r : Resource). is_among r.id ids ≡ false) resources
-  apart : AreApart resources
+  apart : AreDistinct resources
 
 abbrev kind_said : Result Resource SpecFault → List ℕ
 kind_said (Ok one) = one.kind
@@ -85,7 +86,7 @@ one_declared kind ids one others is fresh rest =
     record {
       kinds = All-cons (λ (r : Resource). r.kind ≡ kind) one others is rest.kinds;
       fresh = All-cons (λ (r : Resource). is_among r.id ids ≡ false) one others fresh (λ k d within. (parts k d within).0);
-      apart = AllPairs-cons (λ one other. is_one_resource one other ≡ false) one others
+      apart = AllPairs-cons (λ one other. same_resource one other ≡ false) one others
           (λ k d within. other_id one (get_or others k d) (eq_sym (get_or others k d).id one.id (parts k d within).1)) rest.apart;
     }
 
@@ -143,7 +144,7 @@ is_of kinds name = list_any (λ (k : Kind). bytes_eq name (string_bytes k.0)) ki
 -- the resources are of these kinds, and no two are the same
 record AreOf (kinds : List Kind) (resources : List Resource) : Type 0 where
   among : All (λ (r : Resource). is_of kinds r.kind ≡ true) resources
-  apart : AreApart resources
+  apart : AreDistinct resources
 
 same_text : (xs : List ℕ) → slice_cmp nat_cmp xs xs ≡ Equal
 same_text xs = tied_itself nat_list_cmp_total xs
@@ -173,13 +174,13 @@ kind_added kind kinds these others below declared rest =
     λ k d within. ap (λ b. b || is_of kinds (get_or these k d).kind) ((bytes_eq-Decides (get_or these k d).kind (string_bytes kind.0)).1 (declared.kinds k d within)) in
     let later : All (λ (r : Resource). is_of (kind ∷ kinds) r.kind ≡ true) others =
     λ k d within. or_right (bytes_eq (get_or others k d).kind (string_bytes kind.0)) (is_of kinds (get_or others k d).kind) (rest.among k d within) in
-    let across : All (λ (one : Resource). All (λ (other : Resource). is_one_resource one other ≡ false) others) these =
+    let across : All (λ (one : Resource). All (λ (other : Resource). same_resource one other ≡ false) others) these =
     λ k d within. λ j e inside. other_kind (get_or these k d) (get_or others j e)
     (ap (λ name. bytes_eq name (get_or others j e).kind) (declared.kinds k d within)
     ∙ below_other (string_bytes kind.0) kinds below (get_or others j e).kind (rest.among j e inside)) in
     record {
       among = All-append (λ (r : Resource). is_of (kind ∷ kinds) r.kind ≡ true) these others here later;
-      apart = pairs_append (λ one other. is_one_resource one other ≡ false) these others declared.apart rest.apart across;
+      apart = pairs_append (λ one other. same_resource one other ≡ false) these others declared.apart rest.apart across;
     }
 
 no_kinds : AreOf [] []
@@ -210,5 +211,5 @@ kinds_are (kind ∷ kinds) sorted resources is =
     kinds_by kind kinds sorted.0 (λ rs said. kinds_are kinds sorted.1 rs said) resources (resources_of_kind (string_bytes kind.0) (view kind.1)) refl is
 
 -- kinds in order of their names declare no resource twice
-pub kinds_apart : (kinds : List Kind) → IsStrictlySortedBy string_cmp (keys_of kinds) → (resources : List Resource) → resources_of_kinds (members_view kinds) ≡ Ok resources → AreApart resources
+pub kinds_apart : (kinds : List Kind) → IsStrictlySortedBy string_cmp (keys_of kinds) → (resources : List Resource) → resources_of_kinds (members_view kinds) ≡ Ok resources → AreDistinct resources
 kinds_apart kinds sorted resources is = (kinds_are kinds sorted resources is).apart

@@ -1,6 +1,6 @@
 -- The resources of a specification. Source: CMake manual, ctest(1), Resource Specification File.
 -- The refusals, their order and the limits are this project's choice.
-use Rattle.std.specs.Prelude.{◌≡◌, ℕ, ◌+◌, Bool, false, ◌&&◌, List, [], ◌∷◌, ◌++◌, length, codes, bytes_eq, nat_lt, AllPairs, Option, Some, None, option_and_then, Result, Ok, Err, ◌==◌, if◌then◌else◌}
+use Rattle.std.specs.Prelude.{ℕ, ◌+◌, Bool, false, ◌&&◌, List, [], ◌∷◌, ◌++◌, length, codes, nat_lt, Option, Some, None, option_and_then, Result, Ok, Err, ◌==◌, if◌then◌else◌}
 use Rattle.serde_json.specs.Data.{Data, Items, no_items, item, Members, no_members, member}
 use Rattle.serde_json.specs.Find.{get, as_array, as_object}
 use Rattle.ct_base.specs.declared.defs.Resource.{Resource}
@@ -81,11 +81,3 @@ resources_of_json (Some value) = resources_of value
 -- the resources of a text, or the first fault in it
 abbrev pub resources_in : List ℕ → Result (List Resource) SpecFault
 resources_in text = resources_of_json (json_in text)
-
--- two resources have the same kind and id
-abbrev pub is_one_resource : Resource → Resource → Bool
-is_one_resource one other = bytes_eq one.kind other.kind && bytes_eq one.id other.id
-
--- no two resources have the same kind and id
-abbrev pub AreApart : List Resource → Type 0
-AreApart resources = AllPairs (λ one other. is_one_resource one other ≡ false) resources

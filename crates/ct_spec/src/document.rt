@@ -1,7 +1,8 @@
 ghost use Rattle.std.specs.Prelude.{◌≡◌, IfOk, codes, option_map};
 ghost use Rattle.serde_json.specs.Find.{get};
 ghost use Rattle.serde_json.specs.View.{view, members_view};
-ghost use Rattle.ct_spec.specs.Specification.{AreApart, is_known_version, is_version as is_read, limited as limited_to, local_kinds as kinds_in, resources_of as resources_said, resources_of_local};
+ghost use Rattle.ct_base.specs.Resources.{AreDistinct};
+ghost use Rattle.ct_spec.specs.Specification.{is_known_version, is_version as is_read, limited as limited_to, local_kinds as kinds_in, resources_of as resources_said, resources_of_local};
 ghost use Rattle.ct_spec.specs.Read.{ReadsResources};
 
 use crate::SpecFault;
@@ -17,7 +18,7 @@ const MOST_RESOURCES: usize = 4_096;
 /// Reads the resources that a value declares.
 pub(crate) fn resources_of(alloc: Global, value: &Value) -> Result<List<Resource>, SpecFault>
     ensures read { ReadsResources result (resources_said (view value.now)) }
-    ensures distinct { IfOk result AreApart }
+    ensures distinct { IfOk result AreDistinct }
 {
     if !has_known_version(value) {
         return Err(SpecFault::BadVersion);
@@ -55,9 +56,9 @@ fn local_kinds(value: &Value) -> Option<&Map<String, Value>>
 }
 
 fn limited(resources: List<Resource>) -> Result<List<Resource>, SpecFault>
-    requires { AreApart resources }
+    requires { AreDistinct resources }
     ensures read { ReadsResources result (limited_to resources) }
-    ensures distinct { IfOk result AreApart }
+    ensures distinct { IfOk result AreDistinct }
 {
     if resources.len() > MOST_RESOURCES {
         return Err(SpecFault::TooMany);

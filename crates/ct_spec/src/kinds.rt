@@ -1,6 +1,7 @@
 ghost use Rattle.std.specs.Prelude.{◌≡◌, ◌++◌, [], IfOk, OnOk, All};
 ghost use Rattle.serde_json.specs.View.{view, items_view, members_view};
-ghost use Rattle.ct_spec.specs.Specification.{AreApart, entries_from, resources_of_kind as kind_says, resources_of_kinds as kinds_say};
+ghost use Rattle.ct_base.specs.Resources.{AreDistinct};
+ghost use Rattle.ct_spec.specs.Specification.{entries_from, resources_of_kind as kind_says, resources_of_kinds as kinds_say};
 ghost use Rattle.ct_spec.specs.Read.{ReadsResources};
 
 use crate::SpecFault;
@@ -16,7 +17,7 @@ pub(crate) fn resources_of_kinds(
     kinds: &Map<String, Value>,
 ) -> Result<List<Resource>, SpecFault>
     ensures read { ReadsResources result (kinds_say (members_view kinds.now.entries)) }
-    ensures distinct { IfOk result AreApart }
+    ensures distinct { IfOk result AreDistinct }
 {
     let mut resources = List::new(alloc);
     for (kind, value) in kinds.iter() {

@@ -1,5 +1,6 @@
 ghost use Rattle.std.specs.Prelude.{◌≡◌};
-ghost use Rattle.ct_spec.specs.Specification.{AreApart, resources_in};
+ghost use Rattle.ct_base.specs.Resources.{AreDistinct};
+ghost use Rattle.ct_spec.specs.Specification.{resources_in};
 ghost use Rattle.ct_spec.specs.Read.{ReadsResources};
 
 use crate::SpecFault;
@@ -20,13 +21,13 @@ pub struct Spec {
 impl Model for Spec {
     ghost use Rattle.std.specs.Prelude.{List};
     ghost use Rattle.ct_base.specs.declared.defs.Resource.{Resource};
-    ghost use Rattle.ct_spec.specs.Specification.{AreApart};
+    ghost use Rattle.ct_base.specs.Resources.{AreDistinct};
 
     ghost Value = { List Resource };
 
     ghost view = { λ s. s.resources };
 
-    ghost invariant = { λ s. AreApart s.resources };
+    ghost invariant = { λ s. AreDistinct s.resources };
 }
 
 impl Spec {
@@ -50,7 +51,7 @@ impl Spec {
     /// Lends the resources: types in byte order of their names, the entries of each in file order.
     pub fn resources(&self) -> &List<Resource>
         ensures is { result.now ≡ self.now }
-        ensures distinct { AreApart self.now }
+        ensures distinct { AreDistinct self.now }
     {
         &self.resources
     }

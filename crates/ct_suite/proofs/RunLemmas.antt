@@ -6,7 +6,7 @@ use Rattle.std.proofs.lemmas.Result.{IfErr-weaker, on_ok_weaker}
 use Rattle.std.specs.List.{list_all, prefix_len}
 use Rattle.ct_base.specs.Entries.{backslash, parts_of, semicolon, with_front}
 use Rattle.ct_base.proofs.EntryLemmas.{with_front-append}
-use Rattle.ct_suite.specs.Readers.{IsWithin, StopsFor, StopsIf, TakesEntries, entries_with, held_bytes, is_ended, is_inner}
+use Rattle.ct_suite.specs.Readers.{IsReaderWithin, StopsFor, StopsIf, TakesEntries, entries_with, held_bytes, is_ended, is_inner}
 use Rattle.ct_suite.specs.declared.fault.ValueFault.{ValueFault}
 use Rattle.ct_suite.specs.declared.limits.ValueLimits.{ValueLimits}
 use Rattle.ct_suite.specs.declared.reader.Reader.{Reader}
@@ -49,7 +49,7 @@ run-apart (byte ∷ run) rest some all = (inner-apart byte (and_parts (is_inner 
 
 -- a run behind a backslash that was released first
 module _ (limits : ValueLimits) (old between : Reader) (run : List ℕ) (some : 0 < length run) (all : list_all is_inner run ≡ true) where
-  pub takes-run : (new : Reader) (result : Result (Unit {0}) ValueFault) → between.held ≡ false → IsWithin limits between → ((rest : List ℕ) → is_ended rest ≡ false → entries_with between rest ≡ entries_with old rest) → new.values ≡ between.values → new.bytes ≡ between.bytes → new.held ≡ between.held
+  pub takes-run : (new : Reader) (result : Result (Unit {0}) ValueFault) → between.held ≡ false → IsReaderWithin limits between → ((rest : List ℕ) → is_ended rest ≡ false → entries_with between rest ≡ entries_with old rest) → new.values ≡ between.values → new.bytes ≡ between.bytes → new.held ≡ between.held
       → OnOk result (new.text.items ≡ between.text.items ++ run) → OnOk result (length new.text.items ≤ limits.value_bytes) → IfErr result (StopsIf (Long limits (between.text.items ++ run))) → TakesEntries limits old new run result
   takes-run new result free within released values bytes held joined short stopped =
       let same : (rest : List ℕ) → parts_of (held_bytes between.held ++ (run ++ rest)) ≡ with_front run (parts_of (held_bytes new.held ++ rest)) =

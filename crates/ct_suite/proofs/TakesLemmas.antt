@@ -6,7 +6,7 @@ use Rattle.ct_base.specs.Entries.{backslash, is_entry, parts_of, semicolon, with
 use Rattle.ct_suite.specs.Values.{Variable, bare, part_text, argument_text, size}
 use Rattle.ct_base.specs.Entries.{entries_of}
 use Rattle.ct_lex.specs.declared.call.Part.{Part}
-use Rattle.ct_suite.specs.Readers.{IsAtRest, IsWithin, Releases, StopsFor, StopsIf, TakesEntries, are_too_long, entries_with, held_bytes, is_ended}
+use Rattle.ct_suite.specs.Readers.{IsAtRest, IsReaderWithin, Releases, StopsFor, StopsIf, TakesEntries, are_too_long, entries_with, held_bytes, is_ended}
 use Rattle.ct_suite.specs.declared.fault.ValueFault.{ValueFault}
 use Rattle.ct_suite.specs.declared.limits.ValueLimits.{ValueLimits}
 use Rattle.ct_suite.specs.declared.reader.Reader.{Reader}
@@ -35,7 +35,7 @@ always (Ok done) is = is
 always (Err why) is = tt
 
 -- a reader that has read more of its next value is within the limits, if that text is
-within-joined : (limits : ValueLimits) (old new : Reader) → new.values ≡ old.values → new.bytes ≡ old.bytes → IsWithin limits old → length new.text.items ≤ limits.value_bytes → IsWithin limits new
+within-joined : (limits : ValueLimits) (old new : Reader) → new.values ≡ old.values → new.bytes ≡ old.bytes → IsReaderWithin limits old → length new.text.items ≤ limits.value_bytes → IsReaderWithin limits new
 within-joined limits old new values bytes within short = record {
   counted = bytes ∙ within.counted ∙ ap size (sym values);
   values = ap (are_too_long limits) values ∙ within.values;
@@ -43,7 +43,7 @@ within-joined limits old new values bytes within short = record {
 }
 
 -- bytes of an unquoted argument are read of an entry
-pub takes-joined : (limits : ValueLimits) (old new : Reader) (front piece : List ℕ) (result : Result (Unit {0}) ValueFault) → new.values ≡ old.values → new.bytes ≡ old.bytes → IsWithin limits old → ((rest : List ℕ) → parts_of (held_bytes old.held ++ (front ++ rest)) ≡ with_front piece (parts_of (held_bytes new.held ++ rest)))
+pub takes-joined : (limits : ValueLimits) (old new : Reader) (front piece : List ℕ) (result : Result (Unit {0}) ValueFault) → new.values ≡ old.values → new.bytes ≡ old.bytes → IsReaderWithin limits old → ((rest : List ℕ) → parts_of (held_bytes old.held ++ (front ++ rest)) ≡ with_front piece (parts_of (held_bytes new.held ++ rest)))
     → OnOk result (new.text.items ≡ old.text.items ++ piece) → OnOk result (length new.text.items ≤ limits.value_bytes) → IfErr result (StopsIf (Long limits (old.text.items ++ piece))) → TakesEntries limits old new front result
 takes-joined limits old new front piece result values bytes within same joined short stopped = record {
   within = on_ok_weaker result (within-joined limits old new values bytes within) short;
@@ -52,7 +52,7 @@ takes-joined limits old new front piece result values bytes within same joined s
 }
 
 -- a backslash that was held back becomes a byte of the entry
-pub releases-joined : (limits : ValueLimits) (old new : Reader) (result : Result (Unit {0}) ValueFault) → new.values ≡ old.values → new.bytes ≡ old.bytes → IsWithin limits old → old.held ≡ true → new.held ≡ false
+pub releases-joined : (limits : ValueLimits) (old new : Reader) (result : Result (Unit {0}) ValueFault) → new.values ≡ old.values → new.bytes ≡ old.bytes → IsReaderWithin limits old → old.held ≡ true → new.held ≡ false
     → OnOk result (new.text.items ≡ old.text.items ++ backslash ∷ []) → OnOk result (length new.text.items ≤ limits.value_bytes) → IfErr result (StopsIf (Long limits (old.text.items ++ backslash ∷ []))) → Releases limits old new result
 releases-joined limits old new result values bytes within held free joined short stopped =
     let piece = backslash ∷ [] in
@@ -103,7 +103,7 @@ with-ended old byte rest ends free =
     ∙ ap (with_parts old.values old.text.items) (sym (parts-ended rest))
     ∙ (λ i. with_parts old.values old.text.items (parts_of (held_bytes (sym free i) ++ (sym ends i ∷ rest))))
 
-pub takes-ended : (limits : ValueLimits) (old new : Reader) (byte : ℕ) (result : Result (Unit {0}) ValueFault) → byte ≡ semicolon → old.held ≡ false → OnOk result (IsWithin limits new) → OnOk result (new.values ≡ with_entry old) → OnOk result (new.text.items ≡ []) → OnOk result (new.held ≡ old.held) → IfErr result (StopsFor limits (with_entry old)) → TakesEntries limits old new (byte ∷ []) result
+pub takes-ended : (limits : ValueLimits) (old new : Reader) (byte : ℕ) (result : Result (Unit {0}) ValueFault) → byte ≡ semicolon → old.held ≡ false → OnOk result (IsReaderWithin limits new) → OnOk result (new.values ≡ with_entry old) → OnOk result (new.text.items ≡ []) → OnOk result (new.held ≡ old.held) → IfErr result (StopsFor limits (with_entry old)) → TakesEntries limits old new (byte ∷ []) result
 takes-ended limits old new byte (Ok done) ends free within values empty held stopped = record {
   within = within;
   taken = λ rest. ended-same old new byte rest ends free values empty held (with-ended old byte rest ends free);
@@ -135,7 +135,7 @@ takes-stopped limits old between new whole behind piece more why is stands stops
 }
 
 -- at the end of the bytes all of them are taken
-pub takes-done : (limits : ValueLimits) (old new : Reader) (whole behind : List ℕ) → behind ≡ [] → IsWithin limits new → Stands old new whole behind → TakesEntries limits old new whole (Ok tt)
+pub takes-done : (limits : ValueLimits) (old new : Reader) (whole behind : List ℕ) → behind ≡ [] → IsReaderWithin limits new → Stands old new whole behind → TakesEntries limits old new whole (Ok tt)
 takes-done limits old new whole behind is within stands = record {
   within = within;
   taken = λ rest. ap (λ bytes. entries_with new (bytes ++ rest)) (sym is) ∙ stands rest;

@@ -25,14 +25,14 @@ StopsFor limits values why = StopsIf (are_too_long limits values ≡ true) why
 
 -- the reader has counted the bytes of its values;
 -- they, and what it has read of its next value, are within the limits
-pub record IsWithin (limits : ValueLimits) (reader : Reader) : Type 0 where
+pub record IsReaderWithin (limits : ValueLimits) (reader : Reader) : Type 0 where
   pub counted : reader.bytes ≡ size reader.values
   pub values : are_too_long limits reader.values ≡ false
   pub text : length reader.text.items ≤ limits.value_bytes
 
 -- the reader has read nothing of its next value, and is within the limits
 pub record IsAtRest (limits : ValueLimits) (reader : Reader) : Type 0 where
-  pub within : IsWithin limits reader
+  pub within : IsReaderWithin limits reader
   pub text : reader.text.items ≡ []
   pub held : reader.held ≡ false
 
@@ -51,7 +51,7 @@ entries_with reader rest =
 pub record TakesEntries
     (limits : ValueLimits) (old new : Reader) (piece : List ℕ) (result : Result (Unit {0}) ValueFault)
     : Type 0 where
-  pub within : OnOk result (IsWithin limits new)
+  pub within : OnOk result (IsReaderWithin limits new)
   pub taken : OnOk result ((rest : List ℕ) → entries_with new rest ≡ entries_with old (piece ++ rest))
   pub stopped : IfErr result (λ why. (rest : List ℕ) → StopsFor limits (entries_with old (piece ++ rest)) why)
 
@@ -68,7 +68,7 @@ is_ended (byte ∷ bytes) = byte == semicolon
 -- or it stopped, since the values are too long or memory was wanting
 pub record Releases (limits : ValueLimits) (old new : Reader) (result : Result (Unit {0}) ValueFault)
     : Type 0 where
-  pub within : OnOk result (IsWithin limits new)
+  pub within : OnOk result (IsReaderWithin limits new)
   pub held : OnOk result (new.held ≡ false)
   pub taken :
       OnOk result ((rest : List ℕ) → is_ended rest ≡ false → entries_with new rest ≡ entries_with old rest)

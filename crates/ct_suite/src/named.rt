@@ -2,9 +2,8 @@ ghost use Rattle.std.specs.Prelude.{◌≡◌, ◌-◌, ◌^◌, min, fold, sum_
 ghost use Rattle.ct_suite.specs.Tests.{HaveShort, most_bytes, taking_props};
 ghost use Rattle.ct_suite.specs.Entries.{name_count, of_name};
 
-use crate::props::copied;
 use crate::suite::Suite;
-use ct_base::{List, Name, NoMemory, Pair};
+use ct_base::{List, Name, NoMemory, Pair, copy_pairs};
 use std::alloc::Global;
 
 /// Adds up how many tests have each of these names, at most 2^64 - 1.
@@ -34,7 +33,7 @@ pub fn set_named(
     };
     let mut after = tests;
     for name in front {
-        after = after.with_props(alloc, name, copied(alloc, props.as_slice())?)?;
+        after = after.with_props(alloc, name, copy_pairs(alloc, props.as_slice())?)?;
     }
     after.with_props(alloc, last, props)
 }

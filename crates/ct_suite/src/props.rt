@@ -184,23 +184,3 @@ fn is_other(key: &Name, prop: &Pair) -> bool
 {
     !key.is(&prop.name)
 }
-
-/// Copies properties.
-pub(crate) fn copied(alloc: Global, pairs: &[Pair]) -> Result<List<Pair>, NoMemory>
-    ensures { IfOk result (λ copies. copies ≡ pairs.now) }
-{
-    let mut copies = Vec::with_capacity(alloc, pairs.len())?;
-    for pair in pairs {
-        copies.push(copy_of(alloc, pair)?)?;
-    }
-    Ok(List::from_vec(copies))
-}
-
-fn copy_of(alloc: Global, pair: &Pair) -> Result<Pair, NoMemory>
-    ensures { IfOk result (λ copy. copy ≡ pair.now) }
-{
-    Ok(Pair {
-        name: pair.name.copy(alloc)?,
-        value: pair.value.copy(alloc)?,
-    })
-}

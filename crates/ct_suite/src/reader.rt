@@ -3,7 +3,7 @@ ghost use Rattle.std.specs.List.{list_all, prefix_len};
 ghost use Rattle.ct_base.specs.Entries.{entries_of, is_entry, semicolon};
 ghost use Rattle.ct_lex.specs.Next.{arg_of};
 ghost use Rattle.ct_suite.specs.Values.{bare, argument_text, part_text, values_by};
-ghost use Rattle.ct_suite.specs.Readers.{IsAtRest, IsWithin, Releases, StopsFor, StopsIf, TakesEntries, entries_with, is_inner};
+ghost use Rattle.ct_suite.specs.Readers.{IsAtRest, IsReaderWithin, Releases, StopsFor, StopsIf, TakesEntries, entries_with, is_inner};
 ghost use Rattle.ct_suite.specs.declared.limits.ValueLimits.{ValueLimits};
 
 use crate::count::raised;
@@ -162,8 +162,8 @@ impl Reader {
         table: &Table,
         parts: List<Part>,
     ) -> Result<(), ValueFault>
-        requires { IsWithin limits.now self.old }
-        ensures within { OnOk result (IsWithin limits.now self.new) }
+        requires { IsReaderWithin limits.now self.old }
+        ensures within { OnOk result (IsReaderWithin limits.now self.new) }
         ensures text { OnOk result (self.new.text.items ≡ self.old.text.items ++ argument_text table.now parts) }
         ensures values { self.new.values ≡ self.old.values }
         ensures held { self.new.held ≡ self.old.held }
@@ -194,7 +194,7 @@ impl Reader {
 
     /// Ends the last entry of an unquoted argument.
     fn end_entries(&mut self, alloc: Global, limits: &ValueLimits) -> Result<(), ValueFault>
-        requires { IsWithin limits.now self.old }
+        requires { IsReaderWithin limits.now self.old }
         ensures rest { OnOk result (IsAtRest limits.now self.new) }
         ensures values { OnOk result (self.new.values ≡ entries_with self.old []) }
         ensures stopped { IfErr result (StopsFor limits.now (entries_with self.old [])) }
@@ -210,7 +210,7 @@ impl Reader {
         table: &Table,
         parts: List<Part>,
     ) -> Result<(), ValueFault>
-        requires { IsWithin limits.now self.old }
+        requires { IsReaderWithin limits.now self.old }
         ensures { TakesEntries limits.now self.old self.new (argument_text table.now parts) result }
     {
         for part in parts.into_vec() {
@@ -227,7 +227,7 @@ impl Reader {
         table: &Table,
         part: Part,
     ) -> Result<(), ValueFault>
-        requires { IsWithin limits.now self.old }
+        requires { IsReaderWithin limits.now self.old }
         ensures { TakesEntries limits.now self.old self.new (part_text table.now part) result }
     {
         match part {
@@ -243,7 +243,7 @@ impl Reader {
         limits: &ValueLimits,
         bytes: Name,
     ) -> Result<(), ValueFault>
-        requires { IsWithin limits.now self.old }
+        requires { IsReaderWithin limits.now self.old }
         ensures { TakesEntries limits.now self.old self.new bytes result }
     {
         if bytes.bytes().is_empty() || !are_inner(bytes.bytes()) {
@@ -256,7 +256,7 @@ impl Reader {
     fn take_own_run(&mut self, limits: &ValueLimits, run: Name) -> Result<(), ValueFault>
         requires some { 0 < length run }
         requires inner { list_all is_inner run ≡ true }
-        requires within { IsWithin limits.now self.old }
+        requires within { IsReaderWithin limits.now self.old }
         ensures { TakesEntries limits.now self.old self.new run result }
     {
         self.release(limits)?;
@@ -269,7 +269,7 @@ impl Reader {
         limits: &ValueLimits,
         piece: &[u8],
     ) -> Result<(), ValueFault>
-        requires { IsWithin limits.now self.old }
+        requires { IsReaderWithin limits.now self.old }
         ensures { TakesEntries limits.now self.old self.new piece.now result }
     {
         let mut at = 0;
@@ -291,7 +291,7 @@ impl Reader {
     fn take_run(&mut self, limits: &ValueLimits, run: &[u8]) -> Result<(), ValueFault>
         requires some { 0 < length run.now }
         requires inner { list_all is_inner run.now ≡ true }
-        requires within { IsWithin limits.now self.old }
+        requires within { IsReaderWithin limits.now self.old }
         ensures { TakesEntries limits.now self.old self.new run.now result }
     {
         self.release(limits)?;
@@ -300,7 +300,7 @@ impl Reader {
 
     /// Reads one more byte of an unquoted argument.
     fn take_byte(&mut self, alloc: Global, limits: &ValueLimits, byte: u8) -> Result<(), ValueFault>
-        requires { IsWithin limits.now self.old }
+        requires { IsReaderWithin limits.now self.old }
         ensures { TakesEntries limits.now self.old self.new (byte ∷ []) result }
     {
         if byte != b';' {
@@ -318,7 +318,7 @@ impl Reader {
     fn take_other(&mut self, limits: &ValueLimits, byte: u8) -> Result<(), ValueFault>
         requires free { self.old.held ≡ false }
         requires other { (byte == semicolon) ≡ false }
-        requires within { IsWithin limits.now self.old }
+        requires within { IsReaderWithin limits.now self.old }
         ensures { TakesEntries limits.now self.old self.new (byte ∷ []) result }
     {
         if byte == b'\\' {
@@ -330,7 +330,7 @@ impl Reader {
 
     /// Reads the backslash that is held back as a byte of the entry, since no `;` comes behind it.
     fn release(&mut self, limits: &ValueLimits) -> Result<(), ValueFault>
-        requires { IsWithin limits.now self.old }
+        requires { IsReaderWithin limits.now self.old }
         ensures { Releases limits.now self.old self.new result }
     {
         if !self.held {
@@ -342,8 +342,8 @@ impl Reader {
 
     /// Ends an entry, which is a value if it is not empty.
     fn end_entry(&mut self, alloc: Global, limits: &ValueLimits) -> Result<(), ValueFault>
-        requires { IsWithin limits.now self.old }
-        ensures within { OnOk result (IsWithin limits.now self.new) }
+        requires { IsReaderWithin limits.now self.old }
+        ensures within { OnOk result (IsReaderWithin limits.now self.new) }
         ensures values { OnOk result (self.new.values ≡ self.old.values ++ map bare (filter is_entry (self.old.text.items ∷ []))) }
         ensures empty { OnOk result (self.new.text.items ≡ []) }
         ensures held { OnOk result (self.new.held ≡ self.old.held) }
@@ -362,8 +362,8 @@ impl Reader {
         limits: &ValueLimits,
         unquoted: bool,
     ) -> Result<(), ValueFault>
-        requires { IsWithin limits.now self.old }
-        ensures within { OnOk result (IsWithin limits.now self.new) }
+        requires { IsReaderWithin limits.now self.old }
+        ensures within { OnOk result (IsReaderWithin limits.now self.new) }
         ensures values { OnOk result (self.new.values ≡ self.old.values ++ record { text = self.old.text.items; unquoted = unquoted } ∷ []) }
         ensures empty { OnOk result (self.new.text.items ≡ []) }
         ensures held { OnOk result (self.new.held ≡ self.old.held) }

@@ -5,8 +5,7 @@ ghost use Rattle.ct_suite.specs.Entries.{changed, changed_at, def_of};
 
 use crate::open_test::OpenTest;
 use crate::places::{Places, note_place, places_at};
-use crate::props::copied;
-use ct_base::{List, Name, NoMemory, Pair, TestDef};
+use ct_base::{List, Name, NoMemory, Pair, TestDef, copy_pairs};
 use indexmap::IndexMap;
 use std::alloc::Global;
 use std::marker::Model;
@@ -185,7 +184,7 @@ fn copy_each(
     ensures len { OnOk result (vec_len tests.new ≡ vec_len tests.old) }
 {
     for place in places {
-        set_at(alloc, tests, *place, copied(alloc, pairs)?)?;
+        set_at(alloc, tests, *place, copy_pairs(alloc, pairs)?)?;
     }
     Ok(())
 }

@@ -14,10 +14,11 @@ use Rattle.ct_history.specs.Verdicts.{are_all_final}
 use Rattle.ct_report.specs.PutLines.{PutsLines}
 use Rattle.ct_report.specs.Report.{header_line, summary_lines}
 use Rattle.ct_report.proofs.PutLemmas.{lines_as, lines_more, lines_none, lines_nothing, lines_then, one_line}
+use Rattle.ct_plan.proofs.WholeLemmas.{trees_from}
 use Rattle.ct_trees.specs.declared.joining.TreeRest.{TreeRest}
 use Rattle.ct_trees.specs.TreeParts.{AreEnded, entries_of_each, parts_behind}
 use Rattle.ct_trees.specs.TreeReports.{header_lines, summaries_behind, summaries_of_parts, summary_for, tree_lines, tree_part, tree_summary}
-use Rattle.ct_trees.proofs.NextTreeLemmas.{both_from, rests_from}
+use Rattle.ct_trees.proofs.NextTreeLemmas.{both_from}
 
 -- some first lines were put, and these are left
 pub record ArePutSoFar (all left : List (List ℕ)) (before now : SinkTell) : Type 0 where
@@ -55,7 +56,7 @@ module _ (trees : List TreeRest) (at : ℕ) (old mid : SinkTell) (so_far : ArePu
 
   module _ (tree : TreeRest) (within : at < length trees) (is : tree ≡ get_or trees at tree) (new : SinkTell) where
     here : ArePutSoFar (header_lines trees) ((header_line tree.plan ∷ []) ++ header_lines (drop (at + 1) trees)) old mid
-    here = subst (λ (ts : List TreeRest). ArePutSoFar (header_lines trees) (header_lines ts) old mid) (rests_from trees at tree within is) so_far
+    here = subst (λ (ts : List TreeRest). ArePutSoFar (header_lines trees) (header_lines ts) old mid) (trees_from trees at tree within is) so_far
 
     -- the header of the next tree was put
     pub header_next : Puts (header_line tree.plan) mid new (Ok tt) → PutsEach (header_line tree.plan ∷ []) mid new (Ok tt) → ArePutSoFar (header_lines trees) (header_lines (drop (at + 1) trees)) old new

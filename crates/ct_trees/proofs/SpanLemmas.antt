@@ -11,12 +11,12 @@ use Rattle.ct_history.specs.declared.history.Entry.{Entry}
 use Rattle.ct_history.specs.declared.history.Entry.TheVariants.{Start, End, Settle, Stop}
 use Rattle.ct_history.specs.declared.history.History.{History}
 use Rattle.ct_history.specs.Parts.{entry_of_part, is_in_tree, part_of}
+use Rattle.ct_plan.proofs.WholeLemmas.{trees_from}
 use Rattle.ct_trees.specs.declared.joining.TreeRest.{TreeRest}
 use Rattle.ct_trees.specs.declared.tree_parts.Span.{Span}
 use Rattle.ct_trees.specs.Joining.{defined_by}
 use Rattle.ct_trees.specs.Spans.{FollowFrom, IsSpanPlace, last_of_span, parts_in, spans_behind, test_in_entry}
 use Rattle.ct_trees.specs.TreeParts.{entries_of_each, parts_behind}
-use Rattle.ct_trees.proofs.NextTreeLemmas.{rests_from}
 
 -- the parts by the spans of trees are those of the trees
 parts_of_spans : (offset : ℕ) (trees : List TreeRest) (entries : List Entry) → parts_in (spans_behind offset trees) entries ≡ parts_behind offset trees entries
@@ -185,7 +185,7 @@ module _ (trees : List TreeRest) (at offset : ℕ) (spans : List Span) (so_far :
 
   module _ (tree : TreeRest) (within : at < length trees) (is : tree ≡ get_or trees at tree) where
     counted_next : offset + (tree.defined + defined_by (drop (at + 1) trees)) ≡ defined_by trees
-    counted_next = ap (λ (ts : List TreeRest). offset + defined_by ts) (sym (rests_from trees at tree within is)) ∙ so_far.counted
+    counted_next = ap (λ (ts : List TreeRest). offset + defined_by ts) (sym (trees_from trees at tree within is)) ∙ so_far.counted
 
     -- the tests of the next tree are some of all
     pub span_fits : defined_by trees < 2 ^ 32 → offset + tree.defined < 2 ^ 32
@@ -196,7 +196,7 @@ module _ (trees : List TreeRest) (at offset : ℕ) (spans : List Span) (so_far :
     span_more = record {
       split =
           append_assoc spans ((record { offset = offset; count = tree.defined }) ∷ []) (spans_behind (offset + tree.defined) (drop (at + 1) trees))
-          ∙ ap (λ (ts : List TreeRest). spans ++ spans_behind offset ts) (sym (rests_from trees at tree within is))
+          ∙ ap (λ (ts : List TreeRest). spans ++ spans_behind offset ts) (sym (trees_from trees at tree within is))
           ∙ so_far.split;
       counted = let counted = counted_next in omega (arith, counted);
     }

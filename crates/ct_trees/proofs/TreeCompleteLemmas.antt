@@ -31,7 +31,7 @@ use Rattle.ct_app.specs.Outcome.{outcome_of_usage}
 use Rattle.ct_app.specs.Reading.{AreRead, RefusesPlan, RefusesReading, RefusesSpec}
 use Rattle.ct_app.specs.SpecFile.{RefusesFile}
 use Rattle.ct_app.specs.Tests.{RefusesFirst}
-use Rattle.ct_app.proofs.CompleteLemmas.{lent_unrefused, none_refused_first, not_both, of_told, same_choice}
+use Rattle.ct_app.proofs.CompleteLemmas.{lent_unrefused, none_refused_first, not_both, same_choice}
 use Rattle.ct_app.proofs.SourceLemmas.{IsSameChoice, before_same, edges_same, same_ok}
 use Rattle.ct_trees.specs.declared.tree_run.RunTerms.{RunTerms}
 use Rattle.ct_trees.specs.Planning.{LackPlans}
@@ -86,7 +86,8 @@ module _ (words : List (List ℕ)) (told : Option Held) (can : AreRunnable words
     -- each reading of the test files for the words has these definitions
     files_same : (result : Result (List TestDef) ReadFault) → IfSome told (λ held. tree_of held dir invocation.config ≡ result) → result ≡ Ok defs
     files_same result read =
-        let here = of_told told can.held (λ held. tree_of held dir invocation.config ≡ result) can.told_is read in
+        let here : tree_of can.held dir invocation.config ≡ result =
+        subst (λ (is : Option Held). IfSome is (λ held. tree_of held dir invocation.config ≡ result)) can.told_is read in
         sym here ∙ ap (tree_of can.held dir) same_config ∙ plans.read.tree
 
     defs_same : (others : List TestDef) (props : List Props) → AreRead told (invocation_for invocation dir) others props → others ≡ defs

@@ -7,6 +7,7 @@ use Rattle.std.proofs.lemmas.List.{length-map}
 use Rattle.ct_verdict.specs.declared.attempt.Seen.{Seen}
 use Rattle.ct_verdict.specs.declared.repeat.Repeat.{Repeat}
 use Rattle.ct_verdict.specs.declared.verdict.Verdict.{Verdict}
+use Rattle.ct_alloc.specs.NamesInOrder.{names_in_order}
 use Rattle.ct_history.specs.declared.plan.PlanTest.{PlanTest}
 use Rattle.ct_history.specs.declared.plan.PlanParts.{PlanParts}
 use Rattle.ct_history.specs.declared.history.Entry.{Entry}
@@ -14,9 +15,10 @@ use Rattle.ct_history.specs.Legal.{is_legal}
 use Rattle.ct_history.specs.Parts.{without_stop}
 use Rattle.ct_history.specs.Plan.{enabled, test_at}
 use Rattle.ct_history.specs.Verdicts.{are_all_final, is_failing_in, verdict_at, verdict_in}
+use Rattle.ct_history.specs.Failed.{failed_tests}
 use Rattle.ct_history.proofs.PartListLemmas.{find-map}
 use Rattle.ct_history.proofs.PlanLemmas.{contained_at}
-use Rattle.ct_report.specs.Report.{counts_line, counts_with, failed_lines, failing_tests, good_count, has_label, in_order, is_good_in, is_unrun_in, label_line, label_lines, labelled_count, labelled_good_count, labels_in_order, listed_line, listed_with, summary_lines, under, unrun_tests}
+use Rattle.ct_report.specs.Report.{counts_line, counts_with, failed_lines, good_count, has_label, is_good_in, is_unrun_in, label_line, label_lines, labelled_count, labelled_good_count, labels_in_order, listed_line, listed_with, summary_lines, under, unrun_tests}
 use Rattle.ct_app.specs.Meant.{AreSeen, meant_by_setups, meant_verdict, meant_within}
 use Rattle.ct_app.proofs.MeantLemmas.{IsRanked}
 use Rattle.ct_app.proofs.AlikeLemmas.{unranked}
@@ -104,7 +106,7 @@ summary_of js =
     ∷ counts_with (count_by (λ (j : Judged). is_good_in j.verdict) js) (length (filter (λ (j : Judged). is_failing_in j.verdict) js)) (length (filter (λ (j : Judged). not j.test.disabled) js))
     ∷ under (codes "Label Summary:\n")
     (map (λ label. label_line label (count_by (λ (j : Judged). is_good_in j.verdict && has_label label j.test) js) (count_by (λ (j : Judged). not j.test.disabled && has_label label j.test) js))
-    (in_order (flat_map (λ (j : Judged). j.test.labels) (filter (λ (j : Judged). not j.test.disabled) js))))
+    (names_in_order (flat_map (λ (j : Judged). j.test.labels) (filter (λ (j : Judged). not j.test.disabled) js))))
     ++ under (codes "The following tests did not run:\n") (map (λ (j : Judged). listed_with j.test j.verdict) (filter (λ (j : Judged). is_unrun_in j.verdict) js))
     ++ failed_lines (map (λ (j : Judged). listed_with j.test j.verdict) (filter (λ (j : Judged). is_failing_in j.verdict) js))
 
@@ -119,24 +121,24 @@ module _ (plan : PlanParts) (es : List Entry) where
   counts_judged : counts_line plan es ≡ counts_with (count_by (λ (j : Judged). is_good_in j.verdict) all_judged) (length (filter (λ (j : Judged). is_failing_in j.verdict) all_judged)) (length (filter (λ (j : Judged). not j.test.disabled) all_judged))
   counts_judged =
       let good : good_count plan es ≡ count_by (λ (j : Judged). is_good_in j.verdict) all_judged = sym (counted (judged plan.repeat es) (λ (j : Judged). is_good_in j.verdict) 0 plan.tests) in
-      let failing : length (failing_tests plan es) ≡ length (filter (λ (j : Judged). is_failing_in j.verdict) all_judged) = sym (kept_length (judged plan.repeat es) (λ (j : Judged). is_failing_in j.verdict) plan.tests) in
+      let failing : length (failed_tests plan es) ≡ length (filter (λ (j : Judged). is_failing_in j.verdict) all_judged) = sym (kept_length (judged plan.repeat es) (λ (j : Judged). is_failing_in j.verdict) plan.tests) in
       let counting : length (enabled plan.tests) ≡ length (filter (λ (j : Judged). not j.test.disabled) all_judged) = sym (kept_length (judged plan.repeat es) (λ (j : Judged). not j.test.disabled) plan.tests) in
       λ i. counts_with (good i) (failing i) (counting i)
 
-  labels_judged : label_lines plan es ≡ map (λ label. label_line label (count_by (λ (j : Judged). is_good_in j.verdict && has_label label j.test) all_judged) (count_by (λ (j : Judged). not j.test.disabled && has_label label j.test) all_judged)) (in_order (flat_map (λ (j : Judged). j.test.labels) (filter (λ (j : Judged). not j.test.disabled) all_judged)))
+  labels_judged : label_lines plan es ≡ map (λ label. label_line label (count_by (λ (j : Judged). is_good_in j.verdict && has_label label j.test) all_judged) (count_by (λ (j : Judged). not j.test.disabled && has_label label j.test) all_judged)) (names_in_order (flat_map (λ (j : Judged). j.test.labels) (filter (λ (j : Judged). not j.test.disabled) all_judged)))
   labels_judged =
       let good : (label : List ℕ) → labelled_good_count plan es label ≡ count_by (λ (j : Judged). is_good_in j.verdict && has_label label j.test) all_judged =
       λ label. sym (counted (judged plan.repeat es) (λ (j : Judged). is_good_in j.verdict && has_label label j.test) 0 plan.tests) in
       let counting : (label : List ℕ) → labelled_count plan label ≡ count_by (λ (j : Judged). not j.test.disabled && has_label label j.test) all_judged =
       λ label. sym (counted (judged plan.repeat es) (λ (j : Judged). not j.test.disabled && has_label label j.test) 0 plan.tests) in
-      let labels : labels_in_order plan.tests ≡ in_order (flat_map (λ (j : Judged). j.test.labels) (filter (λ (j : Judged). not j.test.disabled) all_judged)) =
-      ap in_order (sym (kept_flat (judged plan.repeat es) (λ (j : Judged). not j.test.disabled) (λ (j : Judged). j.test.labels) plan.tests)) in
+      let labels : labels_in_order plan.tests ≡ names_in_order (flat_map (λ (j : Judged). j.test.labels) (filter (λ (j : Judged). not j.test.disabled) all_judged)) =
+      ap names_in_order (sym (kept_flat (judged plan.repeat es) (λ (j : Judged). not j.test.disabled) (λ (j : Judged). j.test.labels) plan.tests)) in
       λ i. map (λ label. label_line label (good label i) (counting label i)) (labels i)
 
   unrun_judged : map (listed_line plan es) (unrun_tests plan es) ≡ map (λ (j : Judged). listed_with j.test j.verdict) (filter (λ (j : Judged). is_unrun_in j.verdict) all_judged)
   unrun_judged = sym (kept (judged plan.repeat es) (λ (j : Judged). is_unrun_in j.verdict) (λ (j : Judged). listed_with j.test j.verdict) plan.tests)
 
-  failing_judged : map (listed_line plan es) (failing_tests plan es) ≡ map (λ (j : Judged). listed_with j.test j.verdict) (filter (λ (j : Judged). is_failing_in j.verdict) all_judged)
+  failing_judged : map (listed_line plan es) (failed_tests plan es) ≡ map (λ (j : Judged). listed_with j.test j.verdict) (filter (λ (j : Judged). is_failing_in j.verdict) all_judged)
   failing_judged = sym (kept (judged plan.repeat es) (λ (j : Judged). is_failing_in j.verdict) (λ (j : Judged). listed_with j.test j.verdict) plan.tests)
 
   lines_judged : summary_lines plan es ≡ summary_of all_judged

@@ -12,7 +12,7 @@ use Rattle.ct_report.specs.Report.{test_lines}
 use Rattle.ct_worker.specs.Gates.{had_memory}
 use Rattle.ct_worker.specs.Halted.{IsHalted}
 use Rattle.ct_app.specs.declared.outcome.Outcome.{Outcome}
-use Rattle.ct_app.specs.declared.outcome.Outcome.TheVariants.{Completed, Listed, Usage, Refused, FilesFault, OutputFault, Memory}
+use Rattle.ct_app.specs.declared.outcome.Outcome.TheVariants.{OutputFault, Memory}
 use Rattle.ct_trees.specs.declared.joining.TreeRest.{TreeRest}
 use Rattle.ct_trees.specs.TreeReports.{header_lines, summaries_behind, trees_report}
 
@@ -57,12 +57,8 @@ pub record AreStopped
 abbrev pub TreesEnd : List TreeRest
     → PlanParts → List Entry → SinkTell → SinkTell → Result (Unit {0}) Outcome → Type 0
 TreesEnd trees whole entries before now (Ok done) = AreReported trees whole entries before now
-TreesEnd trees whole entries before now (Err Completed) = ⊥
-TreesEnd trees whole entries before now (Err Listed) = ⊥
-TreesEnd trees whole entries before now (Err (Usage word kind)) = ⊥
-TreesEnd trees whole entries before now (Err (Refused refusal)) = ⊥
-TreesEnd trees whole entries before now (Err (FilesFault path)) = ⊥
 TreesEnd trees whole entries before now (Err OutputFault) =
     AreStopped Sinks.Failed trees whole entries before now
 TreesEnd trees whole entries before now (Err Memory) =
     AreStopped Sinks.NoMemory trees whole entries before now
+TreesEnd trees whole entries before now ended = ⊥

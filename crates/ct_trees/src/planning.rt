@@ -13,6 +13,7 @@ use ct_app::{
 use ct_args::Invocation;
 use ct_base::{Files, List, Name, NoMemory, join_path};
 use ct_cost::CostData;
+use ct_history::Plan;
 use ct_plan::{Tree, plan};
 use ct_spec::Spec;
 use ct_testfile::ReadKind;
@@ -27,6 +28,21 @@ struct TreeFolder {
     tests: Tests,
     /// The cost data of the last run.
     costs: CostData,
+}
+
+impl TreeFolder {
+    /// Makes the tree of this folder, with its plan.
+    fn with_plan(self, plan: Plan) -> Tree
+        ensures { result ≡ record { defs = self.tests.defs; props = self.tests.props; costs = self.costs; plan = plan } }
+    {
+        let TreeFolder { tests, costs } = self;
+        Tree {
+            defs: tests.defs,
+            props: tests.props,
+            costs,
+            plan,
+        }
+    }
 }
 
 /// Why the trees of a call are not all planned.
@@ -129,7 +145,7 @@ fn add_tree<F: Files>(
 }
 
 /// Reads and plans the tree that an invocation names, behind so many tests of other trees.
-#[tactic(auto, using(crate::proofs::TreeLemmas::unread_tree, crate::proofs::TreeLemmas::planned_tree, crate::proofs::TreeLemmas::unplanned_tree))]
+#[tactic(auto, using(crate::proofs::TreeLemmas::unread_tree, crate::proofs::TreeLemmas::unplanned_tree))]
 fn plan_tree<F: Files>(
     alloc: Global,
     files: &mut F,
@@ -142,22 +158,21 @@ fn plan_tree<F: Files>(
     ensures ok { IfOk result (HasTree invocation.now (option_copied spec.entry) (F.tells files.old) (F.tells files.new) count) }
     ensures err { IfErr result (λ bad. HasNoTree invocation.now (option_copied spec.entry) (F.tells files.old) (F.tells files.new) count bad.names bad.outcome) }
 {
-    let TreeFolder { tests, costs } = match read_folder(alloc, files, invocation, count) {
+    let folder = match read_folder(alloc, files, invocation, count) {
         Ok(folder) => folder,
         Err(outcome) => return Err(unread(alloc, outcome)),
     };
-    let Tests { defs, props } = tests;
-    match plan(alloc, &defs, &props, &invocation.wanted, spec, &costs) {
+    let Tests { defs, props } = &folder.tests;
+    match plan(alloc, defs, props, &invocation.wanted, spec, &folder.costs) {
         Ok(plan) => {
             hand_out_sound(&plan);
-            Ok(Tree {
-                defs,
-                props,
-                costs,
-                plan,
-            })
+            Ok(folder.with_plan(plan))
         }
-        Err(fault) => Err(why_unplanned(alloc, defs.as_slice(), fault)),
+        Err(fault) => {
+            let why = why_unplanned(alloc, defs.as_slice(), fault);
+            drop(folder);
+            Err(why)
+        }
     }
 }
 

@@ -1,6 +1,5 @@
 ghost use Rattle.std.specs.Prelude.{◌≡◌, ◌+◌, ◌-◌, ◌*◌, ◌^◌, ◌<◌, ◌≤◌, [], drop, length, IfOk, OnOk, Ok};
 ghost use Rattle.std.specs.Option.{option_copied};
-ghost use Rattle.ct_base.specs.Names.{is_among};
 ghost use Rattle.ct_args.specs.declared.usage.UsageFault.TheVariants.{At as fault_at};
 ghost use Rattle.ct_args.specs.Invocation.{IsBounded, invocation_seen};
 ghost use Rattle.ct_args.specs.Read.{IsRead};
@@ -9,7 +8,7 @@ ghost use Rattle.ct_trees.specs.TreeWords.{begins_tree as begins_with_tree, dir_
 ghost use Rattle.ct_trees.specs.TreeReading.{FitsBehind, behind_or_fault, dirs_or_fault};
 
 use ct_args::{Invocation, Task, UsageFault, UsageKind, read_words};
-use ct_base::{List, Name};
+use ct_base::{List, Name, is_among};
 use std::alloc::Global;
 
 /// The word in front of the folder of a tree.
@@ -84,12 +83,6 @@ fn dir_fault(before: &[Name], dir: &Name) -> Option<UsageFault>
     } else {
         None
     }
-}
-
-fn is_among(name: &Name, others: &[Name]) -> bool
-    ensures { result ≡ is_among name.now others.now }
-{
-    others.iter().any(|other| name.is(other))
 }
 
 /// The fault of the `--tree` behind so many trees.

@@ -13,6 +13,7 @@ use Rattle.ct_history.specs.Legal.{is_legal, is_stop_due}
 use Rattle.ct_history.proofs.ApartLemmas.{Differ, differ-head, differ-tail, starts_apart}
 use Rattle.ct_history.proofs.LegalLemmas.{legal_allowed}
 use Rattle.ct_history.proofs.OpenLemmas.{is_of, open_starts-snoc}
+use Rattle.ct_history.proofs.PlanLemmas.{find_new}
 use Rattle.ct_turn.specs.Seen.{AddsOwn, is_own}
 
 finds_none : (p : Running → Bool) (rs : List Running) → find p rs ≡ None → list_any p rs ≡ false
@@ -46,18 +47,11 @@ found_holds w r (x ∷ xs) is = elim (cases_Bool (x.worker == w)) [
 pub holds_own : (w : ℕ) (r : Running) (es : List Entry) → open_start_of_worker w es ≡ Some r → (r.worker ≡ w) × (holds_start r.test r.attempt r.worker es ≡ true)
 holds_own w r es is = found_holds w r (open_starts es) is
 
-found_last : (p : Running → Bool) (r : Running) (rs : List Running) → find p rs ≡ None → p r ≡ true → find p (rs ++ r ∷ []) ≡ Some r
-found_last p r [] none is = ap (λ (b : Bool). cond b (Some r) None) is
-found_last p r (x ∷ xs) none is = elim (cases_Bool (p x)) [
-  | inl here ↦ let never : Some x ≡ None = sym (ap (λ (b : Bool). cond b (Some x) (find p xs)) here) ∙ none in absurd (cc)
-  | inr other ↦ ap (λ (b : Bool). cond b (Some x) (find p (xs ++ r ∷ []))) other ∙ found_last p r xs (sym (ap (λ (b : Bool). cond b (Some x) (find p xs)) other) ∙ none) is
-]
-
 -- a worker holds the start that it has just added
 pub start_holds : (es : List Entry) (r : Running) → open_start_of_worker r.worker es ≡ None → open_start_of_worker r.worker (es ++ Start r.test r.attempt r.worker r.placement ∷ []) ≡ Some r
 start_holds es r none =
     ap (λ (rs : List Running). find (λ (q : Running). q.worker == r.worker) rs) (open_starts-snoc es (Start r.test r.attempt r.worker r.placement) refl)
-    ∙ found_last (λ (q : Running). q.worker == r.worker) r (open_starts es) none (grind (arith, nat_tests))
+    ∙ find_new (λ (q : Running). q.worker == r.worker) (open_starts es) r none (grind (arith, nat_tests))
 
 unfound : (p q : Running → Bool) (rs : List Running) → list_any p rs ≡ false → find p (filter q rs) ≡ None
 unfound p q [] none = refl

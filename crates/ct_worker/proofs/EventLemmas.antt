@@ -1,6 +1,7 @@
 -- What an event of a worker, between its take and its give, makes of the run.
 use Rattle.std.proofs.Common.{◌≡◌, ◌∙◌, sym, ap, subst, true, false, Bool, ℕ, List, [], ◌∷◌, ◌++◌, refl, append_assoc}
 use Rattle.std.specs.Prelude.{Option, Some, None, IsSome, IsSomeAnd, is_some, ◌&&◌}
+use Rattle.std.specs.Option.{option_or}
 use Rattle.std.specs.List.{list_all, list_any}
 use Rattle.std.proofs.lemmas.List.{append-nil}
 use Rattle.std.proofs.lemmas.List.Folds.{list_all-append, list_any-append}
@@ -33,7 +34,7 @@ use Rattle.ct_turn.proofs.StartLemmas.{start_stays}
 use Rattle.ct_worker.specs.declared.state.Halt.{Halt}
 use Rattle.ct_worker.specs.declared.state.Halt.TheVariants.{Memory}
 use Rattle.ct_worker.specs.Attempt.{run_of}
-use Rattle.ct_worker.specs.State.{EndsSo, IsFinished, IsStateNext, StateValue, base_of, core_of, first_halt}
+use Rattle.ct_worker.specs.State.{EndsSo, IsFinished, IsStateNext, StateValue, base_of, core_of}
 use Rattle.ct_worker.specs.Work.{AsksNext, EndsOwn, SeesNext, Stays}
 use Rattle.ct_worker.proofs.StopLemmas.{due_keeps}
 
@@ -163,7 +164,7 @@ module _ (w : ℕ) (known : Known) (old : StateValue) (is_worker : known.worker 
       halted = λ halt. ap (λ (s : StateValue). is_some s.halt) of.follows ∙ first_is old.halt;
     }
       where
-        first_is : (o : Option Halt) → is_some (first_halt o (Some Memory)) ≡ true
+        first_is : (o : Option Halt) → is_some (option_or o (Some Memory)) ≡ true
         first_is None = refl
         first_is (Some h) = refl
 

@@ -2,6 +2,7 @@
 -- saw and from what was left when their passes were joined.
 use Rattle.std.proofs.Common.{◌≡◌, ◌∙◌, sym, ap, subst, refl, ℕ, suc, ◌+◌, ◌<◌, ◌≤◌, true, false, List, [], ◌∷◌, ◌++◌, length, arith, append_assoc, length-append, inl, inr}
 use Rattle.std.specs.Prelude.{⊤, Contains, IfErr, Option, Some, None, is_some, All, map, ◌==◌, ◌||◌, nat_lt}
+use Rattle.std.specs.Option.{option_or}
 use Rattle.std.specs.List.{list_all, list_any}
 use Rattle.std.proofs.Math.ListN.{take}
 use Rattle.std.proofs.lemmas.Bool.{and_parts, and_from, cases_Bool, true≢false, or_from, or_parts}
@@ -28,7 +29,7 @@ use Rattle.ct_core.specs.Gate.{GateTell}
 use Rattle.ct_turn.specs.declared.view.Known.{Known}
 use Rattle.ct_turn.specs.declared.view.Note.{Note}
 use Rattle.ct_turn.specs.Pass.{PassValue}
-use Rattle.ct_turn.specs.Seen.{Closes, HistoryGoesOn, Sight, is_by, is_noted, moment, note_of, with_joined}
+use Rattle.ct_turn.specs.Seen.{Closes, HistoryGoesOn, is_by, is_noted, note_of, with_joined}
 use Rattle.ct_turn.specs.Turn.{TurnValue}
 use Rattle.ct_report.specs.PutLines.{PutsLines}
 use Rattle.ct_report.specs.Report.{test_lines}
@@ -37,11 +38,12 @@ use Rattle.ct_worker.specs.Crew.{IsIdle, all_joined}
 use Rattle.ct_worker.specs.Gates.{AreAsked, IsAsked, Terms, are_below, is_below}
 use Rattle.ct_worker.specs.Halted.{IsHalted}
 use Rattle.ct_worker.specs.Pool.{IsPooled}
-use Rattle.ct_worker.specs.State.{StateValue, base_of, first_halt, given_up, put_of}
+use Rattle.ct_worker.specs.State.{StateValue, base_of, given_up, put_of}
 use Rattle.ct_worker.specs.declared.state.Halt.{Halt}
 use Rattle.ct_worker.specs.declared.state.Halt.TheVariants.{Memory}
 use Rattle.ct_worker.specs.Work.{terms_in}
 use Rattle.ct_worker.proofs.CrewLemmas.{joined_worker}
+use Rattle.ct_worker.proofs.EventLemmas.{sight_of}
 use Rattle.ct_worker.proofs.GateLemmas.{asked_none, asked_others}
 use Rattle.ct_worker.proofs.PartLemmas.{AllWorked, Parted, Worked, all_idle, front_of}
 
@@ -191,10 +193,6 @@ all_final_more plan w seen now sound legal goes all =
     subst (λ (es : List Entry). are_all_final plan es ≡ true) (sym goes.is)
     (finals_more plan seen goes.more (allowed_behind plan [] seen goes.more allowed) plan.tests (λ t there. contained_at 1 plan.tests t sound.numbers there) all)
 
--- what the turn shows of a state
-abbrev shown : StateValue → Sight
-shown s = record { plan = s.plan; base = base_of s; now = moment s.entries (is_some s.halt) }
-
 module _ (jobs : Jobs) (turn : TurnValue) (plan : PlanParts) (base : Base) (count : ℕ) (first now : PassValue) (others : List PassValue) (befores nows : List GateTell) (parts : Parted jobs turn plan base count first others befores nows) where
   idle : All (IsIdle turn) (first ∷ others)
   idle = all_idle (terms_in jobs plan) turn 0 (first ∷ others) befores nows parts.all
@@ -227,13 +225,13 @@ module _ (jobs : Jobs) (turn : TurnValue) (plan : PlanParts) (base : Base) (coun
         omega (arith, noted, none, made, size)
 
     module _ (old new : StateValue) (workers : ℕ) (rest : List GateTell) (many : workers ≡ count + 1) (planned : old.plan ≡ plan) (based : base_of old ≡ base)
-        (sound : IsSound plan) (own : HistoryGoesOn first.known.worker first.known.seen.entries now.known.seen.entries) (closes : Closes now.known (shown new))
+        (sound : IsSound plan) (own : HistoryGoesOn first.known.worker first.known.seen.entries now.known.seen.entries) (closes : Closes now.known (sight_of new))
         (put : PutsLines (test_lines new.plan new.entries) new.opened new.sink (put_of new.halt)) (stops : IfErr (put_of new.halt) (λ fault. IsHalted fault new.plan new.entries new.opened new.sink)) where
       abbrev keeper : Known
       keeper = all_joined first.known others
 
-      closed : Closes keeper (shown new)
-      closed = subst (λ (p : PassValue). Closes p.known (shown new)) joined closes
+      closed : Closes keeper (sight_of new)
+      closed = subst (λ (p : PassValue). Closes p.known (sight_of new)) joined closes
 
       new_plan : new.plan ≡ plan
       new_plan = closed.plan ∙ joined_plan first.known others ∙ ap (λ (k : Known). k.plan) parts.known
@@ -292,7 +290,7 @@ unpooled_is terms workers old new tells fresh going is put stops =
       legal = subst (λ (es : List Entry). is_legal new.plan es ≡ true) (sym none) (legal-nil new.plan);
       closed = ap open_starts none;
       workers = ap (are_below workers) none;
-      ended = λ no. absurd (some_is_none (sym (ap (λ (s : StateValue). s.halt) is ∙ ap (λ (h : Option Halt). first_halt h (Some Memory)) going) ∙ no));
+      ended = λ no. absurd (some_is_none (sym (ap (λ (s : StateValue). s.halt) is ∙ ap (λ (h : Option Halt). option_or h (Some Memory)) going) ∙ no));
       asked = asked_rest terms 0 tells new.entries (λ v behind. ap (list_any (is_by v)) none);
       put = put;
       halted = stops;

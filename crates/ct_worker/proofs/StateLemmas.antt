@@ -1,6 +1,7 @@
 -- What holds of a state stays when its calls change it.
 use Rattle.std.proofs.Common.{◌≡◌, ◌∙◌, sym, ap, subst, true, false, Bool, ℕ, ◌+◌, List, [], ◌∷◌, ◌++◌, length, refl, length-append}
 use Rattle.std.specs.Prelude.{Option, Some, None, is_some, Result, Ok, Err, OnOk, not, ◌&&◌, ◌||◌, IfSome, IfErr}
+use Rattle.std.specs.Option.{option_or}
 use Rattle.std.proofs.lemmas.List.{append-nil}
 use Rattle.std.proofs.lemmas.List.Folds.{list_all-append}
 use Rattle.ct_base.specs.declared.sink.SinkFault.{SinkFault}
@@ -23,7 +24,7 @@ use Rattle.ct_worker.specs.declared.state.Halt.TheVariants as Halts
 use Rattle.ct_worker.specs.Gates.{had_memory, lacks_memory}
 use Rattle.ct_worker.specs.Halted.{IsHalted, added_behind, ends_attempt, with_last}
 use Rattle.ct_worker.specs.Kept.{IsGoing, IsKeptState, KnowsSome}
-use Rattle.ct_worker.specs.State.{PutsLine, StateValue, first_halt, halt_of, put_of}
+use Rattle.ct_worker.specs.State.{PutsLine, StateValue, halt_of, put_of}
 use Rattle.ct_worker.proofs.StopLemmas.{due_keeps, lines_due, test_lines_due}
 
 -- the result of a put is the result that its halt tells
@@ -108,10 +109,6 @@ seen_as core halt opened sink = record { plan = core.plan; entries = core.entrie
 none_is_some : (h : Halt) → Some h ≡ None → ⊥
 none_is_some h is = cc
 
-pub none_unless : (o : Option Halt) → is_some o ≡ false → o ≡ None
-none_unless None is = refl
-none_unless (Some h) is = cc
-
 -- a state whose core made one step, with one more entry
 module _ (core now : CoreValue) (e : Entry) (halt : Option Halt) (known : Option TestLines) (count : ℕ) (opened sink : SinkTell) (kept : IsKeptState core halt known count opened sink) (grew : now ≡ with_final core e) where
   pub knows_now : KnowsSome now known
@@ -156,19 +153,19 @@ module _ (core now : CoreValue) (e : Entry) (halt : Option Halt) (known : Option
     put_before : PutsLines (test_lines core.plan core.entries) opened sink (Ok tt)
     put_before = subst (λ (o : Option Halt). PutsLines (test_lines core.plan core.entries) opened sink (put_of o)) none kept.put
 
-    heeded_aborted : (put : Result (Unit {0}) SinkFault) → after ≡ record now { aborted = now.aborted || is_some (halt_of put) } → halted ≡ first_halt halt (halt_of put) → after.aborted ≡ is_some halted
+    heeded_aborted : (put : Result (Unit {0}) SinkFault) → after ≡ record now { aborted = now.aborted || is_some (halt_of put) } → halted ≡ option_or halt (halt_of put) → after.aborted ≡ is_some halted
     heeded_aborted put heeded is =
         ap (λ (c : CoreValue). c.aborted) heeded ∙ ap (λ (b : Bool). b || is_some (halt_of put)) (aborted_now ∙ ap (λ (o : Option Halt). is_some o) none)
-        ∙ ap (λ (o : Option Halt). is_some (first_halt o (halt_of put))) (sym none) ∙ ap (λ (o : Option Halt). is_some o) (sym is)
+        ∙ ap (λ (o : Option Halt). is_some (option_or o (halt_of put))) (sym none) ∙ ap (λ (o : Option Halt). is_some o) (sym is)
 
-    halted_is : (put : Result (Unit {0}) SinkFault) → halted ≡ first_halt halt (halt_of put) → halted ≡ halt_of put
-    halted_is put is = is ∙ ap (λ (o : Option Halt). first_halt o (halt_of put)) none
+    halted_is : (put : Result (Unit {0}) SinkFault) → halted ≡ option_or halt (halt_of put) → halted ≡ halt_of put
+    halted_is put is = is ∙ ap (λ (o : Option Halt). option_or o (halt_of put)) none
 
     lines_after : (put : Result (Unit {0}) SinkFault) → after ≡ record now { aborted = now.aborted || is_some (halt_of put) } → test_lines core.plan (with_due_stop core.plan (core.entries ++ e ∷ [])) ≡ test_lines after.plan after.entries
     lines_after put heeded = lines_are ∙ ap (λ (c : CoreValue). test_lines c.plan c.entries) (sym heeded)
 
     -- if the put failed, the run is halted here
-    stops_after : (put : Result (Unit {0}) SinkFault) (new : SinkTell) → after ≡ record now { aborted = now.aborted || is_some (halt_of put) } → halted ≡ first_halt halt (halt_of put)
+    stops_after : (put : Result (Unit {0}) SinkFault) (new : SinkTell) → after ≡ record now { aborted = now.aborted || is_some (halt_of put) } → halted ≡ option_or halt (halt_of put)
         → PutsLines (brought core.plan core.entries e) sink new put → (put ≡ Err Sinks.Failed → length (brought core.plan core.entries e) ≡ 1)
         → IfErr (put_of halted) (λ fault. IsHalted fault after.plan after.entries opened new)
     stops_after put new heeded is line tried =
@@ -182,7 +179,7 @@ module _ (core now : CoreValue) (e : Entry) (halt : Option Halt) (known : Option
         here (Err fault) cut one = stops_here core.plan core.entries e opened sink new fault put_before cut (λ is_failed. one (ap (λ (f : SinkFault). Err f) is_failed))
 
     -- the case that memory was wanting for the entry's attempt
-    pub kept_lacking : after ≡ record now { aborted = now.aborted || true } → halted ≡ first_halt halt (Some Halts.Memory) → IsKeptState after halted known count opened sink
+    pub kept_lacking : after ≡ record now { aborted = now.aborted || true } → halted ≡ option_or halt (Some Halts.Memory) → IsKeptState after halted known count opened sink
     kept_lacking heeded is = record {
       aborted = heeded_aborted (Err Sinks.NoMemory) heeded is;
       put = lines_as (lines_after (Err Sinks.NoMemory) heeded) (subst (λ (o : Option Halt). PutsLines (test_lines core.plan (with_due_stop core.plan (core.entries ++ e ∷ []))) opened sink (put_of o)) (sym (halted_is (Err Sinks.NoMemory) is)) (line_stops core.plan core.entries e opened sink put_before));
@@ -195,7 +192,7 @@ module _ (core now : CoreValue) (e : Entry) (halt : Option Halt) (known : Option
         no_failed failed = cc
 
     -- the case that the entry's test may have become final: its line was put, or the put failed
-    module _ (test : ℕ) (of : finished_by e ≡ Some test) (put : Result (Unit {0}) SinkFault) (new : SinkTell) (more : Option TestLines) (lines : ℕ) (says : PutsLines (lines_of_test now.plan now.entries (count + 1) (Some test)) sink new put) (heeded : after ≡ record now { aborted = now.aborted || is_some (halt_of put) }) (is : halted ≡ first_halt halt (halt_of put)) where
+    module _ (test : ℕ) (of : finished_by e ≡ Some test) (put : Result (Unit {0}) SinkFault) (new : SinkTell) (more : Option TestLines) (lines : ℕ) (says : PutsLines (lines_of_test now.plan now.entries (count + 1) (Some test)) sink new put) (heeded : after ≡ record now { aborted = now.aborted || is_some (halt_of put) }) (is : halted ≡ option_or halt (halt_of put)) where
       line_is : lines_of_test now.plan now.entries (count + 1) (Some test) ≡ brought core.plan core.entries e
       line_is =
           ap (λ (p : PlanParts). lines_of_test p now.entries (count + 1) (Some test)) now_plan

@@ -1,12 +1,14 @@
 -- How a step of the core, and the line that it brings, change a state.
 use Rattle.std.proofs.Common.{◌≡◌, ◌∙◌, sym, ap, subst, true, false, Bool, ℕ, List, [], ◌∷◌, ◌++◌, length, refl}
 use Rattle.std.specs.Prelude.{Option, Some, None, is_some, Result, Ok, Err, IfErr, ◌||◌, not, ◌&&◌}
+use Rattle.std.specs.Option.{option_or}
 use Rattle.std.proofs.lemmas.List.{append-nil}
 use Rattle.std.proofs.lemmas.List.Folds.{list_all-append}
 use Rattle.std.proofs.Math.Bool.{or-false, or-true}
 use Rattle.ct_base.specs.declared.sink.SinkFault.{SinkFault}
 use Rattle.ct_base.specs.declared.sink.SinkFault.TheVariants as Sinks
 use Rattle.ct_base.specs.Outside.{SinkTell}
+use Rattle.ct_base.proofs.OptionLemmas.{not_some}
 use Rattle.ct_verdict.specs.declared.attempt.Seen.{Seen}
 use Rattle.ct_history.specs.declared.history.Entry.{Entry}
 use Rattle.ct_history.specs.declared.history.Entry.TheVariants as Is
@@ -29,8 +31,8 @@ use Rattle.ct_worker.specs.Gates.{had_memory, lacks_memory}
 use Rattle.ct_worker.specs.Halted.{IsHalted}
 use Rattle.ct_worker.specs.Kept.{IsKeptState, KnowsSome}
 use Rattle.ct_worker.specs.Lines.{PutsEnd, PutsFor}
-use Rattle.ct_worker.specs.State.{EndsSo, StateFollows, IsFinished, IsStateNext, PutsLine, StateValue, core_of, first_halt, halt_of, put_of}
-use Rattle.ct_worker.proofs.StateLemmas.{kept_given_up, kept_lacking, kept_line, knows_now, lines_same, never_failed, none_unless, puts_line, seen_as}
+use Rattle.ct_worker.specs.State.{EndsSo, StateFollows, IsFinished, IsStateNext, PutsLine, StateValue, core_of, halt_of, put_of}
+use Rattle.ct_worker.proofs.StateLemmas.{kept_given_up, kept_lacking, kept_line, knows_now, lines_same, never_failed, puts_line, seen_as}
 
 -- the case that an attempt ended
 module _ {S : Type 0} (tells : S → SinkTell) (core now : CoreValue) (halt : Option Halt) (old : Lines S) (opened : SinkTell) (kept : IsKeptState core halt old.known old.count opened (tells old.sink)) (ticket : Ticket) (seen : Seen) (grew : now ≡ with_final core (end_of ticket seen)) where
@@ -52,16 +54,16 @@ module _ {S : Type 0} (tells : S → SinkTell) (core now : CoreValue) (halt : Op
       by (Some h) is same = same
 
   -- the run goes on
-  module _ (goes : is_some halt ≡ false) (new : Lines S) (put : Result (Unit {0}) SinkFault) (after : CoreValue) (halted : Option Halt) (heeded : after ≡ record now { aborted = now.aborted || is_some (halt_of put) }) (is : halted ≡ first_halt halt (halt_of put)) where
+  module _ (goes : is_some halt ≡ false) (new : Lines S) (put : Result (Unit {0}) SinkFault) (after : CoreValue) (halted : Option Halt) (heeded : after ≡ record now { aborted = now.aborted || is_some (halt_of put) }) (is : halted ≡ option_or halt (halt_of put)) where
     none : halt ≡ None
-    none = none_unless halt goes
+    none = not_some halt goes
 
     lacking : new ≡ old → put ≡ Err Sinks.NoMemory → IsKeptState after halted new.known new.count opened (tells new.sink)
     lacking same failed =
         subst (λ (l : Lines S). IsKeptState after halted l.known l.count opened (tells l.sink)) (sym same)
         (kept_lacking core now (end_of ticket seen) halt old.known old.count opened (tells old.sink) kept grew none after halted
         (heeded ∙ ap (λ (r : Result (Unit {0}) SinkFault). record now { aborted = now.aborted || is_some (halt_of r) }) failed)
-        (is ∙ ap (λ (r : Result (Unit {0}) SinkFault). first_halt halt (halt_of r)) failed))
+        (is ∙ ap (λ (r : Result (Unit {0}) SinkFault). option_or halt (halt_of r)) failed))
 
     pub end_kept : (b : Bool) → is_no_memory seen.how ≡ b → PutsEnd tells b (test_of ticket) now old new put → IsKeptState after halted new.known new.count opened (tells new.sink)
     end_kept true lacks says = lacking says.0 says.1
@@ -78,7 +80,7 @@ module _ {S : Type 0} (tells : S → SinkTell) (core now : CoreValue) (halt : Op
     ends_so true says =
         ap (λ (l : Lines S). seen_as after halted opened (tells l.sink)) says.0
         ∙ ap (λ (c : CoreValue). seen_as c halted opened (tells old.sink)) (heeded ∙ ap (λ (c : CoreValue). record c { aborted = c.aborted || is_some (halt_of put) }) grew)
-        ∙ ap (λ (h : Option Halt). seen_as (with_final core (end_of ticket seen)) h opened (tells old.sink)) (is ∙ ap (λ (h : Option Halt). first_halt h (halt_of put)) none ∙ ap (λ (r : Result (Unit {0}) SinkFault). halt_of r) says.1)
+        ∙ ap (λ (h : Option Halt). seen_as (with_final core (end_of ticket seen)) h opened (tells old.sink)) (is ∙ ap (λ (h : Option Halt). option_or h (halt_of put)) none ∙ ap (λ (r : Result (Unit {0}) SinkFault). halt_of r) says.1)
     ends_so false says =
         subst (λ (es : List Entry). PutsLine (test_of ticket) es was now_is) entries_now
         (puts_line core now (end_of ticket seen) halt old.known old.count opened (tells old.sink) kept grew none after halted (test_of ticket) refl put (tells new.sink) new.known new.count says.puts heeded is)
@@ -90,7 +92,7 @@ module _ {S : Type 0} (tells : S → SinkTell) (core now : CoreValue) (halt : Op
 -- the case that the core answered what a worker has to do next
 module _ {S : Type 0} (tells : S → SinkTell) (core now : CoreValue) (halt : Option Halt) (old : Lines S) (opened : SinkTell) (kept : IsKeptState core halt old.known old.count opened (tells old.sink)) (worker : ℕ) where
   goes_none : core.aborted ≡ false → halt ≡ None
-  goes_none goes = none_unless halt (sym kept.aborted ∙ goes)
+  goes_none goes = not_some halt (sym kept.aborted ∙ goes)
 
   started_knows : (ticket : Ticket) → StartsFirst core worker ticket now → KnowsSome now old.known
   started_knows ticket step = subst (λ (c : CoreValue). KnowsSome c old.known) (sym step.appended) (by old.known kept.knows)
@@ -134,10 +136,10 @@ module _ {S : Type 0} (tells : S → SinkTell) (core now : CoreValue) (halt : Op
   knows_aborted None knows = tt
   knows_aborted (Some lines) knows = knows
 
-  pub kept_short : IsKeptState (record core { aborted = true }) (first_halt halt (Some Halts.Memory)) old.known old.count opened (tells old.sink)
+  pub kept_short : IsKeptState (record core { aborted = true }) (option_or halt (Some Halts.Memory)) old.known old.count opened (tells old.sink)
   kept_short = by halt kept.put kept.stops
     where
-      by : (o : Option Halt) → PutsLines (test_lines core.plan core.entries) opened (tells old.sink) (put_of o) → IfErr (put_of o) (λ fault. IsHalted fault core.plan core.entries opened (tells old.sink)) → IsKeptState (record core { aborted = true }) (first_halt o (Some Halts.Memory)) old.known old.count opened (tells old.sink)
+      by : (o : Option Halt) → PutsLines (test_lines core.plan core.entries) opened (tells old.sink) (put_of o) → IfErr (put_of o) (λ fault. IsHalted fault core.plan core.entries opened (tells old.sink)) → IsKeptState (record core { aborted = true }) (option_or o (Some Halts.Memory)) old.known old.count opened (tells old.sink)
       by None put stops = record {
         aborted = refl;
         put = lines_as (append-nil (test_lines core.plan core.entries)) (lines_stop opened (tells old.sink) (test_lines core.plan core.entries) [] put);
@@ -147,8 +149,8 @@ module _ {S : Type 0} (tells : S → SinkTell) (core now : CoreValue) (halt : Op
       }
       by (Some h) put stops = record { aborted = refl; put = put; knows = knows_aborted old.known kept.knows; goes_on = λ none. cc; stops = stops }
 
-  module _ (new : Lines S) (put : Result (Unit {0}) SinkFault) (after : CoreValue) (halted : Option Halt) (heeded : after ≡ record now { aborted = now.aborted || is_some (halt_of put) }) (is : halted ≡ first_halt halt (halt_of put)) where
-    or_none : (o : Option Halt) → first_halt o None ≡ o
+  module _ (new : Lines S) (put : Result (Unit {0}) SinkFault) (after : CoreValue) (halted : Option Halt) (heeded : after ≡ record now { aborted = now.aborted || is_some (halt_of put) }) (is : halted ≡ option_or halt (halt_of put)) where
+    or_none : (o : Option Halt) → option_or o None ≡ o
     or_none None = refl
     or_none (Some h) = refl
 
@@ -156,7 +158,7 @@ module _ {S : Type 0} (tells : S → SinkTell) (core now : CoreValue) (halt : Op
     after_well well = heeded ∙ ap (λ (r : Result (Unit {0}) SinkFault). record now { aborted = now.aborted || is_some (halt_of r) }) well ∙ ap (λ (b : Bool). record now { aborted = b }) (or-false now.aborted)
 
     halted_well : put ≡ Ok tt → halted ≡ halt
-    halted_well well = is ∙ ap (λ (r : Result (Unit {0}) SinkFault). first_halt halt (halt_of r)) well ∙ or_none halt
+    halted_well well = is ∙ ap (λ (r : Result (Unit {0}) SinkFault). option_or halt (halt_of r)) well ∙ or_none halt
 
     -- the case that no line was put
     kept_well : new ≡ old → put ≡ Ok tt → IsKeptState now halt old.known old.count opened (tells old.sink) → IsKeptState after halted new.known new.count opened (tells new.sink)
@@ -169,8 +171,8 @@ module _ {S : Type 0} (tells : S → SinkTell) (core now : CoreValue) (halt : Op
     seen_well same well =
         ap (λ (l : Lines S). seen_as after halted opened (tells l.sink)) same ∙ ap (λ (c : CoreValue). seen_as c halted opened (tells old.sink)) (after_well well) ∙ ap (λ (h : Option Halt). seen_as now h opened (tells old.sink)) (halted_well well)
 
-    after_short : now ≡ core → put ≡ Err Sinks.NoMemory → (after ≡ record core { aborted = core.aborted || true }) × (halted ≡ first_halt halt (Some Halts.Memory))
-    after_short same failed = (heeded ∙ ap (λ (c : CoreValue). record c { aborted = c.aborted || is_some (halt_of put) }) same ∙ ap (λ (r : Result (Unit {0}) SinkFault). record core { aborted = core.aborted || is_some (halt_of r) }) failed, is ∙ ap (λ (r : Result (Unit {0}) SinkFault). first_halt halt (halt_of r)) failed)
+    after_short : now ≡ core → put ≡ Err Sinks.NoMemory → (after ≡ record core { aborted = core.aborted || true }) × (halted ≡ option_or halt (Some Halts.Memory))
+    after_short same failed = (heeded ∙ ap (λ (c : CoreValue). record c { aborted = c.aborted || is_some (halt_of put) }) same ∙ ap (λ (r : Result (Unit {0}) SinkFault). record core { aborted = core.aborted || is_some (halt_of r) }) failed, is ∙ ap (λ (r : Result (Unit {0}) SinkFault). option_or halt (halt_of r)) failed)
 
     pub next_kept : (next : Next) → IsNext core worker next now → PutsFor tells next now old new put → IsKeptState after halted new.known new.count opened (tells new.sink)
     next_kept (Nexts.Start ticket) step says = kept_well says.0 says.1 (kept_started ticket step)

@@ -1,6 +1,7 @@
 -- The value of the state of a run, as its callers see it,
 -- and what its calls do to it. This project's own.
 use Rattle.std.specs.Prelude.{◌≡◌, ℕ, ◌+◌, Bool, true, false, List, ◌∷◌, ◌++◌, [], length, Option, Some, None, is_some, Result, Ok, Err}
+use Rattle.std.specs.Option.{option_or}
 use Rattle.ct_base.specs.declared.sink.SinkFault.{SinkFault}
 use Rattle.ct_base.specs.declared.sink.SinkFault.TheVariants as Sinks
 use Rattle.ct_base.specs.Outside.{SinkTell}
@@ -47,14 +48,9 @@ core_of s = record { plan = s.plan; entries = s.entries; aborted = is_some s.hal
 abbrev pub base_of : StateValue → Base
 base_of s = record { written = s.opened.written; pieces = s.opened.pieces; faults = s.opened.faults }
 
--- the first of two causes, if it is there, else the second
-abbrev pub first_halt : Option Halt → Option Halt → Option Halt
-first_halt (Some halt) other = Some halt
-first_halt None other = other
-
 -- the run is given up for this cause, unless it was given up before
 abbrev pub given_up : Halt → StateValue → StateValue
-given_up halt s = record s { halt = first_halt s.halt (Some halt) }
+given_up halt s = record s { halt = option_or s.halt (Some halt) }
 
 -- why the run is given up after the put of a line, if it is
 abbrev pub halt_of : Result (Unit {0}) SinkFault → Option Halt

@@ -1,5 +1,6 @@
 ghost use Rattle.std.specs.Prelude.{◌≡◌, ◌||◌, [], false, true, IfErr, None, Some, is_some};
-ghost use Rattle.ct_worker.specs.State.{first_halt, halt_of};
+ghost use Rattle.std.specs.Option.{option_or};
+ghost use Rattle.ct_worker.specs.State.{halt_of};
 
 use crate::lines::Lines;
 use ct_base::{Sink, SinkFault};
@@ -180,7 +181,7 @@ impl<S: Sink> Board for State<S> {
 /// Gives the run up if a line could not be put, unless it was given up before.
 fn heed(put: Result<(), SinkFault>, core: &mut Core, halt: &mut Option<Halt>)
     ensures core { core.new ≡ record core.old { aborted = core.old.aborted || is_some (halt_of put) } }
-    ensures halt { halt.new ≡ first_halt halt.old (halt_of put) }
+    ensures halt { halt.new ≡ option_or halt.old (halt_of put) }
 {
     match put {
         Ok(()) => {}
@@ -192,7 +193,7 @@ fn heed(put: Result<(), SinkFault>, core: &mut Core, halt: &mut Option<Halt>)
 /// Gives the run up for this cause, unless it was given up before.
 fn give_up(cause: Halt, core: &mut Core, halt: &mut Option<Halt>)
     ensures core { core.new ≡ record core.old { aborted = true } }
-    ensures halt { halt.new ≡ first_halt halt.old (Some cause) }
+    ensures halt { halt.new ≡ option_or halt.old (Some cause) }
 {
     core.abort();
     if halt.is_none() {

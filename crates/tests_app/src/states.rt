@@ -5,7 +5,7 @@ ghost use Rattle.ct_turn.specs.Seen.{held_start};
 ghost use Rattle.ct_worker.specs.Attempt.{run_of};
 ghost use Rattle.ct_worker.specs.Work.{AsksNext, EndsOwn};
 
-use crate::calls::{Ran, run};
+use ct_app::plan_main;
 use ct_base::{MemSink, NoMemory};
 use ct_core::{Core, Next, Ticket};
 use ct_history::{History, Plan, holds_start, is_busy};
@@ -16,7 +16,7 @@ use std::alloc::Global;
 use std::process::Abort;
 use std::sync::Wait;
 use std::test::Fail;
-use tests_calls::{CallRow, Machine, calls_of, entries_of, expect, sink_of, written};
+use tests_calls::{CallRow, Machine, calls_of, entries_of, expect, inputs_of, sink_of, written};
 
 /// A run of five tests on three processors, whose second put fails.
 const FIVE: &str = "
@@ -53,13 +53,10 @@ End 1/1
 
 /// Makes the plan of a call.
 fn plan_of(rt: &impl Machine, call: &CallRow<'_>) -> Result<Plan, Fail> {
-    let ran = run(rt, call)?;
-    Ok(plan_in(ran).ok_or("no plan")?)
-}
-
-/// Takes the plan out of what a run left.
-fn plan_in(mut ran: Ran) -> Option<Plan> {
-    ran.plan.take()
+    let mut given = inputs_of(rt.alloc(), call)?;
+    let planned = plan_main(rt.alloc(), given.words.as_slice(), &mut given.files);
+    drop(given);
+    Ok(planned.ok().ok_or("no plan")?)
 }
 
 /// Opens the core of a plan.

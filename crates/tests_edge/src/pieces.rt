@@ -213,7 +213,7 @@ fn looked(alloc: Global, asked: &str) -> Result<String, NoMemory> {
     let (failing, required) = cell(asked);
     let required = names(alloc, required, ' ')?;
     let mut files = files(alloc, number(failing))?;
-    let place = first_missing(&mut files, alloc, required.as_slice())?;
+    let place = first_missing(alloc, &mut files, required.as_slice())?;
     Ok(format!(in alloc; "{place:?}")?)
 }
 

@@ -4,7 +4,8 @@ ghost use Rattle.std.specs.Prelude.{◌≡◌, ◌==◌, ℕ, All, IfOk, IfSome,
 ghost use Rattle.std.specs.Bool.{OnTrue};
 ghost use Rattle.std.specs.List.{list_all, list_any};
 ghost use Rattle.ct_alloc.specs.Free.{used_at};
-ghost use Rattle.ct_alloc.specs.Placement.{AreDistinct, SomeFits, same_resource};
+ghost use Rattle.ct_base.specs.Resources.{AreDistinct, same_resource};
+ghost use Rattle.ct_alloc.specs.Placement.{SomeFits};
 ghost use Rattle.ct_history.specs.Plan.{AllAscend, IsAscendingFrom, IsPlaceable, IsSound, has_sound_links, has_sound_processors, is_before_rank, is_fixed_cause, enabled, test_at as planned_test};
 
 use ct_alloc::Free;

@@ -50,4 +50,4 @@ pub returns-in-Err-clause-ends : goal.returns-in-Err-clause-ends
 returns-in-Err-clause-ends g c words asked =
     let gates = map g.G.Gate.tells c.args.gates.items in
     let sink = g.S.Sink.tells c.args.sink in
-    rw c.unrun.ensures (inr (c.in-Err.ensures.err words c.args.env.now gates sink asked, refl))
+    rw c.unplanned.ensures (inr (c.in-Err.ensures.err words c.args.env.now gates sink asked, refl))

@@ -2,11 +2,11 @@ use Rattle.std.proofs.Common.{rules, tests, map, ◌≡◌}
 use Rattle.std.specs.Prelude.{IfOk}
 use Rattle.std.proofs.lemmas.Iterator.Consumers.{map_from_collect}
 use Rattle.std.proofs.lemmas.Iterator.Splits.{YieldsList-from_slice_split}
-use Rattle.ct_args.specs.Values.{pieces_between}
+use Rattle.ct_groups.specs.Description.{pieces_of}
 use Rattle.ct_args.proofs.numbers.pieces_of.Goals as goal
 
 pub returns : goal.returns
 returns c =
-    let all : IfOk c.collect.result (λ pieces. map (λ piece. piece.now) pieces.items ≡ pieces_between c.args.text.now) =
+    let all : IfOk c.collect.result (λ pieces. map (λ piece. piece.now) pieces.items ≡ pieces_of c.args.text.now) =
     map_from_collect _ c.collect.ensures.ran (YieldsList-from_slice_split _ _ c.args.text.now c.split.ensures.rest c.split.ensures.done c.split.ensures.closure (λ x r q k. search (rules, tests))) in
     rw c.in_ok-collect.was at all

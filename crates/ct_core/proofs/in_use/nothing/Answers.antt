@@ -6,7 +6,8 @@ use Rattle.ct_history.specs.declared.plan.PlanTest.{PlanTest}
 use Rattle.ct_core.proofs.LockLemmas.{named_pass}
 use Rattle.ct_core.specs.Locks.{is_held, knows}
 use Rattle.ct_core.specs.Sharers.{counts_sharers, sharers_of}
-use Rattle.ct_core.specs.Slots.{given_resources, used_of}
+use Rattle.ct_alloc.specs.Lent.{lent}
+use Rattle.ct_core.specs.Slots.{used_of}
 use Rattle.ct_core.specs.declared.locks.Locks.{Locks}
 use Rattle.ct_core.specs.declared.sharers.Sharers.{Sharers}
 use Rattle.ct_core.proofs.in_use.nothing.Goals as goal
@@ -33,6 +34,6 @@ returns c =
           named_pass (counts_sharers sharers) (λ (t : PlanTest). t.shared) plan.tests
           (λ name. IfOk-at_ok (λ (s : Sharers). (name : List ℕ) → counts_sharers s name ≡ list_any (λ (t : PlanTest). is_among name t.shared) c.as_slice-2.result.now) made c.none_share.ensures.counted name ∙ ap (λ (ts : List PlanTest). list_any (λ (t : PlanTest). is_among name t.shared) ts) c.as_slice-2.ensures);
       shares = λ name. IfOk-at_ok (λ (s : Sharers). (name : List ℕ) → sharers_of s name ≡ 0) made c.none_share.ensures.none name;
-      resources = IfOk-at_ok (λ free. given_resources free ≡ plan.resources) free c.all_free.ensures.whole;
+      resources = IfOk-at_ok (λ free. lent free ≡ plan.resources) free c.all_free.ensures.whole;
       slots = λ place. IfOk-at_ok (λ free. (place : ℕ) → used_of free place ≡ 0) free c.all_free.ensures.unused place;
     }

@@ -1,5 +1,6 @@
 use Rattle.std.proofs.Common.{◌≡◌, ℕ, List, ◌++◌, ◌∷◌, [], cond, bytes_eq, is_some, Some, sym, ap, ◌∙◌}
-use Rattle.ct_fixture.specs.Kept.{found_tests, fixture_tests}
+use Rattle.ct_base.specs.Found.{or_none}
+use Rattle.ct_fixture.specs.Kept.{fixture_tests}
 use Rattle.ct_fixture.proofs.IndexLemmas.{noted, updated}
 use Rattle.ct_fixture.proofs.by_fixture.note.Goals as goal
 
@@ -9,7 +10,7 @@ returns-in_ok-push-in-Some c =
     let now = c.get_mut.follows.lender here in
     let updates = (c.get_mut.follows.holds here).3 (ap is_some (sym c.in-Some.ensures.value)) in
     noted c.args.tests.now now c.args.fixture.now here.items c.args.number
-    (◌∙◌ {A = List ℕ} c.in_ok-push-in-Some.ensures.items (ap (λ tests. tests ++ c.args.number ∷ []) (ap found_tests c.in-Some.ensures.value)))
+    (◌∙◌ {A = List ℕ} c.in_ok-push-in-Some.ensures.items (ap (λ tests. tests ++ c.args.number ∷ []) (ap or_none c.in-Some.ensures.value)))
     (λ asked. updated c.args.tests.now now c.args.fixture.now (Some here) updates asked)
 
 pub returns-in_ok-insert-in-None : goal.returns-in_ok-insert-in-None
@@ -20,5 +21,5 @@ returns-in_ok-insert-in-None c =
     let is_own : own ≡ c.args.fixture.now = c.in_ok-from_slice-in-None.ensures.items in
     let updates = rw c.get_mut.follows.holds-at-none at c.in_ok-insert-in-None.ensures.updates in
     noted old c.insert.new.self c.args.fixture.now here.items c.args.number
-    (c.in_ok-push-in-None.ensures.items ∙ ap (λ tests. tests ++ c.args.number ∷ []) (c.new-first.ensures.items ∙ ap found_tests c.in-None.ensures.value))
+    (c.in_ok-push-in-None.ensures.items ∙ ap (λ tests. tests ++ c.args.number ∷ []) (c.new-first.ensures.items ∙ ap or_none c.in-None.ensures.value))
     (λ asked. updated old c.insert.new.self own (Some here) updates asked ∙ ap (λ name. cond (bytes_eq asked name) here.items (fixture_tests old asked)) is_own)

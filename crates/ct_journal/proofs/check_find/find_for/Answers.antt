@@ -3,4 +3,4 @@ use Rattle.ct_journal.proofs.check_find.find_for.Goals as goal
 
 pub returns : goal.returns
 returns g c =
-    unfound_then c.args.path.now c.args.words.now (g.F.Files.tells c.args.files.now) (g.F.Files.tells c.plan_words.new.files) (g.F.Files.tells c.find_at.new.files) c.in_ok-plan.plan c.in_ok-plan.ensures.ok c.unfound.result c.in-Err.outcome c.unfound.ensures c.in-Err.ensures.err
+    unfound_then c.args.path.now c.args.words.now (g.F.Files.tells c.args.files.now) (g.F.Files.tells c.plan_words.new.files) (g.F.Files.tells c.find_at.new.files) c.in_ok-plan.plan c.in_ok-plan.ensures.ok c.unread.result c.in-Err.outcome c.unread.ensures c.in-Err.ensures.err

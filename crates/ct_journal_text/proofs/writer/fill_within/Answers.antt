@@ -1,4 +1,4 @@
-use Rattle.std.proofs.Common.{◌≡◌, ◌≤◌, subst, sym, rules, List, ℕ, length}
+use Rattle.std.proofs.Common.{◌≤◌, subst, sym, rules, List, ℕ, length}
 use Rattle.ct_journal_text.specs.Journal.{journal_of}
 use Rattle.ct_journal_text.proofs.WithinLemmas.{begins_journal, passes}
 use Rattle.ct_journal_text.proofs.writer.fill_within.Goals as goal

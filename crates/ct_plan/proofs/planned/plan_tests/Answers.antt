@@ -6,7 +6,8 @@ use Rattle.ct_props.proofs.NumberedLemmas.{at_number_read}
 use Rattle.ct_verdict.specs.declared.verdict.Cause.{Cause}
 use Rattle.ct_history.specs.declared.plan.PlanTest.{PlanTest}
 use Rattle.ct_plan.specs.Planned.{IsFixed}
-use Rattle.ct_plan.specs.Linked.{AreLinked, lent, test_from}
+use Rattle.ct_alloc.specs.Lent.{lent}
+use Rattle.ct_plan.specs.Linked.{AreLinked, test_from}
 use Rattle.ct_plan.proofs.LinkLemmas.{linked-snoc, number_at}
 use Rattle.ct_plan.proofs.planned.plan_tests.Goals as goal
 

@@ -1,5 +1,6 @@
 use Rattle.std.specs.Option.{option_copied}
-use Rattle.ct_plan.specs.Linked.{AreLinked, lent}
+use Rattle.ct_alloc.specs.Lent.{lent}
+use Rattle.ct_plan.specs.Linked.{AreLinked}
 use Rattle.ct_plan.proofs.planned.plan_tests.Given as goal
 
 abbrev pub invariant-loop-links : goal.invariant-loop-links

@@ -4,7 +4,7 @@ use Rattle.ct_base.specs.declared.defs.Resource.{Resource}
 use Rattle.ct_graph.specs.declared.ordering.Links.{Links}
 use Rattle.ct_history.specs.declared.plan.PlanTest.{PlanTest}
 use Rattle.ct_history.specs.Plan.{IsAscendingFrom}
-use Rattle.ct_plan.specs.Linked.{lent}
+use Rattle.ct_alloc.specs.Lent.{lent}
 use Rattle.ct_plan.specs.PlanOf.{IsPlanOf}
 use Rattle.ct_plan.specs.Source.{source}
 use Rattle.ct_plan.proofs.NumberLemmas.{AreOfTests}

@@ -9,5 +9,5 @@ use Rattle.ct_report.proofs.labels.put_label.Goals as goal
 pub returns : goal.returns
 returns c =
     ap kept_labels c.in_ok-insert.ensures.keys
-    ∙ labels-insert_key c.args.labels.now.keys c.in_ok-from_slice.field-0
-    ∙ ap (insert_key (slice_cmp nat_cmp) (kept_labels c.args.labels.now.keys)) (c.in_ok-from_slice.ensures.items ∙ c.bytes.ensures)
+    ∙ labels-insert_key c.args.labels.now.keys c.bytes.result
+    ∙ ap (insert_key (slice_cmp nat_cmp) (kept_labels c.args.labels.now.keys)) c.bytes.ensures

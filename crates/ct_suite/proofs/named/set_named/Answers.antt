@@ -9,12 +9,12 @@ use Rattle.ct_suite.proofs.named.set_named.Goals as goal
 
 pub with_props-requires : goal.with_props-requires
 with_props-requires c =
-    subst (HaveShort most_bytes) (sym (c.in_ok-copied.ensures ∙ c.as_slice.ensures)) c.requires
+    subst (HaveShort most_bytes) (sym (c.in_ok-copy_pairs.ensures ∙ c.as_slice.ensures)) c.requires
 
 pub loop-name-preserved : goal.loop-name-preserved
 loop-name-preserved c =
     let change = of_name (taking_props c.args.props) in
-    let copy = c.in_ok-copied.ensures ∙ c.as_slice.ensures in
+    let copy = c.in_ok-copy_pairs.ensures ∙ c.as_slice.ensures in
     fold-next change c.args.tests c.in-Some.front.now c.loop-name.name-index c.name-item.result c.loop-name.after c.in_ok-after.after c.loop-name-test.true c.name-item.is c.loop-name.invariant (c.in_ok-after.ensures ∙ ap (λ props. of_name (taking_props props) c.loop-name.after c.name-item.result) copy)
 
 pub returns : goal.returns

@@ -10,5 +10,5 @@ loop-place-preserved c =
     let at = c.loop-place.place-index in
     let before = map def_of c.loop-place.tests.items in record {
       len = c.in_ok-set_at.ensures.len ∙ c.loop-place.invariant.len;
-      rest = changed_at-next (taking_props c.args.pairs.now) places at before (map def_of c.set_at.new.tests.items) c.loop-place-test.true (c.in_ok-set_at.ensures.is ∙ ap (λ pairs. changed (taking_props pairs) (get_or places at 0) before) c.in_ok-copied.ensures) ∙ c.loop-place.invariant.rest;
+      rest = changed_at-next (taking_props c.args.pairs.now) places at before (map def_of c.set_at.new.tests.items) c.loop-place-test.true (c.in_ok-set_at.ensures.is ∙ ap (λ pairs. changed (taking_props pairs) (get_or places at 0) before) c.in_ok-copy_pairs.ensures) ∙ c.loop-place.invariant.rest;
     }

@@ -1,5 +1,5 @@
 use Rattle.std.proofs.Common.{take}
-use Rattle.ct_alloc.specs.Placement.{AreDistinct}
+use Rattle.ct_base.specs.Resources.{AreDistinct}
 use Rattle.tests_samples.proofs.plans.are_apart.Given as goal
 
 abbrev pub invariant-loop-at : goal.invariant-loop-at

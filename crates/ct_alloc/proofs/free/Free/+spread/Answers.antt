@@ -4,7 +4,7 @@ use Rattle.std.specs.List.{list_all}
 use Rattle.std.proofs.lemmas.List.{length-map}
 use Rattle.ct_base.specs.declared.defs.Need.{Need}
 use Rattle.ct_alloc.specs.Spread.{IsSpread, NoneSpread, asks_kind, asks_other, interleaved}
-use Rattle.ct_alloc.proofs.SpreadLemmas.{filter-all, none-spread, others-fewer, spread-interleaved}
+use Rattle.ct_alloc.proofs.SpreadLemmas.{all-filter, none-spread, others-fewer, spread-interleaved}
 use Rattle.ct_alloc.proofs.free.Free.+spread.Goals as goal
 
 pub spread_kind-requires : goal.spread_kind-requires
@@ -12,7 +12,7 @@ spread_kind-requires t c =
     let kind : List ℕ = c.in-Some.first.now.now.kind in
     let needs : List Need = map (λ n. n.now) c.args.needs.now in
     let mine : map (λ n. n.now) c.as_slice.result.now ≡ filter (asks_kind kind) needs = search rules in
-    record { alike = subst (λ (ns : List Need). list_all (asks_kind kind) ns ≡ true) (sym mine) (filter-all (asks_kind kind) needs) }
+    record { alike = subst (λ (ns : List Need). list_all (asks_kind kind) ns ≡ true) (sym mine) (all-filter (asks_kind kind) needs) }
 
 pub returns-in_default-2 : goal.returns-in_default-2
 returns-in_default-2 t c =

@@ -1,7 +1,8 @@
 use Rattle.std.proofs.Common.{ap, ◌∙◌, fold, map}
 use Rattle.ct_history.specs.declared.plan.PlanTest.{PlanTest}
 use Rattle.ct_base.specs.Names.{with_new_name}
-use Rattle.ct_cost.specs.After.{after_test, passed_tests, failed_tests}
+use Rattle.ct_history.specs.Failed.{failed_tests}
+use Rattle.ct_cost.specs.After.{after_test, passed_tests}
 use Rattle.ct_cost.proofs.cost_data.CostData.after.Goals as goal
 
 pub returns : goal.returns

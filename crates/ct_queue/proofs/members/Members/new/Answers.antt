@@ -1,6 +1,6 @@
 use Rattle.std.proofs.Common.{ℕ, ◌≡◌, ◌≢◌, ◌∙◌, List, AllPairs, sym, ap, subst, rules}
 use Rattle.ct_queue.specs.Lines.{AreNumbered}
-use Rattle.ct_queue.specs.Spots.{lines_value}
+use Rattle.ct_queue.specs.Spots.{members_value}
 use Rattle.ct_queue.proofs.SpotLemmas.{spots_differ, spots_numbered, value_none}
 use Rattle.ct_queue.proofs.members.Members.new.Goals as goal
 
@@ -15,5 +15,5 @@ places-requires-clause-apart c =
 pub returns : goal.returns
 returns c =
     let copied : c.in_ok-copy.copy.items ≡ c.args.lines.now = search rules in
-    ap (λ (ls : List ℕ). lines_value ls c.in_ok-spots.spots.items c.in_ok-marks.marks) copied
+    ap (λ (ls : List ℕ). members_value ls c.in_ok-spots.spots.items c.in_ok-marks.marks) copied
     ∙ value_none c.args.lines.now c.in_ok-spots.spots.items c.in_ok-marks.marks c.in_ok-spots.ensures.long c.in_ok-marks.ensures.none

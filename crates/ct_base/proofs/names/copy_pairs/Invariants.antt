@@ -1,5 +1,5 @@
 use Rattle.std.proofs.Common.{◌≡◌, take}
-use Rattle.ct_core.proofs.gate.copy_pairs.Given as goal
+use Rattle.ct_base.proofs.names.copy_pairs.Given as goal
 
 abbrev pub invariant-loop-pair : goal.invariant-loop-pair
 invariant-loop-pair l = l.copies ≡ take l.pair-index l.pairs
