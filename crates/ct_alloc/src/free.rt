@@ -321,22 +321,9 @@ fn copied(alloc: Global, resources: &List<Resource>) -> Result<List<Resource>, N
 {
     let mut copy = List::new(alloc);
     for resource in resources.as_slice() {
-        copy.push(copy_of(alloc, resource)?)?;
+        copy.push(resource.copy(alloc)?)?;
     }
     Ok(copy)
-}
-
-/// Copies one resource.
-fn copy_of(alloc: Global, resource: &Resource) -> Result<Resource, NoMemory>
-    ensures whole { IfOk result (λ copy. copy ≡ resource.now) }
-    ensures bounded { IfOk result (λ copy. copy.slots < 2 ^ 32) }
-{
-    let slots = resource.slots;
-    Ok(Resource {
-        kind: resource.kind.copy(alloc)?,
-        id: resource.id.copy(alloc)?,
-        slots,
-    })
 }
 
 /// Returns whether picks take at most this many slots of the resource at a place.

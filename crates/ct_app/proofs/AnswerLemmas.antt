@@ -84,7 +84,7 @@ module _ (words : List (List ℕ)) (env : List Pair) (files files_now : FilesTel
 
   pub told_answer : (ended : Result ℕ Outcome) (outcome : Outcome) (status : ℕ) → Ends (sides words env files files_now gates gates_now sink mid plan history) names ended → ReportsEnd names ended outcome status mid now → AnswersRun (sides words env files files_now gates gates_now sink now plan history) outcome status
   told_answer (Ok st) outcome status (inl run) (is, status_is, unput) =
-      let reports = ran_late (λ i p es. RunLeaves (sides words env files files_now gates gates_now sink mid plan history) i p es (Ok st)) (IsCompleted (sides words env files files_now gates gates_now sink now plan history) st) (λ i p es was. record { reported = subst (λ (t : SinkTell). IsReported p es sink t) (sym unput) was.0; left = was.1; is = was.2 }) run in
+      let reports = ran_late (λ i p es. RunLeaves (sides words env files files_now gates gates_now sink mid plan history) i p es (Ok st)) (IsCompleted (sides words env files files_now gates gates_now sink now plan history) st) (λ i p es was. record { reported = subst (λ (t : SinkTell). IsReported p es sink t) (sym unput) was.reported; left = was.left; is = was.is }) run in
       subst (λ (n : ℕ). AnswersRun (sides words env files files_now gates gates_now sink now plan history) outcome n) (sym status_is) (subst (λ (x : Outcome). AnswersRun (sides words env files files_now gates gates_now sink now plan history) x st) (sym is) reports)
   told_answer (Ok st) outcome status (inr (never, unput)) told = absurd never
   told_answer (Err Completed) outcome status (inl run) told = absurd (none_ran (λ i p es. RunLeaves (sides words env files files_now gates gates_now sink mid plan history) i p es (Err Completed)) (λ i p es none. none) run)

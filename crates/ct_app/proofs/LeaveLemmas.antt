@@ -61,7 +61,11 @@ module _ (s : Sides) (invocation : Invocation) (between : FilesTell) (costs : Co
 
   pub run_leaves : (ended given : Result (Unit {0}) Outcome) → PlanEnds plan entries s.sink.before s.sink.after ended → EndsWithFiles plan entries costs between s.files.after ended given → RunLeaves s invocation plan entries (with_status invocation.empty_is_error plan entries given)
   run_leaves (Ok done) (Ok left_so) ends left =
-      (ends, serves_with_last plan.dir (Leaves plan entries) (leaves_behind plan entries) costs s.files.before between s.files.after read stay left, refl)
+      record {
+        reported = ends;
+        left = serves_with_last plan.dir (Leaves plan entries) (leaves_behind plan entries) costs s.files.before between s.files.after read stay left;
+        is = refl;
+      }
   run_leaves (Ok done) (Err Completed) ends left = left
   run_leaves (Ok done) (Err Listed) ends left = left
   run_leaves (Ok done) (Err (Usage word kind)) ends left = left
@@ -82,23 +86,25 @@ terms_are own s limit plan is = ap (λ (x : Option (List Resource)). let t : Ter
 -- a folder was read for its run
 module _ (words : List (List ℕ)) (env : List Pair) (invocation : Invocation) (asked : AskFor words invocation) (files between files_now : FilesTell) (tests : Tests) (lent : Option (List Resource)) (costs : CostData) (only : Option (List (List ℕ))) (read : IsReadFolder invocation files between tests lent costs only) where
   pub is_source : IsSource files.held invocation (source tests.defs tests.props (wanted_of invocation only) lent costs)
-  is_source = record { tests = read.read.read; only = read.limits; wanted = refl; resources = read.lent; costs = read.last }
+  is_source = record { tests = read.read.read; only = read.inputs.limits; wanted = refl; resources = read.inputs.lent; costs = read.inputs.last }
 
   -- the plan was run, and the files of the run were written where the run is complete
   pub folder_ends : (terms : Terms) (gates gates_now : List GateTell) (sink sink_now : SinkTell) (plan : PlanParts) (entries : List Entry) (names : List (List ℕ)) (ended given : Result (Unit {0}) Outcome) → (AreAsked terms 0 gates gates_now entries → AreAsked (terms_from env (source tests.defs tests.props (wanted_of invocation only) lent costs) invocation.timeout) 0 gates gates_now entries) → IsPlanAnswer most_edges (source tests.defs tests.props (wanted_of invocation only) lent costs) (Ok plan) → HasRun terms gates gates_now plan entries → FollowsQueue plan entries → PlanEnds plan entries sink sink_now ended → EndsWithFiles plan entries costs between files_now ended given → Ends (sides words env files files_now gates gates_now sink sink_now (Some plan) (Some entries)) names (with_status invocation.empty_is_error plan entries given)
   folder_ends terms gates gates_now sink sink_now plan entries names ended given asked_so planned ran order ends left =
       let s = sides words env files files_now gates gates_now sink sink_now (Some plan) (Some entries) in
       let made = source tests.defs tests.props (wanted_of invocation only) lent costs in
-      let last = subst (λ (dir : List ℕ). IfSome files.held (λ held. costs ≡ last_costs dir held)) (sym planned.1.dir) read.last in
+      let last = subst (λ (dir : List ℕ). IfSome files.held (λ held. costs ≡ last_costs dir held)) (sym planned.1.dir) read.inputs.last in
       let run : IsRunOf env made invocation.timeout gates gates_now plan entries = record {
         few = planned.0;
         planned = planned.1;
-        legal = ran.legal;
-        within = ran.within;
+        ran = record {
+          legal = ran.legal;
+          within = ran.within;
+          closed = ran.closed;
+          workers = ran.workers;
+          asked = asked_so ran.asked;
+        };
         order = order;
-        closed = ran.closed;
-        workers = ran.workers;
-        asked = asked_so ran.asked;
       } in
       inl (record {
         invocation = invocation;

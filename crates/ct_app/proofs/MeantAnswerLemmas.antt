@@ -6,10 +6,11 @@ use Rattle.std.specs.List.{range_with_len}
 use Rattle.std.proofs.lemmas.Bool.{and_parts, cases_Bool, ltb-true, not-true}
 use Rattle.std.proofs.lemmas.Bool.Decides.{nat_tests}
 use Rattle.ct_base.specs.declared.defs.TestDef.{TestDef}
+use Rattle.ct_base.specs.Numbers.{is_in}
 use Rattle.ct_props.specs.declared.props.Props.{Props}
 use Rattle.ct_props.specs.declared.wanted.Wanted.{Wanted}
 use Rattle.ct_props.specs.declared.wanted.Choice.{Choice}
-use Rattle.ct_props.specs.Numbered.{at_number, is_in}
+use Rattle.ct_props.specs.Numbered.{at_number}
 use Rattle.ct_select.specs.Chosen.{chosen_tests, is_chosen_at}
 use Rattle.ct_fixture.specs.Drawing.{after_rounds, fixtures_required, is_drawn, members_of}
 use Rattle.ct_verdict.specs.declared.repeat.Repeat.{Repeat}
@@ -98,17 +99,17 @@ seen_entries props world workers (e ∷ es) below had saw =
 -- a completed run has the verdicts, status and texts that are meant in the world that its gates tell
 comes_as_meant : (s : Sides) (status : ℕ) (invocation : Invocation) (source : Source) (plan : PlanParts) (entries : List Entry) → IsRun s invocation source plan entries → IsCompleted s status invocation plan entries → (world : List Told) → AllTell world s.gates.before → ComesAsMeant invocation.empty_is_error plan (seen_in_world source.props world) entries status
 comes_as_meant s status invocation source plan entries run completed world all =
-    let verdicts = are_meant plan (ranked s invocation source plan entries run) (seen_in_world source.props world) entries run.ran.legal completed.reported.complete.final are_seen in
+    let verdicts = are_meant plan (ranked s invocation source plan entries run) (seen_in_world source.props world) entries run.ran.ran.legal completed.reported.complete.final are_seen in
     record {
       verdicts = verdicts;
       is = completed.is ∙ ap (λ (b : Bool). if (if length plan.tests == 0 then invocation.empty_is_error else b) then 8 else 0) verdicts.failing;
-      texts = λ off. has_meant_texts plan (ranked s invocation source plan entries run) (seen_in_world source.props world) off entries run.ran.legal completed.reported.complete.final are_seen;
+      texts = λ off. has_meant_texts plan (ranked s invocation source plan entries run) (seen_in_world source.props world) off entries run.ran.ran.legal completed.reported.complete.final are_seen;
     }
   where
     are_seen : AreSeen (seen_in_world source.props world) entries
     are_seen =
-        seen_entries source.props world (min plan.level (length s.gates.before)) entries run.ran.workers completed.reported.memory
-        (λ worker less. told_by (terms_from s.env source invocation.timeout) world entries 0 s.gates.before s.gates.after run.ran.asked all worker (omega arith) (omega (arith, less)))
+        seen_entries source.props world (min plan.level (length s.gates.before)) entries run.ran.ran.workers completed.reported.memory
+        (λ worker less. told_by (terms_from s.env source invocation.timeout) world entries 0 s.gates.before s.gates.after run.ran.ran.asked all worker (omega arith) (omega (arith, less)))
 
 some_and : {A : Type 0} (P Q : A → Type 0) (o : Option A) → ((x : A) → P x → Q x) → IsSomeAnd o P → IsSomeAnd o Q
 some_and P Q None each is = absurd is

@@ -3,6 +3,7 @@
 use Rattle.std.proofs.Common.{◌≡◌, ◌∙◌, sym, ap, Bool, true, false, ℕ, zero, suc, ◌+◌, List, [], ◌∷◌, ◌++◌, length, refl, arith}
 use Rattle.std.specs.Prelude.{Option, Some, Contains, cond, codes, filter, flat_map, fold, map, option_map, ◌&&◌}
 use Rattle.std.specs.List.{AllByRecursion}
+use Rattle.ct_base.specs.Names.{each_once}
 use Rattle.ct_verdict.specs.declared.attempt.Seen.{Seen}
 use Rattle.ct_verdict.specs.declared.verdict.Verdict.{Verdict}
 use Rattle.ct_history.specs.declared.plan.PlanTest.{PlanTest}
@@ -16,7 +17,7 @@ use Rattle.ct_history.proofs.PlanLemmas.{contained_at}
 use Rattle.ct_cost.specs.declared.cost_data.CostData.{CostData}
 use Rattle.ct_cost.specs.After.{after_test, counted_micros, logged, passed_tests}
 use Rattle.ct_history.specs.Endings.{last_seen}
-use Rattle.ct_cost.specs.CostLine.{CostLine, after_run, each_once}
+use Rattle.ct_cost.specs.CostLine.{CostLine, after_run}
 use Rattle.ct_cost.specs.Costs.{costs_after}
 use Rattle.ct_report.specs.Report.{counts_line, counts_with, failed_lines, good_count, has_label, is_good_in, is_unrun_in, label_line, label_lines, labelled_count, labelled_good_count, labels_in_order, listed_line, listed_with, summary_lines, under, unrun_tests}
 use Rattle.ct_app.specs.Meant.{AreSeen, last_attempt, meant_verdict}

@@ -21,13 +21,13 @@ use Rattle.ct_app.specs.declared.outcome.SpecRefusal.{SpecRefusal}
 use Rattle.ct_app.specs.declared.props.Tests.{Tests}
 use Rattle.ct_app.specs.declared.spec_file.SpecFileFault.{SpecFileFault}
 use Rattle.ct_app.specs.declared.spec_file.SpecFileFault.TheVariants as Named
-use Rattle.ct_app.specs.Ends.{HasTests, IsReadFolder, IsReadList, IsUnread, IsUnreadFolder, IsUnreadList}
+use Rattle.ct_app.specs.Ends.{AreReadInputs, HasTests, IsReadFolder, IsReadList, IsUnread, IsUnreadFolder, IsUnreadList}
 use Rattle.ct_app.specs.Outcome.{outcome_of, outcome_of_file, outcome_of_spec}
 use Rattle.ct_app.specs.Reading.{AreTestsRead, InputsFailAt, RefusesSpec}
 use Rattle.ct_app.specs.Rerun.{AreOnly, ReadsOnly, last_failed, names_in_text}
 use Rattle.ct_app.specs.RunFiles.{FilesStay, ReadsCosts, costs_of, costs_path, last_costs, log_path}
 use Rattle.ct_app.specs.SpecFile.{AreLent, ReadsSpec, RefusesFile, declared_in}
-use Rattle.ct_app.specs.Steps.{AreReadInputs, AreUnreadInputs}
+use Rattle.ct_app.specs.Steps.{AreUnreadInputs}
 use Rattle.ct_app.specs.Tests.{RefusesTests}
 use Rattle.ct_app.proofs.ChangeLemmas.{fails_then, same_then_same, serves_then}
 
@@ -126,9 +126,12 @@ module _ (invocation : Invocation) (before between : FilesTell) (tests : Tests) 
   pub read_folder : (now : FilesTell) (lent : Option (List Resource)) (costs : CostData) (only : Option (List (List ℕ))) → AreReadInputs invocation between now lent costs only → IsReadFolder invocation before now tests lent costs only
   read_folder now lent costs only beside = record {
     read = record { read = read.read; few = read.few; files = then_stay before between now read.files beside.files };
-    lent = same_lent invocation.spec_file lent before.held between.held read.files.held beside.lent;
-    last = same_last invocation.wanted.dir costs before.held between.held read.files.held beside.last;
-    limits = same_only invocation.rerun invocation.wanted.dir only before.held between.held read.files.held beside.limits;
+    inputs = record {
+      lent = same_lent invocation.spec_file lent before.held between.held read.files.held beside.lent;
+      last = same_last invocation.wanted.dir costs before.held between.held read.files.held beside.last;
+      limits = same_only invocation.rerun invocation.wanted.dir only before.held between.held read.files.held beside.limits;
+      files = then_stay before between now read.files beside.files;
+    };
   }
 
   -- all that a list needs was read

@@ -9,6 +9,7 @@ use Rattle.std.proofs.lemmas.List.Elements.{filter_agree}
 use Rattle.std.proofs.lemmas.List.Folds.{list_all-map}
 use Rattle.std.proofs.lemmas.Option.{slice_get-map}
 use Rattle.ct_base.specs.declared.defs.TestDef.{TestDef}
+use Rattle.ct_base.specs.Numbers.{is_in}
 use Rattle.ct_regex.specs.declared.pattern.Regex.{Regex}
 use Rattle.ct_regex.specs.Ends.{hits}
 use Rattle.ct_regex.specs.Tree.{Tree}
@@ -17,7 +18,7 @@ use Rattle.ct_groups.specs.GroupsIn.{no_groups}
 use Rattle.ct_props.specs.declared.props.Props.{Props}
 use Rattle.ct_props.specs.declared.wanted.Choice.{Choice}
 use Rattle.ct_props.specs.declared.wanted.Numbers.{Numbers}
-use Rattle.ct_props.specs.Numbered.{at_number, is_in}
+use Rattle.ct_props.specs.Numbered.{at_number}
 use Rattle.ct_props.specs.PropsOf.{HasProps}
 use Rattle.ct_select.specs.Chosen.{by_name, by_number, chosen_tests, hit_labels, is_chosen, is_chosen_at, is_chosen_by_options, is_chosen_there, is_left_out, is_named_or}
 use Rattle.ct_fixture.specs.Drawing.{after_rounds, draws, fixtures_required, is_drawn, is_hit, keeps_cleanups, keeps_setups, next_round, required_by}

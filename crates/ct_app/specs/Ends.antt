@@ -19,13 +19,14 @@ use Rattle.ct_app.specs.declared.outcome.Outcome.TheVariants.{Completed, Listed,
 use Rattle.ct_app.specs.declared.outcome.Refusal.{Refusal}
 use Rattle.ct_app.specs.declared.outcome.Refusal.TheVariants.{Cycle, TooManyEdges}
 use Rattle.ct_app.specs.declared.props.Tests.{Tests}
+use Rattle.ct_app.specs.declared.run_files.RunFileFault.TheVariants as Fault
 use Rattle.ct_app.specs.Calls.{IsReadFault, IsUnreadable, IsUnrun, IsUsage, PutsOrFails, Sides}
-use Rattle.ct_app.specs.Runs.{HasRunWith, IsCutOff, IsCutShort, IsGivenUp, FilesAreLeft, IsRefusal, IsReported, IsWriteFault}
+use Rattle.ct_app.specs.Runs.{HasRunWith, IsCompleted, IsCutOff, IsCutShort, IsGivenUp, IsRefusal, IsReported, IsWriteFault}
 use Rattle.ct_app.specs.Lists.{HasList}
 use Rattle.ct_app.specs.Outcome.{fault_line, fault_status, names_at, outcome_of_sink, status_of}
 use Rattle.ct_app.specs.Reading.{AreRead, AskFor, ListFailsAt, RefusesReading, RefusesSpec, RunFailsAt}
 use Rattle.ct_app.specs.Rerun.{AreOnly}
-use Rattle.ct_app.specs.RunFiles.{FilesFail, FilesServe, FilesStay, IsWritten, Leaves, LeavesPart, LeavesTorn, last_costs}
+use Rattle.ct_app.specs.RunFiles.{FilesFail, FilesStay, WritesFiles, last_costs}
 use Rattle.ct_app.specs.SpecFile.{AreLent}
 
 -- the entries of a history
@@ -49,9 +50,7 @@ ended_as (Err fault) = Err (outcome_of_sink fault)
 -- - the run is complete, and a write of a file failed, or memory ran out for the files;
 -- - the run ended early with a fault of the sink or out of memory, and the files stay
 abbrev pub RunLeaves : Sides → Invocation → PlanParts → List Entry → Result ℕ Outcome → Type 0
-RunLeaves s invocation plan entries (Ok status) =
-    IsReported plan entries s.sink.before s.sink.after × FilesAreLeft s plan entries
-    × (status ≡ status_of invocation.empty_is_error plan entries)
+RunLeaves s invocation plan entries (Ok status) = IsCompleted s status invocation plan entries
 RunLeaves s invocation plan entries (Err (FilesFault path)) =
     IsWriteFault s path plan entries × IsReported plan entries s.sink.before s.sink.after
 RunLeaves s invocation plan entries (Err OutputFault) =
@@ -66,11 +65,11 @@ abbrev pub EndsWithFiles : PlanParts
     → Type 0
 EndsWithFiles plan entries costs before now (Err outcome) ended = (ended ≡ Err outcome) × (now ≡ before)
 EndsWithFiles plan entries costs before now (Ok done) (Ok left) =
-    FilesServe (Leaves plan entries costs) before now
+    WritesFiles plan entries costs before now (Ok left)
 EndsWithFiles plan entries costs before now (Ok done) (Err (FilesFault path)) =
-    IsWritten plan entries path × FilesFail path (LeavesTorn plan entries path costs) before now
+    WritesFiles plan entries costs before now (Err (Fault.Failed path))
 EndsWithFiles plan entries costs before now (Ok done) (Err Memory) =
-    FilesServe (LeavesPart plan entries costs) before now
+    WritesFiles plan entries costs before now (Err Fault.NoMemory)
 EndsWithFiles plan entries costs before now (Ok done) ended = ⊥
 
 -- the status of a complete run, or the outcome of one that ended early
@@ -126,17 +125,24 @@ pub record IsReadList
   pub read : HasTests invocation before now tests
   pub limits : AreOnly before.held invocation.rerun invocation.wanted.dir only
 
--- the folder of a run was read:
--- - the tests, and the resources that are lent;
+-- the inputs of a plan beside the tests and the words were read, and the files stay:
+-- - the resources that are lent;
 -- - the cost data of the last run;
 -- - the names that the run is limited to, if any
+pub record AreReadInputs
+    (invocation : Invocation) (before now : FilesTell) (resources : Option (List Resource)) (costs : CostData)
+    (only : Option (List (List ℕ))) : Type 0 where
+  pub lent : AreLent before.held invocation.spec_file resources
+  pub last : IfSome before.held (λ held. costs ≡ last_costs invocation.wanted.dir held)
+  pub limits : AreOnly before.held invocation.rerun invocation.wanted.dir only
+  pub files : FilesStay before now
+
+-- the folder of a run was read: the tests, and the other inputs of a plan
 pub record IsReadFolder
     (invocation : Invocation) (before now : FilesTell) (tests : Tests) (resources : Option (List Resource))
     (costs : CostData) (only : Option (List (List ℕ))) : Type 0 where
   pub read : HasTests invocation before now tests
-  pub lent : AreLent before.held invocation.spec_file resources
-  pub last : IfSome before.held (λ held. costs ≡ last_costs invocation.wanted.dir held)
-  pub limits : AreOnly before.held invocation.rerun invocation.wanted.dir only
+  pub inputs : AreReadInputs invocation before now resources costs only
 
 -- why the tests of a folder have no plan, with the names of the tests of a cycle;
 -- memory may run out for the names

@@ -1,12 +1,11 @@
 -- What each outcome of a run means: what was read, run, asked and written. This project's own.
-use Rattle.std.specs.Prelude.{◌≡◌, ◌⊎◌, ℕ, ◌≤◌, min, true, List, [], ◌∷◌, length, Ok, Err, IsSomeAnd}
+use Rattle.std.specs.Prelude.{◌≡◌, ◌⊎◌, ℕ, ◌≤◌, true, List, [], ◌∷◌, Ok, Err, IsSomeAnd}
 use Rattle.ct_base.specs.declared.defs.Pair.{Pair}
 use Rattle.ct_base.specs.declared.sink.SinkFault.TheVariants as Sinks
 use Rattle.ct_base.specs.Outside.{SinkTell}
 use Rattle.ct_history.specs.declared.plan.PlanParts.{PlanParts}
 use Rattle.ct_history.specs.declared.history.Entry.{Entry}
-use Rattle.ct_history.specs.History.{open_starts}
-use Rattle.ct_history.specs.Legal.{IsComplete, StaysWithin, is_legal}
+use Rattle.ct_history.specs.Legal.{IsComplete}
 use Rattle.ct_core.specs.Gate.{GateTell}
 use Rattle.ct_core.specs.Order.{FollowsQueue}
 use Rattle.ct_graph.specs.Order.{most_edges}
@@ -18,30 +17,25 @@ use Rattle.ct_report.specs.Report.{report_lines}
 use Rattle.ct_app.specs.declared.outcome.Refusal.{Refusal}
 use Rattle.ct_app.specs.declared.outcome.Outcome.{Outcome}
 use Rattle.ct_app.specs.declared.outcome.Outcome.TheVariants.{Completed, Listed, Usage, Refused, FilesFault, OutputFault, Memory}
-use Rattle.ct_worker.specs.Gates.{AreAsked, are_below, had_memory}
+use Rattle.ct_worker.specs.Gates.{had_memory}
 use Rattle.ct_app.specs.Stops.{StopsSo}
 use Rattle.ct_app.specs.Tests.{terms_from}
 use Rattle.ct_app.specs.Outcome.{fault_line, status_of}
 use Rattle.ct_app.specs.Reading.{AskFor, IsSource, RefusesPlan, RunFailsAt}
+use Rattle.ct_app.specs.Run.{HasRun}
 use Rattle.ct_app.specs.RunFiles.{FilesFail, FilesServe, FilesStay, IsWritten, Leaves, LeavesPart, LeavesTorn, WithLast}
 use Rattle.ct_app.specs.Calls.{IsReadFault, IsUndeclared, IsUnreadable, IsUnrun, IsUsage, PutsOrFails, Sides, ThenLine, Tries}
 
 -- a plan was made of this source, and its tests ran as far as the history goes:
 -- - the source has at most `most_edges` edges;
--- - the history is legal, leaves no start open, and stays within the limits of the plan at each moment;
--- - each test was started or settled when it was the next by the queue;
--- - its workers are at most as many as the level and the gates;
--- - it agrees with what the gates were asked and told
+-- - the history agrees with the plan and with what the gates were asked and told, as `HasRun` says;
+-- - each test was started or settled when it was the next by the queue
 pub record IsRunOf (env : List Pair) (source : Source) (limit : ℕ) (gates_before gates_now : List GateTell)
     (plan : PlanParts) (entries : List Entry) : Type 0 where
   pub few : edge_count source ≤ most_edges
   pub planned : IsPlanOf source plan
-  pub legal : is_legal plan entries ≡ true
-  pub within : StaysWithin plan entries
+  pub ran : HasRun (terms_from env source limit) gates_before gates_now plan entries
   pub order : FollowsQueue plan entries
-  pub closed : open_starts entries ≡ []
-  pub workers : are_below (min plan.level (length gates_before)) entries ≡ true
-  pub asked : AreAsked (terms_from env source limit) 0 gates_before gates_now entries
 
 -- the source that the words ask for was read, and its tests ran as far as the history goes
 pub record IsRun

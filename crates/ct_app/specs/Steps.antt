@@ -1,8 +1,6 @@
 -- What the steps of a run read, plan and write. This project's own.
-use Rattle.std.specs.Prelude.{◌≡◌, ◌⊎◌, ℕ, Bool, true, false, List, [], ◌∷◌, Option, Some, Result, Ok, Err, IfSome}
-use Rattle.ct_base.specs.declared.defs.Resource.{Resource}
+use Rattle.std.specs.Prelude.{◌≡◌, ℕ, Bool, true, false, List, [], ◌∷◌, Result, Ok, Err}
 use Rattle.ct_base.specs.Outside.{FilesTell, SameHeld}
-use Rattle.ct_cost.specs.declared.cost_data.CostData.{CostData}
 use Rattle.ct_graph.specs.Order.{most_edges}
 use Rattle.ct_args.specs.declared.invocation.Invocation.{Invocation}
 use Rattle.ct_plan.specs.declared.fault.PlanFault.{PlanFault}
@@ -13,23 +11,10 @@ use Rattle.ct_app.specs.declared.outcome.Outcome.TheVariants.{Refused, FilesFaul
 use Rattle.ct_app.specs.declared.run_files.RunFileFault.{RunFileFault}
 use Rattle.ct_app.specs.Ends.{IsUnplanned}
 use Rattle.ct_app.specs.Reading.{InputsFailAt, RefusesSpec}
-use Rattle.ct_app.specs.Rerun.{AreOnly}
-use Rattle.ct_app.specs.RunFiles.{FilesFail, FilesStay, WritesText, costs_path, last_costs, log_path}
-use Rattle.ct_app.specs.SpecFile.{AreLent}
+use Rattle.ct_app.specs.RunFiles.{FilesFail, FilesStay, WritesText, log_path}
 
--- the inputs of a plan beside the tests and the words were read, and the files stay:
--- - the resources that are lent;
--- - the cost data of the last run;
--- - the names that the run is limited to, if any
-pub record AreReadInputs
-    (invocation : Invocation) (before now : FilesTell) (resources : Option (List Resource)) (costs : CostData)
-    (only : Option (List (List ℕ))) : Type 0 where
-  pub lent : AreLent before.held invocation.spec_file resources
-  pub last : IfSome before.held (λ held. costs ≡ last_costs invocation.wanted.dir held)
-  pub limits : AreOnly before.held invocation.rerun invocation.wanted.dir only
-  pub files : FilesStay before now
-
--- why they were not read: the specification is refused, the files failed at a path, or memory ran out
+-- why the inputs of a plan beside the tests and the words were not read: the specification is refused, the
+-- files failed at a path, or memory ran out
 abbrev pub AreUnreadInputs : Invocation → FilesTell → FilesTell → Outcome → Type 0
 AreUnreadInputs invocation before now (Refused refusal) =
     RefusesSpec before.held invocation refusal × FilesStay before now

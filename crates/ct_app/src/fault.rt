@@ -42,12 +42,12 @@ pub fn report_outcome<S: Sink>(
     names: &[Name],
     outcome: Outcome,
 ) -> (Outcome, u8)
-    ensures told { ReportsFault names.now outcome result.0 (S.tells sink.old) (S.tells sink.new) }
+    ensures reported { ReportsFault names.now outcome result.0 (S.tells sink.old) (S.tells sink.new) }
     ensures status { result.1 ≡ fault_status result.0 }
 {
-    let told = report_fault(alloc, sink, names, outcome);
-    let status = status(&told);
-    (told, status)
+    let reported = report_fault(alloc, sink, names, outcome);
+    let status = status(&reported);
+    (reported, status)
 }
 
 /// Puts the line of an outcome but Completed, and returns the outcome, or Memory where memory ran
@@ -124,7 +124,7 @@ fn text_of_usage(alloc: Global, word: u32, kind: UsageKind) -> Result<Blob, NoMe
     ensures { IfOk result (λ text. text ≡ codes "word " ++ decimal word ++ codes ": " ++ usage_text kind) }
 {
     let mut text = Blob::of(alloc, b"word ")?;
-    text.append(word.to_string(alloc)?.as_bytes())?;
+    text.append_number(alloc, u128::from(word))?;
     text.append(b": ")?;
     text.append(text_of_word_fault(kind))?;
     Ok(text)
@@ -217,7 +217,7 @@ fn text_of_prop(alloc: Global, test: u32, key: &Name, kind: &PropKind) -> Result
     ensures { IfOk result (λ text. text ≡ codes "test " ++ decimal test ++ codes ": " ++ key.now ++ codes ": " ++ prop_text kind.now) }
 {
     let mut text = Blob::of(alloc, b"test ")?;
-    text.append(test.to_string(alloc)?.as_bytes())?;
+    text.append_number(alloc, u128::from(test))?;
     text.append(b": ")?;
     text.append(key.bytes())?;
     text.append(b": ")?;
@@ -240,7 +240,7 @@ fn text_of_place(alloc: Global, file: &Name, line: u32, kind: ReadKind) -> Resul
 {
     let mut text = Blob::of(alloc, file.bytes())?;
     text.append(b":")?;
-    text.append(line.to_string(alloc)?.as_bytes())?;
+    text.append_number(alloc, u128::from(line))?;
     text.append(b": ")?;
     text.append(text_of_kind(kind))?;
     Ok(text)

@@ -4,10 +4,10 @@ ghost use Rattle.ct_graph.specs.Order.{most_edges};
 ghost use Rattle.ct_history.specs.Plan.{IsSound};
 ghost use Rattle.ct_plan.specs.PlanOf.{IsPlanAnswer};
 ghost use Rattle.ct_plan.specs.Source.{HaveProps, source};
-ghost use Rattle.ct_app.specs.Ends.{IsReadFolder, IsUnplanned, IsUnreadFolder};
+ghost use Rattle.ct_app.specs.Ends.{AreReadInputs, IsReadFolder, IsUnplanned, IsUnreadFolder};
 ghost use Rattle.ct_app.specs.Planning.{HasNoPlan, HasPlan, HasSomeReason, IsPlannedFolder, IsUnplannedFolder};
 ghost use Rattle.ct_app.specs.Rerun.{wanted_of};
-ghost use Rattle.ct_app.specs.Steps.{AreReadInputs, AreUnreadInputs, IsUnplannedSource};
+ghost use Rattle.ct_app.specs.Steps.{AreUnreadInputs, IsUnplannedSource};
 
 use crate::props::Tests;
 use crate::reading::{names_at, read_tests};

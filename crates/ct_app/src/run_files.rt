@@ -23,7 +23,7 @@ pub(crate) const LOG: &[u8] = b"Testing/Temporary/LastTestsFailed.log";
 const MOST_COST_BYTES: u64 = 67_108_864;
 
 /// Why a file that a run reads or writes could not be used.
-#[derive(Drop)]
+#[derive(Debug, Drop)]
 pub enum RunFileFault {
     /// The path could not be read or written.
     Failed { path: Name },

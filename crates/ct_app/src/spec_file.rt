@@ -12,7 +12,7 @@ use std::alloc::Global;
 const MOST_SPEC_BYTES: u64 = 16_777_216;
 
 /// Why the resources were not read from the file that declares those of the machine.
-#[derive(Drop)]
+#[derive(Debug, Drop)]
 pub enum SpecFileFault {
     /// The file is refused.
     Refused(SpecRefusal),

@@ -4,8 +4,8 @@ use Rattle.std.specs.Prelude.{Option, Result, unwrap_or, ok_or, slice_get}
 use Rattle.std.specs.List.{filter_map, cons_option, position}
 use Rattle.std.specs.Result.{result_ok}
 use Rattle.std.proofs.lemmas.Bool.Decides.{nat_tests}
+use Rattle.ct_base.specs.Bytes.{colon}
 use Rattle.ct_base.specs.Seconds.{number_in}
-use Rattle.ct_groups.specs.Description.{colon}
 use Rattle.ct_verdict.specs.declared.repeat.Mode.{Mode}
 use Rattle.ct_verdict.specs.declared.repeat.Repeat.{Repeat}
 use Rattle.ct_args.specs.declared.option.CommandOption.{CommandOption}

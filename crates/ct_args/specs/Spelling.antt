@@ -3,6 +3,7 @@ use Rattle.std.specs.Prelude.{ℕ, ◌+◌, List, [], ◌∷◌, length, drop, n
 use Rattle.std.specs.Borrow.{Bor}
 use Rattle.std.specs.List.{starts_with}
 use Rattle.std.specs.Option.{option_map, option_or}
+use Rattle.ct_base.specs.Bytes.{equals_sign}
 use Rattle.ct_base.specs.Seconds.{is_numeral}
 use Rattle.ct_args.specs.declared.option.CommandOption.{CommandOption}
 use Rattle.ct_args.specs.declared.option.CommandOption.TheVariants.{TestsRegex, ExcludeRegex, LabelRegex, LabelExclude, FixtureExcludeAny, FixtureExcludeSetup, FixtureExcludeCleanup, TestsInformation, Union, Parallel, BuildConfig, TestDir, ResourceSpecFile, Timeout, Repeat, NoTests, StopOnFailure, ShowOnly, ShowOnlyAs, PrintLabels, RerunFailed, Verbosity}
@@ -56,10 +57,6 @@ spellings =
     spelled (codes "--progress") Verbosity Flag ∷
     []
 
--- the byte `=`
-abbrev pub equals : ℕ
-equals = 61
-
 -- the place, where nothing stands behind the name
 abbrev pub place_at_end : ValuePlace → List ℕ → Option ValuePlace
 place_at_end place [] = Some place
@@ -68,7 +65,7 @@ place_at_end place (byte ∷ bytes) = None
 -- the value stands behind the name and a `=`
 abbrev pub behind_equals : List ℕ → List ℕ → Option ValuePlace
 behind_equals name [] = None
-behind_equals name (byte ∷ bytes) = if byte == equals then Some (Behind (length name + 1)) else None
+behind_equals name (byte ∷ bytes) = if byte == equals_sign then Some (Behind (length name + 1)) else None
 
 -- where the value stands, by the form and by what stands behind the name in the same word; none where that is
 -- not of the form

@@ -4,10 +4,11 @@ use Rattle.std.specs.Prelude.{ℕ, ◌+◌, ◌-◌, ◌^◌, min, max, nat_lt, 
 use Rattle.std.specs.List.{position, filter_map}
 use Rattle.std.specs.Option.{option_flatten}
 use Rattle.std.specs.Result.{result_or}
+use Rattle.ct_base.specs.Bytes.{colon}
 use Rattle.ct_base.specs.Seconds.{number_in, micros_in}
 use Rattle.ct_regex.specs.Tree.{Tree}
 use Rattle.ct_regex.specs.Reading.{reading}
-use Rattle.ct_groups.specs.Description.{colon, pieces_of}
+use Rattle.ct_groups.specs.Description.{pieces_of}
 use Rattle.ct_props.specs.declared.wanted.Numbers.{Numbers}
 use Rattle.ct_verdict.specs.declared.repeat.Mode.{Mode}
 use Rattle.ct_verdict.specs.declared.repeat.Mode.TheVariants.{UntilFail, UntilPass, AfterTimeout}

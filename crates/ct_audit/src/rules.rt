@@ -3,7 +3,7 @@ ghost use Rattle.std.specs.Option.{option_copied};
 ghost use Rattle.ct_history.specs.Legal.{same_cause};
 ghost use Rattle.ct_history.specs.Plan.{test_at};
 ghost use Rattle.ct_history.specs.Rules.{cause_behind};
-ghost use Rattle.ct_history.specs.Verdicts.{is_failing_in, is_passed_verdict};
+ghost use Rattle.ct_history.specs.Verdicts.{is_passed_verdict};
 ghost use Rattle.ct_audit.specs.Course.{course_at, runs};
 ghost use Rattle.ct_audit.specs.Places.{Ascend};
 ghost use Rattle.ct_audit.specs.Seen as Seen;
@@ -14,7 +14,7 @@ use crate::open_start::{has_start, is_busy, is_excluded, is_open, used_processor
 use crate::placed::is_placed;
 use crate::places::planned;
 use ct_alloc::Placement;
-use ct_history::{Entry, PlanParts, PlanTest};
+use ct_history::{Entry, PlanParts, PlanTest, is_failing};
 use ct_verdict::{Cause, Verdict};
 
 impl Audit {
@@ -192,15 +192,6 @@ impl Audit {
         let is_open = is_open(&self.running, test.number);
         let course = course_at(&self.courses, test.number);
         verdict(&plan.repeat, test, is_open, course)
-    }
-}
-
-fn is_failing(verdict: Option<Verdict>) -> bool
-    ensures { result ≡ is_failing_in verdict }
-{
-    match verdict {
-        Some(verdict) => verdict.is_failing(),
-        None => false,
     }
 }
 

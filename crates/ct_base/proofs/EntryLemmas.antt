@@ -3,7 +3,8 @@ use Rattle.std.specs.Prelude.{ℕ, ◌+◌, ◌<◌, ◌≤◌, ◌≡◌, List,
 use Rattle.std.proofs.Common.{sym, ap, ◌∙◌}
 use Rattle.std.proofs.lemmas.Bool.{ne_eqb}
 use Rattle.std.proofs.lemmas.List.{append_assoc, append-nil, drop-drop, drop_more, drop_all}
-use Rattle.ct_base.specs.Entries.{entries_of, is_entry, is_escape, parts_of, parts_with, semicolon, with_front}
+use Rattle.ct_base.specs.Bytes.{semicolon}
+use Rattle.ct_base.specs.Entries.{entries_of, is_entry, is_escape, parts_of, parts_with, with_front}
 
 byte-other : (byte : ℕ) → (byte ≡ semicolon → ⊥) → (byte == semicolon) ≡ false
 byte-other byte other = ne_eqb byte semicolon other

@@ -1,14 +1,7 @@
 -- A text as a list of entries. Source: CMake manual, cmake-language(7), Lists.
 -- This project's choice: square brackets protect nothing, and no entry is empty.
 use Rattle.std.specs.Prelude.{ℕ, Bool, true, false, ◌&&◌, List, [], ◌∷◌, ◌++◌, filter, ◌==◌, if◌then◌else◌}
-
--- the byte that ends an entry
-abbrev pub semicolon : ℕ
-semicolon = 59
-
--- the byte that escapes a semicolon directly behind it
-abbrev pub backslash : ℕ
-backslash = 92
+use Rattle.ct_base.specs.Bytes.{backslash, semicolon}
 
 -- the text begins with an escaped semicolon
 abbrev pub is_escape : List ℕ → Bool

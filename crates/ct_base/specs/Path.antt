@@ -1,9 +1,6 @@
 -- Paths. This project's own.
 use Rattle.std.specs.Prelude.{ℕ, List, [], ◌∷◌, ◌++◌, Bool, false, ◌==◌, if◌then◌else◌}
-
--- the byte `/`
-abbrev pub slash : ℕ
-slash = 47
+use Rattle.ct_base.specs.Bytes.{slash}
 
 -- the path begins with `/`
 abbrev pub is_absolute : List ℕ → Bool

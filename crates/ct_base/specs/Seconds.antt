@@ -6,14 +6,7 @@ use Rattle.std.specs.List.{list_all, position}
 use Rattle.std.specs.Option.{option_map}
 use Rattle.std.specs.Char.{is_ascii_digit}
 use Rattle.std.specs.Str.Parse.{digits_value}
-
--- the byte `-`
-abbrev pub minus : ℕ
-minus = 45
-
--- the byte `.`
-abbrev pub point : ℕ
-point = 46
+use Rattle.ct_base.specs.Bytes.{minus, point}
 
 -- the text is one or more digits and nothing else
 abbrev pub is_numeral : List ℕ → Bool

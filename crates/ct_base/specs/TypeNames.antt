@@ -1,16 +1,12 @@
 -- The names of resource types. Source: CMake manual, ctest(1), Resource Specification File.
 use Rattle.std.specs.Prelude.{ℕ, Bool, false, List, [], ◌∷◌, ◌&&◌, ◌||◌, ◌==◌}
 use Rattle.std.specs.List.{list_all}
-use Rattle.std.specs.Int.{is_in_range}
-use Rattle.std.specs.Char.{is_ascii_digit}
-
--- the byte `_`
-abbrev pub underscore : ℕ
-underscore = 95
+use Rattle.std.specs.Char.{is_ascii_digit, is_ascii_lowercase}
+use Rattle.ct_base.specs.Bytes.{underscore}
 
 -- a byte that the name of a resource type begins with: `a` to `z` or `_`
 abbrev pub begins_type : ℕ → Bool
-begins_type byte = is_in_range 97 122 byte || byte == underscore
+begins_type byte = is_ascii_lowercase byte || byte == underscore
 
 -- a byte that a name goes on with, and a byte of an id: `a` to `z`, `_` or a digit
 abbrev pub is_name_byte : ℕ → Bool

@@ -1,4 +1,4 @@
-ghost use Rattle.std.specs.Prelude.{◌≡◌, ◌++◌, ◌∷◌, [], IfOk, OnOk, OnErr};
+ghost use Rattle.std.specs.Prelude.{◌≡◌, ◌++◌, ◌∷◌, [], decimal, IfOk, OnOk, OnErr};
 
 use crate::NoMemory;
 use std::alloc::Global;
@@ -57,5 +57,14 @@ impl Blob {
     {
         self.bytes.extend_from_slice(piece)?;
         Ok(())
+    }
+
+    /// Appends the number in decimal.
+    pub fn append_number(&mut self, alloc: Global, number: u128) -> Result<(), NoMemory>
+        ensures ok { OnOk result (self.new ≡ self.old ++ decimal number) }
+        ensures err { OnErr result (self.new ≡ self.old) }
+    {
+        let digits = number.to_string(alloc)?;
+        self.append(digits.as_bytes())
     }
 }

@@ -1,4 +1,7 @@
-use crate::{List, Name};
+ghost use Rattle.std.specs.Prelude.{◌≡◌, ◌<◌, ◌^◌, IfOk};
+
+use crate::{List, Name, NoMemory};
+use std::alloc::Global;
 
 /// A name and its value: a property, a variable of an environment, or a path and what it holds.
 #[derive(Debug, Drop)]
@@ -26,6 +29,21 @@ pub struct Resource {
     pub kind: Name,
     pub id: Name,
     pub slots: u32,
+}
+
+impl Resource {
+    /// Makes a second resource with the same kind, id and slots.
+    pub fn copy(&self, alloc: Global) -> Result<Resource, NoMemory>
+        ensures whole { IfOk result (λ copy. copy ≡ self.now) }
+        ensures bounded { IfOk result (λ copy. copy.slots < 2 ^ 32) }
+    {
+        let slots = self.slots;
+        Ok(Resource {
+            kind: self.kind.copy(alloc)?,
+            id: self.id.copy(alloc)?,
+            slots,
+        })
+    }
 }
 
 /// A test as the test files define it.

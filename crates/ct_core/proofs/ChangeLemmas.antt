@@ -8,6 +8,7 @@ use Rattle.std.proofs.lemmas.Bool.{and_parts, cases_Bool, cases_eq}
 use Rattle.std.proofs.lemmas.Bool.Decides.{nat_tests}
 use Rattle.std.proofs.lemmas.Grind.{get_or-set_at}
 use Rattle.std.proofs.lemmas.List.{get_or-set_other, length-set}
+use Rattle.ct_base.specs.Numbers.{is_in}
 use Rattle.ct_verdict.specs.declared.verdict.Cause.{Cause}
 use Rattle.ct_verdict.specs.declared.verdict.Cause.TheVariants.{Stopped}
 use Rattle.ct_verdict.specs.declared.verdict.Verdict.{Verdict}
@@ -23,7 +24,7 @@ use Rattle.ct_history.proofs.ProgressLemmas.{all_found}
 use Rattle.ct_queue.specs.Ready.{ReadyValue, StandsIn, predecessors_left, is_out, place_of, with_out}
 use Rattle.ct_queue.proofs.CallerLemmas.{out_said}
 use Rattle.ct_core.specs.Standing.{open_before}
-use Rattle.ct_core.specs.Waiting.{AreSettleable, IsQueued, followers_of, is_one_of_numbers, is_pending_at, open_before_at, settles_but}
+use Rattle.ct_core.specs.Waiting.{AreSettleable, IsQueued, followers_of, is_pending_at, open_before_at, settles_but}
 use Rattle.ct_core.proofs.NumberLemmas.{listed}
 use Rattle.ct_core.proofs.PredecessorLemmas.{none_of_setups, not_all, one_if, one_less, same_all, same_first}
 use Rattle.ct_core.proofs.EnabledLemmas.{out_other, queued_enabled}
@@ -153,14 +154,14 @@ module _ (plan : PlanParts) (sound : IsSound plan) (es more : List Entry) (n : �
   -- each enabled test has as many predecessors that are not
   -- final as before, or one less if it is in `left`
   abbrev CountsAsBefore : List ℕ → Type 0
-  CountsAsBefore left = (u : PlanTest) → test_at plan.tests u.number ≡ Some u → u.disabled ≡ false → open_before plan es u ≡ open_before plan more u + one_if (is_one_of_numbers u.number left)
+  CountsAsBefore left = (u : PlanTest) → test_at plan.tests u.number ≡ Some u → u.disabled ≡ false → open_before plan es u ≡ open_before plan more u + one_if (is_in left u.number)
 
-  queued_counts : (left : List ℕ) (r : ReadyValue) → CountsAsBefore left → IsQueued plan es [] r → (j : ℕ) → StandsIn plan.queue j → predecessors_left r j ≡ open_before_at plan more (test_at plan.tests j) + one_if (is_one_of_numbers j left)
+  queued_counts : (left : List ℕ) (r : ReadyValue) → CountsAsBefore left → IsQueued plan es [] r → (j : ℕ) → StandsIn plan.queue j → predecessors_left r j ≡ open_before_at plan more (test_at plan.tests j) + one_if (is_in left j)
   queued_counts left r counts queued j stands =
       let is = queued_enabled plan sound j stands in
       let u = is.test in
       let before : predecessors_left r j ≡ open_before plan es u + 0 = queued.counts j stands ∙ ap (λ (o : Option PlanTest). open_before_at plan es o + 0) is.found in
-      let now : open_before plan es u ≡ open_before plan more u + one_if (is_one_of_numbers j left) = counts u is.itself is.enabled ∙ ap (λ (m : ℕ). open_before plan more u + one_if (is_one_of_numbers m left)) is.number in
+      let now : open_before plan es u ≡ open_before plan more u + one_if (is_in left j) = counts u is.itself is.enabled ∙ ap (λ (m : ℕ). open_before plan more u + one_if (is_in left m)) is.number in
       let there : open_before_at plan more (test_at plan.tests j) ≡ open_before plan more u = ap (λ (o : Option PlanTest). open_before_at plan more o) is.found in
       omega (arith, before, now, there)
 
@@ -250,10 +251,10 @@ module _ (plan : PlanParts) (sound : IsSound plan) (es more : List Entry) (n : �
 
   -- the test becomes final, so each follower has one less predecessor that is not final
   module _ (before : verdict_of_test plan es n ≡ None) where
-    follower_is : (u : PlanTest) → test_at plan.tests u.number ≡ Some u → u.disabled ≡ false → is_one_of_numbers u.number (followers_of plan.tests n) ≡ is_one_of_numbers n u.before
+    follower_is : (u : PlanTest) → test_at plan.tests u.number ≡ Some u → u.disabled ≡ false → is_in (followers_of plan.tests n) u.number ≡ is_in u.before n
     follower_is u itself enabled =
-        listed (λ (x : PlanTest). not x.disabled && is_one_of_numbers n x.before) 1 plan.tests u sound.numbers itself
-        ∙ ap (λ (d : Bool). not d && is_one_of_numbers n u.before) enabled
+        listed (λ (x : PlanTest). not x.disabled && is_in x.before n) 1 plan.tests u sound.numbers itself
+        ∙ ap (λ (d : Bool). not d && is_in u.before n) enabled
 
     pub counts_final : is_none (verdict_of_test plan more n) ≡ false → CountsAsBefore (followers_of plan.tests n)
     counts_final behind u itself enabled =
@@ -266,12 +267,12 @@ module _ (plan : PlanParts) (sound : IsSound plan) (es more : List Entry) (n : �
         let left : List ℕ = followers_of plan.tests n in
         elim (cases_Bool u.disabled) [
           | inl disabled ↦
-              ap (λ (c : Option Cause). is_some c && not (is_one_of_numbers u.number left)) (no_cause plan u more (disabled_done plan u more disabled))
+              ap (λ (c : Option Cause). is_some c && not (is_in left u.number)) (no_cause plan u more (disabled_done plan u more disabled))
               ∙ sym (ap (λ (c : Option Cause). is_some c && true) (no_cause plan u es (disabled_done plan u es disabled)))
           | inr enabled ↦
               let links = all_found (has_sound_links plan.tests) (λ (x : PlanTest). x.number == u.number) plan.tests u sound.links itself in
               let among = (and_parts (list_all (λ j. is_before_rank u.rank (test_at plan.tests j)) u.before) (list_all (λ s. list_any (λ j. j == s) u.before) u.setups) links).1 in
-              elim (cases_Bool (is_one_of_numbers n u.before)) [
+              elim (cases_Bool (is_in u.before n)) [
                 | inl waits ↦
                     ap (λ (b : Bool). is_some (settle_cause plan u more) && not b) (follower_is u itself enabled ∙ waits)
                     ∙ and-false (is_some (settle_cause plan u more))

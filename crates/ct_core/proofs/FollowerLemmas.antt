@@ -3,6 +3,7 @@ use Rattle.std.proofs.Common.{◌≡◌, ◌∙◌, sym, ap, subst, Bool, true, 
 use Rattle.std.specs.Prelude.{Some, None, filter, not, ◌&&◌, ◌||◌, ◌==◌, cond}
 use Rattle.std.specs.List.{list_any}
 use Rattle.std.proofs.lemmas.Bool.{cases_Bool, false_from_ne_true, eqb-true, eq-eqb, false≢true}
+use Rattle.ct_base.specs.Numbers.{is_in}
 use Rattle.ct_history.proofs.BoolLemmas.{eq_less, eq_more}
 use Rattle.std.proofs.lemmas.List.{append-nil, append_assoc, get_or-map, map-append, take_more}
 use Rattle.std.proofs.lemmas.List.Elements.{filter-append}
@@ -11,7 +12,7 @@ use Rattle.std.proofs.lemmas.Option.{slice_get-get_or}
 use Rattle.ct_history.specs.declared.plan.PlanTest.{PlanTest}
 use Rattle.ct_history.specs.Plan.{AllAscend, IsAscendingFrom, IsPlaceOf, test_at}
 use Rattle.ct_history.proofs.PlanLemmas.{find_passes, numbers_of}
-use Rattle.ct_core.specs.Followers.{follows, followers_among, followers_of, is_one_of_numbers}
+use Rattle.ct_core.specs.Followers.{follows, followers_among, followers_of}
 
 -- the number of the test at a place
 abbrev pub number_at : List PlanTest → ℕ → ℕ
@@ -106,16 +107,16 @@ one_more false b number apart = refl
 
 -- the list of the test with a number, after some predecessors of the test `t`
 abbrev pub listed : List PlanTest → PlanTest → List ℕ → ℕ → List ℕ
-listed earlier t before number = followers_of earlier number ++ one_if (is_one_of_numbers number before) t.number
+listed earlier t before number = followers_of earlier number ++ one_if (is_in before number) t.number
 
 -- the lists after one more predecessor
 pub listed-more : (earlier : List PlanTest) (t : PlanTest) (before : List ℕ) (i j number : ℕ) → IsAscendingFrom 1 before → i < length before → j ≡ get_or before i j → put_behind (listed earlier t (take i before)) j t.number number ≡ listed earlier t (take (i + 1) before) number
 listed-more earlier t before i j number ascends lt is =
-    append_assoc (followers_of earlier number) (one_if (is_one_of_numbers number (take i before)) t.number) (one_if (j == number) t.number)
+    append_assoc (followers_of earlier number) (one_if (is_in (take i before) number) t.number) (one_if (j == number) t.number)
     ∙ ap (λ (ns : List ℕ). followers_of earlier number ++ ns)
-    (one_more (is_one_of_numbers number (take i before)) (j == number) t.number (λ same.
+    (one_more (is_in (take i before) number) (j == number) t.number (λ same.
     ap (λ (n : ℕ). list_any (λ k. k == n) (take i before)) (sym (eqb-true j number same)) ∙ earlier_none 1 before i j ascends lt (is ∙ default_read before i j lt))
-    ∙ ap (λ (b : Bool). one_if b t.number) (ap (λ (n : ℕ). is_one_of_numbers number (take i before) || (n == number)) is ∙ sym (list_any_more (λ k. k == number) before i j lt)))
+    ∙ ap (λ (b : Bool). one_if b t.number) (ap (λ (n : ℕ). is_in (take i before) number || (n == number)) is ∙ sym (list_any_more (λ k. k == number) before i j lt)))
   where
     default_read : (ns : List ℕ) (k d : ℕ) → k < length ns → get_or ns k d ≡ get_or ns k 0
     default_read [] k d in' = absurd (omega (arith, in'))
@@ -155,14 +156,14 @@ pub followers-disabled : (tests : List PlanTest) (at : ℕ) (t : PlanTest) → a
 followers-disabled tests at t lt is off =
     map-agrees (followers_of (take at tests)) (followers_of (take (at + 1) tests)) tests (λ k inner.
     sym (append-nil (followers_of (take at tests) (number_at tests k)))
-    ∙ ap (λ (b : Bool). followers_of (take at tests) (number_at tests k) ++ one_if (not b && is_one_of_numbers (number_at tests k) t.before) t.number) (sym off)
+    ∙ ap (λ (b : Bool). followers_of (take at tests) (number_at tests k) ++ one_if (not b && is_in t.before (number_at tests k)) t.number) (sym off)
     ∙ sym (followers-more tests at t (number_at tests k) lt is))
 
 -- a test that is not disabled is in the list of each of its predecessors
 pub followers-enabled : (tests : List PlanTest) (at : ℕ) (t : PlanTest) → at < length tests → t ≡ get_or tests at t → t.disabled ≡ false → map (λ (x : PlanTest). listed (take at tests) t t.before x.number) tests ≡ followers_among (take (at + 1) tests) tests
 followers-enabled tests at t lt is on =
     map-agrees (listed (take at tests) t t.before) (followers_of (take (at + 1) tests)) tests (λ k inner.
-    ap (λ (b : Bool). followers_of (take at tests) (number_at tests k) ++ one_if (not b && is_one_of_numbers (number_at tests k) t.before) t.number) (sym on)
+    ap (λ (b : Bool). followers_of (take at tests) (number_at tests k) ++ one_if (not b && is_in t.before (number_at tests k)) t.number) (sym on)
     ∙ sym (followers-more tests at t (number_at tests k) lt is))
 
 -- the empty lists of the tests up to a place, and one more

@@ -6,6 +6,7 @@ use Rattle.std.proofs.Math.Bool.{and-true, not-not}
 use Rattle.std.proofs.lemmas.Bool.{and_parts, and_right, cases_Bool, cases_eq, lt-ltb, ne_eqb, eq-eqb}
 use Rattle.std.proofs.lemmas.List.{get_or-set_other, get_or-set_same, length-set}
 use Rattle.std.proofs.lemmas.List.Elements.{All-contains_itself, All-drop, All-head, All-weaker}
+use Rattle.ct_base.specs.Numbers.{is_in}
 use Rattle.ct_verdict.specs.declared.verdict.Cause.{Cause}
 use Rattle.ct_verdict.specs.declared.verdict.Cause.TheVariants.{Stopped}
 use Rattle.ct_verdict.specs.declared.verdict.Verdict.{Verdict}
@@ -22,7 +23,7 @@ use Rattle.ct_queue.specs.Marks.{is_marked}
 use Rattle.ct_queue.proofs.CallerLemmas.{count_lowered, places_apart}
 use Rattle.ct_history.proofs.PlanLemmas.{numbers_of}
 use Rattle.ct_core.specs.Standing.{open_before}
-use Rattle.ct_core.specs.Waiting.{AreSettleable, IsQueued, cause_then, followers_of, is_one_of_numbers, is_pending_at, open_before_at, settles_but}
+use Rattle.ct_core.specs.Waiting.{AreSettleable, IsQueued, cause_then, followers_of, is_pending_at, open_before_at, settles_but}
 use Rattle.ct_core.proofs.AllowedLemmas.{number_at}
 use Rattle.ct_core.proofs.EnabledLemmas.{enabled_stands}
 use Rattle.ct_core.proofs.QueueLemmas.{ascend-drop, ascend-filter, none_lesser, one_place}
@@ -53,12 +54,12 @@ settle_going plan t es on = by_parts (is_pending plan t es) (has_stop es) (follo
 
 -- for a test that is not in `left`, the ready set tells
 -- whether it is pending and its predecessors are final
-pub ready_says : (plan : PlanParts) (es : List Entry) (left : List ℕ) (r : ReadyValue) (n : ℕ) (t : PlanTest) → IsQueued plan es left r → StandsIn plan.queue n → is_one_of_numbers n left ≡ false → test_at plan.tests n ≡ Some t → is_in_ready_set r n ≡ (follows_finals plan t es && is_pending plan t es)
+pub ready_says : (plan : PlanParts) (es : List Entry) (left : List ℕ) (r : ReadyValue) (n : ℕ) (t : PlanTest) → IsQueued plan es left r → StandsIn plan.queue n → is_in left n ≡ false → test_at plan.tests n ≡ Some t → is_in_ready_set r n ≡ (follows_finals plan t es && is_pending plan t es)
 ready_says plan es left r n t q stands once found =
     let here : StandsIn r.order n = subst (λ (o : List ℕ). StandsIn o n) (sym q.order) stands in
     let count : predecessors_left r n ≡ open_before plan es t + 0 =
     q.counts n stands
-    ∙ ap (λ (o : Option PlanTest). open_before_at plan es o + (if is_one_of_numbers n left then 1 else 0)) found
+    ∙ ap (λ (o : Option PlanTest). open_before_at plan es o + (if is_in left n then 1 else 0)) found
     ∙ ap (λ (b : Bool). open_before plan es t + (if b then 1 else 0)) once in
     let exact : predecessors_left r n ≡ open_before plan es t = omega (arith, count) in
     let out : is_out r n ≡ not (is_pending plan t es) = q.outs n stands ∙ ap (λ (o : Option PlanTest). not (is_pending_at plan es o)) found in
@@ -76,12 +77,12 @@ module _ (plan : PlanParts) (es : List Entry) (n : ℕ) (left : List ℕ) (r : R
   one_more : predecessors_left r n ≡ open_before_at plan es (test_at plan.tests n) + 1
   one_more =
       q.counts n stands
-      ∙ ap (λ (b : Bool). open_before_at plan es (test_at plan.tests n) + (if b || is_one_of_numbers n left then 1 else 0)) (eq_same n)
+      ∙ ap (λ (b : Bool). open_before_at plan es (test_at plan.tests n) + (if b || is_in left n then 1 else 0)) (eq_same n)
 
   pub lowerable : 0 < predecessors_left r n
   lowerable = omega (arith, one_more)
 
-  count_here : is_one_of_numbers n left ≡ false → predecessors_left (lowered r n) n ≡ open_before_at plan es (test_at plan.tests n) + (if is_one_of_numbers n left then 1 else 0)
+  count_here : is_in left n ≡ false → predecessors_left (lowered r n) n ≡ open_before_at plan es (test_at plan.tests n) + (if is_in left n then 1 else 0)
   count_here once =
       let lengths : length r.order ≡ length plan.queue = ap (λ (o : List ℕ). length o) q.order in
       let counted = q.counted in
@@ -89,20 +90,20 @@ module _ (plan : PlanParts) (es : List Entry) (n : ℕ) (left : List ℕ) (r : R
       let less : predecessors_left r n - 1 ≡ open_before_at plan es (test_at plan.tests n) + 0 = omega (arith, one_more) in
       count_lowered r n within ∙ less ∙ ap (λ (b : Bool). open_before_at plan es (test_at plan.tests n) + (if b then 1 else 0)) (sym once)
 
-  count_there : (m : ℕ) → (m ≡ n → ⊥) → StandsIn plan.queue m → predecessors_left (lowered r n) m ≡ open_before_at plan es (test_at plan.tests m) + (if is_one_of_numbers m left then 1 else 0)
+  count_there : (m : ℕ) → (m ≡ n → ⊥) → StandsIn plan.queue m → predecessors_left (lowered r n) m ≡ open_before_at plan es (test_at plan.tests m) + (if is_in left m then 1 else 0)
   count_there m apart there =
       let other : StandsIn r.order m = subst (λ (o : List ℕ). StandsIn o m) (sym q.order) there in
       get_or-set_other r.counts (place_of r.order n) (place_of r.order m) (predecessors_left r n - 1) 0 (λ same. apart (places_apart r.order m n other here same))
       ∙ q.counts m there
-      ∙ ap (λ (b : Bool). open_before_at plan es (test_at plan.tests m) + (if b || is_one_of_numbers m left then 1 else 0)) (ne_eqb n m (λ same. apart (sym same)))
+      ∙ ap (λ (b : Bool). open_before_at plan es (test_at plan.tests m) + (if b || is_in left m then 1 else 0)) (ne_eqb n m (λ same. apart (sym same)))
 
-  pub lowers : is_one_of_numbers n left ≡ false → IsQueued plan es left (lowered r n)
+  pub lowers : is_in left n ≡ false → IsQueued plan es left (lowered r n)
   lowers once = record {
     order = q.order;
     counted = length-set r.counts (place_of r.order n) (predecessors_left r n - 1) ∙ q.counted;
     said = q.said;
     counts = λ m there. elim (cases_eq m n) [
-      | inl same ↦ subst (λ (k : ℕ). predecessors_left (lowered r n) k ≡ open_before_at plan es (test_at plan.tests k) + (if is_one_of_numbers k left then 1 else 0)) (sym same) (count_here once)
+      | inl same ↦ subst (λ (k : ℕ). predecessors_left (lowered r n) k ≡ open_before_at plan es (test_at plan.tests k) + (if is_in left k then 1 else 0)) (sym same) (count_here once)
       | inr apart ↦ count_there m apart there
     ];
     outs = q.outs;
@@ -113,7 +114,7 @@ module _ (plan : PlanParts) (es : List Entry) (n : ℕ) (left : List ℕ) (r : R
 pub record IsLowered (plan : PlanParts) (es : List Entry) (n : ℕ) (left : List ℕ) (t : PlanTest) (place : ℕ) (r : ReadyValue) : Type 0 where
   pub goes_on : has_stop es ≡ false
   pub stands : StandsIn plan.queue n
-  pub once : is_one_of_numbers n left ≡ false
+  pub once : is_in left n ≡ false
   pub found : test_at plan.tests n ≡ Some t
   pub place_of_it : IsPlaceOf plan.tests n place
   pub queued : IsQueued plan es left r
@@ -130,14 +131,14 @@ module _ (plan : PlanParts) (sound : IsSound plan) (es : List Entry) (n : ℕ) (
   unmarked =
       marks.marked place
       ∙ ap (λ (o : Option PlanTest). settles_but plan es (n ∷ left) o) there
-      ∙ ap (λ (b : Bool). is_some (settle_cause plan t es) && not (b || is_one_of_numbers t.number left)) (eq-eqb n t.number (sym number))
+      ∙ ap (λ (b : Bool). is_some (settle_cause plan t es) && not (b || is_in left t.number)) (eq-eqb n t.number (sym number))
       ∙ and_right (is_some (settle_cause plan t es)) false refl
 
   -- behind the step the test is to be marked exactly if it may be settled
   settles_here : settles_but plan es left (slice_get plan.tests place) ≡ is_some (settle_cause plan t es)
   settles_here =
       ap (λ (o : Option PlanTest). settles_but plan es left o) there
-      ∙ ap (λ (k : ℕ). is_some (settle_cause plan t es) && not (is_one_of_numbers k left)) number
+      ∙ ap (λ (k : ℕ). is_some (settle_cause plan t es) && not (is_in left k)) number
       ∙ ap (λ (b : Bool). is_some (settle_cause plan t es) && not b) low.once
       ∙ and-true (is_some (settle_cause plan t es))
 
@@ -147,7 +148,7 @@ module _ (plan : PlanParts) (sound : IsSound plan) (es : List Entry) (n : ℕ) (
       by_test : (o : Option PlanTest) → slice_get plan.tests p ≡ o → settles_but plan es (n ∷ left) o ≡ settles_but plan es left o
       by_test None is = refl
       by_test (Some u) is =
-          ap (λ (b : Bool). is_some (settle_cause plan u es) && not (b || is_one_of_numbers u.number left))
+          ap (λ (b : Bool). is_some (settle_cause plan u es) && not (b || is_in left u.number))
           (ne_eqb n u.number (λ same. apart (one_place plan.tests p place u t sound.numbers is there (sym same ∙ sym number))))
 
   kept : settle_cause plan t es ≡ None → AreSettleable plan es left m
@@ -232,7 +233,7 @@ module _ (plan : PlanParts) (sound : IsSound plan) (n : ℕ) where
       All-weaker (λ m. Contains (followers_of plan.tests n) m) (λ m. StandsIn plan.queue m)
       (λ m is.
       enabled_stands plan sound m
-      (more_kept (λ (t : PlanTest). not t.disabled && is_one_of_numbers n t.before) (λ (t : PlanTest). not t.disabled) (λ t both. (and_parts (not t.disabled) (is_one_of_numbers n t.before) both).0) plan.tests m is))
+      (more_kept (λ (t : PlanTest). not t.disabled && is_in t.before n) (λ (t : PlanTest). not t.disabled) (λ t both. (and_parts (not t.disabled) (is_in t.before n) both).0) plan.tests m is))
       (followers_of plan.tests n) (All-contains_itself (followers_of plan.tests n))
 
   -- the next follower stands in the queue, and is not among the followers behind it
@@ -241,11 +242,11 @@ module _ (plan : PlanParts) (sound : IsSound plan) (n : ℕ) where
       All-head (λ k. StandsIn plan.queue k) m rest
       (subst (λ (ks : List ℕ). All (λ k. StandsIn plan.queue k) ks) is (All-drop (λ k. StandsIn plan.queue k) at (followers_of plan.tests n) followers_stand))
 
-  pub follower_once : (at m : ℕ) (rest : List ℕ) → drop at (followers_of plan.tests n) ≡ m ∷ rest → is_one_of_numbers m rest ≡ false
+  pub follower_once : (at m : ℕ) (rest : List ℕ) → drop at (followers_of plan.tests n) ≡ m ∷ rest → is_in rest m ≡ false
   follower_once at m rest is =
       let ascends : IsAscendingFrom 1 (m ∷ rest) =
       subst (λ (ks : List ℕ). IsAscendingFrom 1 ks) is
-      (ascend-drop 1 at (followers_of plan.tests n) (ascend-filter (λ (t : PlanTest). not t.disabled && is_one_of_numbers n t.before) 1 plan.tests sound.numbers)) in
+      (ascend-drop 1 at (followers_of plan.tests n) (ascend-filter (λ (t : PlanTest). not t.disabled && is_in t.before n) 1 plan.tests sound.numbers)) in
       none_lesser (m + 1) m rest ascends.1 (omega arith)
 
 -- the next follower of a test, while it and the followers behind it remain

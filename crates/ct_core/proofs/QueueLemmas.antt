@@ -11,6 +11,7 @@ use Rattle.std.proofs.lemmas.List.Sums.{count_by-le-length, fails_before_first, 
 use Rattle.std.proofs.lemmas.Map.Keys.{IsDistinct-IsPermutation}
 use Rattle.std.proofs.lemmas.Map.Made.{AllPairs-from_IsDistinct, IsDistinct-from_AllPairs}
 use Rattle.std.proofs.lemmas.Option.{get_or_from_slice_get, none-some, same_Some, slice_get_read, slice_get_within}
+use Rattle.ct_base.specs.Numbers.{is_in}
 use Rattle.ct_history.specs.declared.plan.PlanTest.{PlanTest}
 use Rattle.ct_history.specs.declared.plan.PlanParts.{PlanParts}
 use Rattle.ct_history.specs.Plan.{IsAscendingFrom, IsSound, enabled, test_at}
@@ -20,7 +21,6 @@ use Rattle.ct_history.proofs.ProgressLemmas.{found_contains}
 use Rattle.ct_history.proofs.AscendLemmas.{ascends_sooner, pairs_ascend}
 use Rattle.ct_queue.specs.Ready.{NamesOnce, StandsIn, place_of}
 use Rattle.ct_queue.proofs.CallerLemmas.{place_of_test}
-use Rattle.ct_core.specs.Waiting.{is_one_of_numbers}
 
 pub ascend-filter : (p : PlanTest → Bool) (least : ℕ) (ts : List PlanTest) → IsAscendingFrom least (numbers_of ts) → IsAscendingFrom least (numbers_of (filter p ts))
 ascend-filter p least [] ascends = tt
@@ -39,10 +39,10 @@ ascend-drop least (suc at) [] ascends = tt
 ascend-drop least (suc at) (n ∷ ns) ascends = ascends_sooner least (n + 1) (drop at ns) (omega (arith, ascends.0)) (ascend-drop (n + 1) at ns ascends.1)
 
 -- a number below the bound is not among the numbers
-pub none_lesser : (least n : ℕ) (ns : List ℕ) → IsAscendingFrom least ns → n < least → is_one_of_numbers n ns ≡ false
+pub none_lesser : (least n : ℕ) (ns : List ℕ) → IsAscendingFrom least ns → n < least → is_in ns n ≡ false
 none_lesser least n [] ascends less = refl
 none_lesser least n (m ∷ ms) ascends less =
-    or_from (m == n) (is_one_of_numbers n ms) (eq_more m n (omega (arith, ascends.0, less))) (none_lesser (m + 1) n ms ascends.1 (omega (arith, ascends.0, less)))
+    or_from (m == n) (is_in ms n) (eq_more m n (omega (arith, ascends.0, less))) (none_lesser (m + 1) n ms ascends.1 (omega (arith, ascends.0, less)))
 
 there_bound : (least : ℕ) (ts : List PlanTest) (place : ℕ) (t : PlanTest) → IsAscendingFrom least (numbers_of ts) → slice_get ts place ≡ Some t → least ≤ t.number
 there_bound least [] place t ascends there = absurd (none-some t there)

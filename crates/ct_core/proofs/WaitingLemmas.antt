@@ -6,6 +6,7 @@ use Rattle.std.proofs.lemmas.Bool.{and_parts, and_from, eq-eqb, lt-ltb}
 use Rattle.std.proofs.lemmas.List.Folds.{list_any-append}
 use Rattle.std.proofs.lemmas.Map.Views.{any-filter_same}
 use Rattle.std.proofs.Math.Bool.{and-false, or-true}
+use Rattle.ct_base.specs.Numbers.{is_in}
 use Rattle.ct_base.proofs.OptionLemmas.{not_some}
 use Rattle.ct_alloc.specs.declared.placement.Placement.{Placement}
 use Rattle.ct_verdict.specs.declared.attempt.Seen.{Seen}
@@ -26,7 +27,7 @@ use Rattle.ct_queue.specs.Ready.{ReadyValue, StandsIn, predecessors_left, is_out
 use Rattle.ct_queue.specs.Ready as Queue
 use Rattle.ct_queue.specs.Marks.{is_marked}
 use Rattle.ct_core.specs.Standing.{is_pending_state, standing}
-use Rattle.ct_core.specs.Waiting.{AreSettleable, IsQueued, followers_of, is_one_of_numbers, is_pending_at, open_before_at, settles_but}
+use Rattle.ct_core.specs.Waiting.{AreSettleable, IsQueued, followers_of, is_pending_at, open_before_at, settles_but}
 use Rattle.ct_core.proofs.BegunLemmas.{open_is_ready}
 use Rattle.ct_core.proofs.ChangeLemmas.{ChangesOne, cause_of, cause_stopped, counts_final, counts_same, marks_set, marks_stay, no_cause, no_cause_ready, others_final, others_same, others_stopped, queue_set, queue_stays, ready_same}
 use Rattle.ct_core.proofs.AllowedLemmas.{IsAboutOnly, about_end, about_settle, about_start, number_at, undecided}
@@ -217,7 +218,7 @@ module _ (plan : PlanParts) (sound : IsSound plan) (es : List Entry) (n : ℕ) (
           queue_stays plan sound es ended n t found end_changes (followers_of plan.tests n) r (counts_final plan sound es ended n t found end_changes end_unfinished final) (final_done ended final ∙ sym end_busy) queued
 
       over_settles : (left : List ℕ) → settles_but plan ended left (Some t) ≡ settles_but plan es [] (Some t)
-      over_settles left = ap (λ (c : Option Cause). is_some c && not (is_one_of_numbers t.number left)) (no_cause plan t ended (final_done ended final)) ∙ sym none_settled
+      over_settles left = ap (λ (c : Option Cause). is_some c && not (is_in left t.number)) (no_cause plan t ended (final_done ended final)) ∙ sym none_settled
 
       pub over_settleable : (m : List Bool) → has_stop es ≡ false → AreSettleable plan es [] m → AreSettleable plan ended (followers_of plan.tests n) m
       over_settleable m on marks =
@@ -263,7 +264,7 @@ module _ (plan : PlanParts) (sound : IsSound plan) (es : List Entry) (n : ℕ) (
         queue_set plan sound es settled n t found settle_changes (followers_of plan.tests n) r true (counts_final plan sound es settled n t found settle_changes (pending_none settle_pending) settle_final) settle_stands (ap not (final_done settled settle_final)) queued
 
     settle_done : (left : List ℕ) → settles_but plan settled left (Some t) ≡ false
-    settle_done left = ap (λ (x : Option Cause). is_some x && not (is_one_of_numbers t.number left)) (no_cause plan t settled (final_done settled settle_final))
+    settle_done left = ap (λ (x : Option Cause). is_some x && not (is_in left t.number)) (no_cause plan t settled (final_done settled settle_final))
 
     pub settle_settleable : (m : List Bool) (place : ℕ) → has_stop es ≡ false → IsPlaceOf plan.tests n place → AreSettleable plan es [] m → AreSettleable plan settled (followers_of plan.tests n) (slice_set m place false)
     settle_settleable m place on here marks =

@@ -1,15 +1,11 @@
 -- Which tests wait for a test. Source: CMake manual, cmake-properties(7), DEPENDS, FIXTURES_REQUIRED.
-use Rattle.std.specs.Prelude.{ℕ, Bool, not, ◌&&◌, List, map, filter, ◌==◌}
-use Rattle.std.specs.List.{list_any}
+use Rattle.std.specs.Prelude.{ℕ, Bool, not, ◌&&◌, List, map, filter}
+use Rattle.ct_base.specs.Numbers.{is_in}
 use Rattle.ct_history.specs.declared.plan.PlanTest.{PlanTest}
-
--- the number is one of these numbers
-abbrev pub is_one_of_numbers : ℕ → List ℕ → Bool
-is_one_of_numbers number numbers = list_any (λ n. n == number) numbers
 
 -- the test is not disabled, and waits for the one with this number
 abbrev pub follows : ℕ → PlanTest → Bool
-follows number t = not t.disabled && is_one_of_numbers number t.before
+follows number t = not t.disabled && is_in t.before number
 
 -- the numbers of the tests that wait for the one with this number, in order
 abbrev pub followers_of : List PlanTest → ℕ → List ℕ

@@ -1,6 +1,6 @@
 -- The value of a gate that follows a script, as its callers see it. This project's own.
-use Rattle.std.specs.Prelude.{◌≡◌, ℕ, ◌+◌, ◌-◌, ◌*◌, ◌^◌, min, nat_lt, true, false, List, Some, [], ◌∷◌, ◌++◌, if◌then◌else◌}
-use Rattle.std.specs.List.Sorted.{IsNonDecreasingBy, IsPartitionPoint}
+use Rattle.std.specs.Prelude.{◌≡◌, ℕ, ◌+◌, ◌-◌, ◌^◌, min, nat_lt, ◌==◌, Bool, true, false, ◌&&◌, ◌||◌, List, Some, [], ◌∷◌, ◌++◌, if◌then◌else◌}
+use Rattle.std.specs.List.Sorted.{IsPartitionPoint, IsSortedBy}
 use Rattle.ct_verdict.specs.declared.attempt.How.{How}
 use Rattle.ct_core.specs.declared.gate.Asked.{Asked}
 use Rattle.ct_core.specs.declared.gate.Request.{Request}
@@ -39,17 +39,19 @@ CountsStart old how new =
     new
     ≡ record old { faults = (if is_not_started how then min (old.faults + 1) (2 ^ 64 - 1) else old.faults) }
 
--- the rank of an attempt in the order of test and attempt, which are below 2^32
-abbrev pub rank : ℕ → ℕ → ℕ
-rank test attempt = test * 2 ^ 32 + attempt
+-- a line is before an attempt: its test is lower, or its test is the same and its attempt is lower
+abbrev pub is_before : Told → ℕ → ℕ → Bool
+is_before line test attempt = nat_lt line.test test || (line.test == test && nat_lt line.attempt attempt)
 
--- the lines of the world are in the order of test and attempt
+-- the lines of the world are in the order of test and attempt: no line is before the one in front of it
 abbrev pub AreInOrder : List Told → Type 0
-AreInOrder world = IsNonDecreasingBy (λ (t : Told). rank t.test t.attempt) world
+AreInOrder world = IsSortedBy (λ (t u : Told). is_before t u.test u.attempt) world
 
--- each line in front of the place has a lower rank than the one sought, and no line from the place on has
-abbrev pub IsPlaceInScript : ℕ → List Told → ℕ → Type 0
-IsPlaceInScript sought world place =
-    IsPartitionPoint (λ (t : Told).
-    nat_lt (rank t.test t.attempt) sought
-    ≡ true) (λ (t : Told). nat_lt (rank t.test t.attempt) sought ≡ false) world place
+-- each line in front of the place is before the attempt, and no line from the place on is
+abbrev pub IsPlaceInScript : ℕ → ℕ → List Told → ℕ → Type 0
+IsPlaceInScript test attempt world place =
+    IsPartitionPoint
+    (λ (t : Told). is_before t test attempt ≡ true)
+    (λ (t : Told). is_before t test attempt ≡ false)
+    world
+    place

@@ -1,6 +1,7 @@
 -- Which tests of a plan wait for others, and which of them may be settled.
 -- Source: CMake manual, cmake-properties(7), DEPENDS, FIXTURES_REQUIRED. The sets are this project's own.
 use Rattle.std.specs.Prelude.{◌≡◌, ℕ, ◌+◌, ◌≤◌, Bool, true, false, not, ◌&&◌, List, length, Option, Some, None, is_some, slice_get, if◌then◌else◌}
+use Rattle.ct_base.specs.Numbers.{is_in}
 use Rattle.ct_verdict.specs.declared.verdict.Cause.{Cause}
 use Rattle.ct_history.specs.declared.plan.PlanTest.{PlanTest}
 use Rattle.ct_history.specs.declared.plan.PlanParts.{PlanParts}
@@ -12,7 +13,7 @@ use Rattle.ct_queue.specs.Ready.{ReadyValue, StandsIn, predecessors_left, is_out
 use Rattle.ct_queue.specs.Marks.{is_marked}
 use Rattle.ct_core.specs.Lines.{AreLinesOf}
 use Rattle.ct_core.specs.Standing.{open_before}
-pub use Rattle.ct_core.specs.Followers.{followers_of, is_one_of_numbers}
+pub use Rattle.ct_core.specs.Followers.{followers_of}
 
 -- how many predecessors of the test that was looked up are not final; 0 if there is no test
 abbrev pub open_before_at : PlanParts → List Entry → Option PlanTest → ℕ
@@ -38,7 +39,7 @@ pub record IsQueued (plan : PlanParts) (entries : List Entry) (left : List ℕ) 
   pub said : length ready.outs ≡ length plan.queue
   pub counts : (n : ℕ) → StandsIn plan.queue n
       → predecessors_left ready n
-      ≡ open_before_at plan entries (test_at plan.tests n) + (if is_one_of_numbers n left then 1 else 0)
+      ≡ open_before_at plan entries (test_at plan.tests n) + (if is_in left n then 1 else 0)
   pub outs : (n : ℕ) → StandsIn plan.queue n
       → is_out ready n ≡ not (is_pending_at plan entries (test_at plan.tests n))
   pub lines : AreLinesOf plan ready.lines
@@ -47,7 +48,7 @@ pub record IsQueued (plan : PlanParts) (entries : List Entry) (left : List ℕ) 
 abbrev pub settles_but : PlanParts → List Entry → List ℕ → Option PlanTest → Bool
 settles_but plan entries left None = false
 settles_but plan entries left (Some t) =
-    is_some (settle_cause plan t entries) && not (is_one_of_numbers t.number left)
+    is_some (settle_cause plan t entries) && not (is_in left t.number)
 
 -- there is room for a mark of each test, and exactly the
 -- tests that may be settled and are not in `left` are marked

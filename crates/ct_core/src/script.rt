@@ -1,7 +1,7 @@
-ghost use Rattle.std.specs.Prelude.{◌≡◌, ◌<◌, ◌^◌, [], true, find, ◌==◌, ◌&&◌, OnOk, OnErr};
+ghost use Rattle.std.specs.Prelude.{◌≡◌, [], true, find, ◌==◌, ◌&&◌, OnOk, OnErr};
 ghost use Rattle.std.specs.Option.{option_copied};
 ghost use Rattle.ct_core.specs.Gate.{HasStartCause, told};
-ghost use Rattle.ct_core.specs.ScriptValue.{AreInOrder, IsPlaceInScript, rank, told_of_script};
+ghost use Rattle.ct_core.specs.ScriptValue.{AreInOrder, IsPlaceInScript, is_before, told_of_script};
 
 use crate::{Asked, Ended, Gate, Request, Ticket, Told, lacks_memory};
 use ct_base::{Ear, List, Name, NoMemory, Pair};
@@ -186,8 +186,7 @@ impl World {
         if self.in_order {
             find_in_order(told, test, attempt)
         } else {
-            told.iter()
-                .find(|told| told.test == test && told.attempt == attempt)
+            told.iter().find(|told| is_of(told, test, attempt))
         }
     }
 }
@@ -197,7 +196,8 @@ fn are_in_order(told: &[Told]) -> bool
     ensures { result ≡ true → AreInOrder told.now }
 {
     for at in 1..told.len() {
-        if rank(&told[at]) < rank(&told[at - 1]) {
+        let front = &told[at - 1];
+        if is_before(&told[at], front.test, front.attempt) {
             return false;
         }
     }
@@ -209,60 +209,61 @@ fn find_in_order(told: &[Told], test: u32, attempt: u32) -> Option<&Told>
     requires { AreInOrder told.now }
     ensures { option_copied result ≡ find (λ t. t.test == test && t.attempt == attempt) told.entry.now }
 {
-    let sought = rank_of(test, attempt);
-    let place = place_near(told, (test as usize).saturating_sub(1), sought);
+    let near = (test as usize).saturating_sub(1);
+    let place = place_near(told, near, test, attempt);
     let found = told.get(place)?;
-    if rank(found) == sought {
+    if is_of(found, test, attempt) {
         Some(found)
     } else {
         None
     }
 }
 
-/// Finds the place where a rank belongs among the lines, and looks at the place `near` first.
+/// Finds the place where an attempt belongs among the lines, and looks at the place `near` first.
 ///
 /// If each test has one line, it stands at the place of the test's number.
-fn place_near(told: &[Told], near: usize, sought: u64) -> usize
+fn place_near(told: &[Told], near: usize, test: u32, attempt: u32) -> usize
     requires { AreInOrder told.now }
-    ensures { IsPlaceInScript sought told.now result }
+    ensures { IsPlaceInScript test attempt told.now result }
 {
-    if is_place(told, near, sought) {
+    if is_place(told, near, test, attempt) {
         near
     } else {
-        place_of(told, sought)
+        place_of(told, test, attempt)
     }
 }
 
-/// Returns whether a line at a place has the rank sought, and the line in front of it a lower one.
-fn is_place(told: &[Told], at: usize, sought: u64) -> bool
+/// Returns whether the first line of an attempt stands at a place.
+fn is_place(told: &[Told], at: usize, test: u32, attempt: u32) -> bool
     requires { AreInOrder told.now }
-    ensures { result ≡ true → IsPlaceInScript sought told.now at }
+    ensures { result ≡ true → IsPlaceInScript test attempt told.now at }
 {
     match told.get(at) {
-        Some(line) => rank(line) == sought && (at == 0 || rank(&told[at - 1]) < sought),
+        Some(line) => {
+            is_of(line, test, attempt) && (at == 0 || is_before(&told[at - 1], test, attempt))
+        }
         None => false,
     }
 }
 
-/// Finds the place where a rank belongs among the lines: each line in front of it has a lower rank.
-fn place_of(told: &[Told], sought: u64) -> usize
+/// Finds the place where an attempt belongs among the lines: behind those that are before it.
+fn place_of(told: &[Told], test: u32, attempt: u32) -> usize
     requires { AreInOrder told.now }
-    ensures { IsPlaceInScript sought told.now result }
+    ensures { IsPlaceInScript test attempt told.now result }
 {
-    told.partition_point(|told| rank(told) < sought)
+    told.partition_point(|told| is_before(told, test, attempt))
 }
 
-/// Returns the rank of a line in the order of test and attempt.
-fn rank(told: &Told) -> u64
-    ensures is { result ≡ rank told.now.test told.now.attempt }
-    ensures low { told.now.attempt < 2 ^ 32 }
+/// Returns whether a line is before an attempt, in the order of test and attempt.
+fn is_before(told: &Told, test: u32, attempt: u32) -> bool
+    ensures { result ≡ is_before told.now test attempt }
 {
-    rank_of(told.test, told.attempt)
+    told.test < test || (told.test == test && told.attempt < attempt)
 }
 
-/// Returns the rank of an attempt in the order of test and attempt.
-fn rank_of(test: u32, attempt: u32) -> u64
-    ensures { result ≡ rank test attempt }
+/// Returns whether a line is of an attempt.
+fn is_of(told: &Told, test: u32, attempt: u32) -> bool
+    ensures { result ≡ (told.now.test == test && told.now.attempt == attempt) }
 {
-    u64::from(test) * 4_294_967_296 + u64::from(attempt)
+    told.test == test && told.attempt == attempt
 }

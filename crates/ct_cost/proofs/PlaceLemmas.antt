@@ -7,22 +7,22 @@ use Rattle.std.proofs.lemmas.Bool.Decides.{nat_tests}
 use Rattle.std.proofs.lemmas.List.{drop-drop, take_all}
 use Rattle.std.proofs.lemmas.List.Sums.{fails_before_first, prefix_len-le-length}
 use Rattle.std.proofs.lemmas.List.Splits.{slice_split_first, slice_split_none}
-use Rattle.ct_cost.specs.Text.{piece_separator}
+use Rattle.ct_base.specs.Bytes.{space}
 use Rattle.ct_cost.specs.Reading.{parts_from}
 
 -- a byte that is a space is the last one
-pub finds_space : (text : List ℕ) (end : ℕ) (all : Option ℕ) → 0 < end → slice_index text (end - 1) ≡ piece_separator → rfind_below piece_separator text end ≡ all → Some (end - 1) ≡ all
+pub finds_space : (text : List ℕ) (end : ℕ) (all : Option ℕ) → 0 < end → slice_index text (end - 1) ≡ space → rfind_below space text end ≡ all → Some (end - 1) ≡ all
 finds_space text zero all within is so_far = absurd (omega arith)
 finds_space text (suc end) all within is so_far =
     let e : suc end - 1 ≡ end = omega arith in
-    ap Some e ∙ ap (λ b. cond b (Some end) (rfind_below piece_separator text end)) (sym (ap (λ byte. byte == piece_separator) (ap (slice_index text) (sym e) ∙ is))) ∙ so_far
+    ap Some e ∙ ap (λ b. cond b (Some end) (rfind_below space text end)) (sym (ap (λ byte. byte == space) (ap (slice_index text) (sym e) ∙ is))) ∙ so_far
 
 -- another byte is passed by
-pub passes_byte : (text : List ℕ) (end : ℕ) (all : Option ℕ) → 0 < end → (slice_index text (end - 1) ≡ piece_separator → ⊥) → rfind_below piece_separator text end ≡ all → rfind_below piece_separator text (end - 1) ≡ all
+pub passes_byte : (text : List ℕ) (end : ℕ) (all : Option ℕ) → 0 < end → (slice_index text (end - 1) ≡ space → ⊥) → rfind_below space text end ≡ all → rfind_below space text (end - 1) ≡ all
 passes_byte text zero all within other so_far = absurd (omega arith)
 passes_byte text (suc end) all within other so_far =
     let e : suc end - 1 ≡ end = omega arith in
-    ap (rfind_below piece_separator text) e ∙ ap (λ b. cond b (Some end) (rfind_below piece_separator text end)) (sym (ne_eqb (slice_index text end) piece_separator (λ is. other (ap (slice_index text) e ∙ is)))) ∙ so_far
+    ap (rfind_below space text) e ∙ ap (λ b. cond b (Some end) (rfind_below space text end)) (sym (ne_eqb (slice_index text end) space (λ is. other (ap (slice_index text) e ∙ is)))) ∙ so_far
 
 lt_or_eq : (a b : ℕ) → a ≤ b → (a < b) ⊎ (a ≡ b)
 lt_or_eq a b most = by (nat_lt a b) refl

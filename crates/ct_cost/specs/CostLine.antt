@@ -1,9 +1,8 @@
 -- The lines of cost data. Source: CMake manual, cmake-properties(7), COST. That a name has one line with
 -- its last durations, and costs the greatest of them, is this project's choice.
-use Rattle.std.specs.Prelude.{ℕ, ◌-◌, max, List, [], ◌∷◌, ◌++◌, drop, length, find, bytes_eq, Option, is_some, option_and_then, fold, if◌then◌else◌}
+use Rattle.std.specs.Prelude.{ℕ, ◌-◌, max, List, [], ◌∷◌, ◌++◌, drop, length, find, bytes_eq, Option, is_some, option_and_then, if◌then◌else◌}
 use Rattle.std.specs.List.{reduce}
 use Rattle.std.specs.Option.{option_map_or}
-use Rattle.ct_base.specs.Names.{with_new_name}
 
 -- what is known of a name: how long its last attempts that passed took, in microseconds, oldest first
 pub record CostLine : Type 0 where
@@ -39,10 +38,6 @@ with_line (first ∷ lines) line =
 -- the lines with this one behind them, unless its name has a line
 abbrev pub with_new_line : List CostLine → CostLine → List CostLine
 with_new_line lines line = if is_some (line_of lines line.name) then lines else lines ++ line ∷ []
-
--- each of these names once, at its first place
-abbrev pub each_once : List (List ℕ) → List (List ℕ)
-each_once names = fold with_new_name [] names
 
 -- a line after one more run, which took `micros`
 abbrev pub with_run : ℕ → CostLine → CostLine

@@ -9,8 +9,8 @@ use Rattle.ct_history.specs.Failed.{failed_tests}
 use Rattle.ct_cost.specs.declared.cost_data.CostData.{CostData}
 use Rattle.ct_cost.specs.declared.line.Version.{Version}
 use Rattle.ct_cost.specs.declared.line.Version.TheVariants.{One, Two}
-use Rattle.ct_base.specs.Names.{is_among}
-use Rattle.ct_cost.specs.CostLine.{cost_of, with_new_line, each_once}
+use Rattle.ct_base.specs.Names.{each_once, is_among}
+use Rattle.ct_cost.specs.CostLine.{cost_of, with_new_line}
 use Rattle.ct_cost.specs.Text.{is_divider, is_mark, lines_in, line_in, is_named, cost_line_text, failed_text}
 use Rattle.ct_cost.specs.After.{after_test, passed_tests}
 

@@ -2,18 +2,11 @@
 use Rattle.std.specs.Prelude.{ℕ, ◌+◌, ◌/◌, ◌%◌, Bool, not, List, [], ◌∷◌, ◌++◌, map, flat_map, bytes_eq, length, codes, decimal, Option, Some, None, option_map, option_and_then, ◌==◌}
 use Rattle.std.specs.List.{slice_split}
 use Rattle.std.specs.Path.{rsplit_once}
+use Rattle.ct_base.specs.Bytes.{comma, line_feed, space, zero_digit}
 use Rattle.ct_base.specs.Seconds.{micros_in, number_in}
 use Rattle.ct_cost.specs.declared.line.Version.{Version}
 use Rattle.ct_cost.specs.declared.line.Version.TheVariants.{One, Two}
 use Rattle.ct_cost.specs.CostLine.{CostLine, last_durations}
-
--- a line feed
-abbrev pub line_feed : ℕ
-line_feed = 10
-
--- the byte between the pieces of a line
-abbrev pub piece_separator : ℕ
-piece_separator = 32
 
 -- the byte ends a line
 abbrev pub ends_line : ℕ → Bool
@@ -31,13 +24,9 @@ is_divider line = bytes_eq line (codes "---")
 abbrev pub is_mark : List ℕ → Bool
 is_mark line = bytes_eq line (codes "version 2")
 
--- the byte between the durations of a line
-abbrev pub duration_separator : ℕ
-duration_separator = 44
-
 -- the byte stands between two durations
 abbrev pub ends_duration : ℕ → Bool
-ends_duration byte = byte == duration_separator
+ends_duration byte = byte == comma
 
 -- these values, if each of them is there
 abbrev pub each_of : List (Option ℕ) → Option (List ℕ)
@@ -65,15 +54,15 @@ abbrev pub line_before : List ℕ × List ℕ → Option CostLine
 line_before cut =
     option_and_then
     (λ (front : List ℕ × List ℕ). named_line front.0 (only_duration (number_in front.1) (micros_in cut.1)))
-    (rsplit_once piece_separator cut.0)
+    (rsplit_once space cut.0)
 
 -- a line of cost data. In version 1 it is a name, a space, runs, a space and a cost; in version 2 a name,
 -- a space and durations. The name is all in front of these pieces.
 abbrev pub line_in : Version → List ℕ → Option CostLine
-line_in One text = option_and_then line_before (rsplit_once piece_separator text)
+line_in One text = option_and_then line_before (rsplit_once space text)
 line_in Two text =
     option_and_then (λ (cut : List ℕ × List ℕ). named_line cut.0 (durations_in cut.1))
-    (rsplit_once piece_separator text)
+    (rsplit_once space text)
 
 -- the line of a failed test has a name: it is not empty
 abbrev pub is_named : List ℕ → Bool
@@ -81,7 +70,7 @@ is_named line = not (length line == 0)
 
 -- the last six decimal digits of a number
 abbrev pub six_digits : ℕ → List ℕ
-six_digits n = map (λ place. 48 + n / place % 10) (100000 ∷ 10000 ∷ 1000 ∷ 100 ∷ 10 ∷ 1 ∷ [])
+six_digits n = map (λ place. zero_digit + n / place % 10) (100000 ∷ 10000 ∷ 1000 ∷ 100 ∷ 10 ∷ 1 ∷ [])
 
 -- microseconds as seconds with six decimals
 abbrev pub exact_seconds : ℕ → List ℕ

@@ -1,6 +1,7 @@
 ghost use Rattle.std.specs.Prelude.{◌≡◌, ◌<◌, length, IfOk, IfSome, option_map};
 ghost use Rattle.std.specs.Path.{rfind_below};
-ghost use Rattle.ct_cost.specs.Text.{line_in as line_read, line_before as line_cut, named_line as line_made, durations_in, only_duration as only_one, piece_separator};
+ghost use Rattle.ct_base.specs.Bytes.{space};
+ghost use Rattle.ct_cost.specs.Text.{line_in as line_read, line_before as line_cut, named_line as line_made, durations_in, only_duration as only_one};
 ghost use Rattle.ct_cost.specs.Kept.{seen_line};
 
 use crate::durations::Durations;
@@ -93,7 +94,7 @@ fn line_with(name: &[u8], durations: Option<Durations>) -> Option<Line<'_>>
 /// Finds the place of the last space, from 0.
 #[tactic(auto, using(crate::proofs::PlaceLemmas::finds_space, crate::proofs::PlaceLemmas::passes_byte))]
 fn last_space(text: &[u8]) -> Option<usize>
-    ensures is { result ≡ rfind_below piece_separator text.now (length text.now) }
+    ensures is { result ≡ rfind_below space text.now (length text.now) }
     ensures within { IfSome result (λ at. at < length text.now) }
 {
     let mut end = text.len();

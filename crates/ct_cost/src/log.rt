@@ -4,7 +4,6 @@ ghost use Rattle.ct_cost.specs.After.{failed_log_text, logged};
 ghost use Rattle.ct_cost.specs.Endings.{log_by};
 
 use crate::endings::fails_by;
-use crate::texts::append_number;
 use ct_base::{Blob, NoMemory};
 use ct_history::{Endings, History, Plan, PlanTest, ending_at, endings_of};
 use std::alloc::Global;
@@ -48,7 +47,7 @@ fn append_failed(
 fn append_logged(alloc: Global, text: &mut Blob, test: &PlanTest) -> Result<(), NoMemory>
     ensures { OnOk result (text.new ≡ text.old ++ logged test.now) }
 {
-    append_number(alloc, text, u64::from(test.number))?;
+    text.append_number(alloc, u128::from(test.number))?;
     text.append(b":")?;
     text.append(test.name.bytes())?;
     text.append(b"\n")

@@ -1,18 +1,10 @@
-ghost use Rattle.std.specs.Prelude.{◌≡◌, ◌++◌, ◌+◌, ◌/◌, ◌%◌, ◌<◌, OnOk, decimal};
+ghost use Rattle.std.specs.Prelude.{◌≡◌, ◌++◌, ◌+◌, ◌/◌, ◌%◌, ◌<◌, OnOk};
 ghost use Rattle.ct_cost.specs.Text.{exact_seconds as seconds, cost_line_text as line_written};
 ghost use Rattle.ct_cost.specs.Kept.{line_for};
 
 use crate::durations::Durations;
 use ct_base::{Blob, NoMemory};
 use std::alloc::Global;
-
-/// Puts a number in decimal behind the text.
-pub(crate) fn append_number(alloc: Global, text: &mut Blob, number: u64) -> Result<(), NoMemory>
-    ensures { OnOk result (text.new ≡ text.old ++ decimal number) }
-{
-    let digits = number.to_string(alloc)?;
-    text.append(digits.as_bytes())
-}
 
 /// Puts a line of cost data behind the text.
 pub(crate) fn append_line(
@@ -33,7 +25,7 @@ pub(crate) fn append_line(
 pub(crate) fn append_seconds(alloc: Global, text: &mut Blob, micros: u64) -> Result<(), NoMemory>
     ensures { OnOk result (text.new ≡ text.old ++ seconds micros) }
 {
-    append_number(alloc, text, micros / 1_000_000)?;
+    text.append_number(alloc, u128::from(micros / 1_000_000))?;
     text.append(b".")?;
     let rest = micros % 1_000_000;
     text.append(&[

@@ -11,7 +11,7 @@ use Rattle.std.specs.declared.process.command.Command.{Command}
 use Rattle.std.specs.declared.process.status.ExitStatus.{ExitStatus}
 use Rattle.ct_base.specs.declared.defs.Pair.{Pair}
 use Rattle.ct_base.specs.Memory.{held_by}
-use Rattle.ct_base.specs.Path.{slash}
+use Rattle.ct_base.specs.Bytes.{slash}
 use Rattle.ct_core.specs.declared.gate.Request.{Request}
 use Rattle.ct_verdict.specs.declared.attempt.How.{How}
 use Rattle.ct_verdict.specs.declared.attempt.How.TheVariants as Ends

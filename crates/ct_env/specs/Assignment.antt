@@ -3,11 +3,8 @@
 use Rattle.std.specs.Prelude.{ℕ, ◌+◌, List, length, take, drop, Option, Some, None, ◌==◌, if◌then◌else◌}
 use Rattle.std.specs.List.{position, filter_map}
 use Rattle.std.specs.Option.{option_map, option_and_then}
+use Rattle.ct_base.specs.Bytes.{equals_sign}
 use Rattle.ct_base.specs.declared.defs.Pair.{Pair}
-
--- the byte `=`
-abbrev pub equals_sign : ℕ
-equals_sign = 61
 
 -- the texts in front of the first place of a byte and behind it, if the byte is there
 abbrev pub split_first : ℕ → List ℕ → Option (List ℕ × List ℕ)

@@ -3,8 +3,8 @@
 use Rattle.std.specs.Prelude.{ℕ, Bool, not, is_some, List, Option}
 use Rattle.std.specs.List.{position}
 use Rattle.std.specs.Option.{option_map, option_and_then}
+use Rattle.ct_base.specs.Bytes.{colon}
 use Rattle.ct_base.specs.declared.defs.Pair.{Pair}
-use Rattle.ct_groups.specs.Description.{colon}
 use Rattle.ct_env.specs.declared.operation.Operation.{Operation}
 use Rattle.ct_env.specs.Operation.{operation_named}
 use Rattle.ct_env.specs.Assignment.{split_first, assignment_in}

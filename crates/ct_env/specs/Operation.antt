@@ -1,8 +1,7 @@
 -- What each operation does to one variable. Source: CMake manual, cmake-properties(7),
 -- ENVIRONMENT_MODIFICATION.
 use Rattle.std.specs.Prelude.{ℕ, bytes_eq, List, [], ◌∷◌, ◌++◌, Option, Some, None, codes, if◌then◌else◌}
-use Rattle.ct_base.specs.Entries.{semicolon}
-use Rattle.ct_groups.specs.Description.{colon}
+use Rattle.ct_base.specs.Bytes.{colon, semicolon}
 use Rattle.ct_props.specs.Values.{or_empty}
 use Rattle.ct_env.specs.declared.operation.Operation.{Operation}
 use Rattle.ct_env.specs.declared.operation.Operation.TheVariants.{Reset, Set, Unset, StringAppend, StringPrepend, PathListAppend, PathListPrepend, CmakeListAppend, CmakeListPrepend}

@@ -3,8 +3,7 @@
 use Rattle.std.specs.Prelude.{ℕ, bytes_eq, ◌&&◌, ◌==◌, List, [], ◌∷◌, ◌++◌, map, filter, flat_map, Option, Some, None, codes, decimal}
 use Rattle.std.specs.List.{join_by, range_with_len}
 use Rattle.std.specs.Char.{to_ascii_uppercase}
-use Rattle.ct_base.specs.Entries.{semicolon}
-use Rattle.ct_groups.specs.Description.{comma}
+use Rattle.ct_base.specs.Bytes.{comma, semicolon}
 use Rattle.ct_base.specs.declared.defs.Pair.{Pair}
 use Rattle.ct_alloc.specs.declared.placement.Pick.{Pick}
 use Rattle.ct_alloc.specs.declared.placement.Placement.{Placement}

@@ -6,8 +6,8 @@ use Rattle.std.proofs.lemmas.List.Folds.{list_any-append}
 use Rattle.std.proofs.lemmas.Slice.Eq.{bytes_eq-Decides}
 use Rattle.std.proofs.lemmas.List.{nil_from_length}
 use Rattle.indexmap.specs.IndexMap.{IndexMap, UpdatesBy, index_map_len}
+use Rattle.ct_base.specs.Numbers.{is_in}
 use Rattle.ct_base.proofs.KeyLemmas.{kept_apart}
-use Rattle.ct_props.specs.Numbered.{is_in}
 use Rattle.ct_base.specs.Found.{or_none}
 use Rattle.ct_fixture.specs.Kept.{fixture_tests}
 

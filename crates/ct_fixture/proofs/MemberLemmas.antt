@@ -6,8 +6,8 @@ use Rattle.std.proofs.lemmas.Bool.{cases_Bool}
 use Rattle.std.proofs.lemmas.List.{map-id}
 use Rattle.std.proofs.lemmas.List.Folds.{list_any-append, list_any_more}
 use Rattle.std.proofs.lemmas.List.FromFn.{filter_of_map_range_with_len_more}
+use Rattle.ct_base.specs.Numbers.{is_in}
 use Rattle.ct_fixture.specs.declared.members.Members.{Members}
-use Rattle.ct_props.specs.Numbered.{is_in}
 use Rattle.ct_fixture.specs.Kept.{AddsTests, Extends, is_drawn_in, open_count}
 
 -- which tests wait, with one more test

@@ -4,7 +4,7 @@ use Rattle.std.specs.List.{list_any, range_with_len, flat_map}
 use Rattle.std.proofs.lemmas.Bool.{false≢true, eqb-true, eq-eqb, or_cases, or_left, or_right, cases_eq}
 use Rattle.std.proofs.lemmas.List.Folds.{list_any-append}
 use Rattle.std.proofs.lemmas.List.Sums.{sum_by-cons}
-use Rattle.ct_props.specs.Numbered.{is_in}
+use Rattle.ct_base.specs.Numbers.{is_in}
 
 -- where a number of the list passes, some number does
 pub any_at : (test : ℕ → Bool) (number : ℕ) (numbers : List ℕ) → is_in numbers number ≡ true → test number ≡ true → list_any test numbers ≡ true

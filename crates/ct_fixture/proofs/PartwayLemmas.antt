@@ -2,11 +2,12 @@
 use Rattle.std.proofs.Common.{◌≡◌, ℕ, ◌+◌, ◌-◌, ◌≤◌, true, false, eqb, ◌||◌, List, [], ◌∷◌, ◌++◌, length, get_or, filter, All, ◌⊎◌, inl, inr, refl, sym, ap, ◌∙◌, arith}
 use Rattle.std.specs.List.{range_with_len}
 use Rattle.std.proofs.lemmas.Bool.{false≢true, eqb-true, eq-eqb, or_left, or_right, or_cases, cases_Bool}
+use Rattle.ct_base.specs.Numbers.{is_in}
 use Rattle.ct_props.specs.declared.props.Props.{Props}
 use Rattle.ct_props.specs.declared.wanted.Choice.{Choice}
 use Rattle.ct_fixture.specs.declared.fixtures.Fixtures.{Fixtures}
 use Rattle.ct_fixture.specs.declared.members.Members.{Members}
-use Rattle.ct_props.specs.Numbered.{at_number, is_in}
+use Rattle.ct_props.specs.Numbered.{at_number}
 use Rattle.ct_fixture.specs.Drawing.{is_drawn, members_of, required_by, keeps_cleanups, keeps_setups}
 use Rattle.ct_fixture.specs.Kept.{AddsTests, AreLeft, AreUntaken, Draws, is_drawn_in}
 use Rattle.ct_props.proofs.NumberedLemmas.{in_all}

@@ -4,11 +4,12 @@ use Rattle.std.proofs.Common.{◌≡◌, ℕ, zero, suc, ◌≤◌, Bool, true, 
 use Rattle.std.specs.List.{list_any, range_with_len}
 use Rattle.std.proofs.lemmas.Bool.{false≢true, eq-eqb, or_cases, or_left, or_right}
 use Rattle.std.proofs.lemmas.List.FromFn.{length-range_with_len}
+use Rattle.ct_base.specs.Numbers.{is_in}
 use Rattle.ct_base.proofs.TruthLemmas.{same_truth}
 use Rattle.ct_props.proofs.NumberedLemmas.{number_within}
 use Rattle.ct_props.specs.declared.props.Props.{Props}
 use Rattle.ct_props.specs.declared.wanted.Choice.{Choice}
-use Rattle.ct_props.specs.Numbered.{at_number, is_in}
+use Rattle.ct_props.specs.Numbered.{at_number}
 use Rattle.ct_fixture.specs.Drawing.{draws, required_by, fixtures_required, is_drawn, next_round, after_rounds, members_of}
 use Rattle.ct_fixture.proofs.NumberLemmas.{Grows, all_pass, any_at, any-flat_map, grows, in_row, from_row, kept_passes, never_any, passes_kept, same_kept, some_passes}
 

@@ -3,12 +3,13 @@
 use Rattle.std.specs.Prelude.{◌≡◌, ℕ, ◌+◌, Bool, true, false, not, ◌&&◌, ◌||◌, ◌<◌, bytes_eq, All, List, [], length, slice_index_or, count_by, Option, Some, None, if◌then◌else◌}
 use Rattle.std.specs.declared.vec.Vec.{Vec}
 use Rattle.indexmap.specs.IndexMap.{IndexMap, get_by}
+use Rattle.ct_base.specs.Numbers.{is_in}
 use Rattle.ct_props.specs.declared.props.Props.{Props}
 use Rattle.ct_props.specs.declared.wanted.Choice.{Choice}
 use Rattle.ct_fixture.specs.declared.fixtures.Fixtures.{Fixtures}
 use Rattle.ct_fixture.specs.declared.members.Members.{Members}
 use Rattle.ct_fixture.specs.declared.patterns.FixtureMatchers.{FixtureMatchers}
-use Rattle.ct_props.specs.Numbered.{at_number, is_in}
+use Rattle.ct_props.specs.Numbered.{at_number}
 use Rattle.ct_fixture.specs.Drawing.{is_drawn, keeps_setups, keeps_cleanups}
 use Rattle.ct_fixture.specs.Matching.{AreFixtureMatchersOf}
 use Rattle.ct_base.specs.Names.{is_among}

@@ -1,5 +1,5 @@
 ghost use Rattle.std.specs.Prelude.{◌≡◌, ◌==◌, ◌&&◌, ◌||◌, ℕ, List, [], OnOk, bytes_eq, if◌then◌else◌};
-ghost use Rattle.ct_props.specs.Numbered.{is_in};
+ghost use Rattle.ct_base.specs.Numbers.{is_in};
 ghost use Rattle.ct_fixture.specs.Kept.{fixture_tests};
 ghost use Rattle.ct_base.specs.Names.{is_among};
 

@@ -12,8 +12,8 @@ use Rattle.std.proofs.lemmas.List.Elements.{All-head, All-tail, All-push, All-we
 use Rattle.std.proofs.lemmas.List.Folds.{list_any-append}
 use Rattle.std.proofs.lemmas.Map.Text.{is_eq-slice_cmp}
 use Rattle.std.proofs.lemmas.Slice.Eq.{bytes_eq-Decides}
+use Rattle.ct_base.specs.Numbers.{is_in}
 use Rattle.ct_base.proofs.ListLemmas.{none_new}
-use Rattle.ct_props.specs.Numbered.{is_in}
 use Rattle.ct_graph.specs.Found.{AreMarked, AreFound, bytes_of, names_cmp, KnowsIn}
 
 -- marks that reach farther mark the same tests

@@ -7,8 +7,8 @@ use Rattle.std.specs.declared.vec.Vec.{Vec}
 use Rattle.std.proofs.Math.Bool.{or-false}
 use Rattle.indexmap.specs.IndexMap.{IndexMap, UpdatesBy, get_by}
 use Rattle.std.proofs.lemmas.Slice.Eq.{bytes_eq-Decides}
+use Rattle.ct_base.specs.Numbers.{is_in}
 use Rattle.ct_base.proofs.NameLemmas.{bytes_eq_comm}
-use Rattle.ct_props.specs.Numbered.{is_in}
 use Rattle.ct_base.specs.Found.{or_none}
 use Rattle.ct_graph.specs.ByName.{tests_at}
 

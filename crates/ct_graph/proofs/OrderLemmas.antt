@@ -5,9 +5,9 @@ use Rattle.std.proofs.lemmas.Bool.{true≢false, false≢true, eqb-true, and_par
 use Rattle.std.proofs.lemmas.List.{length-set, get_or-set_other}
 use Rattle.std.proofs.lemmas.List.Folds.{list_all-map, list_any_more}
 use Rattle.ct_base.specs.declared.defs.TestDef.{TestDef}
+use Rattle.ct_base.specs.Numbers.{is_in}
 use Rattle.ct_props.specs.declared.props.Props.{Props}
 use Rattle.ct_graph.specs.Before.{before_of, setups_of}
-use Rattle.ct_props.specs.Numbered.{is_in}
 use Rattle.ct_graph.specs.Cycle.{leads_to, leads_round, are_distinct, is_cycle, HasCycle}
 use Rattle.ct_graph.specs.Order.{IsOrder, IsAnswer, edges_of, links_at, ranks_below, ranks_above_all}
 use Rattle.ct_graph.specs.Walk.{row_of, mark_of, rank_of, is_ranked, is_taken_below, are_taken, are_taken_below, AreRanked, EndsWalk}

@@ -5,7 +5,7 @@ use Rattle.std.proofs.lemmas.List.{reverse-append, get_or-set_same, get_or-set_o
 use Rattle.std.proofs.lemmas.List.Folds.{sum_by-replicate, list_all_more}
 use Rattle.std.proofs.lemmas.List.Sums.{sum_by-set}
 use Rattle.std.proofs.lemmas.List.Elements.{All-get_or}
-use Rattle.ct_props.specs.Numbered.{is_in}
+use Rattle.ct_base.specs.Numbers.{is_in}
 use Rattle.ct_graph.specs.Cycle.{are_distinct, is_cycle, leads_round, leads_to}
 use Rattle.ct_graph.specs.Walk.{row_of, AreWithin, mark_of, is_unseen, is_ranked, is_taken_below, are_taken, are_taken_below, is_on, is_before_last, IsStep, IsTrail, IsWalk, WalksOn, steps_left, back_to}
 use Rattle.ct_graph.specs.declared.walk.Mark.{Mark}

@@ -1,6 +1,6 @@
 -- What a cycle is, where each test has some tests before it. Source: this project's choice.
 use Rattle.std.specs.Prelude.{◌≡◌, ℕ, Bool, true, false, not, ◌&&◌, List, [], ◌∷◌}
-use Rattle.ct_props.specs.Numbered.{is_in}
+use Rattle.ct_base.specs.Numbers.{is_in}
 
 -- a list of tests that is not empty: each has the next one before it, and the last has `first` before it
 abbrev pub leads_to : (ℕ → List ℕ) → ℕ → List ℕ → Bool

@@ -1,7 +1,7 @@
 -- The graph of the members: at the number of each test, the members before it. This project's own.
 use Rattle.std.specs.Prelude.{◌≡◌, ℕ, ◌+◌, ◌<◌, ⊤, List, [], length, if◌then◌else◌}
+use Rattle.ct_base.specs.Numbers.{is_in}
 use Rattle.ct_graph.specs.Before.{before_of, setups_of}
-use Rattle.ct_props.specs.Numbered.{is_in}
 use Rattle.ct_graph.specs.Order.{edges_of}
 use Rattle.ct_graph.specs.Walk.{row_of, mark_of, rank_of}
 use Rattle.ct_graph.specs.declared.fault.GraphFault.{GraphFault}

@@ -2,7 +2,7 @@
 -- before it are taken. This project's own.
 use Rattle.std.specs.Prelude.{◌≡◌, ℕ, ◌+◌, ◌*◌, ◌<◌, ◌≤◌, ⊤, Bool, true, false, List, [], ◌∷◌, length, take, reverse, slice_index_or, All, count_by, nat_lt, ◌==◌, if◌then◌else◌}
 use Rattle.std.specs.List.{list_any, list_all}
-use Rattle.ct_props.specs.Numbered.{is_in}
+use Rattle.ct_base.specs.Numbers.{is_in}
 use Rattle.ct_graph.specs.Cycle.{is_cycle}
 use Rattle.ct_graph.specs.declared.fault.GraphFault.{GraphFault}
 use Rattle.ct_graph.specs.declared.fault.GraphFault.TheVariants.{Cycle, TooManyEdges, NoMemory}

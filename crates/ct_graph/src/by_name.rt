@@ -1,7 +1,7 @@
 ghost use Rattle.std.specs.Prelude.{◌≡◌, ℕ, ◌||◌, ◌&&◌, ◌==◌, [], List as Bytes, Bool, IfOk, OnOk, bytes_eq};
 ghost use Rattle.std.specs.List.{list_any};
 ghost use Rattle.std.specs.List.Sorted.{IsStrictlyIncreasing};
-ghost use Rattle.ct_props.specs.Numbered.{is_in};
+ghost use Rattle.ct_base.specs.Numbers.{is_in};
 ghost use Rattle.ct_graph.specs.ByName.{tests_of, is_found_in};
 ghost use Rattle.ct_graph.specs.Found.{AreFound, IsEmpty, IsMarked, Knows, bytes_of};
 ghost use Rattle.ct_base.specs.Names.{is_among};

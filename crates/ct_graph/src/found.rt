@@ -1,6 +1,6 @@
 ghost use Rattle.std.specs.Prelude.{◌≡◌, ℕ, ◌<◌, ◌≤◌, ◌^◌, ◌||◌, ◌==◌, [], false, IfOk, OnOk, length, slice_index_or};
 ghost use Rattle.std.specs.List.Sorted.{IsStrictlyIncreasing};
-ghost use Rattle.ct_props.specs.Numbered.{is_in};
+ghost use Rattle.ct_base.specs.Numbers.{is_in};
 ghost use Rattle.ct_graph.specs.Found.{AreMarked, IsMarked, IsEmpty};
 
 use crate::by_name::in_order;

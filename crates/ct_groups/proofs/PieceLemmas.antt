@@ -4,8 +4,9 @@ use Rattle.std.specs.List.{onto_first}
 use Rattle.std.proofs.lemmas.Bool.{ne_eqb, eq-eqb}
 use Rattle.std.proofs.lemmas.List.{append_assoc, append-nil, drop_more, drop_all}
 use Rattle.std.proofs.lemmas.List.Splits.{slice_split-cons_yes, slice_split-cons_no}
+use Rattle.ct_base.specs.Bytes.{comma}
 use Rattle.ct_base.proofs.PieceLemmas.{with_piece, no_piece-by, piece-more}
-use Rattle.ct_groups.specs.Description.{pieces_of, comma}
+use Rattle.ct_groups.specs.Description.{pieces_of}
 
 no_piece : (text : List ℕ) → with_piece [] (pieces_of text) ≡ pieces_of text
 no_piece [] = refl

@@ -3,6 +3,7 @@
 -- The refusals and the limits are this project's choice.
 use Rattle.std.specs.Prelude.{ℕ, ◌+◌, List, [], ◌∷◌, take, drop, nat_lt, Option, Some, None, Result, Ok, Err, ◌==◌, if◌then◌else◌}
 use Rattle.std.specs.List.{position, slice_split}
+use Rattle.ct_base.specs.Bytes.{colon, comma}
 use Rattle.ct_base.specs.Seconds.{is_numeral, number_in}
 use Rattle.ct_groups.specs.declared.fault.GroupsFault.{GroupsFault}
 use Rattle.ct_groups.specs.declared.fault.GroupsFault.TheVariants.{NoColon, BadType, BadCount, ZeroSlots, TooMany}
@@ -15,14 +16,6 @@ abbrev pub reads_on : {X Y : Type 0}
     → Result X GroupsFault → (X → Result Y GroupsFault) → Result Y GroupsFault
 reads_on (Ok x) next = next x
 reads_on (Err why) next = Err why
-
--- the byte `,`
-abbrev pub comma : ℕ
-comma = 44
-
--- the byte `:`
-abbrev pub colon : ℕ
-colon = 58
 
 -- a number of slots; no number, 0, and a number above 1,000,000,000 are refused
 abbrev pub slots_asked : Option ℕ → Result ℕ GroupsFault

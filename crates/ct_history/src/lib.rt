@@ -23,4 +23,4 @@ pub use open_starts::{exclude, holds_start, is_busy};
 pub use placed::{is_placement, slots_at};
 pub use places::{expect_place, place_of};
 pub use plan::{Plan, PlanParts, PlanTest, test_at};
-pub use verdicts::{are_all_final, final_verdict, verdict, verdict_of};
+pub use verdicts::{are_all_final, final_verdict, is_failing, verdict, verdict_of};

@@ -41,7 +41,8 @@ pub(crate) fn has_failing(plan: &PlanParts, entries: &[Entry]) -> bool
         .any(|test| is_failing(verdict(&plan.repeat, test, entries)))
 }
 
-fn is_failing(verdict: Option<Verdict>) -> bool
+/// Returns whether a test with this verdict makes the run fail. A test without a verdict does not.
+pub fn is_failing(verdict: Option<Verdict>) -> bool
     ensures { result ≡ is_failing_in verdict }
 {
     match verdict {

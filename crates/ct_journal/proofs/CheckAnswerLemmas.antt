@@ -91,11 +91,11 @@ module _ (path : List ℕ) (words : List (List ℕ)) (files files_now : FilesTel
 
   -- why nothing was found was told
   why_answer : (why : Unplanned) (outcome : CheckOutcome) (status : ℕ) → IsUnfoundFor path words files files_now why → ReportsWhy why outcome status sink sink_now → AnswersFor path s outcome status
-  why_answer why outcome status (inl none) tells =
-      of_run tells.told outcome status tells.is (told_answer words [] files files_now [] [] sink sink sink_now None None why.names (Err why.outcome) tells.told status (inr (none sink, refl)) (tells.tells, tells.status_is))
-  why_answer why outcome status (inr (is, names, unread)) tells =
-      fault_told tells.told outcome status (record { plan = unread.plan; middle = unread.middle; planned = unread.planned; files = unread.files }) tells.is tells.status_is
-      (subst (λ (ns : List (List ℕ)). ReportsFault ns (Ends.FilesFault path) tells.told sink sink_now) names (subst (λ (o : Outcome). ReportsFault why.names o tells.told sink sink_now) is tells.tells))
+  why_answer why outcome status (inl none) reports =
+      of_run reports.reported outcome status reports.is (told_answer words [] files files_now [] [] sink sink sink_now None None why.names (Err why.outcome) reports.reported status (inr (none sink, refl)) (reports.reports, reports.status_is))
+  why_answer why outcome status (inr (is, names, unread)) reports =
+      fault_told reports.reported outcome status (record { plan = unread.plan; middle = unread.middle; planned = unread.planned; files = unread.files }) reports.is reports.status_is
+      (subst (λ (ns : List (List ℕ)). ReportsFault ns (Ends.FilesFault path) reports.reported sink sink_now) names (subst (λ (o : Outcome). ReportsFault why.names o reports.reported sink sink_now) is reports.reports))
 
 -- that there is no path was told
 module _ (files files_now : FilesTell) (sink sink_now : SinkTell) where
@@ -109,15 +109,15 @@ module _ (files files_now : FilesTell) (sink sink_now : SinkTell) where
       no_path_as Memory outcome 5 status (subst (λ (o : Outcome). IsCheckOf o outcome) is of) (status_is ∙ ap fault_status is) (kept, puts, refl)
 
   no_path_answer : (why : Unplanned) (outcome : CheckOutcome) (status : ℕ) → LacksPath files files_now why → ReportsWhy why outcome status sink sink_now → AnswersNoPath files files_now sink sink_now outcome status
-  no_path_answer why outcome status lacks tells =
-      no_path_told tells.told outcome status lacks.files tells.is tells.status_is
-      (subst (λ (ns : List (List ℕ)). ReportsFault ns (Ends.Usage 1 NoValue) tells.told sink sink_now) lacks.names (subst (λ (o : Outcome). ReportsFault why.names o tells.told sink sink_now) lacks.outcome tells.tells))
+  no_path_answer why outcome status lacks reports =
+      no_path_told reports.reported outcome status lacks.files reports.is reports.status_is
+      (subst (λ (ns : List (List ℕ)). ReportsFault ns (Ends.Usage 1 NoValue) reports.reported sink sink_now) lacks.names (subst (λ (o : Outcome). ReportsFault why.names o reports.reported sink sink_now) lacks.outcome reports.reports))
 
 pub check_answer : (words : List (List ℕ)) (files files_now : FilesTell) (sink sink_now : SinkTell) (found : Result Finding Unplanned) (outcome : CheckOutcome) (status : ℕ) → LeadsTo words files files_now found → ReportsCheck found outcome status sink sink_now → AnswersCheck words files files_now sink sink_now outcome status
-check_answer [] files files_now sink sink_now (Ok finding) outcome status leads tells = absurd leads
-check_answer [] files files_now sink sink_now (Err why) outcome status leads tells = no_path_answer files files_now sink sink_now why outcome status leads tells
-check_answer (path ∷ words) files files_now sink sink_now (Ok finding) outcome status leads tells = found_answer path words files files_now sink sink_now finding outcome status leads tells
-check_answer (path ∷ words) files files_now sink sink_now (Err why) outcome status leads tells = why_answer path words files files_now sink sink_now why outcome status leads tells
+check_answer [] files files_now sink sink_now (Ok finding) outcome status leads reports = absurd leads
+check_answer [] files files_now sink sink_now (Err why) outcome status leads reports = no_path_answer files files_now sink sink_now why outcome status leads reports
+check_answer (path ∷ words) files files_now sink sink_now (Ok finding) outcome status leads reports = found_answer path words files files_now sink sink_now finding outcome status leads reports
+check_answer (path ∷ words) files files_now sink sink_now (Err why) outcome status leads reports = why_answer path words files files_now sink sink_now why outcome status leads reports
 
 -- a check of words of which a run can be made says yes or no
 module _ (path : List ℕ) (s : Sides) (can : IsRunnable s) (calm : IsUnfailed s) where

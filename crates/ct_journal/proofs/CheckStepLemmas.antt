@@ -107,19 +107,19 @@ leads_unended words before now (Ok finding) leads = tt
 leads_unended [] before now (Err why) leads = subst IsUnended (sym leads.outcome) tt
 leads_unended (path ∷ words) before now (Err why) leads = why_unended path words before now why leads
 
-told_by : (names : List (List ℕ)) (outcome told : Outcome) (before now : SinkTell) → IsUnended outcome → PutsFault names outcome told before now → IsUnended told
-told_by names outcome told before now fine (inl (is, puts)) = subst IsUnended (sym is) fine
-told_by names outcome told before now fine (inr (is, puts)) = subst IsUnended (sym is) tt
+reported_by : (names : List (List ℕ)) (outcome reported : Outcome) (before now : SinkTell) → IsUnended outcome → PutsFault names outcome reported before now → IsUnended reported
+reported_by names outcome reported before now fine (inl (is, puts)) = subst IsUnended (sym is) fine
+reported_by names outcome reported before now fine (inr (is, puts)) = subst IsUnended (sym is) tt
 
--- what is told of a call that is not complete and puts no list is such an outcome too
-pub told_unended : (names : List (List ℕ)) (outcome told : Outcome) (before now : SinkTell) → IsUnended outcome → ReportsFault names outcome told before now → IsUnended told
-told_unended names Ends.Completed told before now fine tells = absurd fine
-told_unended names Ends.Listed told before now fine tells = absurd fine
-told_unended names (Ends.Usage word kind) told before now fine tells = told_by names (Ends.Usage word kind) told before now fine tells
-told_unended names (Ends.Refused refusal) told before now fine tells = told_by names (Ends.Refused refusal) told before now fine tells
-told_unended names (Ends.FilesFault path) told before now fine tells = told_by names (Ends.FilesFault path) told before now fine tells
-told_unended names Ends.OutputFault told before now fine tells = subst IsUnended (sym tells.0) tt
-told_unended names Ends.Memory told before now fine tells = told_by names Ends.Memory told before now fine tells
+-- what is reported of a call that is not complete and puts no list is such an outcome too
+pub reported_unended : (names : List (List ℕ)) (outcome reported : Outcome) (before now : SinkTell) → IsUnended outcome → ReportsFault names outcome reported before now → IsUnended reported
+reported_unended names Ends.Completed reported before now fine reports = absurd fine
+reported_unended names Ends.Listed reported before now fine reports = absurd fine
+reported_unended names (Ends.Usage word kind) reported before now fine reports = reported_by names (Ends.Usage word kind) reported before now fine reports
+reported_unended names (Ends.Refused refusal) reported before now fine reports = reported_by names (Ends.Refused refusal) reported before now fine reports
+reported_unended names (Ends.FilesFault path) reported before now fine reports = reported_by names (Ends.FilesFault path) reported before now fine reports
+reported_unended names Ends.OutputFault reported before now fine reports = subst IsUnended (sym reports.0) tt
+reported_unended names Ends.Memory reported before now fine reports = reported_by names Ends.Memory reported before now fine reports
 
 -- what the files hold stays, whatever the words lead to
 refusal_keeps : (words : List (List ℕ)) (before now : FilesTell) (names : List (List ℕ)) (sink : SinkTell) (refusal : Refusal) → IsRefusal (list_sides words before now sink sink) refusal names → FilesStay before now

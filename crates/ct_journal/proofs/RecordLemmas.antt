@@ -32,7 +32,7 @@ is_accepted s status (Some plan) (Some entries) fit ran =
       entries = entries;
       text_is = refl;
       fit = fit;
-      legal = sym (legal_same plan other entries same) ∙ ran.run.ran.legal;
+      legal = sym (legal_same plan other entries same) ∙ ran.run.ran.ran.legal;
       complete = complete_same plan other entries same ran.completed.reported.complete;
     }
 

@@ -121,10 +121,10 @@ IsCheckOf Ends.Memory outcome = outcome ≡ Says.Memory
 -- why nothing was found was reported, as a run reports it
 pub record ReportsWhy (why : Unplanned) (outcome : CheckOutcome) (status : ℕ) (before now : SinkTell)
     : Type 0 where
-  pub told : Outcome
-  pub tells : ReportsFault why.names why.outcome told before now
-  pub status_is : status ≡ fault_status told
-  pub is : IsCheckOf told outcome
+  pub reported : Outcome
+  pub reports : ReportsFault why.names why.outcome reported before now
+  pub status_is : status ≡ fault_status reported
+  pub is : IsCheckOf reported outcome
 
 -- how a check reports what its words led to
 abbrev pub ReportsCheck : Result Finding Unplanned → CheckOutcome → ℕ → SinkTell → SinkTell → Type 0

@@ -27,21 +27,21 @@ pub(crate) fn report_check<S: Sink>(
     }
 }
 
-#[tactic(auto, using(crate::proofs::CheckStepLemmas::told_unended))]
+#[tactic(auto, using(crate::proofs::CheckStepLemmas::reported_unended))]
 fn report_why<S: Sink>(alloc: Global, sink: &mut S, why: Unplanned) -> (CheckOutcome, u8)
     requires unended { IsUnended why.outcome }
     ensures { ReportsWhy why result.0 result.1 (S.tells sink.old) (S.tells sink.new) }
 {
     let Unplanned { outcome, names } = why;
-    let (told, status) = report_outcome(alloc, sink, names.as_slice(), outcome);
-    (check_outcome(told), status)
+    let (reported, status) = report_outcome(alloc, sink, names.as_slice(), outcome);
+    (check_outcome(reported), status)
 }
 
-fn check_outcome(told: Outcome) -> CheckOutcome
-    requires { IsUnended told }
-    ensures { IsCheckOf told result }
+fn check_outcome(reported: Outcome) -> CheckOutcome
+    requires { IsUnended reported }
+    ensures { IsCheckOf reported result }
 {
-    match told {
+    match reported {
         Outcome::Completed | Outcome::Listed => unreachable!(),
         Outcome::Usage { word, kind } => CheckOutcome::Usage { word, kind },
         Outcome::Refused(refusal) => CheckOutcome::Refused(refusal),
@@ -87,7 +87,7 @@ fn refused_line(alloc: Global, line: u32) -> Result<Blob, NoMemory>
     ensures { IfOk result (λ text. text ≡ line_of_refusal line) }
 {
     let mut text = Blob::of(alloc, b"journal refused at line ")?;
-    text.append(line.to_string(alloc)?.as_bytes())?;
+    text.append_number(alloc, u128::from(line))?;
     text.append(b"\n")?;
     Ok(text)
 }

@@ -127,7 +127,7 @@ fn end_call<F, G, S>(finished: Finished<F, G, S>, journal: JournalEnd) -> Record
 
 /// Puts the line of a call without any word, and returns its outcome and status.
 fn miss_path<S: Sink>(alloc: Global, sink: &mut S) -> (Outcome, u8)
-    ensures told { PutsFault [] (Ran.Usage 1 NoValue) result.0 (S.tells sink.old) (S.tells sink.new) }
+    ensures reported { PutsFault [] (Ran.Usage 1 NoValue) result.0 (S.tells sink.old) (S.tells sink.new) }
     ensures status { result.1 ≡ fault_status result.0 }
 {
     let kind = UsageKind::NoValue;
@@ -205,7 +205,7 @@ fn report_path<S: Sink>(alloc: Global, sink: &mut S, path: &Name)
     ensures { Tries (fault_line [] (Ran.FilesFault path.now)) (S.tells sink.old) (S.tells sink.new) }
 {
     if let Ok(path) = path.copy(alloc) {
-        let _told = report_outcome(alloc, sink, &[], Outcome::FilesFault { path });
+        let _reported = report_outcome(alloc, sink, &[], Outcome::FilesFault { path });
     }
 }
 

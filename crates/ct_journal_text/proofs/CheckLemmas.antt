@@ -60,12 +60,12 @@ entry_same a b is = cc
 
 -- what a text that says the line of an entry does
 pub takes_entry : (plan : PlanParts) (front : List Entry) (text : List ℕ) (line : EntryLine) (step : Step) (audit : Audit) → length front < 2 ^ 64 → Says text (Some (Line.Entry line)) → TakesEntryOr plan front line step audit → TakesLine plan front text step audit
-takes_entry plan front text line GoesOn audit small says (e, is, allowed, told) = record {
+takes_entry plan front text line GoesOn audit small says (e, is, allowed, audited) = record {
   entry = e;
   is = ((says (Line.Entry line)).0 refl).1 ∙ ap (λ l. journal_line_text (Line.Entry l)) is;
   fits = subst EntryFits is ((says (Line.Entry line)).0 refl).0;
   allowed = allowed;
-  told = told;
+  audited = audited;
 }
 takes_entry plan front text line Ends audit small says takes = absurd takes
 takes_entry plan front text line IsBad audit small says takes = (

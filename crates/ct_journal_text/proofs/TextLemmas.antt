@@ -45,8 +45,8 @@ line_none text at = let none : at - at ≡ 0 = omega arith in ap (λ (n : ℕ). 
 module _ (plan : PlanParts) (text : List ℕ) where
   -- nothing was read yet
   pub reads_none : (audit : Audit) (line : List ℕ) → IsAuditOf plan [] audit → line ≡ [] → IsReading plan text 0 audit line 0 []
-  reads_none audit line told none = record {
-    told = told;
+  reads_none audit line audited none = record {
+    audited = audited;
     stands = record { fit = tt; allowed = refl; text_is = ap (λ (l : List ℕ). l ++ text) (sym none); one = ap (list_any (λ (byte : ℕ). byte == 10)) none };
     count_is = refl;
     few = omega arith;
@@ -58,7 +58,7 @@ module _ (plan : PlanParts) (text : List ℕ) where
       let other : (byte == 10) ≡ false = grind (arith, nat_tests, plain) in
       let next : drop at text ≡ byte ∷ drop (at + 1) text = drop_more text at 0 lt ∙ ap (λ (b : ℕ). b ∷ drop (at + 1) text) (sym is) in
       record {
-        told = reading.told;
+        audited = reading.audited;
         stands = record {
           fit = reading.stands.fit;
           allowed = reading.stands.allowed;
@@ -78,7 +78,7 @@ module _ (plan : PlanParts) (text : List ℕ) where
       let lines : entry_lines (entries ++ e ∷ []) ≡ entry_lines entries ++ (line ++ 10 ∷ []) =
       flat_map-append (λ (x : Entry). full_line (Line.Entry (noted x))) entries (e ∷ []) ∙ ap (λ (l : List ℕ). entry_lines entries ++ l) (append-nil (full_line (Line.Entry (noted e))) ∙ full) in
       record {
-        told = takes.told;
+        audited = takes.audited;
         stands = record {
           fit = fit_snoc entries e reading.stands.fit takes.fits;
           allowed = allowed-snoc plan entries e reading.stands.allowed takes.allowed;

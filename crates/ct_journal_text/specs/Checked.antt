@@ -51,7 +51,7 @@ pub record TakesEntry (plan : PlanParts) (front : List Entry) (line : List ℕ) 
   pub is : line ≡ journal_line_text (Line.Entry (noted entry))
   pub fits : EntryFits (noted entry)
   pub allowed : is_allowed plan front entry ≡ true
-  pub told : IsAuditOf plan (front ++ entry ∷ []) audit
+  pub audited : IsAuditOf plan (front ++ entry ∷ []) audit
 
 -- what a line does behind these entries: it is that of one entry more, it is the last line, or it is not good
 abbrev pub TakesLine : PlanParts → List Entry → List ℕ → Step → Audit → Type 0

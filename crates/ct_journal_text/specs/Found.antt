@@ -2,6 +2,7 @@
 -- is not good. This project's own.
 use Rattle.std.specs.Prelude.{ℕ, ◌+◌, ◌≤◌, ◌≡◌, ◌⊎◌, ⊤, true, false, List, [], ◌∷◌, ◌++◌, length, drop, Option, Some, None, ◌==◌}
 use Rattle.std.specs.List.{list_any}
+use Rattle.ct_base.specs.Bytes.{line_feed}
 use Rattle.ct_history.specs.declared.plan.PlanParts.{PlanParts}
 use Rattle.ct_history.specs.declared.history.Entry.{Entry}
 use Rattle.ct_history.specs.Legal.{IsComplete, is_allowed_so_far, is_legal}
@@ -21,14 +22,14 @@ pub record IsAccepted (plan : PlanParts) (text : List ℕ) : Type 0 where
 
 -- no byte of the line is a line feed
 abbrev pub IsOneLine : List ℕ → Type 0
-IsOneLine line = list_any (λ (byte : ℕ). byte == 10) line ≡ false
+IsOneLine line = list_any (λ (byte : ℕ). byte == line_feed) line ≡ false
 
 -- the line, with the rest of the text behind it, is not good behind these entries: it lacks its line feed;
 -- or it is neither the line of an allowed entry, nor the last line of a history at its end and of the text
 abbrev pub IsBadLine : PlanParts → List Entry → List ℕ → List ℕ → Type 0
 IsBadLine plan entries line [] = ⊤
 IsBadLine plan entries line (byte ∷ rest) =
-    (byte ≡ 10)
+    (byte ≡ line_feed)
     × IsNoEntry plan entries line
     × (line ≡ journal_line_text (Line.Done (length entries)) → is_at_end plan entries ≡ true → rest ≡ [] → ⊥)
 
@@ -85,7 +86,7 @@ IsSoleFinding plan text found = (other : Option ℕ) → Finds plan text other �
 -- so far, the audit has seen the entries whose lines were read, and the rest of the text stands behind them
 pub record IsReading (plan : PlanParts) (text : List ℕ) (at : ℕ) (audit : Audit) (line : List ℕ) (count : ℕ)
     (entries : List Entry) : Type 0 where
-  pub told : IsAuditOf plan entries audit
+  pub audited : IsAuditOf plan entries audit
   pub stands : StandsAt plan text entries line (drop at text)
   pub count_is : count ≡ length entries
   pub few : count ≤ at

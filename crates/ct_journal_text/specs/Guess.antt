@@ -2,6 +2,7 @@
 -- is the text.
 use Rattle.std.specs.Prelude.{ℕ, ℤ, pos, neg_ℤ, ◌+◌, ◌-◌, ◌*◌, ◌^◌, min, Bool, ◌&&◌, List, [], ◌∷◌, take, drop, length, map, fold, get_or, nat_lt, bytes_eq, codes, Option, Some, None, ◌==◌, if◌then◌else◌}
 use Rattle.std.specs.List.{slice_split}
+use Rattle.ct_base.specs.Bytes.{comma, minus, space, zero_digit}
 use Rattle.ct_verdict.specs.declared.attempt.How.{How}
 use Rattle.ct_verdict.specs.declared.attempt.How.TheVariants.{Exited, Signalled, TimedOut, NotStarted, Lacks, NoMemory}
 use Rattle.ct_verdict.specs.declared.attempt.Seen.{Seen}
@@ -12,18 +13,6 @@ use Rattle.ct_journal_text.specs.declared.lines.EntryLine.TheVariants.{Start, En
 use Rattle.ct_journal_text.specs.declared.lines.JournalLine.{JournalLine}
 use Rattle.ct_journal_text.specs.declared.lines.JournalLine.TheVariants as Line
 use Rattle.ct_journal_text.specs.Journal.{journal_line_text}
-
--- the byte between the words of a line
-abbrev pub word_separator : ℕ
-word_separator = 32
-
--- the byte between the places of a placement
-abbrev pub place_separator : ℕ
-place_separator = 44
-
--- the byte in front of a number below zero
-abbrev pub sign_below_zero : ℕ
-sign_below_zero = 45
 
 -- the pieces of a text between the bytes that separate them
 abbrev pub pieces : ℕ → List ℕ → List (List ℕ)
@@ -39,7 +28,7 @@ most = 2 ^ 64 - 1
 
 -- a number with the digit of one byte more behind it, kept at most at the greatest
 abbrev pub with_digit : ℕ → ℕ → ℕ
-with_digit number byte = min (min (number * 10) most + (byte - 48)) most
+with_digit number byte = min (min (number * 10) most + (byte - zero_digit)) most
 
 -- the number that a text of digits writes
 abbrev pub number_written : List ℕ → ℕ
@@ -53,7 +42,7 @@ short_in text = min (number_written text) (2 ^ 32 - 1)
 abbrev pub code_written : List ℕ → ℤ
 code_written [] = pos 0
 code_written (first ∷ rest) =
-    if first == sign_below_zero
+    if first == minus
     then neg_ℤ (pos (min (number_written rest) (2 ^ 31)))
     else pos (min (number_written (first ∷ rest)) (2 ^ 31 - 1))
 
@@ -86,7 +75,7 @@ cause_in word =
 
 -- the hit at a place of a word of hits
 abbrev pub hit_in : List ℕ → ℕ → Bool
-hit_in word place = nat_lt place (length word) && get_or word place 0 == 49
+hit_in word place = nat_lt place (length word) && get_or word place 0 == zero_digit + 1
 
 -- what was seen of an attempt, by the words of its line
 abbrev pub seen_in : List (List ℕ) → Seen
@@ -101,7 +90,7 @@ seen_in words =
 
 -- the places of resources, by their word
 abbrev pub places_in_word : List ℕ → List ℕ
-places_in_word word = if length word == 0 then [] else map short_in (pieces place_separator word)
+places_in_word word = if length word == 0 then [] else map short_in (pieces comma word)
 
 -- the places of the resources of a placement, by the words of a start
 abbrev pub placement_in : List (List ℕ) → Option (List ℕ)
@@ -134,7 +123,7 @@ guess_by words =
 
 -- the line that a text could be
 abbrev pub guess_in : List ℕ → JournalLine
-guess_in text = guess_by (pieces word_separator text)
+guess_in text = guess_by (pieces space text)
 
 -- the guess, where it is right
 abbrev pub said_in : List ℕ → Option JournalLine

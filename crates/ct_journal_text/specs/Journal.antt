@@ -1,7 +1,8 @@
 -- The journal of a run: its lines, and what each of them says. The form is this project's own.
-use Rattle.std.specs.Prelude.{ℕ, ℤ, pos, negsuc, ◌<◌, ◌^◌, ◌≡◌, ◌↔◌, ⊤, Bool, true, false, List, [], ◌∷◌, ◌++◌, length, map, flat_map, codes, decimal, Option, Some, None, option_map}
+use Rattle.std.specs.Prelude.{ℕ, ℤ, pos, negsuc, ◌+◌, ◌<◌, ◌^◌, ◌≡◌, ◌↔◌, ⊤, Bool, true, false, List, [], ◌∷◌, ◌++◌, length, map, flat_map, codes, decimal, Option, Some, None, option_map}
 use Rattle.std.specs.Fmt.{signed_decimal}
 use Rattle.std.specs.List.{AllByRecursion}
+use Rattle.ct_base.specs.Bytes.{zero_digit}
 use Rattle.ct_alloc.specs.declared.placement.Pick.{Pick}
 use Rattle.ct_alloc.specs.declared.placement.Placement.{Placement}
 use Rattle.ct_verdict.specs.declared.attempt.How.{How}
@@ -38,8 +39,8 @@ not_run_word Why.Memory = codes "memory"
 
 -- the digit of a hit: 1, and 0 where there is none
 abbrev pub hit_digit : Bool → ℕ
-hit_digit true = 49
-hit_digit false = 48
+hit_digit true = zero_digit + 1
+hit_digit false = zero_digit
 
 -- the hits of the patterns for fail, pass and skip, as a word of three digits
 abbrev pub hits_text : Seen → List ℕ

@@ -1,17 +1,9 @@
-ghost use Rattle.std.specs.Prelude.{◌≡◌, ◌++◌, OnOk, decimal};
+ghost use Rattle.std.specs.Prelude.{◌≡◌, ◌++◌, OnOk};
 ghost use Rattle.std.specs.Fmt.{signed_decimal};
 ghost use Rattle.ct_journal_text.specs.Guess.{code_written as code_by, number_written as number_by, short_in as short_by};
 
 use ct_base::{Blob, NoMemory};
 use std::alloc::Global;
-
-/// Puts a number in decimal behind the text.
-pub(crate) fn append_number(alloc: Global, text: &mut Blob, number: u64) -> Result<(), NoMemory>
-    ensures { OnOk result (text.new ≡ text.old ++ decimal number) }
-{
-    let digits = number.to_string(alloc)?;
-    text.append(digits.as_bytes())
-}
 
 /// Puts a number with its sign in decimal behind the text.
 pub(crate) fn append_code(alloc: Global, text: &mut Blob, code: i32) -> Result<(), NoMemory>

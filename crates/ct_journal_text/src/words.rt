@@ -2,7 +2,7 @@ ghost use Rattle.std.specs.Prelude.{◌≡◌, ◌++◌, OnOk, take, drop, decim
 ghost use Rattle.ct_journal_text.specs.Journal.{not_run_word as cause_written, hit_digit as digit_of, hits_text as hits_written, how_text as how_written};
 ghost use Rattle.ct_journal_text.specs.Guess.{cause_in as cause_by, numbered_cause_in as numbered_cause_by, hit_in as hit_by, how_in as how_by};
 
-use crate::numbers::{append_code, append_number, code_in, short_in};
+use crate::numbers::{append_code, code_in, short_in};
 use ct_base::{Blob, NoMemory};
 use ct_verdict::{Cause, How, Seen};
 use std::alloc::Global;
@@ -44,7 +44,7 @@ fn append_numbered(alloc: Global, text: &mut Blob, name: &[u8], number: u32) -> 
     ensures { OnOk result (text.new ≡ text.old ++ name.now ++ decimal number) }
 {
     text.append(name)?;
-    append_number(alloc, text, u64::from(number))
+    text.append_number(alloc, u128::from(number))
 }
 
 /// Gives the hits of the patterns for fail, pass and skip, as three digits.

@@ -3,7 +3,6 @@ ghost use Rattle.std.specs.Option.{option_copied};
 ghost use Rattle.ct_journal_text.specs.declared.lines.JournalLine.TheVariants as Line;
 ghost use Rattle.ct_journal_text.specs.Journal.{attempt_text as front_of_line, not_run_word as cause_written, entry_text as line_of_entry, full_line, journal_of, journal_line_text as written, listed, noted as said, places_of_placement as resources_of, places_text as said_of_places, seen_text as said_of_attempt};
 
-use crate::numbers::append_number;
 use crate::words::{append_cause, append_how, hits_text};
 use crate::{EntryLine, JournalLine};
 use ct_alloc::Placement;
@@ -117,7 +116,7 @@ fn append_done(alloc: Global, text: &mut Blob, count: u64) -> Result<(), NoMemor
     ensures { OnOk result (text.new ≡ text.old ++ codes "done " ++ decimal count) }
 {
     text.append(b"done ")?;
-    append_number(alloc, text, count)
+    text.append_number(alloc, u128::from(count))
 }
 
 /// Puts the line of an entry without its line feed behind the text.
@@ -160,7 +159,7 @@ fn append_attempt(
     ensures { OnOk result (text.new ≡ text.old ++ front_of_line name.now test attempt worker) }
 {
     text.append(name)?;
-    append_number(alloc, text, u64::from(test))?;
+    text.append_number(alloc, u128::from(test))?;
     append_next(alloc, text, u64::from(attempt))?;
     append_next(alloc, text, u64::from(worker))
 }
@@ -170,7 +169,7 @@ fn append_next(alloc: Global, text: &mut Blob, number: u64) -> Result<(), NoMemo
     ensures { OnOk result (text.new ≡ text.old ++ codes " " ++ decimal number) }
 {
     text.append(b" ")?;
-    append_number(alloc, text, number)
+    text.append_number(alloc, u128::from(number))
 }
 
 /// Puts what a line says of a placement behind the text.
@@ -193,7 +192,7 @@ fn append_list(alloc: Global, text: &mut Blob, places: &[u32]) -> Result<(), NoM
     match places {
         [] => Ok(()),
         [first, rest @ ..] => {
-            append_number(alloc, text, u64::from(*first))?;
+            text.append_number(alloc, u128::from(*first))?;
             append_others(alloc, text, rest)
         }
     }
@@ -204,7 +203,7 @@ fn append_others(alloc: Global, text: &mut Blob, places: &[u32]) -> Result<(), N
 {
     for place in places {
         text.append(b",")?;
-        append_number(alloc, text, u64::from(*place))?;
+        text.append_number(alloc, u128::from(*place))?;
     }
     Ok(())
 }
@@ -225,7 +224,7 @@ fn append_settle(alloc: Global, text: &mut Blob, test: u32, cause: Cause) -> Res
     ensures { OnOk result (text.new ≡ text.old ++ codes "settle " ++ decimal test ++ codes " " ++ cause_written cause) }
 {
     text.append(b"settle ")?;
-    append_number(alloc, text, u64::from(test))?;
+    text.append_number(alloc, u128::from(test))?;
     text.append(b" ")?;
     append_cause(alloc, text, cause)
 }

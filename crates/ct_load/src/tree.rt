@@ -1,4 +1,4 @@
-ghost use Rattle.std.specs.Prelude.{◌≡◌, ◌<◌, ◌++◌, ◌^◌, IfOk, OnOk, decimal};
+ghost use Rattle.std.specs.Prelude.{◌≡◌, ◌<◌, ◌^◌, IfOk};
 ghost use Rattle.ct_load.specs.Tree.{add_line, depends, lines_of, lock, load_test_name, properties_line, tree_files, tree_text};
 
 use ct_base::{Blob, CalmFiles, List, Name, NoMemory, Pair};
@@ -56,9 +56,9 @@ fn properties_line(alloc: Global, number: u32) -> Result<Blob, NoMemory>
     let mut line = Blob::of(alloc, b"set_tests_properties(")?;
     line.append(name_of(alloc, number)?.bytes())?;
     line.append(b" PROPERTIES PROCESSORS \"")?;
-    append_number(alloc, &mut line, 1 + number % 3)?;
+    line.append_number(alloc, u128::from(1 + number % 3))?;
     line.append(b"\" COST \"")?;
-    append_number(alloc, &mut line, number % 7)?;
+    line.append_number(alloc, u128::from(number % 7))?;
     line.append(b"\"")?;
     line.append(depends(alloc, number)?.bytes())?;
     line.append(lock(alloc, number)?.bytes())?;
@@ -88,7 +88,7 @@ fn lock(alloc: Global, number: u32) -> Result<Blob, NoMemory>
         return Ok(Blob::new(alloc));
     }
     let mut text = Blob::of(alloc, b" RESOURCE_LOCK \"l")?;
-    append_number(alloc, &mut text, number % 5)?;
+    text.append_number(alloc, u128::from(number % 5))?;
     text.append(b"\"")?;
     Ok(text)
 }
@@ -98,15 +98,6 @@ fn name_of(alloc: Global, number: u32) -> Result<Blob, NoMemory>
     ensures { IfOk result (λ name. name ≡ load_test_name number) }
 {
     let mut name = Blob::of(alloc, b"t")?;
-    append_number(alloc, &mut name, number)?;
+    name.append_number(alloc, u128::from(number))?;
     Ok(name)
-}
-
-/// Puts a number in decimal behind the text.
-fn append_number(alloc: Global, text: &mut Blob, number: u32) -> Result<(), NoMemory>
-    ensures { OnOk result (text.new ≡ text.old ++ decimal number) }
-{
-    let digits = number.to_string(alloc)?;
-    text.append(digits.as_bytes())?;
-    Ok(())
 }

@@ -5,11 +5,12 @@ use Rattle.std.specs.List.{range_with_len}
 use Rattle.std.proofs.lemmas.List.Elements.{All-cons, All-nil}
 use Rattle.std.proofs.lemmas.List.FromFn.{length-range_with_len}
 use Rattle.std.proofs.lemmas.List.Sums.{count_by-le-length, length-filter}
+use Rattle.ct_base.specs.Numbers.{is_in}
 use Rattle.ct_base.specs.Seconds.{number_in}
 use Rattle.ct_base.specs.declared.defs.TestDef.{TestDef}
 use Rattle.ct_props.specs.declared.props.Props.{Props}
 use Rattle.ct_props.specs.declared.wanted.Choice.{Choice}
-use Rattle.ct_props.specs.Numbered.{at_number, is_in}
+use Rattle.ct_props.specs.Numbered.{at_number}
 use Rattle.ct_props.specs.PropsOf.{HasProps}
 use Rattle.ct_props.specs.Values.{bounded_processors, or_bad_number, processors_in, value_of_key}
 use Rattle.ct_select.specs.Chosen.{chosen_tests, is_chosen_at}

@@ -125,11 +125,7 @@ pub(crate) fn copied_resources(
 {
     let mut copies = List::new(alloc);
     for resource in resources {
-        copies.push(Resource {
-            kind: resource.kind.copy(alloc)?,
-            id: resource.id.copy(alloc)?,
-            slots: resource.slots,
-        })?;
+        copies.push(resource.copy(alloc)?)?;
     }
     Ok(copies)
 }

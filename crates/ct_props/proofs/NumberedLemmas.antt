@@ -3,7 +3,8 @@ use Rattle.std.proofs.Common.{ℕ, ◌≡◌, true, eqb, eqb-true, zero, suc, �
 use Rattle.std.proofs.lemmas.List.Elements.{All-contains}
 use Rattle.std.proofs.lemmas.List.Folds.{Any-from_list_any}
 use Rattle.std.proofs.lemmas.Option.{slice_get_cases, slice_get_read, slice_get_within}
-use Rattle.ct_props.specs.Numbered.{at_number, is_in}
+use Rattle.ct_base.specs.Numbers.{is_in}
+use Rattle.ct_props.specs.Numbered.{at_number}
 
 -- the item at a place is that of the next number
 pub at_number_here : {X : Type 0} (items : List X) (at : ℕ) (item : X) → at < length items → item ≡ get_or items at item → at_number items (at + 1) ≡ Some item

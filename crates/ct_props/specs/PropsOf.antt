@@ -1,6 +1,7 @@
 -- The properties of a test: each field by the rule of its key.
 -- Source: CMake manual, cmake-properties(7), Properties on Tests.
 use Rattle.std.specs.Prelude.{◌≡◌, ℕ, List, ◌++◌, map, Ok, codes}
+use Rattle.ct_base.specs.Names.{each_once}
 use Rattle.ct_base.specs.Entries.{entries_of}
 use Rattle.ct_base.specs.Path.{joined}
 use Rattle.ct_base.specs.declared.defs.Pair.{Pair}
@@ -12,7 +13,7 @@ use Rattle.ct_props.specs.declared.unchecked.FixtureNames.{FixtureNames}
 use Rattle.ct_props.specs.declared.unchecked.Surroundings.{Surroundings}
 use Rattle.ct_props.specs.declared.unchecked.Unchecked.{Unchecked}
 use Rattle.ct_props.specs.declared.unchecked.DependsAndLocks.{DependsAndLocks}
-use Rattle.ct_props.specs.Values.{value_of_key, text_of_key, is_true_text, processors_in, seconds_in, skip_code_in, patterns_in, resource_groups_in, working_dir_in, distinct}
+use Rattle.ct_props.specs.Values.{value_of_key, text_of_key, is_true_text, processors_in, seconds_in, skip_code_in, patterns_in, resource_groups_in, working_dir_in}
 
 -- the fields whose keys can be refused
 pub record HasChecked (props : List Pair) (checked : Checked) : Type 0 where
@@ -39,7 +40,7 @@ required_files_of def =
 
 -- the labels of a test, and behind them those of its folder, each once
 abbrev pub test_labels : TestDef → List (List ℕ)
-test_labels def = distinct (entries_of (text_of_key def.props (codes "LABELS")) ++ def.dir_labels)
+test_labels def = each_once (entries_of (text_of_key def.props (codes "LABELS")) ++ def.dir_labels)
 
 -- the fixtures that a test sets up, requires and cleans up
 pub record HasFixtureNames (def : TestDef) (fixtures : FixtureNames) : Type 0 where

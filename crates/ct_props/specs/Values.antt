@@ -1,13 +1,14 @@
 -- The rule of each key: what its value says. A key that a test does not have is `None`, and an empty text
 -- where a text is read. Source: CMake manual, cmake-properties(7), Properties on Tests. What is refused, and
 -- the bounds, are this project's choice.
-use Rattle.std.specs.Prelude.{ℕ, ◌^◌, min, max, ℤ, pos, neg_ℤ, bytes_eq, Bool, ◌||◌, not, List, [], ◌∷◌, map, filter, nat_lt, nat_le, Option, Some, None, Result, Ok, Err, codes, ◌==◌, if◌then◌else◌}
+use Rattle.std.specs.Prelude.{ℕ, ◌^◌, min, max, ℤ, pos, neg_ℤ, bytes_eq, Bool, ◌||◌, List, [], ◌∷◌, map, nat_lt, nat_le, Option, Some, None, Result, Ok, Err, codes, ◌==◌, if◌then◌else◌}
 use Rattle.std.specs.List.{find}
 use Rattle.std.specs.Option.{option_map, option_and_then}
 use Rattle.std.specs.Char.{to_ascii_lowercase}
+use Rattle.ct_base.specs.Bytes.{minus}
 use Rattle.ct_base.specs.Entries.{entries_of}
 use Rattle.ct_base.specs.Path.{joined}
-use Rattle.ct_base.specs.Seconds.{minus, number_in, micros_in}
+use Rattle.ct_base.specs.Seconds.{number_in, micros_in}
 use Rattle.ct_base.specs.declared.defs.Pair.{Pair}
 use Rattle.ct_regex.specs.Tree.{Tree}
 use Rattle.ct_regex.specs.Reading.{reading, and_then}
@@ -113,8 +114,3 @@ resource_groups_in text = or_bad_groups (groups_in text)
 abbrev pub working_dir_in : List ℕ → List ℕ → List ℕ
 working_dir_in dir [] = dir
 working_dir_in dir (byte ∷ bytes) = joined dir (byte ∷ bytes)
-
--- some names, each once, at its first place
-abbrev pub distinct : List (List ℕ) → List (List ℕ)
-distinct [] = []
-distinct (name ∷ names) = name ∷ filter (λ other. not (bytes_eq other name)) (distinct names)

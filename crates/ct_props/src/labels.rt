@@ -1,7 +1,7 @@
 ghost use Rattle.std.specs.Prelude.{◌≡◌, ◌++◌, IfOk, OnOk, fold, map};
 ghost use Rattle.ct_base.specs.Entries.{entries_of};
-ghost use Rattle.ct_base.specs.Names.{with_new_name};
-ghost use Rattle.ct_props.specs.Values.{distinct, text_of_key};
+ghost use Rattle.ct_base.specs.Names.{each_once, with_new_name};
+ghost use Rattle.ct_props.specs.Values.{text_of_key};
 
 use crate::lists::entries;
 use ct_base::{List, Name, NoMemory, Pair};
@@ -9,14 +9,14 @@ use indexmap::IndexSet;
 use std::alloc::Global;
 
 /// Returns the labels of a test and then those of its folder, each once, at its first place.
-#[tactic(auto, using(crate::proofs::LabelLemmas::each_once))]
+#[tactic(auto, using(crate::proofs::LabelLemmas::both_once))]
 pub fn labels(
     alloc: Global,
     props: &[Pair],
     key: &[u8],
     of_dir: &[Name],
 ) -> Result<List<Name>, NoMemory>
-    ensures { IfOk result (λ names. names ≡ distinct (entries_of (text_of_key props.now key.now) ++ of_dir.now)) }
+    ensures { IfOk result (λ names. names ≡ each_once (entries_of (text_of_key props.now key.now) ++ of_dir.now)) }
 {
     let own = entries(alloc, props, key)?;
     let mut labels = IndexSet::new(alloc);

@@ -17,8 +17,8 @@ use Rattle.ct_history.specs.Plan.{IsAscendingFrom, enabled, test_at}
 use Rattle.ct_history.specs.Verdicts.{verdict_at, verdict_in, verdict_of_test}
 use Rattle.ct_history.proofs.PlanLemmas.{find_passes}
 use Rattle.ct_report.specs.declared.run_lines.TestLines.{TestLines}
-use Rattle.ct_report.specs.Report.{line_with, micros_by, micros_of, test_line}
-use Rattle.ct_report.specs.RunLines.{KnowsLines, NotesEntry, micros_each, numbered_line}
+use Rattle.ct_report.specs.Report.{line_with, micros_by, micros_of, numbered_line, test_line}
+use Rattle.ct_report.specs.RunLines.{KnowsLines, NotesEntry, micros_each}
 
 -- one entry more adds its microseconds
 micros_more : (n : ℕ) (es : List Entry) (e : Entry) → sum_by (micros_by n) (es ++ e ∷ []) ≡ sum_by (micros_by n) es + micros_by n e

@@ -2,6 +2,7 @@
 -- Source: this project's choice, after what ctest(1) prints.
 use Rattle.std.specs.Prelude.{ℕ, ◌+◌, ◌*◌, ◌/◌, ◌%◌, ◌^◌, min, Bool, true, false, not, ◌&&◌, List, [], ◌∷◌, ◌++◌, map, filter, length, flat_map, sum_by, count_by, Option, Some, None, codes, decimal, bytes_eq, ◌==◌, if◌then◌else◌}
 use Rattle.std.specs.List.{list_any}
+use Rattle.ct_base.specs.Bytes.{zero_digit}
 use Rattle.ct_alloc.specs.NamesInOrder.{names_in_order}
 use Rattle.ct_verdict.specs.declared.verdict.Cause.{Cause}
 use Rattle.ct_verdict.specs.declared.verdict.Cause.TheVariants.{Unstarted, Lacks, Fixture, NotAvailable, BadOperation, Insufficient, Stopped, Memory}
@@ -14,14 +15,11 @@ use Rattle.ct_history.specs.declared.history.Entry.TheVariants.{Start, End, Sett
 use Rattle.ct_history.specs.Plan.{test_at, enabled}
 use Rattle.ct_history.specs.Verdicts.{verdict_in, verdict_of_test, are_all_final}
 use Rattle.ct_history.specs.Failed.{failed_tests}
+use Rattle.ct_report.specs.declared.test_lines.LineNumbers.{LineNumbers}
 
 -- the bytes of these lines
 abbrev pub text_of : List (List ℕ) → List ℕ
 text_of lines = flat_map (λ line. line) lines
-
--- the byte of the digit 0
-abbrev pub zero_digit : ℕ
-zero_digit = 48
 
 -- the two digits of a number below 100
 abbrev pub two_digits : ℕ → List ℕ
@@ -91,21 +89,31 @@ project_line dir = codes "Test project " ++ dir ++ codes "\n"
 abbrev pub header_line : PlanParts → List ℕ
 header_line plan = project_line plan.dir
 
--- the line of a test with this verdict, which is the place-th to become final
-abbrev pub verdict_line : PlanParts → List Entry → ℕ → PlanTest → Verdict → List ℕ
-verdict_line plan entries place t verdict =
-    decimal place
+-- the line of a test with this verdict and these numbers
+abbrev pub numbered_line : List PlanTest → PlanTest → Verdict → LineNumbers → List ℕ
+numbered_line tests t verdict numbers =
+    decimal numbers.place
     ++ codes "/"
-    ++ decimal (length (enabled plan.tests))
+    ++ decimal numbers.enabled
     ++ codes " Test #"
     ++ decimal t.number
     ++ codes ": "
     ++ t.name
     ++ codes " ... "
-    ++ verdict_text plan.tests verdict
+    ++ verdict_text tests verdict
     ++ codes " "
-    ++ seconds_text (micros_of t.number entries)
+    ++ seconds_text numbers.micros
     ++ codes " sec\n"
+
+-- the line of a test with this verdict, which is the place-th to become final
+abbrev pub verdict_line : PlanParts → List Entry → ℕ → PlanTest → Verdict → List ℕ
+verdict_line plan entries place t verdict =
+    numbered_line plan.tests t verdict
+    (record {
+      place = place;
+      enabled = length (enabled plan.tests);
+      micros = micros_of t.number entries;
+    })
 
 -- the line of a test with this verdict; a test that is not final has none
 abbrev pub line_with : PlanParts → List Entry → ℕ → PlanTest → Option Verdict → List ℕ

@@ -4,15 +4,6 @@ ghost use Rattle.ct_report.specs.Report.{seconds_text};
 use ct_base::{Blob, NoMemory};
 use std::alloc::Global;
 
-/// Puts a number in decimal behind the text.
-pub(crate) fn append_number(alloc: Global, text: &mut Blob, number: u128) -> Result<(), NoMemory>
-    ensures { OnOk result (text.new ≡ text.old ++ decimal number) }
-{
-    let digits = number.to_string(alloc)?;
-    text.append(digits.as_bytes())?;
-    Ok(())
-}
-
 /// Puts a number in decimal and then these bytes behind the text.
 pub(crate) fn append_number_and(
     alloc: Global,
@@ -22,7 +13,7 @@ pub(crate) fn append_number_and(
 ) -> Result<(), NoMemory>
     ensures { OnOk result (text.new ≡ text.old ++ decimal number ++ bytes.now) }
 {
-    append_number(alloc, text, number)?;
+    text.append_number(alloc, number)?;
     text.append(bytes)
 }
 

@@ -1,7 +1,6 @@
 ghost use Rattle.std.specs.Prelude.{◌≡◌, ◌<◌, ◌^◌, ◌++◌, codes, decimal, length, map, IfOk, OnOk};
 ghost use Rattle.ct_history.specs.Plan.{IsAscendingFrom, test_at as planned_test};
-ghost use Rattle.ct_report.specs.Report.{micros_by, micros_of, seconds_text, test_line, verdict_line, verdict_text};
-ghost use Rattle.ct_report.specs.RunLines.{numbered_line};
+ghost use Rattle.ct_report.specs.Report.{micros_by, micros_of, numbered_line, seconds_text, test_line, verdict_line, verdict_text};
 
 use crate::numbers::{append_number_and, append_seconds};
 use crate::totals::count_enabled;

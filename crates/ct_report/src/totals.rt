@@ -2,7 +2,7 @@ ghost use Rattle.std.specs.Prelude.{◌≡◌, ◌+◌, ◌<◌, ◌-◌, ◌^�
 ghost use Rattle.ct_history.specs.declared.history.Entry.{Entry};
 ghost use Rattle.ct_history.specs.declared.plan.PlanParts.{PlanParts};
 ghost use Rattle.ct_history.specs.Plan.{enabled};
-ghost use Rattle.ct_history.specs.Verdicts.{are_all_final, is_failing_in};
+ghost use Rattle.ct_history.specs.Verdicts.{are_all_final};
 ghost use Rattle.ct_report.specs.Report.{is_good_in, is_unrun_in, listed_with, word_of};
 ghost use Rattle.ct_report.specs.Labels.{CanCountMore};
 ghost use Rattle.ct_report.specs.Totals.{AddsToTotals, AreTotals};
@@ -11,7 +11,7 @@ use crate::labels::{LabelCounts, count_test};
 use crate::numbers::append_number_and;
 use crate::verdict_texts::verdict_word;
 use ct_base::{Blob, List, Name, NoMemory};
-use ct_history::{Entry, PlanParts, PlanTest, ending_at, endings_of, verdict_by};
+use ct_history::{Entry, PlanParts, PlanTest, ending_at, endings_of, is_failing, verdict_by};
 use ct_verdict::{Cause, Verdict};
 use std::alloc::Global;
 use std::collections::BTreeMap;
@@ -107,15 +107,6 @@ fn is_unrun(verdict: Option<Verdict>) -> bool
         verdict,
         Some(Verdict::Disabled | Verdict::Skipped | Verdict::NotRun(Cause::Stopped))
     )
-}
-
-fn is_failing(verdict: Option<Verdict>) -> bool
-    ensures { result ≡ is_failing_in verdict }
-{
-    match verdict {
-        Some(verdict) => verdict.is_failing(),
-        None => false,
-    }
 }
 
 fn one_more(count: usize, wanted: bool) -> usize

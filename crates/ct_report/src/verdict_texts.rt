@@ -2,7 +2,6 @@ ghost use Rattle.std.specs.Prelude.{◌≡◌, ◌++◌, [], map, OnOk};
 ghost use Rattle.ct_history.specs.Plan.{IsAscendingFrom, test_at as planned_test};
 ghost use Rattle.ct_report.specs.Report.{cause_text, cause_word, name_of, verdict_text, verdict_word};
 
-use crate::numbers::append_number;
 use ct_base::{Blob, NoMemory};
 use ct_history::{PlanTest, place_of};
 use ct_verdict::{Cause, Verdict};
@@ -68,7 +67,7 @@ fn append_required(alloc: Global, text: &mut Blob, place: u32) -> Result<(), NoM
     ensures { OnOk result (text.new ≡ text.old ++ cause_text [] (Cause.Lacks place)) }
 {
     text.append(b"Required file ")?;
-    append_number(alloc, text, u128::from(place))
+    text.append_number(alloc, u128::from(place))
 }
 
 fn append_fixture(text: &mut Blob, tests: &[PlanTest], setup: u32) -> Result<(), NoMemory>

@@ -3,10 +3,11 @@
 use Rattle.std.specs.Prelude.{ℕ, ◌+◌, ◌*◌, nat_le, ◌==◌, Bool, true, false, not, ◌&&◌, ◌||◌, List, length, filter, Option, Some, None, unwrap_or, option_map, if◌then◌else◌}
 use Rattle.std.specs.List.{list_any, list_all, range_with_len}
 use Rattle.ct_base.specs.declared.defs.TestDef.{TestDef}
+use Rattle.ct_base.specs.Numbers.{is_in}
 use Rattle.ct_regex.specs.declared.pattern.Regex.{Regex}
 use Rattle.ct_regex.specs.Ends.{hits}
 use Rattle.ct_regex.specs.TreeOf.{regex_tree}
-use Rattle.ct_props.specs.Numbered.{at_number, is_in}
+use Rattle.ct_props.specs.Numbered.{at_number}
 use Rattle.ct_props.specs.declared.props.Props.{Props}
 use Rattle.ct_props.specs.declared.wanted.Numbers.{Numbers}
 use Rattle.ct_props.specs.declared.wanted.Choice.{Choice}

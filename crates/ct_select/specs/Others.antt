@@ -2,7 +2,7 @@
 use Rattle.std.specs.Prelude.{◌≡◌, ℕ, List, IfSome}
 use Rattle.std.specs.Ordering.{nat_cmp}
 use Rattle.std.specs.BTreeSet.{BTreeSet, contains}
-use Rattle.ct_props.specs.Numbered.{is_in}
+use Rattle.ct_base.specs.Numbers.{is_in}
 use Rattle.ct_props.specs.declared.wanted.Numbers.{Numbers}
 use Rattle.ct_props.specs.declared.wanted.Choice.{Choice}
 

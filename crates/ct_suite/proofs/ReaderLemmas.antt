@@ -7,7 +7,8 @@ use Rattle.std.proofs.lemmas.List.Sums.{sum_by-append}
 use Rattle.std.specs.List.{list_any}
 use Rattle.std.proofs.Math.Bool.{or-true}
 use Rattle.std.proofs.lemmas.Bool.{lt-ltb}
-use Rattle.ct_base.specs.Entries.{backslash, entries_of, is_entry, parts_of, parts_with, semicolon, with_front}
+use Rattle.ct_base.specs.Bytes.{backslash, semicolon}
+use Rattle.ct_base.specs.Entries.{entries_of, is_entry, parts_of, parts_with, with_front}
 use Rattle.ct_base.proofs.EntryLemmas.{with_front-append, no_front, front_ends}
 use Rattle.ct_suite.specs.Values.{bare, is_too_long, size}
 use Rattle.ct_suite.specs.Readers.{StopsIf, are_too_long, is_ended}

@@ -4,7 +4,8 @@ use Rattle.std.proofs.lemmas.List.{drop-drop, take-append-drop}
 use Rattle.std.proofs.lemmas.Bool.{and_from, and_parts, or_parts, not-true}
 use Rattle.std.proofs.lemmas.Result.{IfErr-weaker, on_ok_weaker}
 use Rattle.std.specs.List.{list_all, prefix_len}
-use Rattle.ct_base.specs.Entries.{backslash, parts_of, semicolon, with_front}
+use Rattle.ct_base.specs.Bytes.{backslash, semicolon}
+use Rattle.ct_base.specs.Entries.{parts_of, with_front}
 use Rattle.ct_base.proofs.EntryLemmas.{with_front-append}
 use Rattle.ct_suite.specs.Readers.{IsReaderWithin, StopsFor, StopsIf, TakesEntries, entries_with, held_bytes, is_ended, is_inner}
 use Rattle.ct_suite.specs.declared.fault.ValueFault.{ValueFault}

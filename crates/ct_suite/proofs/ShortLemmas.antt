@@ -1,7 +1,8 @@
 -- What commands take from short values is short, so the values of tests stay short.
 use Rattle.std.proofs.Common.{◌≡◌, ℕ, ◌+◌, ◌≤◌, Bool, true, false, cond, ◌==◌, bytes_eq, List, [], ◌∷◌, ◌++◌, length, All, Option, Some, None, IfSome, option_map, sym, subst, arith, length-append}
 use Rattle.std.proofs.lemmas.List.Elements.{All-nil, All-cons, All-head, All-tail, All-append, All-weaker, All-filter, All-push, All-same}
-use Rattle.ct_base.specs.Entries.{entries_of, is_entry, is_escape, parts_of, parts_with, semicolon, with_front}
+use Rattle.ct_base.specs.Bytes.{semicolon}
+use Rattle.ct_base.specs.Entries.{entries_of, is_entry, is_escape, parts_of, parts_with, with_front}
 use Rattle.ct_base.specs.declared.defs.Pair.{Pair}
 use Rattle.ct_base.specs.declared.defs.TestDef.{TestDef}
 use Rattle.ct_suite.specs.Tests.{AreShort, HasShortValues, HaveShort, each_where, is_labels, labels_in, labels_of, new_test, taking_labels, taking_props, with_prop, with_props}

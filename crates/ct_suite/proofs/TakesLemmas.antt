@@ -2,7 +2,8 @@
 use Rattle.std.proofs.Common.{◌≡◌, ℕ, ◌<◌, ◌≤◌, Bool, true, false, ◌==◌, List, [], ◌∷◌, ◌++◌, length, map, filter, Result, Ok, Err, OnOk, IfErr, refl, sym, ap, ◌∙◌, subst, append_assoc, append-nil, drop, get_or, ◌+◌}
 use Rattle.std.proofs.lemmas.List.{at_drop_more}
 use Rattle.std.proofs.lemmas.Result.{IfErr-weaker, on_ok_weaker}
-use Rattle.ct_base.specs.Entries.{backslash, is_entry, parts_of, semicolon, with_front}
+use Rattle.ct_base.specs.Bytes.{backslash, semicolon}
+use Rattle.ct_base.specs.Entries.{is_entry, parts_of, with_front}
 use Rattle.ct_suite.specs.Values.{Variable, bare, part_text, argument_text, size}
 use Rattle.ct_base.specs.Entries.{entries_of}
 use Rattle.ct_lex.specs.declared.call.Part.{Part}

@@ -1,7 +1,8 @@
 -- Values that are read byte by byte, up to the limits of their length. This project's own.
 use Rattle.std.specs.Prelude.{ℕ, ◌≡◌, ◌≤◌, ⊤, Bool, true, false, not, ◌||◌, ◌==◌, nat_lt, List, [], ◌∷◌, ◌++◌, filter, length, map, Result, IfErr, OnOk, if◌then◌else◌}
 use Rattle.std.specs.List.{list_any}
-use Rattle.ct_base.specs.Entries.{backslash, is_entry, parts_of, semicolon, with_front}
+use Rattle.ct_base.specs.Bytes.{backslash, semicolon}
+use Rattle.ct_base.specs.Entries.{is_entry, parts_of, with_front}
 use Rattle.ct_suite.specs.Values.{bare, is_too_long, size}
 use Rattle.ct_suite.specs.declared.fault.ValueFault.{ValueFault}
 use Rattle.ct_suite.specs.declared.fault.ValueFault.TheVariants.{TooLong, NoMemory}

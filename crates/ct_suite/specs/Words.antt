@@ -2,6 +2,7 @@
 -- Source: CMake manual, set_tests_properties, set_directory_properties and set.
 use Rattle.std.specs.Prelude.{ℕ, Bool, bytes_eq, codes, List, [], ◌∷◌, Option, Some, None, option_map, if◌then◌else◌}
 use Rattle.std.specs.List.{join_with_byte}
+use Rattle.ct_base.specs.Bytes.{semicolon}
 use Rattle.ct_base.specs.declared.defs.Pair.{Pair}
 
 -- the pairs of keys and values in turn; None where the last key has no value
@@ -31,4 +32,4 @@ pairs_behind (first ∷ values) = if is_properties first then pairs_of values el
 -- the values with `;` between each two; None where there is no value
 abbrev pub list_value : List (List ℕ) → Option (List ℕ)
 list_value [] = None
-list_value (value ∷ values) = Some (join_with_byte 59 (value ∷ values))
+list_value (value ∷ values) = Some (join_with_byte semicolon (value ∷ values))

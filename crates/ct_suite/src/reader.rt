@@ -1,6 +1,7 @@
 ghost use Rattle.std.specs.Prelude.{◌≡◌, ◌<◌, ◌≤◌, ◌++◌, ◌∷◌, [], ◌==◌, IfErr, OnOk, false, true, filter, length, map};
 ghost use Rattle.std.specs.List.{list_all, prefix_len};
-ghost use Rattle.ct_base.specs.Entries.{entries_of, is_entry, semicolon};
+ghost use Rattle.ct_base.specs.Bytes.{semicolon};
+ghost use Rattle.ct_base.specs.Entries.{entries_of, is_entry};
 ghost use Rattle.ct_lex.specs.Next.{arg_of};
 ghost use Rattle.ct_suite.specs.Values.{bare, argument_text, part_text, values_by};
 ghost use Rattle.ct_suite.specs.Readers.{IsAtRest, IsReaderWithin, Releases, StopsFor, StopsIf, TakesEntries, entries_with, is_inner};

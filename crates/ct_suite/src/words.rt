@@ -2,7 +2,7 @@ ghost use Rattle.std.specs.Prelude.{◌≡◌, ◌++◌, [], ◌-◌, ◌^◌, m
 ghost use Rattle.std.specs.Vec.Iter.{into_iter_items};
 ghost use Rattle.ct_suite.specs.Tests.{is_labels, label_bytes, labels_in, labels_of, prop_bytes};
 ghost use Rattle.ct_suite.specs.Words.{is_properties, list_value, names_and_pairs, pairs_behind, pairs_of};
-ghost use Rattle.ct_base.specs.Names.{with_new_name};
+ghost use Rattle.ct_base.specs.Names.{each_once, with_new_name};
 ghost use Rattle.ct_suite.specs.Entries.{taken_apart};
 ghost use Rattle.ct_suite.specs.Values.{texts};
 
@@ -92,7 +92,7 @@ fn is_properties(value: &Name) -> bool
 /// Keeps the first of the names that are equal.
 #[tactic(auto, using(crate::proofs::WordLemmas::few_distinct))]
 pub fn distinct(alloc: Global, names: List<Name>) -> Result<List<Name>, NoMemory>
-    ensures { IfOk result (λ distinct. distinct ≡ fold with_new_name [] names) }
+    ensures { IfOk result (λ distinct. distinct ≡ each_once names) }
 {
     if names.len() < 2 {
         return Ok(names);

@@ -3,6 +3,7 @@
 -- Source: CMake manual, add_test, set_tests_properties, set_directory_properties, subdirs, include and set.
 use Rattle.std.specs.Prelude.{ℕ, ◌*◌, Bool, true, false, ◌||◌, ◌==◌, nat_le, bytes_eq, codes, List, [], ◌∷◌, ◌++◌, length, map, count_by, Result, Ok, Err, if◌then◌else◌}
 use Rattle.std.specs.List.{list_any}
+use Rattle.ct_base.specs.Bytes.{line_feed}
 use Rattle.ct_base.specs.Path.{joined}
 use Rattle.ct_base.specs.declared.defs.TestDef.{TestDef}
 use Rattle.ct_lex.specs.declared.call.Arg.{Arg}
@@ -63,7 +64,7 @@ begun limits args state = with_command limits state >>= evaluated limits (values
 
 -- no test may have this name: it is empty, or has a line feed
 abbrev pub is_bad_name : List ℕ → Bool
-is_bad_name name = length name == 0 || list_any (λ (byte : ℕ). byte == 10) name
+is_bad_name name = length name == 0 || list_any (λ (byte : ℕ). byte == line_feed) name
 
 -- there is no room for one more test
 abbrev pub is_full : Limits → List TestDef → Bool

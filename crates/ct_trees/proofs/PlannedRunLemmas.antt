@@ -42,19 +42,14 @@ module _ (trees : List Tree) (joined : Joined) (are : AreJoined trees joined) (r
 
   pub trees_ran : IsWholePlan trees whole → HasRun (joined_terms joined.defs joined.props whole) gates gates_now plan es → FollowsQueue plan es → IsRunOfTrees (terms_for run trees plan) trees gates gates_now plan es
   trees_ran is ran order =
-      let named : HasRun (terms_for run trees plan) gates gates_now plan es =
-      subst (λ (t : Terms). HasRun t gates gates_now plan es)
-      (ap (λ (defs : List TestDef). joined_terms defs joined.props whole) are.defs
-      ∙ ap (λ (props : List Props). joined_terms (defs_of_trees trees) props whole) are.props
-      ∙ ap (λ (p : PlanParts). joined_terms (defs_of_trees trees) (props_of_trees trees) p) (sym same)) ran in
       record {
         joined = subst (λ (p : PlanParts). IsWholePlan trees p) (sym same) is;
-        legal = named.legal;
-        within = named.within;
+        ran =
+            subst (λ (t : Terms). HasRun t gates gates_now plan es)
+            (ap (λ (defs : List TestDef). joined_terms defs joined.props whole) are.defs
+            ∙ ap (λ (props : List Props). joined_terms (defs_of_trees trees) props whole) are.props
+            ∙ ap (λ (p : PlanParts). joined_terms (defs_of_trees trees) (props_of_trees trees) p) (sym same)) ran;
         order = order;
-        closed = named.closed;
-        workers = named.workers;
-        asked = named.asked;
       }
 
 plans_left : (trees : List Tree) → map (λ (r : TreeRest). r.plan) (map rest_of trees) ≡ plans_of trees

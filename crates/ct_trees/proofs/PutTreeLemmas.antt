@@ -3,7 +3,6 @@ use Rattle.std.proofs.Common.{◌≡◌, ◌∙◌, sym, ap, subst, refl, ℕ, �
 use Rattle.std.specs.Prelude.{Result, Ok, Err, codes, ◌==◌}
 use Rattle.std.proofs.lemmas.List.{append-nil, drop_all}
 use Rattle.ct_base.specs.declared.sink.SinkFault.{SinkFault}
-use Rattle.ct_base.specs.declared.sink.SinkFault.TheVariants as Sinks
 use Rattle.ct_base.specs.Outside.{Puts, PutsEach, SinkTell}
 use Rattle.ct_history.specs.declared.plan.PlanTest.{PlanTest}
 use Rattle.ct_history.specs.declared.plan.PlanParts.{PlanParts}
@@ -13,7 +12,7 @@ use Rattle.ct_history.specs.Parts.{without_stop}
 use Rattle.ct_history.specs.Verdicts.{are_all_final}
 use Rattle.ct_report.specs.PutLines.{PutsLines}
 use Rattle.ct_report.specs.Report.{header_line, summary_lines}
-use Rattle.ct_report.proofs.PutLemmas.{lines_as, lines_more, lines_none, lines_nothing, lines_then, one_line}
+use Rattle.ct_report.proofs.PutLemmas.{lines_as, lines_more, lines_nothing, lines_then, one_line}
 use Rattle.ct_plan.proofs.WholeLemmas.{trees_from}
 use Rattle.ct_trees.specs.declared.joining.TreeRest.{TreeRest}
 use Rattle.ct_trees.specs.TreeParts.{AreEnded, entries_of_each, parts_behind}
@@ -105,10 +104,6 @@ summaries_by_parts (tree ∷ trees) offset entries = ap (λ (ls : List (List ℕ
 pub put_by_parts : (trees : List TreeRest) (entries : List Entry) (parts : List (List Entry)) → parts ≡ parts_behind 0 trees entries → (old new : SinkTell) (result : Result (Unit {0}) SinkFault) → PutsLines (summaries_of_parts trees parts) old new result → PutsLines (summaries_behind 0 trees entries) old new result
 put_by_parts trees entries parts are old new result put = lines_as (ap (λ (ps : List (List Entry)). summaries_of_parts trees ps) are ∙ summaries_by_parts trees 0 entries) put
 
--- memory was wanting for the parts
-pub nothing_put : (lines : List (List ℕ)) (sink : SinkTell) → PutsLines lines sink sink (Err Sinks.NoMemory)
-nothing_put lines sink = lines_none sink lines
-
 -- the lines of the trees in front of this place were put
 pub record AreSummariesTo (trees : List TreeRest) (parts : List History) (at : ℕ) (before now : SinkTell) : Type 0 where
   pub so_far : ArePutSoFar (summaries_of_parts trees (entries_of_each parts)) (summaries_of_parts (drop at trees) (entries_of_each (drop at parts))) before now
@@ -147,7 +142,3 @@ module _ (trees : List TreeRest) (parts : List History) (at : ℕ) (old mid : Si
     -- the put of the lines of the next tree failed
     pub summary_fails : (new : SinkTell) (fault : SinkFault) → PutsLines (tree_lines tree.plan part.entries.items) mid new (Err fault) → PutsLines (summaries_of_parts trees (entries_of_each parts)) old new (Err fault)
     summary_fails new fault put = next_fails all (tree_lines tree.plan part.entries.items) behind old mid new next_lines fault put
-
--- a line that is put in one put
-pub line_put : (line : List ℕ) (old new : SinkTell) (result : Result (Unit {0}) SinkFault) → Puts line old new result → PutsEach (line ∷ []) old new result → PutsLines (line ∷ []) old new result
-line_put line old new result put each = one_line old new line result put each

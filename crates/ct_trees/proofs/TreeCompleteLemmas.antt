@@ -256,11 +256,11 @@ module _ (words : List (List ℕ)) (own : List Pair) (s : RunSides) (can : AreRu
 -- a run over trees that can be made is completed where no fault was counted, unless memory ran out
 pub trees_complete : {words : List (List ℕ)} {own : List Pair} {s : RunSides} {made : TreesMade} {outcome : Outcome} {status : ℕ} → AnswersTrees words own s made outcome status → CompletesTrees words s outcome
 trees_complete {words} {own} {s} {made} {outcome} {status} answer can calm =
-    told_well answer.names answer.ended outcome status answer.middle s.sink.after answer.told
+    told_well answer.names answer.ended outcome status answer.middle s.sink.after answer.reported
     (ends_well words own (record { files = s.files; gates = s.gates; sink = record { before = s.sink.before; after = answer.middle } }) can calm.files
     (record { tree = answer.place; plans = made.plans; whole = made.whole; history = made.history }) answer.names answer.ended quiet answer.ends)
   where
     quiet : answer.ended ≡ Err OutputFault → Rose s.sink.before.faults answer.middle.faults → ⊥
     quiet is rose =
         calm.sink
-        (subst (λ (t : SinkTell). Rose s.sink.before.faults t.faults) (sym (told_quiet answer.names answer.ended outcome status answer.middle s.sink.after answer.told is)) rose)
+        (subst (λ (t : SinkTell). Rose s.sink.before.faults t.faults) (sym (told_quiet answer.names answer.ended outcome status answer.middle s.sink.after answer.reported is)) rose)

@@ -129,8 +129,8 @@ module _ (invocation : Invocation) (told : Option Held) (lent : Option (List Res
 module _ (words : List (List ℕ)) (s : RunSides) (dirs : List (List ℕ)) (invocation : Invocation) (asked : AskForTrees words dirs invocation) (run : RunTerms) (trees : List Tree) (read : HaveTrees s.files.before.held invocation dirs trees) (plans : List PlanParts) (plans_are : plans ≡ plans_of trees) (whole : PlanParts) (entries : List Entry) (ran : IsRunOfTrees (terms_for run trees whole) trees s.gates.before s.gates.after whole entries) (reported : AreReported (map rest_of trees) whole entries s.sink.before s.sink.after) where
   seen_all : (world : List Told) → AllTell world s.gates.before → AreSeen (seen_in_world (props_of_trees trees) world) entries
   seen_all world all =
-      seen_entries (props_of_trees trees) world (min whole.level (length s.gates.before)) entries ran.workers reported.memory
-      (λ worker less. told_by (terms_for run trees whole) world entries 0 s.gates.before s.gates.after ran.asked all worker (omega arith) (omega (arith, less)))
+      seen_entries (props_of_trees trees) world (min whole.level (length s.gates.before)) entries ran.ran.workers reported.memory
+      (λ worker less. told_by (terms_for run trees whole) world entries 0 s.gates.before s.gates.after ran.ran.asked all worker (omega arith) (omega (arith, less)))
 
   tree_parts : AreTreeParts whole 0 trees
   tree_parts =
@@ -146,9 +146,9 @@ module _ (words : List (List ℕ)) (s : RunSides) (dirs : List (List ℕ)) (invo
     plans_are = plans_are;
     whole_is = ran.joined;
     reported = reported;
-    parts = λ off. parts_run invocation s.files.before.held read.lent off whole entries ran.legal reported.complete 0 dirs trees read.are tree_parts ran.joined.alike;
+    parts = λ off. parts_run invocation s.files.before.held read.lent off whole entries ran.ran.legal reported.complete 0 dirs trees read.are tree_parts ran.joined.alike;
     meant = λ off world all.
-        parts_meant invocation s.files.before.held read.lent off whole entries ran.legal reported.complete world (props_of_trees trees) (seen_all world all) 0 dirs trees read.are tree_parts ran.joined.alike (stand_first trees);
+        parts_meant invocation s.files.before.held read.lent off whole entries ran.ran.legal reported.complete world (props_of_trees trees) (seen_all world all) 0 dirs trees read.are tree_parts ran.joined.alike (stand_first trees);
   }
 
 -- an outcome other than Completed is not told as Completed
@@ -217,4 +217,4 @@ module _ (words : List (List ℕ)) (own : List Pair) (s : RunSides) (middle : Si
 pub trees_as_meant : {words : List (List ℕ)} {own : List Pair} {s : RunSides} {made : TreesMade} {outcome : Outcome} {status : ℕ} → AnswersTrees words own s made outcome status → AnswersTreesAsMeant words s made outcome
 trees_as_meant {words} {own} {s} {made} {outcome} {status} answer is =
     by_ends words own s answer.middle made answer.names answer.ended status
-    (subst (λ (o : Outcome). ReportsEnd answer.names answer.ended o status answer.middle s.sink.after) is answer.told) answer.place answer.ends
+    (subst (λ (o : Outcome). ReportsEnd answer.names answer.ended o status answer.middle s.sink.after) is answer.reported) answer.place answer.ends

@@ -114,5 +114,5 @@ pub record AnswersTrees
   pub ends : EndsTrees words own
       (record { files = s.files; gates = s.gates; sink = record { before = s.sink.before; after = middle } })
       (record { tree = place; plans = made.plans; whole = made.whole; history = made.history }) names ended
-  pub told : ReportsEnd names ended outcome status middle s.sink.after
+  pub reported : ReportsEnd names ended outcome status middle s.sink.after
   pub tree_is : made.tree ≡ place_for outcome place

@@ -1,19 +1,18 @@
 -- The run of several trees by one whole plan: one history over one pool of slots, locks and processors.
 -- This project's own.
-use Rattle.std.specs.Prelude.{◌≡◌, ℕ, min, true, List, [], length, map, Option, Some, None, is_some, Result, Err, IsSomeAnd}
+use Rattle.std.specs.Prelude.{◌≡◌, ℕ, List, map, Option, Some, None, is_some, Result, Err, IsSomeAnd}
 use Rattle.ct_base.specs.Outside.{FilesTell, SinkTell}
 use Rattle.ct_history.specs.declared.plan.PlanParts.{PlanParts}
 use Rattle.ct_history.specs.declared.history.Entry.{Entry}
-use Rattle.ct_history.specs.History.{open_starts}
-use Rattle.ct_history.specs.Legal.{StaysWithin, is_legal}
 use Rattle.ct_core.specs.Gate.{GateTell}
 use Rattle.ct_core.specs.Order.{FollowsQueue}
 use Rattle.ct_plan.specs.declared.whole.Tree.{Tree}
 use Rattle.ct_plan.specs.Whole.{IsWholePlan}
-use Rattle.ct_worker.specs.Gates.{AreAsked, Terms, are_below}
+use Rattle.ct_worker.specs.Gates.{Terms}
 use Rattle.ct_app.specs.declared.outcome.Outcome.{Outcome}
 use Rattle.ct_app.specs.declared.outcome.Outcome.TheVariants.{Memory}
 use Rattle.ct_app.specs.Calls.{BeforeAfter}
+use Rattle.ct_app.specs.Run.{HasRun}
 use Rattle.ct_trees.specs.declared.joining.Prepared.{Prepared}
 use Rattle.ct_trees.specs.declared.tree_run.RunTerms.{RunTerms}
 use Rattle.ct_trees.specs.Joining.{AreReadyTrees, defs_of_trees, props_of_trees}
@@ -34,17 +33,14 @@ terms_for run trees whole = record {
 }
 
 -- a whole plan was made of these trees, and its tests ran as far as the history goes; the history is as that
--- of one plan is, over one pool of slots, locks and processors
+-- of one plan is, over one pool of slots, locks and processors. Each test was started or settled when it was
+-- the next by the queue.
 pub record IsRunOfTrees
     (terms : Terms) (trees : List Tree) (gates_before gates_now : List GateTell) (whole : PlanParts)
     (entries : List Entry) : Type 0 where
   pub joined : IsWholePlan trees whole
-  pub legal : is_legal whole entries ≡ true
-  pub within : StaysWithin whole entries
+  pub ran : HasRun terms gates_before gates_now whole entries
   pub order : FollowsQueue whole entries
-  pub closed : open_starts entries ≡ []
-  pub workers : are_below (min whole.level (length gates_before)) entries ≡ true
-  pub asked : AreAsked terms 0 gates_before gates_now entries
 
 -- what is told of the files, the gates and the sink of a run, before it and after it
 pub record RunSides : Type 0 where

@@ -46,7 +46,7 @@ impl TreeFolder {
 }
 
 /// Why the trees of a call are not all planned.
-#[derive(Drop)]
+#[derive(Debug, Drop)]
 pub struct UnplannedTrees {
     /// The tree, counted from 0, behind those that have a plan; `None` where no tree was begun.
     pub tree: Option<u32>,

@@ -29,7 +29,7 @@ pub(crate) fn put_headers<S: Sink>(
 
 /// Puts the lines of each tree behind those of the tests: a blank line, the folder, and the summary of
 /// the tree's part of a history.
-#[tactic(auto, using(crate::proofs::PutTreeLemmas::nothing_put, crate::proofs::PutTreeLemmas::put_by_parts, crate::proofs::PartFileLemmas::each_ended))]
+#[tactic(auto, using(ct_report::proofs::PutLemmas::lines_none, crate::proofs::PutTreeLemmas::put_by_parts, crate::proofs::PartFileLemmas::each_ended))]
 pub(crate) fn put_summaries<S: Sink>(
     alloc: Global,
     sink: &mut S,
@@ -80,7 +80,7 @@ fn put_tree<S: Sink>(
 }
 
 /// Puts a line in one put.
-#[tactic(auto, using(crate::proofs::PutTreeLemmas::line_put))]
+#[tactic(auto, using(ct_report::proofs::PutLemmas::one_line))]
 fn put_line<S: Sink>(sink: &mut S, line: &[u8]) -> Result<(), SinkFault>
     ensures { PutsLines (line.now ∷ []) (S.tells sink.old) (S.tells sink.new) result }
 {

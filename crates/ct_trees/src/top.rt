@@ -1,7 +1,7 @@
 ghost use Rattle.std.specs.Prelude.{◌≡◌, ◌<◌, ◌-◌, ◌^◌, length, map, option_map, vec_len};
 ghost use Rattle.ct_app.specs.Ends.{history_entries};
 ghost use Rattle.ct_app.specs.Run.{OthersStay};
-ghost use Rattle.ct_trees.specs.TreeAnswers.{AnswersTrees, place_for as place_told};
+ghost use Rattle.ct_trees.specs.TreeAnswers.{AnswersTrees, place_for as place_of_outcome};
 ghost use Rattle.ct_trees.specs.TreeComplete.{CompletesTrees};
 ghost use Rattle.ct_trees.specs.TreeMeant.{AnswersTreesAsMeant};
 ghost use Rattle.ct_trees.specs.TreeRuns.{sides_of_run};
@@ -100,7 +100,7 @@ pub fn trees_main<R: Threads + Wait + Sync, F: Files, G: Gate + Send, S: Sink + 
 
 /// Returns the tree that is named where the call has this outcome.
 fn place_for(outcome: &Outcome, tree: Option<u32>) -> Option<u32>
-    ensures { result ≡ place_told outcome.now tree }
+    ensures { result ≡ place_of_outcome outcome.now tree }
 {
     match outcome {
         Outcome::Refused(_) | Outcome::FilesFault { .. } => tree,

@@ -6,7 +6,7 @@ use Rattle.std.proofs.lemmas.List.{append-nil}
 use Rattle.std.proofs.lemmas.List.Folds.{list_all-append}
 use Rattle.ct_base.specs.declared.sink.SinkFault.{SinkFault}
 use Rattle.ct_base.specs.declared.sink.SinkFault.TheVariants as Sinks
-use Rattle.ct_base.specs.Outside.{SinkTell}
+use Rattle.ct_base.specs.Outside.{Rose, SinkTell}
 use Rattle.ct_history.specs.declared.plan.PlanParts.{PlanParts}
 use Rattle.ct_history.specs.declared.history.Entry.{Entry}
 use Rattle.ct_history.specs.declared.history.Entry.TheVariants.{Stop}
@@ -241,3 +241,9 @@ module _ (core now : CoreValue) (e : Entry) (halt : Option Halt) (known : Option
         where
           same : lines_of_test now.plan now.entries (count + 1) (Some test) ≡ lines_of_test core.plan now.entries (length (test_lines core.plan core.entries) + 1) (Some test)
           same = ap (λ (p : PlanParts). lines_of_test p now.entries (count + 1) (Some test)) now_plan ∙ ap (λ (n : ℕ). lines_of_test core.plan now.entries (n + 1) (Some test)) going.counted
+
+-- a run that was given up for its output has a sink that counted a fault
+pub output_rose : (core : CoreValue) (halt : Option Halt) (lines : Option TestLines) (count : ℕ) (opened sink : SinkTell) → IsKeptState core halt lines count opened sink → halt ≡ Some Halts.Output → Rose opened.faults sink.faults
+output_rose core halt lines count opened sink kept is =
+    let put = subst (λ (h : Option Halt). PutsLines (test_lines core.plan core.entries) opened sink (put_of h)) is kept.put in
+    put.bytes.cause.failed refl

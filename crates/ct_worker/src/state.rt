@@ -51,12 +51,13 @@ impl<S: Sink> Model for State<S> {
 }
 
 impl<S: Sink> State<S> {
+    ghost use Rattle.ct_base.specs.Outside.{Rose};
     ghost use Rattle.ct_core.specs.Ticket.{holds_ticket};
     ghost use Rattle.ct_history.specs.History.{is_busy_in};
     ghost use Rattle.ct_history.specs.Legal.{StaysWithin, is_legal};
     ghost use Rattle.ct_report.specs.PutLines.{PutsLines};
     ghost use Rattle.ct_report.specs.Report.{test_lines};
-    ghost use Rattle.ct_worker.specs.declared.state.Halt.TheVariants.{Memory};
+    ghost use Rattle.ct_worker.specs.declared.state.Halt.TheVariants.{Memory, Output};
     ghost use Rattle.ct_worker.specs.Gates.{had_memory};
     ghost use Rattle.ct_worker.specs.Halted.{IsHalted};
     ghost use Rattle.ct_worker.specs.State.{IsFinished, IsStateNext, core_of, given_up, opened_with, put_of};
@@ -127,8 +128,12 @@ impl<S: Sink> State<S> {
     }
 
     /// Returns why the run was given up, if it was.
+    ///
+    /// It was given up for its output only where the sink has counted a fault since the state was opened.
+    #[tactic(auto, using(crate::proofs::StateLemmas::output_rose))]
     pub fn halt(&self) -> Option<Halt>
-        ensures { result ≡ self.now.halt }
+        ensures is { result ≡ self.now.halt }
+        ensures cause { result ≡ Some Output → Rose self.now.opened.faults self.now.sink.faults }
     {
         self.halt
     }

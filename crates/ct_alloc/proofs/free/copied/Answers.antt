@@ -8,7 +8,7 @@ use Rattle.ct_alloc.proofs.free.copied.Goals as goal
 
 pub loop-resource-preserved : goal.loop-resource-preserved
 loop-resource-preserved c =
-    let made : Resource = c.in_ok-copy_of.field-0 in
+    let made : Resource = c.in_ok-copy.field-0 in
     let pushed : c.push.new.self ≡ c.loop-resource.copy ++ made ∷ [] = search rules in
     let here : made.slots < 2 ^ 32 = search rules in
     let copies : c.push.new.self ≡ take (c.loop-resource.resource-index + 1) c.args.resources.now = grind (arith, common_steps) in

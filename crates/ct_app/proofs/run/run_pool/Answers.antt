@@ -22,18 +22,18 @@ returns-clause-ran g c =
 pub returns-clause-puts : goal.returns-clause-puts
 returns-clause-puts g c =
     pool_puts (terms_in c.args.jobs.now c.open.result.plan) c.worker_count-workers.result c.args.core c.into_parts-core.result.0 (g.S.Sink.tells c.args.sink) c.open.result c.pool-state.result.state
-    (map g.G.Gate.tells c.args.gates.items) (map g.G.Gate.tells c.pool-state.result.gates.items) c.open.ensures c.pool-state.ensures.pooled c.into_parts-core.ensures.core (g.S.Sink.tells c.into_parts-core.result.1) c.into_parts-core.ensures.sink c.put_of-put.result (c.put_of-put.ensures ∙ ap (λ (h : Option Halt). put_of h) c.halt.ensures)
+    (map g.G.Gate.tells c.args.gates.items) (map g.G.Gate.tells c.pool-state.result.gates.items) c.open.ensures c.pool-state.ensures.pooled c.into_parts-core.ensures.core (g.S.Sink.tells c.into_parts-core.result.1) c.into_parts-core.ensures.sink c.put_of-put.result (c.put_of-put.ensures ∙ ap (λ (h : Option Halt). put_of h) c.halt.ensures.is)
 
 pub returns-clause-ends : goal.returns-clause-ends
 returns-clause-ends g c =
     pool_ends (terms_in c.args.jobs.now c.open.result.plan) c.worker_count-workers.result c.args.core c.into_parts-core.result.0 (g.S.Sink.tells c.args.sink) c.open.result c.pool-state.result.state
-    (map g.G.Gate.tells c.args.gates.items) (map g.G.Gate.tells c.pool-state.result.gates.items) c.open.ensures c.pool-state.ensures.pooled c.into_parts-core.ensures.core (g.S.Sink.tells c.into_parts-core.result.1) c.into_parts-core.ensures.sink c.put_of-put.result (c.put_of-put.ensures ∙ ap (λ (h : Option Halt). put_of h) c.halt.ensures)
+    (map g.G.Gate.tells c.args.gates.items) (map g.G.Gate.tells c.pool-state.result.gates.items) c.open.ensures c.pool-state.ensures.pooled c.into_parts-core.ensures.core (g.S.Sink.tells c.into_parts-core.result.1) c.into_parts-core.ensures.sink c.put_of-put.result (c.put_of-put.ensures ∙ ap (λ (h : Option Halt). put_of h) c.halt.ensures.is)
     c.into_parts-core.ensures.memory
 
 pub returns-clause-halted : goal.returns-clause-halted
 returns-clause-halted g c =
     pool_halted (terms_in c.args.jobs.now c.open.result.plan) c.worker_count-workers.result c.args.core c.into_parts-core.result.0 (g.S.Sink.tells c.args.sink) c.open.result c.pool-state.result.state
-    (map g.G.Gate.tells c.args.gates.items) (map g.G.Gate.tells c.pool-state.result.gates.items) c.open.ensures c.pool-state.ensures.pooled c.into_parts-core.ensures.core (g.S.Sink.tells c.into_parts-core.result.1) c.into_parts-core.ensures.sink c.put_of-put.result (c.put_of-put.ensures ∙ ap (λ (h : Option Halt). put_of h) c.halt.ensures)
+    (map g.G.Gate.tells c.args.gates.items) (map g.G.Gate.tells c.pool-state.result.gates.items) c.open.ensures c.pool-state.ensures.pooled c.into_parts-core.ensures.core (g.S.Sink.tells c.into_parts-core.result.1) c.into_parts-core.ensures.sink c.put_of-put.result (c.put_of-put.ensures ∙ ap (λ (h : Option Halt). put_of h) c.halt.ensures.is)
 
 pub returns-clause-others : goal.returns-clause-others
 returns-clause-others g c =

@@ -1,5 +1,5 @@
 use Rattle.std.proofs.Common.{◌≡◌, ℕ, List, take, eqb, ◌&&◌, ◌||◌}
-use Rattle.ct_props.specs.Numbered.{is_in}
+use Rattle.ct_base.specs.Numbers.{is_in}
 use Rattle.ct_fixture.specs.Kept.{fixture_tests}
 use Rattle.ct_fixture.proofs.by_fixture.note_each.Given as goal
 use Rattle.ct_base.specs.Names.{is_among}

@@ -17,7 +17,7 @@ returns-in-IsBad c =
     let line = take (at - c.loop-at.start) (drop c.loop-at.start text) in
     let lt : at < length text = search rules in
     let feed : get_or text at 0 ≡ 10 = search rules in
-    let takes = subst (λ (s : Step). TakesLine plan entries line s c.take_line.new.audit) c.in-IsBad.is (c.in_ok-take_line.ensures entries reading.told reading.count_is) in
+    let takes = subst (λ (s : Step). TakesLine plan entries line s c.take_line.new.audit) c.in-IsBad.is (c.in_ok-take_line.ensures entries reading.audited reading.count_is) in
     finds_bad plan text at c.loop-at.count _ c.loop-at.audit c.take_line.new.audit line entries lt refl feed reading takes
 
 pub returns-in-Ends : goal.returns-in-Ends
@@ -31,7 +31,7 @@ returns-in-Ends c =
     let lt : at < length text = search rules in
     let feed : get_or text at 0 ≡ 10 = search rules in
     let small : length text < 2 ^ 64 = search rules in
-    let takes = subst (λ (s : Step). TakesLine plan entries line s c.take_line.new.audit) c.in-Ends.is (c.in_ok-take_line.ensures entries reading.told reading.count_is) in
+    let takes = subst (λ (s : Step). TakesLine plan entries line s c.take_line.new.audit) c.in-Ends.is (c.in_ok-take_line.ensures entries reading.audited reading.count_is) in
     subst (λ o. FindsBehind plan text o) (sym c.behind_last.ensures)
     (finds_last plan text at c.loop-at.count _ c.loop-at.audit c.take_line.new.audit line entries _ small lt refl feed refl reading takes)
 
@@ -49,7 +49,7 @@ loop-at-preserved c =
     elim c.if-text-at-eq10.branch [
       | then-text-at-eq10+in_ok-take_line+in-GoesOn w ↦
           let feed : get_or text at 0 ≡ 10 = w.if-text-at-eq10.true in
-          let takes = subst (λ (s : Step). TakesLine plan entries line s w.take_line.new.audit) w.in-GoesOn.is (w.in_ok-take_line.ensures entries reading.told reading.count_is) in
+          let takes = subst (λ (s : Step). TakesLine plan entries line s w.take_line.new.audit) w.in-GoesOn.is (w.in_ok-take_line.ensures entries reading.audited reading.count_is) in
           let more = entries ++ takes.entry ∷ [] in
           let next = reads_entry plan text at old.count _ old.audit w.take_line.new.audit line (take (at + 1 - (at + 1)) (drop (at + 1) text)) entries lt refl feed (line_none text (at + 1)) reading takes in
           let within : now.start ≤ at + 1 = omega (arith, w.start-is) in (

@@ -1,7 +1,7 @@
 use Rattle.std.proofs.Common.{ap, fold, sym, ◌∙◌, map, take, [], ◌∷◌, ◌++◌}
 use Rattle.std.proofs.lemmas.List.{take_more}
+use Rattle.std.proofs.lemmas.List.Sums.{fold-append}
 use Rattle.ct_base.specs.Names.{with_new_name}
-use Rattle.ct_props.proofs.LabelLemmas.{in_pieces}
 use Rattle.ct_props.proofs.labels.add_copies.Goals as goal
 
 pub loop-name-preserved : goal.loop-name-preserved
@@ -12,5 +12,5 @@ loop-name-preserved c =
     let name = c.name-item.result in
     c.in_ok-add_copy.ensures
     ∙ ap (λ labels. with_new_name labels name) c.loop-name.invariant
-    ∙ in_pieces before (take at names) (name ∷ [])
+    ∙ sym (fold-append with_new_name before (take at names) (name ∷ []))
     ∙ ap (fold with_new_name before) (ap (λ item. take at names ++ item ∷ []) c.name-item.is ∙ sym (take_more names at name c.loop-name-test.true))

@@ -13,7 +13,7 @@ returns-clause-answer g c =
       ended = ran.result.ended;
       middle = g.S.Sink.tells ran.result.sink;
       ends = ran.ensures.ends;
-      told = subst (λ (names : List (List ℕ)). ReportsEnd names ran.result.ended c.report_end-outcome.result.0 c.report_end-outcome.result.1 (g.S.Sink.tells ran.result.sink) (g.S.Sink.tells c.report_end-outcome.new.sink)) c.as_slice.ensures c.report_end-outcome.ensures;
+      reported = subst (λ (names : List (List ℕ)). ReportsEnd names ran.result.ended c.report_end-outcome.result.0 c.report_end-outcome.result.1 (g.S.Sink.tells ran.result.sink) (g.S.Sink.tells c.report_end-outcome.new.sink)) c.as_slice.ensures c.report_end-outcome.ensures;
       tree_is = c.place_for.ensures;
     }
 

@@ -1,4 +1,4 @@
-use Rattle.std.proofs.Common.{◌∙◌, ap, refl, bytes_eq, cond, sym, take, true}
+use Rattle.std.proofs.Common.{◌∙◌, ap, refl, bytes_eq, cond, sym, take}
 use Rattle.ct_core.specs.declared.sharers.SharerCount.{SharerCount}
 use Rattle.ct_core.specs.Sharers.{has_mark, sharers_of}
 use Rattle.ct_core.proofs.SharerLemmas.{mark_less, seen_more, set_again}

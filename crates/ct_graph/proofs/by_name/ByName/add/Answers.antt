@@ -1,6 +1,6 @@
 use Rattle.std.proofs.Common.{◌≡◌, ◌∙◌, ◌||◌, ◌&&◌, bytes_eq, [], ◌∷◌, ◌++◌, is_some, eqb, sym, ap}
 use Rattle.std.proofs.Math.Bool.{or-false}
-use Rattle.ct_props.specs.Numbered.{is_in}
+use Rattle.ct_base.specs.Numbers.{is_in}
 use Rattle.ct_base.specs.Found.{or_none}
 use Rattle.ct_graph.specs.ByName.{tests_at}
 use Rattle.ct_graph.proofs.NameLemmas.{tests_at-updated, is_in-updated}

@@ -1,5 +1,5 @@
 use Rattle.std.proofs.Common.{◌≡◌, ◌||◌, ◌&&◌, ◌==◌, List, ℕ, take}
-use Rattle.ct_props.specs.Numbered.{is_in}
+use Rattle.ct_base.specs.Numbers.{is_in}
 use Rattle.ct_graph.specs.ByName.{tests_of}
 use Rattle.ct_graph.proofs.by_name.ByName.add_all.Given as goal
 use Rattle.ct_base.specs.Names.{is_among}

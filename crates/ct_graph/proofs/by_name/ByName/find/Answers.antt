@@ -1,5 +1,5 @@
 use Rattle.std.proofs.Common.{◌∙◌, ◌||◌, sym, ap, subst}
-use Rattle.ct_props.specs.Numbered.{is_in}
+use Rattle.ct_base.specs.Numbers.{is_in}
 use Rattle.ct_graph.specs.ByName.{tests_of, is_found_in}
 use Rattle.ct_graph.specs.Found.{AreFound, bytes_of}
 use Rattle.ct_graph.proofs.by_name.ByName.find.Goals as goal

@@ -1,6 +1,6 @@
 use Rattle.std.proofs.Common.{◌≡◌, ◌||◌, ℕ, take}
 use Rattle.std.specs.List.{list_any}
-use Rattle.ct_props.specs.Numbered.{is_in}
+use Rattle.ct_base.specs.Numbers.{is_in}
 use Rattle.ct_graph.specs.ByName.{tests_of}
 use Rattle.ct_graph.specs.Found.{IsMarked}
 use Rattle.ct_graph.proofs.by_name.ByName.find_all.Given as goal

@@ -1,6 +1,6 @@
 use Rattle.std.proofs.Common.{◌∷◌, [], false, refl}
 use Rattle.std.proofs.lemmas.Bool.{ne_eqb}
-use Rattle.ct_base.specs.Entries.{semicolon}
+use Rattle.ct_base.specs.Bytes.{semicolon}
 use Rattle.ct_suite.proofs.TakesLemmas.{escape-same, takes-ended, takes-joined, takes-released}
 use Rattle.ct_suite.proofs.reader.Reader.take_byte.Goals as goal
 

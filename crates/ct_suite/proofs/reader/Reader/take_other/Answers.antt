@@ -1,6 +1,6 @@
 use Rattle.std.proofs.Common.{◌∷◌, [], refl}
 use Rattle.std.proofs.lemmas.Bool.{ne_eqb}
-use Rattle.ct_base.specs.Entries.{backslash}
+use Rattle.ct_base.specs.Bytes.{backslash}
 use Rattle.ct_suite.proofs.TakesLemmas.{other-same, takes-joined}
 use Rattle.ct_suite.proofs.reader.Reader.take_other.Goals as goal
 
