@@ -1,15 +1,27 @@
-ghost use Rattle.std.specs.Prelude.{◌≡◌, ◌++◌, ◌∷◌, All, IfErr, IfOk, IsSomeAnd, IsUtf8, OnErr, OnOk, Some, slice_get, true};
+ghost use Rattle.std.specs.Prelude.{◌≡◌, ◌++◌, ◌∷◌, [], All, IfErr, IfOk, IsSomeAnd, IsUtf8, OnErr, OnOk, Some, slice_get, true};
 ghost use Rattle.std.specs.Process.{SameDir, SameProgramAndArgs, command_args, command_dir, command_program};
 ghost use Rattle.ct_edge.specs.declared.fault.StartFault.TheVariants as StartCause;
-ghost use Rattle.ct_edge.specs.Process.{AreTexts, HasEnv, IsTextPair, found_as, is_bare, program_as};
+ghost use Rattle.ct_edge.specs.Process.{AreTexts, HasEnv, IsTextPair, found_as, is_bare, is_looked_up, launched_as, program_as};
 
 use crate::fault::StartFault;
 use crate::text::text_of;
 use ct_base::{Name, NoMemory, Pair, join_path};
 use ct_core::Request;
-use std::alloc::Global;
+use std::alloc::{AllocError, Global};
 use std::process::{Command, Stdio};
 use std::{fs, rt};
+
+/// The shell that reads a script.
+const SHELL: &str = "/bin/sh";
+
+/// How the system is asked to start a program.
+#[derive(Clone, Copy, Debug)]
+pub enum Launch {
+    /// By itself.
+    Program,
+    /// As a script that the shell reads.
+    Script,
+}
 
 /// Returns whether the program of a request is named without a `/`, and is a file of the folder in
 /// which it starts.
@@ -32,6 +44,16 @@ pub(crate) fn is_beside<R: rt::Files>(
     Ok(is_file(rt, &path))
 }
 
+/// Returns whether the program of a request is looked up in the folders of PATH.
+pub(crate) fn is_looked_up(request: &Request, beside: bool) -> bool
+    ensures { result ≡ is_looked_up beside request.now.command }
+{
+    match request.command.get(0) {
+        Some(program) => !beside && is_bare(program),
+        None => false,
+    }
+}
+
 /// Returns whether a program is named without a `/`.
 fn is_bare(program: &Name) -> bool
     ensures { result ≡ is_bare program.now }
@@ -52,12 +74,15 @@ fn is_file<R: rt::Files>(rt: &R, path: &Name) -> bool {
 /// A program name with `/` is read from the folder that the program starts in, unless it begins
 /// with `/`. A name without `/` is the file of that name in this folder, if it is there. Else
 /// it is looked up in the folders that the PATH of the program's own environment names.
+/// A script is given to the shell with its arguments, as `execvp` of POSIX gives it.
+#[tactic(auto, using(crate::proofs::LaunchLemmas::launched_more))]
 pub(crate) fn command_of(
     alloc: Global,
     request: &Request,
     beside: bool,
+    launch: Launch,
 ) -> Result<Command, StartFault>
-    ensures call { IfOk result (λ command. command_program command ∷ command_args command ≡ found_as beside request.now.command) }
+    ensures call { IfOk result (λ command. command_program command ∷ command_args command ≡ launched_as launch (found_as beside request.now.command)) }
     ensures dir { IfOk result (λ command. command_dir command ≡ Some request.now.dir) }
     ensures env { IfOk result (λ command. HasEnv request.now.env command) }
     ensures texts { IfErr result (λ fault. AreTexts request.now → fault ≡ StartCause.NoMemory) }
@@ -66,7 +91,7 @@ pub(crate) fn command_of(
         return Err(StartFault::Failed);
     };
     let program = program_of(alloc, program, beside)?;
-    let mut command = Command::new(alloc, word_of(&program)?)?;
+    let mut command = command_for(alloc, word_of(&program)?, launch)?;
     command.stdin(Stdio::null());
     command.stdout(Stdio::piped());
     command.stderr(Stdio::piped());
@@ -74,6 +99,20 @@ pub(crate) fn command_of(
     command.current_dir(word_of(&request.dir)?)?;
     set_environment(&mut command, request.env.as_slice())?;
     Ok(command)
+}
+
+/// Makes the command of a program without arguments.
+fn command_for(alloc: Global, program: &str, launch: Launch) -> Result<Command, AllocError>
+    ensures { IfOk result (λ command. command_program command ∷ command_args command ≡ launched_as launch (program.now ∷ [])) }
+{
+    match launch {
+        Launch::Program => Command::new(alloc, program),
+        Launch::Script => {
+            let mut command = Command::new(alloc, SHELL)?;
+            command.arg(program)?;
+            Ok(command)
+        }
+    }
 }
 
 /// Returns the program as the system looks it up.

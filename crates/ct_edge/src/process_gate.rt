@@ -5,9 +5,9 @@ ghost use Rattle.ct_edge.specs.Heard.{HearsNothing};
 ghost use Rattle.ct_edge.specs.Machine.{gate_tell};
 ghost use Rattle.ct_edge.specs.Process.{has_run, how_of_run};
 
-use crate::command::{command_of, is_beside};
+use crate::command::{Launch, command_of, is_beside, is_looked_up};
 use crate::fault::StartFault;
-use crate::limit::micros_of;
+use crate::limit::{Limit, micros_of};
 use crate::real_files::RealFiles;
 use crate::required::first_missing;
 use crate::spool::Spool;
@@ -18,6 +18,7 @@ use ct_core::{Ended, Gate, Request, Ticket};
 use ct_verdict::How;
 use std::alloc::Global;
 use std::marker::Model;
+use std::process::Child;
 use std::time::Instant;
 
 /// How many bytes of a program's standard error are kept in memory at most, unless its file fails.
@@ -119,8 +120,25 @@ fn run_program<E: Ear>(
     if let Some(place) = first_missing(alloc, &mut RealFiles::new(rt), required)? {
         return Ok(How::Lacks(u32::try_from(place).unwrap_or(u32::MAX)));
     }
-    let beside = is_beside(&rt, alloc, request)?;
-    let (child, limit) = start(rt, command_of(alloc, request, beside)?, request.limit)?;
+    let (child, limit) = launch(rt, alloc, request)?;
     let mut kept = Spool::new(rt, alloc, MOST_IN_MEMORY);
     attend(&rt, &limit, &mut Running::of(child)?, ear, &mut kept)
+}
+
+/// Starts the program of a request. A file that is no program by its format is a script of the shell.
+///
+/// Source: POSIX, exec, as `execvp` does it. A program that is looked up in PATH is no script.
+fn launch(rt: HostRuntime, alloc: Global, request: &Request) -> Result<(Child, Limit), StartFault>
+    ensures { IfOk result (λ started. started.1 ≡ request.now.limit) }
+{
+    let beside = is_beside(&rt, alloc, request)?;
+    let program = command_of(alloc, request, beside, Launch::Program)?;
+    if let Some(started) = start(rt, program, request.limit)? {
+        return Ok(started);
+    }
+    if is_looked_up(request, beside) {
+        return Err(StartFault::Failed);
+    }
+    let script = command_of(alloc, request, beside, Launch::Script)?;
+    start(rt, script, request.limit)?.ok_or(StartFault::Failed)
 }

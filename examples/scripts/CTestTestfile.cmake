@@ -1,0 +1,6 @@
+add_test(path "./script" "7")
+set_tests_properties(path PROPERTIES PASS_REGULAR_EXPRESSION "ran by the shell with 7")
+add_test(beside "script" "0")
+add_test(fails "./script" "3")
+add_test(empty "./empty")
+add_test(searched "searched" "0")
