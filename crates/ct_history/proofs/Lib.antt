@@ -18,3 +18,7 @@ pub mod PartLegalLemmas
 pub mod AscendLemmas
 pub mod PlaceLemmas
 pub mod OtherLemmas
+pub mod CourseLemmas
+pub mod DueLemmas
+pub mod RuleLemmas
+pub mod AuditedLemmas

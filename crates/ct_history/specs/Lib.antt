@@ -7,3 +7,7 @@ pub mod Endings
 pub mod Rules
 pub mod Legal
 pub mod Parts
+pub mod Course
+pub mod Places
+pub mod Seen
+pub mod Audited

@@ -1,9 +1,11 @@
-ghost use Rattle.std.specs.Prelude.{◌≡◌};
+ghost use Rattle.std.specs.Prelude.{◌≡◌, IfOk};
 ghost use Rattle.std.specs.List.{list_any};
 ghost use Rattle.ct_history.specs.History.{is_end_of, is_stop};
 
-use ct_alloc::Placement;
+use ct_alloc::{Placement, copy_placement};
+use ct_base::NoMemory;
 use ct_verdict::{Cause, Seen};
+use std::alloc::Global;
 
 /// What happened in a run, one entry after the other.
 #[derive(Debug, Drop)]
@@ -29,6 +31,43 @@ pub enum Entry {
     },
     /// No further test starts.
     Stop,
+}
+
+impl Entry {
+    /// Copies an entry.
+    pub(crate) fn copy(&self, alloc: Global) -> Result<Entry, NoMemory>
+        ensures { IfOk result (λ entry. entry ≡ self.now) }
+    {
+        match self {
+            Entry::Start {
+                test,
+                attempt,
+                worker,
+                placement,
+            } => Ok(Entry::Start {
+                test: *test,
+                attempt: *attempt,
+                worker: *worker,
+                placement: copy_placement(alloc, placement.as_ref())?,
+            }),
+            Entry::End {
+                test,
+                attempt,
+                worker,
+                seen,
+            } => Ok(Entry::End {
+                test: *test,
+                attempt: *attempt,
+                worker: *worker,
+                seen: *seen,
+            }),
+            Entry::Settle { test, cause } => Ok(Entry::Settle {
+                test: *test,
+                cause: *cause,
+            }),
+            Entry::Stop => Ok(Entry::Stop),
+        }
+    }
 }
 
 /// All that happened in a run, in order.
@@ -58,13 +97,7 @@ fn is_end(entry: &Entry, test: u32, attempt: u32) -> bool
     }
 }
 
-pub(crate) fn has_stop(entries: &[Entry]) -> bool
-    ensures { result ≡ list_any is_stop entries.now }
-{
-    entries.iter().any(|entry| is_stop(entry))
-}
-
-fn is_stop(entry: &Entry) -> bool
+pub(crate) fn is_stop(entry: &Entry) -> bool
     ensures { result ≡ is_stop entry.now }
 {
     matches!(entry, Entry::Stop)

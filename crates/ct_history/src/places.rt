@@ -1,7 +1,9 @@
 ghost use Rattle.std.specs.Prelude.{◌≡◌, None, IsSome, MatchOption, map};
+ghost use Rattle.std.specs.Option.{option_copied};
 ghost use Rattle.ct_history.specs.Plan.{IsAscendingFrom, IsPlaceOf, test_at};
+ghost use Rattle.ct_history.specs.Places.{Ascend};
 
-use crate::plan::PlanTest;
+use crate::plan::{Plan, PlanTest};
 
 /// Finds the place of a test by its number: at once where each lesser number is there, and else in a
 /// time that grows with the logarithm of the tests.
@@ -26,4 +28,23 @@ pub fn expect_place(tests: &[PlanTest], number: u32) -> usize
         Some(place) => place,
         None => unreachable!(),
     }
+}
+
+/// Looks up a test by its number: at once where each lesser number is there, and else in a time
+/// that grows with the logarithm of the tests.
+pub(crate) fn planned(tests: &[PlanTest], number: u32) -> Option<&PlanTest>
+    requires { Ascend tests.now }
+    ensures { option_copied result ≡ test_at tests.now number }
+{
+    match place_of(tests, number) {
+        Some(place) => tests.get(place),
+        None => None,
+    }
+}
+
+/// Looks up a test of a plan by its number, in a time that grows at most with the logarithm of the tests.
+pub fn planned_test(plan: &Plan, number: u32) -> Option<&PlanTest>
+    ensures { option_copied result ≡ test_at plan.now.tests number }
+{
+    planned(plan.parts().tests.as_slice(), number)
 }

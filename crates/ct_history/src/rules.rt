@@ -1,55 +1,196 @@
-ghost use Rattle.std.specs.Prelude.{◌≡◌};
+ghost use Rattle.std.specs.Prelude.{◌≡◌, ◌+◌, ◌==◌, nat_le};
 ghost use Rattle.std.specs.Option.{option_copied};
-ghost use Rattle.ct_history.specs.Rules.{cause_behind, first_unpassed, follows_finals, has_processors, has_room, is_passed_verdict as has_passed, is_pending, is_ready, may_start as may_start_in, may_start_if_placed, settle_cause as settle_cause_in};
-ghost use Rattle.ct_history.specs.Verdicts.{verdict_of_test};
+ghost use Rattle.ct_history.specs.Legal.{same_cause};
+ghost use Rattle.ct_history.specs.Plan.{test_at};
+ghost use Rattle.ct_history.specs.Rules.{cause_behind};
+ghost use Rattle.ct_history.specs.Verdicts.{is_passed_verdict};
+ghost use Rattle.ct_history.specs.Course.{course_at, runs};
+ghost use Rattle.ct_history.specs.Places.{Ascend};
+ghost use Rattle.ct_history.specs.Seen as Seen;
 
-use crate::history::has_stop;
-use crate::open_starts::{is_excluded, is_open, used_processors};
+use crate::course::{course_at, next_attempt, verdict_of_course};
+use crate::open_start::{has_start, is_busy, is_excluded, is_open, used_processors};
 use crate::placed::is_placed;
-use crate::verdicts::{is_final, verdict_of};
-use crate::{Entry, PlanParts, PlanTest};
+use crate::places::planned;
+use crate::{Audit, Entry, PlanParts, PlanTest, is_failing};
 use ct_alloc::Placement;
 use ct_verdict::{Cause, Verdict};
 
-/// Returns whether a test may start with a placement, or without one.
-///
-/// Source: CMake manual, cmake-properties(7), DEPENDS, FIXTURES_REQUIRED, PROCESSORS,
-/// RESOURCE_LOCK, RUN_SERIAL; ctest(1), Resource Allocation.
-pub(crate) fn may_start(
-    plan: &PlanParts,
-    test: &PlanTest,
-    placement: Option<&Placement>,
-    entries: &[Entry],
-) -> bool
-    ensures { result ≡ may_start_in plan.now test.now (option_copied placement.entry) entries.now }
-{
-    may_start_if_placed(plan, test, entries) && is_placed(plan, test, placement, entries)
-}
+impl Audit {
+    /// Returns whether an entry is allowed behind the entries that were noted.
+    pub(crate) fn is_allowed(&self, plan: &PlanParts, entry: &Entry) -> bool
+        requires { Ascend plan.now.tests }
+        ensures { result ≡ Seen.is_allowed_by plan.now (runs self.now.running.items) (course_at self.now.courses) self.now.stopped self.now.due entry.now }
+    {
+        match entry {
+            Entry::Start {
+                test,
+                attempt,
+                worker,
+                placement,
+            } => {
+                !self.due
+                    && self.starts(plan, *test, *attempt, placement.as_ref())
+                    && !is_busy(&self.running, *worker)
+            }
+            Entry::End {
+                test,
+                attempt,
+                worker,
+                ..
+            } => !self.due && has_start(&self.running, *test, *attempt, *worker),
+            Entry::Settle { test, cause } => !self.due && self.settles(plan, *test, *cause),
+            Entry::Stop => self.due,
+        }
+    }
 
-/// Returns whether a test may start as soon as its needs are met.
-fn may_start_if_placed(plan: &PlanParts, test: &PlanTest, entries: &[Entry]) -> bool
-    ensures { result ≡ may_start_if_placed plan.now test.now entries.now }
-{
-    !has_stop(entries)
-        && is_pending(plan, test, entries)
-        && is_ready(plan, test, entries)
-        && has_room(plan, test, entries)
-}
+    fn starts(
+        &self,
+        plan: &PlanParts,
+        number: u32,
+        attempt: u32,
+        placement: Option<&Placement>,
+    ) -> bool
+        requires { Ascend plan.now.tests }
+        ensures { result ≡ Seen.starts_by plan.now (runs self.now.running.items) (course_at self.now.courses) self.now.stopped attempt (option_copied placement.entry) (test_at plan.now.tests number) }
+    {
+        match planned(plan.tests.as_slice(), number) {
+            Some(test) => {
+                self.may_start(plan, test, placement) && self.is_next(test.number, attempt)
+            }
+            None => false,
+        }
+    }
 
-/// Returns the cause that a test may be settled with, if there is one.
-///
-/// Source: CMake manual, cmake-properties(7), FIXTURES_REQUIRED; ctest(1), --stop-on-failure.
-pub(crate) fn settle_cause(plan: &PlanParts, test: &PlanTest, entries: &[Entry]) -> Option<Cause>
-    ensures { result ≡ settle_cause_in plan.now test.now entries.now }
-{
-    if !is_pending(plan, test, entries) {
-        None
-    } else if has_stop(entries) {
-        Some(Cause::Stopped)
-    } else if follows_finals(plan, test, entries) {
-        cause_behind(first_unpassed(plan, test, entries), test.fixed)
-    } else {
-        None
+    fn is_next(&self, number: u32, attempt: u32) -> bool
+        ensures { result ≡ (attempt == Seen.next_attempt (course_at self.now.courses number).ended) }
+    {
+        u64::from(attempt) == next_attempt(course_at(&self.courses, number).ended)
+    }
+
+    fn may_start(&self, plan: &PlanParts, test: &PlanTest, placement: Option<&Placement>) -> bool
+        requires { Ascend plan.now.tests }
+        ensures { result ≡ Seen.may_start_by plan.now (runs self.now.running.items) (course_at self.now.courses) self.now.stopped (option_copied placement.entry) test.now }
+    {
+        !self.stopped
+            && self.is_pending(plan, test)
+            && self.is_ready(plan, test)
+            && self.has_room(plan, test)
+            && is_placed(plan, test, placement, &self.running)
+    }
+
+    fn settles(&self, plan: &PlanParts, number: u32, cause: Cause) -> bool
+        requires { Ascend plan.now.tests }
+        ensures { result ≡ Seen.settles_by plan.now (runs self.now.running.items) (course_at self.now.courses) self.now.stopped cause (test_at plan.now.tests number) }
+    {
+        match planned(plan.tests.as_slice(), number) {
+            Some(test) => is_same_cause(cause, self.settle_cause(plan, test)),
+            None => false,
+        }
+    }
+
+    fn settle_cause(&self, plan: &PlanParts, test: &PlanTest) -> Option<Cause>
+        requires { Ascend plan.now.tests }
+        ensures { result ≡ Seen.cause_by plan.now (runs self.now.running.items) (course_at self.now.courses) self.now.stopped test.now }
+    {
+        if !self.is_pending(plan, test) {
+            None
+        } else if self.stopped {
+            Some(Cause::Stopped)
+        } else if self.follows_finals(plan, test) {
+            cause_behind(self.first_unpassed(plan, test), test.fixed)
+        } else {
+            None
+        }
+    }
+
+    fn is_pending(&self, plan: &PlanParts, test: &PlanTest) -> bool
+        ensures { result ≡ Seen.is_pending_by plan.now (runs self.now.running.items) (course_at self.now.courses) test.now }
+    {
+        self.verdict(plan, test).is_none() && !is_open(&self.running, test.number)
+    }
+
+    fn is_ready(&self, plan: &PlanParts, test: &PlanTest) -> bool
+        requires { Ascend plan.now.tests }
+        ensures { result ≡ Seen.is_ready_by plan.now (runs self.now.running.items) (course_at self.now.courses) test.now }
+    {
+        self.follows_finals(plan, test)
+            && self.first_unpassed(plan, test).is_none()
+            && test.fixed.is_none()
+    }
+
+    fn has_room(&self, plan: &PlanParts, test: &PlanTest) -> bool
+        requires { Ascend plan.now.tests }
+        ensures { result ≡ Seen.has_room_by plan.now (runs self.now.running.items) test.now }
+    {
+        self.has_processors(plan, test) && !is_excluded(plan.tests.as_slice(), test, &self.running)
+    }
+
+    fn has_processors(&self, plan: &PlanParts, test: &PlanTest) -> bool
+        requires { Ascend plan.now.tests }
+        ensures { result ≡ nat_le (test.now.processors + Seen.processors_used plan.now.tests (runs self.now.running.items)) plan.now.level }
+    {
+        let used = used_processors(plan.tests.as_slice(), &self.running);
+        let level = u64::from(plan.level);
+        used <= level && u64::from(test.processors) <= level - used
+    }
+
+    fn follows_finals(&self, plan: &PlanParts, test: &PlanTest) -> bool
+        requires { Ascend plan.now.tests }
+        ensures { result ≡ Seen.follows_by plan.now (runs self.now.running.items) (course_at self.now.courses) test.now }
+    {
+        let before = test.before.as_slice();
+        before
+            .iter()
+            .all(|number| self.verdict_of(plan, *number).is_some())
+    }
+
+    fn first_unpassed(&self, plan: &PlanParts, test: &PlanTest) -> Option<u32>
+        requires { Ascend plan.now.tests }
+        ensures { result ≡ Seen.unpassed_by plan.now (runs self.now.running.items) (course_at self.now.courses) test.now }
+    {
+        let setups = test.setups.as_slice();
+        setups
+            .iter()
+            .copied()
+            .find(|setup| !self.is_passed(plan, *setup))
+    }
+
+    fn is_passed(&self, plan: &PlanParts, number: u32) -> bool
+        requires { Ascend plan.now.tests }
+        ensures { result ≡ is_passed_verdict (Seen.verdict_by_number plan.now (runs self.now.running.items) (course_at self.now.courses) number) }
+    {
+        matches!(self.verdict_of(plan, number), Some(Verdict::Passed))
+    }
+
+    /// Returns whether the test with this number has a verdict that makes the run fail.
+    pub(crate) fn has_failed(&self, plan: &PlanParts, number: Option<u32>) -> bool
+        requires { Ascend plan.now.tests }
+        ensures { result ≡ Seen.has_failed_by plan.now (runs self.now.running.items) (course_at self.now.courses) number }
+    {
+        match number {
+            Some(number) => is_failing(self.verdict_of(plan, number)),
+            None => false,
+        }
+    }
+
+    fn verdict_of(&self, plan: &PlanParts, number: u32) -> Option<Verdict>
+        requires { Ascend plan.now.tests }
+        ensures { result ≡ Seen.verdict_by_number plan.now (runs self.now.running.items) (course_at self.now.courses) number }
+    {
+        match planned(plan.tests.as_slice(), number) {
+            Some(test) => self.verdict(plan, test),
+            None => None,
+        }
+    }
+
+    /// Returns the verdict of a test of the plan, if it is final.
+    pub(crate) fn verdict(&self, plan: &PlanParts, test: &PlanTest) -> Option<Verdict>
+        ensures { result ≡ Seen.verdict_in_course plan.now.repeat (runs self.now.running.items) (course_at self.now.courses) test.now }
+    {
+        let is_open = is_open(&self.running, test.number);
+        let course = course_at(&self.courses, test.number);
+        verdict_of_course(&plan.repeat, test, is_open, course)
     }
 }
 
@@ -62,55 +203,11 @@ fn cause_behind(setup: Option<u32>, fixed: Option<Cause>) -> Option<Cause>
     }
 }
 
-fn is_pending(plan: &PlanParts, test: &PlanTest, entries: &[Entry]) -> bool
-    ensures { result ≡ is_pending plan.now test.now entries.now }
+fn is_same_cause(cause: Cause, other: Option<Cause>) -> bool
+    ensures { result ≡ same_cause cause other }
 {
-    !is_final(&plan.repeat, test, entries) && !is_open(entries, test.number)
-}
-
-fn is_ready(plan: &PlanParts, test: &PlanTest, entries: &[Entry]) -> bool
-    ensures { result ≡ is_ready plan.now test.now entries.now }
-{
-    follows_finals(plan, test, entries)
-        && first_unpassed(plan, test, entries).is_none()
-        && test.fixed.is_none()
-}
-
-fn follows_finals(plan: &PlanParts, test: &PlanTest, entries: &[Entry]) -> bool
-    ensures { result ≡ follows_finals plan.now test.now entries.now }
-{
-    test.before
-        .as_slice()
-        .iter()
-        .all(|before| verdict_of(plan, entries, *before).is_some())
-}
-
-fn first_unpassed(plan: &PlanParts, test: &PlanTest, entries: &[Entry]) -> Option<u32>
-    ensures { result ≡ first_unpassed plan.now test.now entries.now }
-{
-    test.setups
-        .as_slice()
-        .iter()
-        .copied()
-        .find(|setup| !is_passed(plan, entries, *setup))
-}
-
-fn is_passed(plan: &PlanParts, entries: &[Entry], number: u32) -> bool
-    ensures { result ≡ has_passed (verdict_of_test plan.now entries.now number) }
-{
-    matches!(verdict_of(plan, entries, number), Some(Verdict::Passed))
-}
-
-fn has_room(plan: &PlanParts, test: &PlanTest, entries: &[Entry]) -> bool
-    ensures { result ≡ has_room plan.now test.now entries.now }
-{
-    has_processors(plan, test, entries) && !is_excluded(plan.tests.as_slice(), test, entries)
-}
-
-fn has_processors(plan: &PlanParts, test: &PlanTest, entries: &[Entry]) -> bool
-    ensures { result ≡ has_processors plan.now test.now entries.now }
-{
-    let used = used_processors(plan.tests.as_slice(), entries);
-    let level = u64::from(plan.level);
-    used <= level && u64::from(test.processors) <= level - used
+    match other {
+        Some(other) => cause == other,
+        None => false,
+    }
 }

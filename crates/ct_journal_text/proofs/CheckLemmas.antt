@@ -16,8 +16,8 @@ use Rattle.ct_history.specs.History.{is_busy_in, used_slots}
 use Rattle.ct_history.specs.Rules.{is_placed}
 use Rattle.ct_history.specs.Legal.{is_allowed, is_stop_due, starts}
 use Rattle.ct_history.proofs.MayLemmas.{starts-parts}
-use Rattle.ct_audit.specs.declared.audit.Audit.{Audit}
-use Rattle.ct_audit.specs.Audited.{is_at_end}
+use Rattle.ct_history.specs.declared.audit.Audit.{Audit}
+use Rattle.ct_history.specs.Audited.{is_at_end}
 use Rattle.ct_journal_text.specs.declared.check.Step.{Step}
 use Rattle.ct_journal_text.specs.declared.check.Step.TheVariants.{GoesOn, Ends, IsBad}
 use Rattle.ct_journal_text.specs.declared.lines.EntryLine.{EntryLine}

@@ -15,7 +15,7 @@ use Rattle.ct_history.specs.History.{Running}
 use Rattle.ct_history.specs.Rules.{is_idle}
 use Rattle.ct_history.specs.Verdicts.{are_all_final}
 use Rattle.ct_history.specs.Legal.{IsComplete, are_allowed_behind, is_allowed, is_allowed_so_far, is_legal, is_stop_due}
-use Rattle.ct_audit.specs.Audited.{is_at_end}
+use Rattle.ct_history.specs.Audited.{is_at_end}
 use Rattle.ct_journal_text.specs.declared.lines.EntryLine.{EntryLine}
 use Rattle.ct_journal_text.specs.declared.lines.EntryLine.TheVariants.{Start, End, Settle, Stop}
 use Rattle.ct_journal_text.specs.declared.lines.JournalLine.{JournalLine}

@@ -14,8 +14,8 @@ use Rattle.ct_history.specs.Verdicts.{are_all_final}
 use Rattle.ct_history.specs.Legal.{IsComplete, is_allowed_so_far, is_legal, is_stop_due}
 use Rattle.ct_history.proofs.LegalLemmas.{allowed-snoc}
 use Rattle.ct_history.proofs.ProgressLemmas.{idle_empty}
-use Rattle.ct_audit.specs.declared.audit.Audit.{Audit}
-use Rattle.ct_audit.specs.Audited.{IsAuditOf, is_at_end}
+use Rattle.ct_history.specs.declared.audit.Audit.{Audit}
+use Rattle.ct_history.specs.Audited.{IsAuditOf, is_at_end}
 use Rattle.ct_journal_text.specs.declared.check.Step.TheVariants.{GoesOn, Ends, IsBad}
 use Rattle.ct_journal_text.specs.declared.lines.JournalLine.TheVariants as Line
 use Rattle.ct_journal_text.specs.Guess.{guess_in}

@@ -9,8 +9,8 @@ use Rattle.ct_history.specs.declared.history.Entry.{Entry}
 use Rattle.ct_history.specs.declared.history.Entry.TheVariants as Happened
 use Rattle.ct_history.specs.Plan.{test_at}
 use Rattle.ct_history.specs.Legal.{is_allowed}
-use Rattle.ct_audit.specs.declared.audit.Audit.{Audit}
-use Rattle.ct_audit.specs.Audited.{IsAuditOf, is_at_end}
+use Rattle.ct_history.specs.declared.audit.Audit.{Audit}
+use Rattle.ct_history.specs.Audited.{IsAuditOf, is_at_end}
 use Rattle.ct_journal_text.specs.declared.lines.EntryLine.{EntryLine}
 use Rattle.ct_journal_text.specs.declared.lines.JournalLine.TheVariants as Line
 use Rattle.ct_journal_text.specs.declared.check.Step.{Step}

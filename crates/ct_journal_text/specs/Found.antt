@@ -6,8 +6,8 @@ use Rattle.ct_base.specs.Bytes.{line_feed}
 use Rattle.ct_history.specs.declared.plan.PlanParts.{PlanParts}
 use Rattle.ct_history.specs.declared.history.Entry.{Entry}
 use Rattle.ct_history.specs.Legal.{IsComplete, is_allowed_so_far, is_legal}
-use Rattle.ct_audit.specs.declared.audit.Audit.{Audit}
-use Rattle.ct_audit.specs.Audited.{IsAuditOf, is_at_end}
+use Rattle.ct_history.specs.declared.audit.Audit.{Audit}
+use Rattle.ct_history.specs.Audited.{IsAuditOf, is_at_end}
 use Rattle.ct_journal_text.specs.declared.lines.JournalLine.TheVariants as Line
 use Rattle.ct_journal_text.specs.Journal.{EntriesFit, entry_lines, full_line, journal_of, journal_line_text}
 use Rattle.ct_journal_text.specs.Checked.{IsNoEntry}

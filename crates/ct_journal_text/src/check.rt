@@ -1,16 +1,15 @@
 ghost use Rattle.std.specs.Prelude.{◌≡◌, IfOk, List, length};
 ghost use Rattle.ct_history.specs.declared.history.Entry.{Entry};
 ghost use Rattle.ct_history.specs.Plan.{test_at};
-ghost use Rattle.ct_audit.specs.Audited.{IsAuditOf};
+ghost use Rattle.ct_history.specs.Audited.{IsAuditOf};
 ghost use Rattle.ct_journal_text.specs.Checked.{FindsEntry, FindsPlacement, IsDoneLine, NotesLine, TakesLine, TakesEntryOr};
 
 use crate::placements::placement_at;
 use crate::reader::read_line;
 use crate::{EntryLine, JournalLine};
 use ct_alloc::Placement;
-use ct_audit::{Audit, planned_test};
 use ct_base::{List, NoMemory};
-use ct_history::{Entry, Plan};
+use ct_history::{Audit, Entry, Plan, planned_test};
 use std::alloc::Global;
 
 /// What a line of a journal does behind the lines in front of it.

@@ -1,14 +1,13 @@
 ghost use Rattle.std.specs.Prelude.{◌≡◌, [], ◌<◌, ◌+◌, ◌-◌, ◌^◌, ◌++◌, None, Some, IfOk, IfSome, if◌then◌else◌};
 ghost use Rattle.std.specs.Option.{option_copied};
-ghost use Rattle.ct_audit.specs.Audited.{IsAuditOf};
+ghost use Rattle.ct_history.specs.Audited.{IsAuditOf};
 ghost use Rattle.ct_journal_text.specs.Journal.{full_line};
 ghost use Rattle.ct_journal_text.specs.declared.lines.JournalLine.TheVariants as Line;
 ghost use Rattle.ct_journal_text.specs.Found.{Finds, FindsBehind, IsSoleFinding, LacksFirst};
 
 use crate::check::{Step, take_line};
-use ct_audit::Audit;
 use ct_base::NoMemory;
-use ct_history::Plan;
+use ct_history::{Audit, Plan};
 use std::alloc::Global;
 
 /// The length of the first line of a journal, with its line feed.

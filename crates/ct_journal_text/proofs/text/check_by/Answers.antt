@@ -1,5 +1,5 @@
 use Rattle.std.proofs.Common.{◌≡◌, ◌<◌, ◌≤◌, ◌^◌, ◌+◌, ◌-◌, ◌++◌, ◌∷◌, [], ℕ, List, arith, drop, length, get_or, refl, rules, sym, subst, take}
-use Rattle.ct_audit.specs.declared.audit.Audit.{Audit}
+use Rattle.ct_history.specs.declared.audit.Audit.{Audit}
 use Rattle.ct_journal_text.specs.declared.check.Step.{Step}
 use Rattle.ct_journal_text.specs.Checked.{TakesLine}
 use Rattle.ct_journal_text.specs.Found.{FindsBehind, IsReading}

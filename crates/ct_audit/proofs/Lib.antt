@@ -1,4 +1,0 @@
-pub mod CourseLemmas
-pub mod FailingLemmas
-pub mod RuleLemmas
-pub mod AuditedLemmas

@@ -1,6 +1,0 @@
-use Rattle.std.proofs.Common.{◌∙◌}
-use Rattle.ct_audit.proofs.AuditedLemmas.{open_none}
-use Rattle.ct_audit.proofs.audit.is_idle.Goals as goal
-
-pub returns : goal.returns
-returns c = c.is_empty.ensures ∙ open_none c.args.running.now

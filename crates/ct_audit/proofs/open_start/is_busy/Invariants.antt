@@ -1,7 +1,0 @@
-use Rattle.std.proofs.Common.{◌≡◌, ◌+◌, ◌-◌, ◌^◌, ◌≤◌, min, drop}
-use Rattle.ct_audit.specs.Course.{runs}
-use Rattle.ct_audit.specs.Seen.{is_busy_with}
-use Rattle.ct_audit.proofs.open_start.is_busy.Given as goal
-
-abbrev pub invariant-loop-at : goal.invariant-loop-at
-invariant-loop-at l = is_busy_with l.worker (runs (drop l.at l.running)) ≡ is_busy_with l.worker (runs l.running)
