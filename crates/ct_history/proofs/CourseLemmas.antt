@@ -1,5 +1,5 @@
 -- How each test has fared, with one entry more, and the verdict that follows.
-use Rattle.std.proofs.Common.{length-append, ◌≡◌, ◌∙◌, sym, ap, ℕ, ◌+◌, ◌-◌, ◌^◌, ◌<◌, min, Bool, true, false, not, ◌&&◌, List, [], ◌∷◌, ◌++◌, length, map, filter_map, refl, arith, cond, Option, Some, None, option_map}
+use Rattle.std.proofs.Common.{length-append, take-suc, take, get_or, suc, ◌≡◌, ◌∙◌, sym, ap, ℕ, ◌+◌, ◌-◌, ◌^◌, ◌<◌, min, Bool, true, false, not, ◌&&◌, List, [], ◌∷◌, ◌++◌, length, map, filter_map, refl, arith, cond, Option, Some, None, option_map}
 use Rattle.std.specs.Prelude.{if◌then◌else◌, ◌==◌}
 use Rattle.std.specs.List.{cons_option, last_or}
 use Rattle.std.proofs.lemmas.Bool.Decides.{nat_tests}
@@ -56,6 +56,14 @@ course_snoc es e test =
     let settled = ap first_of_list (filter_map-append (settled_by test) es (e ∷ [])) ∙ first_snoc (filter_map (settled_by test) es) (settled_by test e) in
     let ended = ap ended_in (filter_map-append (seen_at_end test) es (e ∷ [])) ∙ ended_option (seens_of test es) (seen_at_end test e) in
     λ i. record { settled = settled i; ended = ended i }
+
+-- how a test has fared, with the next entry of a list
+pub course_more : (es : List Entry) (at : ℕ) (e : Entry) (test : ℕ) → at < length es → e ≡ get_or es at e → course_after test (course_in (take at es) test) e ≡ course_in (take (at + 1) es) test
+course_more es at e test within is =
+    let next : suc at ≡ at + 1 = omega arith in
+    sym (course_snoc (take at es) e test)
+    ∙ ap (λ one. course_in (take at es ++ one ∷ []) test) is
+    ∙ ap (λ all. course_in all test) (sym (take-suc es at e within) ∙ ap (λ k. take k es) next)
 
 -- the verdicts of the attempts are those of what was seen
 attempts_are : (n : ℕ) (rules : Rules) (es : List Entry) → attempts_of n rules es ≡ map (verdict_of rules) (seens_of n es)

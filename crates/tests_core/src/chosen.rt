@@ -28,28 +28,28 @@ struct Trial<'a> {
 }
 
 impl Trial<'_> {
-    fn allows(&mut self, entry: Entry) -> Result<bool, NoMemory> {
+    fn allows(&mut self, alloc: Global, entry: Entry) -> Result<bool, NoMemory> {
         self.history.entries.push(entry)?;
-        let is_legal = judge(self.plan, &self.history)?;
+        let is_legal = judge(alloc, self.plan, &self.history)?;
         let _entry = self.history.entries.pop();
         Ok(is_legal)
     }
 
     /// Returns whether a test may be settled with some cause.
-    fn allows_settle(&mut self, test: u32) -> Result<bool, NoMemory> {
+    fn allows_settle(&mut self, alloc: Global, test: u32) -> Result<bool, NoMemory> {
         for cause in CAUSES {
-            if self.allows(Entry::Settle { test, cause })? {
+            if self.allows(alloc, Entry::Settle { test, cause })? {
                 return Ok(true);
             }
         }
-        self.allows_settle_for_setup(test)
+        self.allows_settle_for_setup(alloc, test)
     }
 
     /// Returns whether a test may be settled for some setup that did not pass.
-    fn allows_settle_for_setup(&mut self, test: u32) -> Result<bool, NoMemory> {
+    fn allows_settle_for_setup(&mut self, alloc: Global, test: u32) -> Result<bool, NoMemory> {
         for setup in 1..LAST + 1 {
             let cause = Cause::Fixture(setup);
-            if self.allows(Entry::Settle { test, cause })? {
+            if self.allows(alloc, Entry::Settle { test, cause })? {
                 return Ok(true);
             }
         }
@@ -59,7 +59,7 @@ impl Trial<'_> {
     /// Returns whether the next attempt of a test may start with some placement.
     fn allows_start(&mut self, alloc: Global, test: &PlanTest) -> Result<bool, NoMemory> {
         let attempt = next_attempt(self.history.entries.as_slice(), test.number);
-        if self.allows(start(test.number, attempt, None))? {
+        if self.allows(alloc, start(test.number, attempt, None))? {
             return Ok(true);
         }
         Ok(!test.needs.is_empty() && self.allows_placed(alloc, test, attempt)?)
@@ -74,16 +74,16 @@ impl Trial<'_> {
     ) -> Result<bool, NoMemory> {
         for number in 0..PLACEMENTS {
             let placement = placement(alloc, test.needs.as_slice(), number)?;
-            if self.allows(start(test.number, attempt, Some(placement)))? {
+            if self.allows(alloc, start(test.number, attempt, Some(placement)))? {
                 return Ok(true);
             }
         }
         Ok(false)
     }
 
-    fn settles_none_before(&mut self, number: u32) -> Result<bool, NoMemory> {
+    fn settles_none_before(&mut self, alloc: Global, number: u32) -> Result<bool, NoMemory> {
         for test in 1..number {
-            if self.allows_settle(test)? {
+            if self.allows_settle(alloc, test)? {
                 return Ok(false);
             }
         }
@@ -158,14 +158,14 @@ fn check_choice(
     let mut trial = Trial { plan, history };
     match step {
         Step::Settles { test, .. } => {
-            assert!(rt; trial.settles_none_before(test)?, "{step:?}");
+            assert!(rt; trial.settles_none_before(alloc, test)?, "{step:?}");
         }
         Step::Starts { test, .. } => {
-            assert!(rt; trial.settles_none_before(LAST + 1)?, "{step:?}");
+            assert!(rt; trial.settles_none_before(alloc, LAST + 1)?, "{step:?}");
             assert!(rt; trial.starts_none_before(alloc, Some(test))?, "{step:?}");
         }
         Step::Waits { .. } | Step::IsDone => {
-            assert!(rt; trial.settles_none_before(LAST + 1)?, "{step:?}");
+            assert!(rt; trial.settles_none_before(alloc, LAST + 1)?, "{step:?}");
             assert!(rt; trial.starts_none_before(alloc, None)?, "{step:?}");
         }
         Step::Ends { .. } | Step::IsAborted => {}
@@ -216,7 +216,7 @@ fn the_core_chooses_the_first_that_is_allowed(rt: HostRuntime) -> Result<(), Fai
         let parts = drawn_parts(alloc, &mut dice)?;
         let mut run = open(&rt, alloc, parts)?;
         let checked = checked_steps(&rt, alloc, &mut dice, &mut run);
-        close(&rt, run)?;
+        close(&rt, alloc, run)?;
         checked?;
     }
     Ok(())

@@ -204,7 +204,7 @@ pub(crate) fn play(rt: &impl Abort, alloc: Global, row: &str) -> Result<(Plan, H
     let (tests, steps) = rest.split_once(" | ").unwrap_or((rest, ""));
     let mut run = open(rt, alloc, parts(alloc, asked, tests)?)?;
     take_all(rt, &mut run, steps);
-    close(rt, run)
+    close(rt, alloc, run)
 }
 
 fn take_all(rt: &impl Abort, run: &mut Run, steps: &str) {
@@ -266,6 +266,6 @@ fn a_lock_is_not_held_alone_beside_a_test_that_shares_it(rt: HostRuntime) -> Res
     let (plan, mut history) = play(&rt, rt.alloc(), SHARED)?;
     start_early(&mut history.entries);
     assert!(rt; matches!(history.entries.get(3), Some(Entry::Start { test: 3, .. })));
-    assert!(rt; !judge(&plan, &history)?);
+    assert!(rt; !judge(rt.alloc(), &plan, &history)?);
     Ok(())
 }

@@ -221,7 +221,7 @@ fn drawn_run(rt: &impl Abort, alloc: Global, dice: &mut Dice) -> Result<(Plan, H
             break;
         }
     }
-    close(rt, run)
+    close(rt, alloc, run)
 }
 
 /// How a history is changed at one of its entries.
@@ -477,7 +477,7 @@ fn judge_change(
     let kind = dice.roll(9) as usize;
     let change = CHANGES[kind];
     if let Some(other) = changed(alloc, entries, at, change)? {
-        if judge(plan, &other)? {
+        if judge(alloc, plan, &other)? {
             assert!(rt; !change.is_always_wrong(&entries[at]), "{change:?} at {at}");
             counts.legal[kind] = counts.legal[kind].saturating_add(1);
         } else {

@@ -97,5 +97,5 @@ fn check_cards(rt: &impl Abort, alloc: Global, run: &str, first: u32) -> Result<
 /// Judges a history if the first two tests have one card.
 fn judge_crowded(alloc: Global, plan: &Plan, history: History) -> Result<bool, NoMemory> {
     let history = crowded(alloc, history)?;
-    judge(plan, &history)
+    judge(alloc, plan, &history)
 }

@@ -144,11 +144,11 @@ pub(crate) fn seen(how: How) -> Seen {
 }
 
 /// Ends the open attempts, and returns the plan and the history, which it checks to be legal.
-pub(crate) fn close(rt: &impl Abort, run: Run) -> Result<(Plan, History), NoMemory> {
+pub(crate) fn close(rt: &impl Abort, alloc: Global, run: Run) -> Result<(Plan, History), NoMemory> {
     let Run { core, hands } = run;
     let Hands { tickets } = hands;
     let (plan, history) = end_all(rt, core, tickets).into_parts();
-    assert!(rt; judge(&plan, &history)?);
+    assert!(rt; judge(alloc, &plan, &history)?);
     Ok((plan, history))
 }
 

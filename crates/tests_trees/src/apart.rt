@@ -72,7 +72,7 @@ fn check_history(
     history: History,
 ) -> Result<(), Fail> {
     expect(call, happened(rt.alloc(), &history)?.as_str())?;
-    assert!(rt; judge(whole, &history)?);
+    assert!(rt; judge(rt.alloc(), whole, &history)?);
     check_apart(rt, whole, history)
 }
 
@@ -80,9 +80,9 @@ fn check_history(
 /// come first.
 fn check_apart(rt: &impl Machine, whole: &Plan, mut history: History) -> Result<(), Fail> {
     work_apart(history.entries.as_mut_slice());
-    assert!(rt; judge(whole, &history)?);
+    assert!(rt; judge(rt.alloc(), whole, &history)?);
     start_both_first(history.entries.as_mut_slice());
-    assert!(rt; !judge(whole, &history)?);
+    assert!(rt; !judge(rt.alloc(), whole, &history)?);
     Ok(())
 }
 

@@ -294,9 +294,9 @@ fn passed() -> Seen {
 }
 
 /// Checks that a history is legal, and has `wanted` starts and `wanted` ends.
-fn check_counts(rt: &impl Abort, core: Core, wanted: u32) -> Result<(), NoMemory> {
+fn check_counts(rt: &impl Abort, alloc: Global, core: Core, wanted: u32) -> Result<(), NoMemory> {
     let (plan, history) = core.into_parts();
-    let is_legal = judge(&plan, &history)?;
+    let is_legal = judge(alloc, &plan, &history)?;
     assert!(rt; is_legal);
     let (starts, ends) = counts(history.entries.as_slice());
     assert!(rt;
@@ -353,7 +353,7 @@ fn two_passes_share_one_state(rt: HostRuntime) -> Result<(), Fail> {
 fn two_workers_end_each_test_once(rt: HostRuntime) -> Result<(), Fail> {
     let core = core_of(rt.alloc(), 30, 2).ok_or(NoMemory)?;
     let core = run_two(&rt, rt.alloc(), core).ok_or(NoMemory)?;
-    check_counts(&rt, core, 30)?;
+    check_counts(&rt, rt.alloc(), core, 30)?;
     Ok(())
 }
 
@@ -361,7 +361,7 @@ fn two_workers_end_each_test_once(rt: HostRuntime) -> Result<(), Fail> {
 fn four_workers_end_each_test_once(rt: HostRuntime) -> Result<(), Fail> {
     let core = core_of(rt.alloc(), 30, 4).ok_or(NoMemory)?;
     let core = run_four(&rt, rt.alloc(), core).ok_or(NoMemory)?;
-    check_counts(&rt, core, 30)?;
+    check_counts(&rt, rt.alloc(), core, 30)?;
     Ok(())
 }
 
@@ -370,6 +370,6 @@ fn four_workers_end_each_test_once(rt: HostRuntime) -> Result<(), Fail> {
 fn sleepers_are_woken_until_the_work_is_done(rt: HostRuntime) -> Result<(), Fail> {
     let core = core_of(rt.alloc(), 30, 1).ok_or(NoMemory)?;
     let core = run_four(&rt, rt.alloc(), core).ok_or(NoMemory)?;
-    check_counts(&rt, core, 30)?;
+    check_counts(&rt, rt.alloc(), core, 30)?;
     Ok(())
 }
