@@ -11,7 +11,7 @@ use crate::lines::Lines;
 use crate::names::Names;
 use crate::reading::Reading;
 use ct_base::{Blob, Name, NoMemory};
-use ct_history::{Endings, History, Plan, PlanTest, endings_of};
+use ct_history::{Courses, History, Plan, PlanTest, courses_of};
 use std::alloc::Global;
 
 /// What is known of earlier runs: what the tests cost, and which of them failed last time.
@@ -81,8 +81,8 @@ impl CostData {
         ensures failed { OnOk result (self.new.failed
             ≡ fold with_new_name self.old.failed (map (λ t. t.name) (failed_tests plan.now history.now.entries.items))) }
     {
-        let endings = endings_of(alloc, history.entries.as_slice())?;
-        self.add_tests(alloc, plan.parts().tests.as_slice(), &endings)
+        let courses = courses_of(alloc, history.entries.as_slice())?;
+        self.add_tests(alloc, plan.parts().tests.as_slice(), &courses)
     }
 
     /// Counts tests by how they ended.
@@ -90,13 +90,13 @@ impl CostData {
         &mut self,
         alloc: Global,
         tests: &[PlanTest],
-        endings: &Endings,
+        courses: &Courses,
     ) -> Result<(), NoMemory>
-        ensures lines { OnOk result (self.new.lines ≡ fold (after_ending endings.now) self.old.lines tests.now) }
-        ensures failed { OnOk result (self.new.failed ≡ fold (with_failed endings.now) self.old.failed tests.now) }
+        ensures lines { OnOk result (self.new.lines ≡ fold (after_ending courses.now) self.old.lines tests.now) }
+        ensures failed { OnOk result (self.new.failed ≡ fold (with_failed courses.now) self.old.failed tests.now) }
     {
-        self.lines.add_tests(alloc, tests, endings)?;
-        self.failed.add_failed(alloc, tests, endings)
+        self.lines.add_tests(alloc, tests, courses)?;
+        self.failed.add_failed(alloc, tests, courses)
     }
 
     /// Writes the text of version 2 that `read` reads, with durations as seconds with six decimals.

@@ -2,18 +2,18 @@ ghost use Rattle.std.specs.Prelude.{◌≡◌};
 ghost use Rattle.ct_cost.specs.After.{counted_micros};
 ghost use Rattle.ct_cost.specs.Endings.{passed_micros as passed_for, fails_by as failed_for};
 
-use ct_history::{Ending, PlanTest, verdict_by};
+use ct_history::{Course, PlanTest, verdict_by};
 use ct_verdict::{Seen, Verdict};
 
 /// The greatest number of microseconds that a run counts for. This project's choice.
 const MOST_MICROS: u64 = 1_000_000_000_000_000;
 
 /// Returns the microseconds that a test counts for, if it passed.
-pub(crate) fn passed_micros(test: &PlanTest, ending: Ending) -> Option<u64>
-    ensures { result ≡ passed_for test.now ending }
+pub(crate) fn passed_micros(test: &PlanTest, course: Course) -> Option<u64>
+    ensures { result ≡ passed_for test.now course }
 {
-    match verdict_by(test, ending) {
-        Some(Verdict::Passed) => Some(counted_micros(ending.last)),
+    match verdict_by(test, course) {
+        Some(Verdict::Passed) => Some(counted_micros(course.last())),
         _ => None,
     }
 }
@@ -28,10 +28,10 @@ fn counted_micros(last: Option<Seen>) -> u64
 }
 
 /// Returns whether a test that is final is of the failing class.
-pub(crate) fn fails_by(test: &PlanTest, ending: Ending) -> bool
-    ensures { result ≡ failed_for test.now ending }
+pub(crate) fn fails_by(test: &PlanTest, course: Course) -> bool
+    ensures { result ≡ failed_for test.now course }
 {
-    match verdict_by(test, ending) {
+    match verdict_by(test, course) {
         Some(verdict) => verdict.is_failing(),
         None => false,
     }

@@ -9,7 +9,7 @@ use crate::endings::passed_micros;
 use crate::line::{Version, line_in};
 use crate::texts::append_line;
 use ct_base::{Blob, NoMemory};
-use ct_history::{Endings, PlanTest, ending_at};
+use ct_history::{Courses, PlanTest, course_at};
 use indexmap::IndexMap;
 use std::alloc::Global;
 use std::marker::Model;
@@ -110,12 +110,12 @@ impl Lines {
         &mut self,
         alloc: Global,
         tests: &[PlanTest],
-        endings: &Endings,
+        courses: &Courses,
     ) -> Result<(), NoMemory>
-        ensures { OnOk result (self.new ≡ fold (after_ending endings.now) self.old tests.now) }
+        ensures { OnOk result (self.new ≡ fold (after_ending courses.now) self.old tests.now) }
     {
         for test in tests {
-            if let Some(micros) = passed_micros(test, ending_at(endings, test.number)) {
+            if let Some(micros) = passed_micros(test, course_at(courses, test.number)) {
                 self.add_run(alloc, test.name.bytes(), micros)?;
             }
         }

@@ -5,7 +5,7 @@ ghost use Rattle.ct_cost.specs.Endings.{log_by};
 
 use crate::endings::fails_by;
 use ct_base::{Blob, NoMemory};
-use ct_history::{Endings, History, Plan, PlanTest, ending_at, endings_of};
+use ct_history::{Courses, History, Plan, PlanTest, course_at, courses_of};
 use std::alloc::Global;
 
 /// Writes the log of the tests of the failing class: a line of a number, `:` and a name for each,
@@ -16,16 +16,16 @@ pub fn failed_log(alloc: Global, plan: &Plan, history: &History) -> Result<Blob,
     requires ended { are_all_final plan.now history.now.entries.items ≡ true }
     ensures { IfOk result (λ text. text ≡ failed_log_text plan.now history.now.entries.items) }
 {
-    let endings = endings_of(alloc, history.entries.as_slice())?;
-    log_of(alloc, plan.parts().tests.as_slice(), &endings)
+    let courses = courses_of(alloc, history.entries.as_slice())?;
+    log_of(alloc, plan.parts().tests.as_slice(), &courses)
 }
 
-fn log_of(alloc: Global, tests: &[PlanTest], endings: &Endings) -> Result<Blob, NoMemory>
-    ensures { IfOk result (λ text. text ≡ flat_map (log_by endings.now) tests.now) }
+fn log_of(alloc: Global, tests: &[PlanTest], courses: &Courses) -> Result<Blob, NoMemory>
+    ensures { IfOk result (λ text. text ≡ flat_map (log_by courses.now) tests.now) }
 {
     let mut text = Blob::new(alloc);
     for test in tests {
-        append_failed(alloc, &mut text, test, endings)?;
+        append_failed(alloc, &mut text, test, courses)?;
     }
     Ok(text)
 }
@@ -34,11 +34,11 @@ fn append_failed(
     alloc: Global,
     text: &mut Blob,
     test: &PlanTest,
-    endings: &Endings,
+    courses: &Courses,
 ) -> Result<(), NoMemory>
-    ensures { OnOk result (text.new ≡ text.old ++ log_by endings.now test.now) }
+    ensures { OnOk result (text.new ≡ text.old ++ log_by courses.now test.now) }
 {
-    if fails_by(test, ending_at(endings, test.number)) {
+    if fails_by(test, course_at(courses, test.number)) {
         append_logged(alloc, text, test)?;
     }
     Ok(())

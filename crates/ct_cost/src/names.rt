@@ -6,7 +6,7 @@ ghost use Rattle.ct_base.specs.Names.{is_among, with_new_name};
 
 use crate::endings::fails_by;
 use ct_base::{Blob, NoMemory};
-use ct_history::{Endings, PlanTest, ending_at};
+use ct_history::{Courses, PlanTest, course_at};
 use indexmap::IndexSet;
 use std::alloc::Global;
 use std::marker::Model;
@@ -64,12 +64,12 @@ impl Names {
         &mut self,
         alloc: Global,
         tests: &[PlanTest],
-        endings: &Endings,
+        courses: &Courses,
     ) -> Result<(), NoMemory>
-        ensures { OnOk result (self.new ≡ fold (with_failed endings.now) self.old tests.now) }
+        ensures { OnOk result (self.new ≡ fold (with_failed courses.now) self.old tests.now) }
     {
         for test in tests {
-            if fails_by(test, ending_at(endings, test.number)) {
+            if fails_by(test, course_at(courses, test.number)) {
                 self.add(alloc, test.name.bytes())?;
             }
         }

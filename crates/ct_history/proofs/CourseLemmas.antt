@@ -15,12 +15,14 @@ use Rattle.ct_history.specs.declared.plan.PlanTest.{PlanTest}
 use Rattle.ct_history.specs.declared.history.Entry.{Entry}
 use Rattle.ct_history.specs.declared.history.Entry.TheVariants.{Start, End, Settle, Stop}
 use Rattle.ct_history.specs.History.{attempts_of, is_open_in, open_starts, settled_by}
-use Rattle.ct_history.specs.Verdicts.{first_of_list, is_over, last_of_list, settled_cause, settled_or, verdict_in}
-use Rattle.ct_history.specs.Endings.{seen_at_end}
+use Rattle.ct_history.specs.Verdicts.{attempted_verdict, first_of_list, is_final_in, is_over, last_of_list, settled_cause, settled_or, verdict_in}
+use Rattle.ct_history.specs.Endings.{last_seen, seen_at_end}
 use Rattle.ct_history.proofs.AttemptLemmas.{repeated_few, last_or-snoc}
-use Rattle.ct_history.proofs.EndingLemmas.{first_snoc}
+use Rattle.ct_history.proofs.EndingLemmas.{first_snoc, last_attempt, there, verdict_from}
+use Rattle.indexmap.specs.IndexMap.{IndexMap}
+use Rattle.ct_history.specs.declared.course.Course.{Course}
 use Rattle.ct_history.specs.declared.course.Ended.{Ended}
-use Rattle.ct_history.specs.Course.{course_after, course_in, ended_after, ended_in, ended_with, most_attempts_seen, seens_of}
+use Rattle.ct_history.specs.Course.{AreCourses, HaveVerdicts, course_after, course_at, course_in, ended_after, ended_in, ended_with, last_of_course, most_attempts_seen, seens_of, verdict_by}
 use Rattle.ct_history.specs.Seen.{attempted_by, next_attempt, verdict_in_course}
 
 last_there : {A : Type 0} (x : A) (xs : List A) → (y : A) × (last_of_list (x ∷ xs) ≡ Some y)
@@ -115,3 +117,28 @@ pub next_is : (t : PlanTest) (es : List Entry) (attempt : ℕ) → attempt < 2 ^
 next_is t es attempt small =
     next_by (seens_of t.number es) attempt small
     ∙ sym (ap (λ (n : ℕ). attempt == n + 1) (ap length (attempts_are t.number t.rules es) ∙ length-map (seens_of t.number es) (verdict_of t.rules)))
+
+-- a map with one more entry noted has how each test has fared with one more entry
+pub courses_more : {S : Type 0} (old new : IndexMap ℕ Course S) (es : List Entry) (at : ℕ) (e : Entry) → at < length es → e ≡ get_or es at e → AreCourses old (take at es)
+    → ((test : ℕ) → course_at new test ≡ course_after test (course_at old test) e) → AreCourses new (take (at + 1) es)
+courses_more old new es at e within is so_far noted =
+    λ test. noted test ∙ ap (λ course. course_after test course e) (so_far test) ∙ course_more es at e test within is
+
+last_in : (n : ℕ) (o : Option Seen) → option_map (λ (e : Ended). e.last) (option_map (made n) o) ≡ o
+last_in n None = refl
+last_in n (Some seen) = refl
+
+-- what was seen of the last attempt, by how the test has fared
+pub last_is : (es : List Entry) (test : ℕ) → last_of_course (course_in es test) ≡ last_seen test es
+last_is es test = last_in (min (length (seens_of test es) - 1) most_attempts_seen) (last_of_list (seens_of test es))
+
+-- the verdict of a final test follows from how it has fared
+pub final_verdict : (repeat : Repeat) (t : PlanTest) (es : List Entry) → is_final_in repeat t es ≡ true → verdict_by t (course_in es t.number) ≡ verdict_in repeat t es
+final_verdict repeat t es ended =
+    ap (λ (o : Option Seen). if t.disabled then Some Disabled else settled_or (settled_cause t.number es) (option_map (verdict_of t.rules) o)) (last_is es t.number)
+    ∙ verdict_from t.disabled (settled_cause t.number es) (attempted_verdict repeat t es) (option_map (verdict_of t.rules) (last_seen t.number es)) ended
+    (λ some. sym (last_attempt t.number t.rules None es) ∙ there (not (is_open_in t.number es) && is_over repeat (attempts_of t.number t.rules es)) (last_of_list (attempts_of t.number t.rules es)) some)
+
+-- what the map has tells the verdict of each test that is final
+pub verdicts_told : {S : Type 0} (courses : IndexMap ℕ Course S) (es : List Entry) → AreCourses courses es → HaveVerdicts courses es
+verdicts_told courses es are = λ repeat t ended. ap (verdict_by t) (are t.number) ∙ final_verdict repeat t es ended

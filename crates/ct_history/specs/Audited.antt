@@ -9,7 +9,7 @@ use Rattle.ct_history.specs.Rules.{is_idle}
 use Rattle.ct_history.specs.Verdicts.{are_all_final}
 use Rattle.ct_history.specs.Legal.{has_failing, is_stop_due}
 use Rattle.ct_history.specs.declared.audit.Audit.{Audit}
-use Rattle.ct_history.specs.Course.{course_after, course_at, course_in, open_starts_after, runs}
+use Rattle.ct_history.specs.Course.{AreCourses, course_after, course_at, open_starts_after, runs}
 use Rattle.ct_history.specs.Seen.{verdict_in_course}
 
 -- the audit has seen these entries:
@@ -17,7 +17,7 @@ use Rattle.ct_history.specs.Seen.{verdict_in_course}
 -- - whether a test of the plan has a failing verdict, and whether a Stop is due
 pub record IsAuditOf (plan : PlanParts) (entries : List Entry) (audit : Audit) : Type 0 where
   pub opens : runs audit.running.items ≡ open_starts entries
-  pub courses : (test : ℕ) → course_at audit.courses test ≡ course_in entries test
+  pub courses : AreCourses audit.courses entries
   pub stopped : audit.stopped ≡ has_stop entries
   pub failing : audit.failing ≡ has_failing plan entries
   pub due : audit.due ≡ is_stop_due plan entries

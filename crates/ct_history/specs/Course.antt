@@ -1,12 +1,17 @@
 -- How a test has fared so far: what settled it, and what was seen of its attempts. This project's own.
-use Rattle.std.specs.Prelude.{ℕ, ◌+◌, ◌-◌, ◌^◌, min, List, [], ◌++◌, filter, map, length, filter_map, nat_eq, not, ◌&&◌, ◌==◌, ◌∷◌, Option, Some, None, option_map}
+use Rattle.std.specs.Prelude.{◌≡◌, true, if◌then◌else◌, ℕ, ◌+◌, ◌-◌, ◌^◌, min, List, [], ◌++◌, filter, map, length, filter_map, nat_eq, not, ◌&&◌, ◌==◌, ◌∷◌, Option, Some, None, option_map}
 use Rattle.std.specs.Option.{unwrap_or, option_or}
 use Rattle.indexmap.specs.IndexMap.{IndexMap, get}
 use Rattle.ct_verdict.specs.declared.attempt.Seen.{Seen}
+use Rattle.ct_verdict.specs.declared.repeat.Repeat.{Repeat}
+use Rattle.ct_verdict.specs.declared.verdict.Verdict.{Verdict}
+use Rattle.ct_verdict.specs.declared.verdict.Verdict.TheVariants.{Disabled}
+use Rattle.ct_verdict.specs.Verdict.{verdict_of}
+use Rattle.ct_history.specs.declared.plan.PlanTest.{PlanTest}
 use Rattle.ct_history.specs.declared.history.Entry.{Entry}
 use Rattle.ct_history.specs.declared.history.Entry.TheVariants.{Start, End, Settle, Stop}
 use Rattle.ct_history.specs.History.{Running, settled_by}
-use Rattle.ct_history.specs.Verdicts.{last_of_list, settled_cause}
+use Rattle.ct_history.specs.Verdicts.{is_final_in, last_of_list, settled_cause, settled_or, verdict_in}
 use Rattle.ct_history.specs.Endings.{seen_at_end}
 use Rattle.ct_history.specs.declared.course.Course.{Course}
 use Rattle.ct_history.specs.declared.course.Ended.{Ended}
@@ -70,6 +75,27 @@ running_of start = record {
 -- these open starts, as a history has them
 abbrev pub runs : List OpenStart → List Running
 runs starts = map running_of starts
+
+-- what was seen of the last attempt that has ended
+abbrev pub last_of_course : Course → Option Seen
+last_of_course course = option_map (λ (e : Ended). e.last) course.ended
+
+-- the verdict of a test that is final, by how it has fared
+abbrev pub verdict_by : PlanTest → Course → Option Verdict
+verdict_by t course =
+    if t.disabled
+    then Some Disabled
+    else settled_or course.settled (option_map (verdict_of t.rules) (last_of_course course))
+
+-- the map has for each test how it has fared in the history
+abbrev pub AreCourses : {S : Type 0} → IndexMap ℕ Course S → List Entry → Type 0
+AreCourses courses entries = (test : ℕ) → course_at courses test ≡ course_in entries test
+
+-- for each final test, `verdict_by` of what the map has of it is its verdict in the history
+abbrev pub HaveVerdicts : {S : Type 0} → IndexMap ℕ Course S → List Entry → Type 0
+HaveVerdicts courses entries =
+    (repeat : Repeat) (t : PlanTest) → is_final_in repeat t entries ≡ true
+    → verdict_by t (course_at courses t.number) ≡ verdict_in repeat t entries
 
 -- the open starts, with one entry more
 abbrev pub open_starts_after : List OpenStart → Entry → List OpenStart

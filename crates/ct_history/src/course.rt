@@ -1,4 +1,5 @@
-ghost use Rattle.std.specs.Prelude.{◌≡◌, ℕ, OnOk};
+ghost use Rattle.std.specs.Prelude.{◌≡◌, ℕ, IfOk, OnOk, option_map};
+ghost use Rattle.ct_verdict.specs.Verdict.{verdict_of};
 ghost use Rattle.ct_history.specs.Course as Fared;
 ghost use Rattle.ct_history.specs.Seen.{attempted_by, next_attempt, verdict_of_course};
 
@@ -6,27 +7,54 @@ use crate::{Entry, PlanTest};
 use ct_base::NoMemory;
 use ct_verdict::{Cause, Repeat, Rules, Seen, Verdict, one};
 use indexmap::IndexMap;
+use std::alloc::Global;
 
 /// The last attempt of a test that has ended.
 #[derive(Clone, Copy)]
-pub(crate) struct Ended {
+pub struct Ended {
     /// How many attempts ended before it, at most 2^32 - 1.
-    pub(crate) earlier: u32,
-    pub(crate) last: Seen,
+    pub earlier: u32,
+    pub last: Seen,
 }
 
-/// How a test has fared so far.
+/// How a test has fared so far: the cause that it was settled with, and its last attempt.
 #[derive(Clone, Copy)]
-pub(crate) struct Course {
-    pub(crate) settled: Option<Cause>,
-    pub(crate) ended: Option<Ended>,
+pub struct Course {
+    pub settled: Option<Cause>,
+    pub ended: Option<Ended>,
 }
 
 /// How the tests have fared so far, by their numbers.
-pub(crate) type Courses = IndexMap<u32, Course>;
+pub type Courses = IndexMap<u32, Course>;
+
+impl Course {
+    /// Returns what was seen of the last attempt that has ended.
+    pub fn last(&self) -> Option<Seen>
+        ensures { result ≡ Fared.last_of_course self.now }
+    {
+        match self.ended {
+            Some(ended) => Some(ended.last),
+            None => None,
+        }
+    }
+}
+
+/// Reads a history once, and notes how each of its tests has fared.
+///
+/// By how a test has fared `verdict_by` returns its verdict, if the test is final.
+pub fn courses_of(alloc: Global, entries: &[Entry]) -> Result<Courses, NoMemory>
+    ensures are { IfOk result (λ courses. Fared.AreCourses courses entries.now) }
+    ensures verdicts { IfOk result (λ courses. Fared.HaveVerdicts courses entries.now) }
+{
+    let mut courses = IndexMap::new(alloc);
+    for entry in entries {
+        note_course(&mut courses, entry)?;
+    }
+    Ok(courses)
+}
 
 /// Looks up how a test has fared.
-pub(crate) fn course_at(courses: &Courses, test: u32) -> Course
+pub fn course_at(courses: &Courses, test: u32) -> Course
     ensures { result ≡ Fared.course_at courses.now test }
 {
     match courses.get(&test) {
@@ -43,25 +71,9 @@ pub(crate) fn note_course(courses: &mut Courses, entry: &Entry) -> Result<(), No
     ensures { OnOk result ((test : ℕ) → Fared.course_at courses.new test ≡ Fared.course_after test (Fared.course_at courses.old test) entry.now) }
 {
     match entry {
-        Entry::End { test, seen, .. } => {
-            let course = course_at(courses, *test);
-            courses.insert(
-                *test,
-                Course {
-                    settled: course.settled,
-                    ended: Some(ended_after(course.ended, *seen)),
-                },
-            )?;
-        }
-        Entry::Settle { test, cause } => {
-            let course = course_at(courses, *test);
-            courses.insert(
-                *test,
-                Course {
-                    settled: course.settled.or(Some(*cause)),
-                    ended: course.ended,
-                },
-            )?;
+        Entry::End { test, .. } | Entry::Settle { test, .. } => {
+            let course = course_after(course_at(courses, *test), entry, *test);
+            courses.insert(*test, course)?;
         }
         Entry::Start { .. } | Entry::Stop => {}
     }
@@ -156,5 +168,27 @@ fn attempted(repeat: &Repeat, rules: &Rules, is_open: bool, ended: Option<Ended>
                 Some(verdict)
             }
         }
+    }
+}
+
+/// Returns the verdict of a test that is final, by how it has fared.
+pub fn verdict_by(test: &PlanTest, course: Course) -> Option<Verdict>
+    ensures { result ≡ Fared.verdict_by test.now course }
+{
+    if test.disabled {
+        return Some(Verdict::Disabled);
+    }
+    match course.settled {
+        Some(cause) => Some(Verdict::NotRun(cause)),
+        None => last_verdict(&test.rules, course.last()),
+    }
+}
+
+fn last_verdict(rules: &Rules, last: Option<Seen>) -> Option<Verdict>
+    ensures { result ≡ option_map (verdict_of rules.now) last }
+{
+    match last {
+        Some(seen) => Some(one(rules, &seen)),
+        None => None,
     }
 }

@@ -1,16 +1,15 @@
 //! Plans of a run, histories of what happened in it, and what a history says of each test.
 //!
 //! Hands up: `Plan`, `History`, `Board`, `Audit`, which checks a history entry by entry in one pass, `judge`,
-//! `final_verdict`, and `endings_of`, for the verdicts of all tests at once.
+//! `final_verdict`, and `courses_of`, for the verdicts of all tests at once.
 //! It names no crate of the scheduler.
-//! Read first: `specs/History.antt`, `specs/Verdicts.antt`, `specs/Rules.antt`, `specs/Legal.antt`, `specs/Endings.antt`,
+//! Read first: `specs/History.antt`, `specs/Verdicts.antt`, `specs/Rules.antt`, `specs/Legal.antt`, `specs/Course.antt`,
 //! `specs/Audited.antt`.
 #![tactic(auto)]
 
 mod audit;
 mod board;
 mod course;
-mod endings;
 mod exclusion;
 mod history;
 mod legal;
@@ -24,7 +23,7 @@ mod verdicts;
 
 pub use audit::Audit;
 pub use board::{Base, Board};
-pub use endings::{Ending, Endings, ending_at, endings_of, verdict_by};
+pub use course::{Course, Courses, Ended, course_at, courses_of, verdict_by};
 pub use history::{Entry, History};
 pub use legal::judge;
 pub use opened::{holds_start, is_busy};

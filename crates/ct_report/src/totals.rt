@@ -11,7 +11,7 @@ use crate::labels::{LabelCounts, count_test};
 use crate::numbers::append_number_and;
 use crate::verdict_texts::verdict_word;
 use ct_base::{Blob, List, Name, NoMemory};
-use ct_history::{Entry, PlanParts, PlanTest, ending_at, endings_of, is_failing, verdict_by};
+use ct_history::{Entry, PlanParts, PlanTest, course_at, courses_of, is_failing, verdict_by};
 use ct_verdict::{Cause, Verdict};
 use std::alloc::Global;
 use std::collections::BTreeMap;
@@ -40,10 +40,10 @@ pub(crate) fn totals_of(
     requires ended { are_all_final plan.now entries.now ≡ true }
     ensures { IfOk result (λ totals. AreTotals plan.now entries.now plan.now.tests totals) }
 {
-    let endings = endings_of(alloc, entries)?;
+    let courses = courses_of(alloc, entries)?;
     let mut totals = no_totals(alloc);
     for test in plan.tests.as_slice() {
-        let verdict = verdict_by(test, ending_at(&endings, test.number));
+        let verdict = verdict_by(test, course_at(&courses, test.number));
         add_test(alloc, &mut totals, test, verdict)?;
     }
     Ok(totals)

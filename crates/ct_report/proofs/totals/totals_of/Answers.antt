@@ -1,7 +1,7 @@
 use Rattle.std.proofs.Common.{rules, ◌≡◌, ◌∙◌, ◌-◌, ◌^◌, ◌<◌, not, ◌&&◌, ap, subst, length, get_or, List, Option}
 use Rattle.ct_verdict.specs.declared.verdict.Verdict.{Verdict}
 use Rattle.ct_history.specs.declared.plan.PlanTest.{PlanTest}
-use Rattle.ct_history.specs.Endings.{verdict_by}
+use Rattle.ct_history.specs.Course.{verdict_by}
 use Rattle.ct_history.specs.Verdicts.{verdict_in}
 use Rattle.ct_report.specs.Report.{is_good_in, has_label}
 use Rattle.ct_report.specs.Totals.{AddsToTotals}
@@ -30,6 +30,6 @@ loop-test-preserved c =
     let after = c.add_test.new.totals in
     let same : tests ≡ plan.tests = c.as_slice-test-items.ensures in
     let final = final_there plan entries c.loop-test.test-index t c.requires.ended (subst (λ (ts : List PlanTest). c.loop-test.test-index < length ts) same c.loop-test-test.true) (subst (λ (ts : List PlanTest). t ≡ get_or ts c.loop-test.test-index t) same c.test-item.is) in
-    let found : c.verdict_by-verdict.result ≡ verdict_in plan.repeat t entries = c.verdict_by-verdict.ensures ∙ ap (verdict_by t) c.ending_at.ensures ∙ c.in_ok-endings.ensures.verdicts plan.repeat t final in
+    let found : c.verdict_by-verdict.result ≡ verdict_in plan.repeat t entries = c.verdict_by-verdict.ensures ∙ ap (verdict_by t) c.course_at.ensures ∙ c.in_ok-courses.ensures.verdicts plan.repeat t final in
     one_test_more plan entries tests c.loop-test.test-index t c.loop-test-test.true c.test-item.is before after c.loop-test.invariant
     (subst (λ (v : Option Verdict). AddsToTotals t v before after) found c.in_ok-add_test.ensures)

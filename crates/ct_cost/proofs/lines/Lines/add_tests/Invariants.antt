@@ -3,4 +3,4 @@ use Rattle.ct_cost.specs.Endings.{after_ending}
 use Rattle.ct_cost.proofs.lines.Lines.add_tests.Given as goal
 
 abbrev pub invariant-loop-test : goal.invariant-loop-test
-invariant-loop-test l = l.self ≡ fold (after_ending l.endings) l.initial.self (take l.test-index l.tests)
+invariant-loop-test l = l.self ≡ fold (after_ending l.courses) l.initial.self (take l.test-index l.tests)

@@ -3,4 +3,4 @@ use Rattle.ct_cost.specs.Endings.{with_failed}
 use Rattle.ct_cost.proofs.names.Names.add_failed.Given as goal
 
 abbrev pub invariant-loop-test : goal.invariant-loop-test
-invariant-loop-test l = l.self ≡ fold (with_failed l.endings) l.initial.self (take l.test-index l.tests)
+invariant-loop-test l = l.self ≡ fold (with_failed l.courses) l.initial.self (take l.test-index l.tests)
