@@ -17,6 +17,7 @@ use Rattle.ct_report.specs.Report.{report_lines}
 use Rattle.ct_report.proofs.PutLemmas.{lines_none}
 use Rattle.ct_worker.specs.Gates.{AreAsked, Terms}
 use Rattle.ct_worker.proofs.GateLemmas.{asked_none}
+use Rattle.ct_worker.proofs.LentLemmas.{nothing_lent}
 use Rattle.ct_app.specs.declared.outcome.Outcome.{Outcome}
 use Rattle.ct_app.specs.Ends.{PlanEnds, ended_as}
 use Rattle.ct_app.specs.Run.{HasRun, RunEnds}
@@ -59,6 +60,7 @@ unrun terms gates p es none =
       closed = refl;
       workers = refl;
       asked = none_asked terms 0 gates;
+      lent = nothing_lent p gates [];
     })
 
 pub unopened_ends : (sink : SinkTell) (p : PlanParts) (es : List Entry) → es ≡ [] → StopsSo Sinks.NoMemory p es sink sink

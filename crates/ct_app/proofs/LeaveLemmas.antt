@@ -103,6 +103,7 @@ module _ (words : List (List ℕ)) (env : List Pair) (invocation : Invocation) (
           closed = ran.closed;
           workers = ran.workers;
           asked = asked_so ran.asked;
+          lent = ran.lent;
         };
         order = order;
       } in

@@ -52,6 +52,7 @@ module _ (terms : Terms) (count : ℕ) (start core : CoreValue) (sink : SinkTell
     closed = pooled.closed;
     workers = subst (λ (n : ℕ). are_below n new.entries ≡ true) (most ∙ ap (λ (p : PlanParts). min p.level (length gates)) (sym (ap (λ (s : StateValue). s.plan) opened) ∙ sym pooled.plan)) pooled.workers;
     asked = pooled.asked;
+    lent = pooled.lent;
   })
 
   -- the state was opened with the sink as it was at first

@@ -11,11 +11,14 @@ use Rattle.ct_core.specs.Gate.{GateTell}
 use Rattle.ct_report.specs.PutLines.{PutsLines}
 use Rattle.ct_report.specs.Report.{header_line, report_lines, summary_lines, test_lines}
 use Rattle.ct_worker.specs.Gates.{AreAsked, Terms, are_below, had_memory}
+use Rattle.ct_worker.specs.Lent.{AreLent}
 
 -- the tests of a plan ran as far as the history goes:
 -- - it is legal, leaves no start open, and stays within the limits of the plan at each moment;
 -- - its workers are at most as many as the level and the gates;
--- - it agrees with what the gates were asked and told
+-- - it agrees with what the gates were asked and told;
+-- - for each attempt that a gate recorded its worker lent it a pass that held the
+--   attempt's start, all passes of one turn, and the history goes on from what each had seen
 pub record HasRun
     (terms : Terms) (gates_before gates_now : List GateTell) (plan : PlanParts) (entries : List Entry)
     : Type 0 where
@@ -24,6 +27,7 @@ pub record HasRun
   pub closed : open_starts entries ≡ []
   pub workers : are_below (min plan.level (length gates_before)) entries ≡ true
   pub asked : AreAsked terms 0 gates_before gates_now entries
+  pub lent : AreLent plan gates_before gates_now entries
 
 -- where the result is Ok, the run is complete and no attempt lacked memory
 abbrev pub RunEnds : PlanParts → List Entry → Result (Unit {0}) SinkFault → Type 0

@@ -3,6 +3,7 @@ use Rattle.std.specs.Prelude.{◌≡◌, ℕ, ◌≤◌, pos, Bool, true, false,
 use Rattle.ct_base.specs.Outside.{Adds, Becomes, Rose}
 use Rattle.ct_verdict.specs.declared.attempt.How.{How}
 use Rattle.ct_verdict.specs.declared.attempt.How.TheVariants.{Exited, Signalled, TimedOut, NotStarted, Lacks, NoMemory}
+use Rattle.ct_turn.specs.Pass.{PassValue}
 use Rattle.ct_core.specs.declared.gate.Asked.{Asked}
 use Rattle.ct_core.specs.declared.gate.Ended.{Ended}
 use Rattle.ct_core.specs.declared.gate.Request.{Request}
@@ -40,12 +41,14 @@ abbrev pub told : List Told → ℕ → ℕ → Told
 told world test attempt =
     unwrap_or (find (λ (t : Told). t.test == test && t.attempt == attempt) world) (untold test attempt)
 
--- what a gate tells: what each attempt comes to, and the attempts and requests that were
--- run so far, each of the three if it is known; and how many starts and waits failed
+-- what a gate tells: what each attempt comes to, the attempts and requests that were run so
+-- far, and the pass that was lent for each, with all that it had seen. Each of the four is told
+-- if it is known. Then how many starts and waits failed.
 pub record GateTell : Type 0 where
   pub world : Option (List Told)
   pub asked : Option (List Asked)
   pub sent : Option (List Request)
+  pub lent : Option (List PassValue)
   pub faults : ℕ
 
 -- what a gate records of a call that ended like this: the item, or nothing if memory was wanting
@@ -74,15 +77,16 @@ pub record HasStartCause (before now : ℕ) (how : How) : Type 0 where
   pub failed : is_not_started how ≡ true → Rose before now
   pub unfailed : is_not_started how ≡ false → now ≡ before
 
--- a request was run. Unless memory was wanting, the answer and what the ear heard are as the world
--- tells, and the call is recorded. The world stays, and the count of faults follows the answer.
+-- a request was run while this pass was lent. Unless memory was wanting, the answer and what the ear heard
+-- are as the world tells, and the call is recorded. The world stays, and the count of faults follows the answer.
 pub record RunsRequest
-    (request : Request) (before now : GateTell) (heard_before heard_now : List ℕ → Type 0) (ended : Ended)
-    : Type 0 where
+    (pass : PassValue) (request : Request) (before now : GateTell) (heard_before heard_now : List ℕ → Type 0)
+    (ended : Ended) : Type 0 where
   pub told : IsTold before.world request.test request.attempt ended
   pub heard : HearsTold before.world request.test request.attempt ended.how heard_before heard_now
   pub asked :
       Becomes before.asked now.asked (Adds (recorded ended.how (asked_for request.test request.attempt)))
   pub sent : Becomes before.sent now.sent (Adds (recorded ended.how request))
+  pub lent : Becomes before.lent now.lent (Adds (recorded ended.how pass))
   pub world : now.world ≡ before.world
   pub cause : HasStartCause before.faults now.faults ended.how

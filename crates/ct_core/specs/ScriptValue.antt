@@ -2,35 +2,40 @@
 use Rattle.std.specs.Prelude.{◌≡◌, ℕ, ◌+◌, ◌-◌, ◌^◌, min, nat_lt, ◌==◌, Bool, true, false, ◌&&◌, ◌||◌, List, Some, [], ◌∷◌, ◌++◌, if◌then◌else◌}
 use Rattle.std.specs.List.Sorted.{IsPartitionPoint, IsSortedBy}
 use Rattle.ct_verdict.specs.declared.attempt.How.{How}
+use Rattle.ct_turn.specs.Pass.{PassValue}
 use Rattle.ct_core.specs.declared.gate.Asked.{Asked}
 use Rattle.ct_core.specs.declared.gate.Request.{Request}
 use Rattle.ct_core.specs.declared.gate.Told.{Told}
 use Rattle.ct_core.specs.Gate.{GateTell, asked_for, is_not_started}
 
--- the gate's world, the attempts and the requests that it
--- was given so far, and how many attempts were not started
+-- the gate's world, the attempts and the requests that it was given so far,
+-- the pass that it was lent for each, and how many attempts were not started
 pub record ScriptValue : Type 0 where
   pub world : List Told
   pub asked : List Asked
   pub sent : List Request
+  pub lent : List PassValue
   pub faults : ℕ
 
--- what a gate that follows a script tells: its world, its attempts, its requests and its count of faults
+-- what a gate that follows a script tells: its world, its attempts, its
+-- requests, the passes that it was lent, and its count of faults
 abbrev pub told_of_script : ScriptValue → GateTell
 told_of_script gate = record {
   world = Some gate.world;
   asked = Some gate.asked;
   sent = Some gate.sent;
+  lent = Some gate.lent;
   faults = gate.faults;
 }
 
--- the request was recorded, and nothing else changed
-abbrev pub Records : ScriptValue → Request → ScriptValue → Type 0
-Records old request new =
+-- the request was recorded and the pass that was lent for it, and nothing else changed
+abbrev pub Records : ScriptValue → PassValue → Request → ScriptValue → Type 0
+Records old pass request new =
     new
     ≡ record old {
       asked = old.asked ++ asked_for request.test request.attempt ∷ [];
       sent = old.sent ++ request ∷ [];
+      lent = old.lent ++ pass ∷ [];
     }
 
 -- the count of faults rose by one if the attempt was not started, up to 2^64 - 1; nothing else changed

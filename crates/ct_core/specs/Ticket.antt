@@ -4,7 +4,7 @@ use Rattle.ct_alloc.specs.declared.placement.Placement.{Placement}
 use Rattle.ct_verdict.specs.declared.attempt.Seen.{Seen}
 use Rattle.ct_history.specs.declared.history.Entry.{Entry}
 use Rattle.ct_history.specs.declared.history.Entry.TheVariants.{Start, End}
-use Rattle.ct_history.specs.History.{holds_start}
+use Rattle.ct_history.specs.History.{Running, holds_start}
 use Rattle.ct_core.specs.declared.ticket.Ticket.{Ticket}
 
 -- the number of the test
@@ -22,6 +22,15 @@ worker_of ticket = ticket.worker
 -- the placement of the attempt, if it has one
 abbrev pub placement_of : Ticket → Option Placement
 placement_of ticket = ticket.placement
+
+-- the attempt that the ticket stands for
+abbrev pub run_of : Ticket → Running
+run_of ticket = record {
+  test = test_of ticket;
+  attempt = attempt_of ticket;
+  worker = worker_of ticket;
+  placement = placement_of ticket;
+}
 
 -- the Start that gave out the ticket
 abbrev pub start_of : Ticket → Entry

@@ -1,9 +1,11 @@
-ghost use Rattle.std.specs.Prelude.{◌≡◌, IfOk};
+ghost use Rattle.std.specs.Prelude.{◌≡◌, IfOk, None, Some};
+ghost use Rattle.ct_turn.specs.Seen.{held_start};
 ghost use Rattle.ct_core.specs.Gate.{GateTell, RunsRequest, is_no_memory};
-ghost use Rattle.ct_core.specs.Ticket.{attempt_of, test_of};
+ghost use Rattle.ct_core.specs.Ticket.{attempt_of, run_of, test_of};
 
 use crate::Ticket;
 use ct_base::{Blob, Ear, List, Name, NoMemory, Pair, copy_names, copy_pairs};
+use ct_turn::Pass;
 use ct_verdict::How;
 use std::alloc::Global;
 
@@ -80,21 +82,28 @@ pub struct Asked {
 
 /// What runs the programs of tests.
 ///
-/// `tells` has what each attempt comes to, and the attempts and requests that were run so far, each
-/// if the gate tells it. It also has how many starts and waits failed, a count that never falls.
+/// `tells` has what each attempt comes to, the attempts and requests that were run so far, and the
+/// passes that were lent for them, each if the gate tells it. It also has how many starts and waits
+/// failed, a count that never falls.
 pub trait Gate {
     ghost tells: { Self → GateTell };
 
     /// Runs the program of a request, and lets the ear hear its output. It may wait for the program.
+    ///
+    /// Meanwhile the worker lends its pass. The pass does not have the turn, and holds the start of
+    /// the ticket: in all that it has seen of the run, the attempt has begun and has not ended.
     fn run<E: Ear>(
         &mut self,
         alloc: Global,
+        pass: &Pass,
         ticket: &Ticket,
         request: &Request,
         ear: &mut E,
     ) -> Ended
+        requires away { pass.now.taken ≡ None }
+        requires holds { held_start pass.now.known ≡ Some (run_of ticket.now) }
         requires test { request.now.test ≡ test_of ticket.now }
         requires attempt { request.now.attempt ≡ attempt_of ticket.now }
-        ensures runs { RunsRequest request.now (tells self.old) (tells self.new) (E.stands_for ear.old) (E.stands_for ear.new) result }
+        ensures runs { RunsRequest pass.now request.now (tells self.old) (tells self.new) (E.stands_for ear.old) (E.stands_for ear.new) result }
         ensures kept { E.kept ear.new ≡ E.kept ear.old };
 }

@@ -5,28 +5,39 @@ ghost use Rattle.ct_core.specs.ScriptValue.{AreInOrder, IsPlaceInScript, is_befo
 
 use crate::{Asked, Ended, Gate, Request, Ticket, Told, lacks_memory};
 use ct_base::{Ear, List, Name, NoMemory, Pair};
+use ct_turn::Pass;
 use ct_verdict::How;
 use std::alloc::Global;
 use std::marker::Model;
+use std::snapshot::Snapshot;
 
 /// A gate that runs nothing and answers as its world tells.
 ///
 /// If the world is in the order of test and attempt, the time to find an attempt
 /// grows with the logarithm of the world's length, else with its length.
-#[derive(Debug, Drop)]
+#[derive(Drop)]
 pub struct ScriptGate {
     world: World,
     asked: List<Asked>,
     sent: List<Request>,
+    /// The pass that was lent for each attempt, as it was then.
+    lent: List<Snapshot<Pass>>,
     faults: u64,
 }
 
 impl Model for ScriptGate {
+    ghost use Rattle.std.specs.Prelude.{map};
     ghost use Rattle.ct_core.specs.ScriptValue.{ScriptValue};
 
     ghost Value = { ScriptValue };
 
-    ghost view = { λ g. record { world = g.world; asked = g.asked; sent = g.sent; faults = g.faults } };
+    ghost view = { λ g. record {
+      world = g.world;
+      asked = g.asked;
+      sent = g.sent;
+      lent = map (λ pass. pass.value) g.lent;
+      faults = g.faults;
+    } };
 }
 
 impl ScriptGate {
@@ -34,12 +45,13 @@ impl ScriptGate {
 
     /// Makes a gate with this world, which has run no attempt yet.
     pub fn new(alloc: Global, world: List<Told>) -> ScriptGate
-        ensures { result ≡ record { world = world; asked = []; sent = []; faults = 0 } }
+        ensures { result ≡ record { world = world; asked = []; sent = []; lent = []; faults = 0 } }
     {
         ScriptGate {
             world: World::new(world),
             asked: List::new(alloc),
             sent: List::new(alloc),
+            lent: List::new(alloc),
             faults: 0,
         }
     }
@@ -92,22 +104,31 @@ impl ScriptGate {
         }
     }
 
-    /// Records a request and its attempt, or neither if memory is wanting.
-    fn record(&mut self, alloc: Global, request: &Request) -> Result<(), NoMemory>
-        ensures ok { OnOk result (Records self.old request.now self.new) }
+    /// Records a request, its attempt and the pass that is lent for it, or nothing if memory is wanting.
+    fn record(&mut self, alloc: Global, pass: &Pass, request: &Request) -> Result<(), NoMemory>
+        ensures ok { OnOk result (Records self.old pass.now request.now self.new) }
         ensures err { OnErr result (self.new ≡ self.old) }
     {
         let copy = request.copy(alloc)?;
-        let before = self.sent.len();
-        self.sent.push(copy)?;
         let asked = Asked {
             test: request.test,
             attempt: request.attempt,
         };
+        let before = self.sent.len();
+        let lent_before = self.lent.len();
+        self.sent.push(copy)?;
+        match self.lent.push(Snapshot::of(pass)) {
+            Ok(()) => {}
+            Err(NoMemory) => {
+                self.sent.truncate(before);
+                return Err(NoMemory);
+            }
+        }
         match self.asked.push(asked) {
             Ok(()) => Ok(()),
             Err(NoMemory) => {
                 self.sent.truncate(before);
+                self.lent.truncate(lent_before);
                 Err(NoMemory)
             }
         }
@@ -129,6 +150,7 @@ impl Gate for ScriptGate {
     fn run<E: Ear>(
         &mut self,
         alloc: Global,
+        pass: &Pass,
         _ticket: &Ticket,
         request: &Request,
         ear: &mut E,
@@ -137,7 +159,7 @@ impl Gate for ScriptGate {
         if lacks_memory(ended.how) {
             return ended;
         }
-        match self.record(alloc, request) {
+        match self.record(alloc, pass, request) {
             Ok(()) => {
                 self.count(ended.how);
                 ear.hear(self.told_heard(request.test, request.attempt));

@@ -32,4 +32,4 @@ pub use real_sink::RealSink;
 pub use required::first_missing;
 pub use spool::Spool;
 pub use transfer::read_up_to;
-pub use watch::{Running, Started, attend};
+pub use watch::{Program, Running, Started, attend};

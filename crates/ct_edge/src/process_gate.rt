@@ -15,6 +15,7 @@ use crate::start::start;
 use crate::watch::{Running, attend};
 use ct_base::Ear;
 use ct_core::{Ended, Gate, Request, Ticket};
+use ct_turn::Pass;
 use ct_verdict::How;
 use std::alloc::Global;
 use std::marker::Model;
@@ -95,6 +96,7 @@ impl Gate for ProcessGate {
     fn run<E: Ear>(
         &mut self,
         alloc: Global,
+        _pass: &Pass,
         _ticket: &Ticket,
         request: &Request,
         ear: &mut E,

@@ -1,7 +1,8 @@
-ghost use Rattle.std.specs.Prelude.{◌≡◌, ◌≢◌, [], false, IfOk, IfSome, IsOk, IsSome, None, OnOk, Some, true};
+ghost use Rattle.std.specs.Prelude.{◌≡◌, ◌≢◌, [], false, IfOk, IfSome, IsOk, IsSome, IsSomeAnd, None, OnOk, Option, Bool, Some, true};
 ghost use Rattle.std.specs.Io.KnownBytes.{IsAtEnd};
 ghost use Rattle.ct_core.specs.Gate.{is_not_started};
 ghost use Rattle.ct_verdict.specs.declared.attempt.How.TheVariants as Ends;
+ghost use Rattle.std.specs.declared.process.status.ExitStatus.{ExitStatus};
 ghost use Rattle.ct_edge.specs.Heard.{Hears, HearsBoth, known_beside};
 ghost use Rattle.ct_edge.specs.Process.{has_run, how_of_end};
 ghost use Rattle.ct_edge.specs.Transfer.{MovesTo};
@@ -29,28 +30,63 @@ const SHORTEST_PAUSE: u64 = 100;
 const LONGEST_PAUSE: u64 = 20_000;
 
 /// A program that was started, as far as it is stopped and waited for.
+///
+/// `status` is how it ended, where it was waited for. `is_told` is whether it was told to stop.
 pub trait Started {
+    ghost status: { Self → Option ExitStatus };
+
+    ghost is_told: { Self → Bool };
+
     /// Stops the program, if it still runs.
-    fn stop(&mut self) -> io::Result<()>;
+    fn stop(&mut self) -> io::Result<()>
+        ensures told { IfOk result (λ _. is_told self.new ≡ true) };
 
     /// Waits for the end of the program.
-    fn end(&mut self) -> io::Result<ExitStatus>;
+    fn end(&mut self) -> io::Result<ExitStatus>
+        ensures waited { IfOk result (λ ended. status self.new ≡ Some ended) }
+        ensures told { is_told self.new ≡ is_told self.old };
 
     /// Returns how the program ended; `None` if it still runs.
-    fn look(&mut self) -> io::Result<Option<ExitStatus>>;
+    fn look(&mut self) -> io::Result<Option<ExitStatus>>
+        ensures waited { IfOk result (λ ended. status self.new ≡ ended) };
 }
 
-impl Started for Child {
+/// A program of the machine, and whether it was told to stop.
+#[derive(Drop)]
+pub struct Program {
+    child: Child,
+    is_told: bool,
+}
+
+impl Program {
+    /// Takes a program that was started.
+    fn of(child: Child) -> Program {
+        Program {
+            child,
+            is_told: false,
+        }
+    }
+}
+
+impl Started for Program {
+    ghost use Rattle.std.specs.Process.{child_status};
+
+    ghost status = { λ program. child_status program.child };
+
+    ghost is_told = { λ program. program.is_told };
+
     fn stop(&mut self) -> io::Result<()> {
-        self.kill()
+        self.child.kill()?;
+        self.is_told = true;
+        Ok(())
     }
 
     fn end(&mut self) -> io::Result<ExitStatus> {
-        self.wait()
+        self.child.wait()
     }
 
     fn look(&mut self) -> io::Result<Option<ExitStatus>> {
-        self.try_wait()
+        self.child.try_wait()
     }
 }
 
@@ -62,19 +98,19 @@ pub struct Running<S, O, P> {
     pub errors: P,
 }
 
-impl Running<Child, ChildStdout, ChildStderr> {
+impl Running<Program, ChildStdout, ChildStderr> {
     /// Takes the outputs of a program that was started. A program without them is stopped.
-    pub fn of(mut child: Child) -> Result<Running<Child, ChildStdout, ChildStderr>, StartFault>
+    pub fn of(mut child: Child) -> Result<Running<Program, ChildStdout, ChildStderr>, StartFault>
         ensures ok { IsSome child.stdout → IsSome child.stderr → IsOk result }
         ensures output { IfOk result (λ program. child.stdout ≡ Some program.output) }
         ensures errors { IfOk result (λ program. child.stderr ≡ Some program.errors) }
     {
         let (Some(output), Some(errors)) = (child.stdout.take(), child.stderr.take()) else {
-            stop(&mut child)?;
+            stop(&mut Program::of(child))?;
             return Err(StartFault::Failed);
         };
         Ok(Running {
-            child,
+            child: Program::of(child),
             output,
             errors,
         })
@@ -84,9 +120,9 @@ impl Running<Child, ChildStdout, ChildStderr> {
 /// Hands what a program writes to the ear, its standard output while
 /// it runs and then its standard error, and returns how it ended.
 ///
-/// It returns when the program has ended and no process holds its outputs any more. Else
-/// it returns at the limit: it stops the program, and reads its outputs no further. A program
-/// that the system refuses to stop has timed out all the same, and runs on.
+/// It returns when the program has ended and no process holds its outputs any more. Else it returns
+/// at the limit: it stops the program, waits for it, and reads its outputs no further. A program that
+/// the system refuses to stop, or that cannot be waited for, is a fault, and may run on.
 #[tactic(auto, using(crate::proofs::KeepLemmas::hears_both))]
 pub fn attend<C: Clock, S: Started, O: Read + AsRawFd, P: Read + AsRawFd, E: Ear, K: Keep>(
     clock: &C,
@@ -105,14 +141,23 @@ pub fn attend<C: Clock, S: Started, O: Read + AsRawFd, P: Read + AsRawFd, E: Ear
     ensures ran { IfOk result (λ how. has_run how ≡ true) }
     ensures started { IfOk result (λ how. is_not_started how ≡ false) }
     ensures unlimited { IfOk result (λ how. how ≡ Ends.TimedOut → IsSome limit.now) }
+    ensures waited { IfOk result (λ _. IsSome (S.status program.new.child)) }
+    ensures ended { IfOk result (λ how. how ≢ Ends.TimedOut → IsSomeAnd (S.status program.new.child) (λ status. how ≡ how_of_end (Some status))) }
+    ensures stopped { IfOk result (λ how. how ≡ Ends.TimedOut → S.is_told program.new.child ≡ true) }
 {
-    let ended = watch(clock, limit, program, ear, kept);
-    if !matches!(ended, Ok(Some(_))) {
-        let _stopped = stop(&mut program.child);
-    }
-    let how = how_of(ended?);
+    let ended = match watch(clock, limit, program, ear, kept) {
+        Ok(Some(status)) => Some(status),
+        Ok(None) => {
+            stop(&mut program.child)?;
+            None
+        }
+        Err(fault) => {
+            let _stopped = stop(&mut program.child);
+            return Err(fault);
+        }
+    };
     kept.hand_on(ear)?;
-    Ok(how)
+    Ok(how_of(ended))
 }
 
 /// Reads both outputs of a program to their ends and waits for its own end. `None` is the limit.
@@ -129,6 +174,7 @@ fn watch<C: Clock, S: Started, O: Read + AsRawFd, P: Read + AsRawFd, E: Ear, K: 
     ensures output { IfOk result (λ ended. IfSome ended (λ _. IsAtEnd (O.remaining program.new.output))) }
     ensures errors { IfOk result (λ ended. IfSome ended (λ _. IsAtEnd (P.remaining program.new.errors))) }
     ensures unlimited { IfOk result (λ ended. ended ≡ None → IsSome limit.now) }
+    ensures waited { IfOk result (λ ended. IfSome ended (λ status. S.status program.new.child ≡ Some status)) }
 {
     let Running {
         child,
@@ -148,6 +194,7 @@ fn end_of<C: Clock, S: Started>(
     child: &mut S,
 ) -> Result<Option<ExitStatus>, StartFault>
     ensures unlimited { IfOk result (λ ended. ended ≡ None → IsSome limit.now) }
+    ensures waited { IfOk result (λ ended. IfSome ended (λ status. S.status child.new ≡ Some status)) }
 {
     if !limit.is_set() {
         return Ok(Some(child.end()?));
@@ -173,7 +220,10 @@ fn end_of<C: Clock, S: Started>(
 }
 
 /// Stops a program that still runs, and waits for its end.
-fn stop<S: Started>(child: &mut S) -> Result<(), StartFault> {
+fn stop<S: Started>(child: &mut S) -> Result<(), StartFault>
+    ensures told { IfOk result (λ _. S.is_told child.new ≡ true) }
+    ensures waited { IfOk result (λ _. IsSome (S.status child.new)) }
+{
     child.stop()?;
     child.end()?;
     Ok(())

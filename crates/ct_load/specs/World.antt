@@ -24,7 +24,7 @@ world_of count = map load_told (numbers count)
 
 -- a gate of this world that was not asked yet
 abbrev pub gate_of : ℕ → ScriptValue
-gate_of count = record { world = world_of count; asked = []; sent = []; faults = 0 }
+gate_of count = record { world = world_of count; asked = []; sent = []; lent = []; faults = 0 }
 
 -- how many gates a load has
 abbrev pub load_gate_count : ℕ

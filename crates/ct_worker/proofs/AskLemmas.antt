@@ -15,6 +15,7 @@ use Rattle.ct_core.specs.declared.gate.Ended.{Ended}
 use Rattle.ct_core.specs.declared.gate.Request.{Request}
 use Rattle.ct_core.specs.declared.gate.Told.{Told}
 use Rattle.ct_core.specs.Gate.{GateTell, HasStartCause, HearsTold, IsTold, RunsRequest, asked_for, is_no_memory, is_not_started, told}
+use Rattle.ct_turn.specs.Pass.{PassValue}
 use Rattle.ct_report.proofs.PutLemmas.{adds_none}
 use Rattle.ct_worker.specs.Attempt.{AsksNone, AsksOnce, RunsAttempt}
 use Rattle.ct_worker.specs.declared.listener.Listener.{Listener}
@@ -33,15 +34,15 @@ no_memory_starts (Ends.Lacks place) is failed = cc
 no_memory_starts Ends.NoMemory is failed = cc
 
 -- if memory is wanting for the request, the gate is not asked
-pub unasked_attempt : (terms : Terms) (run : Running) (seen : Seen) (tell : GateTell) → is_no_memory seen.how ≡ true → RunsAttempt terms run seen tell tell
-unasked_attempt terms run seen tell lacks = record {
+pub unasked_attempt : (terms : Terms) (pass : PassValue) (run : Running) (seen : Seen) (tell : GateTell) → is_no_memory seen.how ≡ true → RunsAttempt terms pass run seen tell tell
+unasked_attempt terms pass run seen tell lacks = record {
   told = λ memory. absurd (both_ways (is_no_memory seen.how) lacks memory);
-  calls = inr (record { lacks = lacks; asked = adds_none tell.asked; sent = adds_none tell.sent });
+  calls = inr (record { lacks = lacks; asked = adds_none tell.asked; sent = adds_none tell.sent; lent = adds_none tell.lent });
   world = refl;
   cause = record { later = omega arith; failed = λ failed. absurd (no_memory_starts seen.how lacks failed); unfailed = λ passed. refl };
 }
 
-module _ (terms : Terms) (run : Running) (def : TestDef) (own : Props) (there : at_number terms.defs run.test ≡ Some def) (has : at_number terms.props run.test ≡ Some own) (request : Request) (is_of : IsRequestOf terms def own run request) (old new : GateTell) (before ear : Listener) (fresh : ListensFor before []) (mine : before.props.now ≡ own) (kept : ear.props.now ≡ before.props.now) (ended : Ended) (seen : Seen) (runs : RunsRequest request old new (ListensFor before) (ListensFor ear) ended) (sees : (text : List ℕ) → ListensFor ear text → seen ≡ seen_of ear.props.now text ended) (how : seen.how ≡ ended.how) where
+module _ (terms : Terms) (pass : PassValue) (run : Running) (def : TestDef) (own : Props) (there : at_number terms.defs run.test ≡ Some def) (has : at_number terms.props run.test ≡ Some own) (request : Request) (is_of : IsRequestOf terms def own run request) (old new : GateTell) (before ear : Listener) (fresh : ListensFor before []) (mine : before.props.now ≡ own) (kept : ear.props.now ≡ before.props.now) (ended : Ended) (seen : Seen) (runs : RunsRequest pass request old new (ListensFor before) (ListensFor ear) ended) (sees : (text : List ℕ) → ListensFor ear text → seen ≡ seen_of ear.props.now text ended) (how : seen.how ≡ ended.how) where
   test_is : request.test ≡ run.test
   test_is = ap (λ (r : Request). r.test) is_of.is
 
@@ -80,12 +81,13 @@ module _ (terms : Terms) (run : Running) (def : TestDef) (own : Props) (there : 
       subst (λ (o : Option TestDef). IsSomeAnd o (λ d. IsSomeAnd (at_number terms.props run.test) (λ x. IsRequestOf terms d x run request))) (sym there)
       (subst (λ (o : Option Props). IsSomeAnd o (λ x. IsRequestOf terms def x run request)) (sym has) is_of)
 
-  calls : AsksOnce terms run seen.how old new ⊎ AsksNone seen.how old new
+  calls : AsksOnce terms pass run seen.how old new ⊎ AsksNone seen.how old new
   calls = elim (cases_Bool (is_no_memory ended.how)) [
     | inl lacks ↦ inr (record {
       lacks = ap is_no_memory how ∙ lacks;
       asked = subst (λ (b : Bool). Becomes old.asked new.asked (Adds (cond b [] (asked_for request.test request.attempt ∷ [])))) lacks runs.asked;
       sent = subst (λ (b : Bool). Becomes old.sent new.sent (Adds (cond b [] (request ∷ [])))) lacks runs.sent;
+      lent = subst (λ (b : Bool). Becomes old.lent new.lent (Adds (cond b [] (pass ∷ [])))) lacks runs.lent;
     })
     | inr memory ↦ inl (record {
       had = ap is_no_memory how ∙ memory;
@@ -93,11 +95,12 @@ module _ (terms : Terms) (run : Running) (def : TestDef) (own : Props) (there : 
       is = request_is;
       asked = subst (λ (x : Asked). Becomes old.asked new.asked (Adds (x ∷ []))) asked_is (subst (λ (b : Bool). Becomes old.asked new.asked (Adds (cond b [] (asked_for request.test request.attempt ∷ [])))) memory runs.asked);
       sent = subst (λ (b : Bool). Becomes old.sent new.sent (Adds (cond b [] (request ∷ [])))) memory runs.sent;
+      lent = subst (λ (b : Bool). Becomes old.lent new.lent (Adds (cond b [] (pass ∷ [])))) memory runs.lent;
     })
   ]
 
   -- the gate is asked once, unless memory is wanting
-  pub ran_attempt : RunsAttempt terms run seen old new
+  pub ran_attempt : RunsAttempt terms pass run seen old new
   ran_attempt = record {
     told = told_seen;
     calls = calls;

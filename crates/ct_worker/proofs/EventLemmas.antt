@@ -24,7 +24,7 @@ use Rattle.ct_core.specs.declared.ticket.Ticket.{Ticket}
 use Rattle.ct_core.specs.Core.{SettlesLeast, StartsFirst, with_due_stop}
 use Rattle.ct_core.specs.CoreValue.{CoreValue}
 use Rattle.ct_core.specs.Gate.{is_no_memory}
-use Rattle.ct_core.specs.Ticket.{end_of, holds_ticket, start_of, test_of}
+use Rattle.ct_core.specs.Ticket.{end_of, holds_ticket, run_of, start_of, test_of}
 use Rattle.ct_turn.specs.declared.view.Known.{Known}
 use Rattle.ct_turn.specs.declared.view.Moment.{Moment}
 use Rattle.ct_turn.specs.Pass.{PassValue, idle_pass}
@@ -33,7 +33,6 @@ use Rattle.ct_turn.proofs.CallerLemmas.{adds_none, adds_one, end_holds_none, hol
 use Rattle.ct_turn.proofs.StartLemmas.{start_stays}
 use Rattle.ct_worker.specs.declared.state.Halt.{Halt}
 use Rattle.ct_worker.specs.declared.state.Halt.TheVariants.{Memory}
-use Rattle.ct_worker.specs.Attempt.{run_of}
 use Rattle.ct_worker.specs.State.{EndsSo, IsFinished, IsStateNext, StateValue, base_of, core_of}
 use Rattle.ct_worker.specs.Work.{AsksNext, EndsOwn, SeesNext, Stays}
 use Rattle.ct_worker.proofs.StopLemmas.{due_keeps}

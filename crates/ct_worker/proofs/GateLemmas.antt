@@ -20,6 +20,7 @@ use Rattle.ct_core.specs.declared.gate.Asked.{Asked}
 use Rattle.ct_core.specs.declared.gate.Request.{Request}
 use Rattle.ct_core.specs.declared.gate.Told.{Told}
 use Rattle.ct_core.specs.Gate.{GateTell, asked_for, is_no_memory, is_not_started}
+use Rattle.ct_turn.specs.Pass.{PassValue}
 use Rattle.ct_turn.specs.Seen.{is_by}
 use Rattle.ct_report.proofs.PutLemmas.{adds_none, adds_then_adds}
 use Rattle.ct_worker.specs.Attempt.{AsksNone, AsksOnce, RunsAttempt}
@@ -224,8 +225,8 @@ module _ (t a w : ℕ) (p : Option Placement) (seen : Seen) (mid : List Entry) (
       by_memory true = refl
       by_memory false = refl
 
-  asked_one : (terms : Terms) (old new : GateTell) → RunsAttempt terms run seen old new → IsAsked terms w old new entries
-  asked_one terms old new ran = by_calls ran.calls
+  asked_one : (terms : Terms) (pass : PassValue) (old new : GateTell) → RunsAttempt terms pass run seen old new → IsAsked terms w old new entries
+  asked_one terms pass old new ran = by_calls ran.calls
     where
       by_world : (o : Option (List Told)) → (is_no_memory seen.how ≡ false → IfSome o (λ world. SeesTold terms.props world t a seen)) → IfSome o (λ world. SawAllTold terms.props world w entries)
       by_world None says = tt
@@ -248,7 +249,7 @@ module _ (t a w : ℕ) (p : Option Placement) (seen : Seen) (mid : List Entry) (
         unstarted = counts;
       }
 
-      by_calls : (AsksOnce terms run seen.how old new ⊎ AsksNone seen.how old new) → IsAsked terms w old new entries
+      by_calls : (AsksOnce terms pass run seen.how old new ⊎ AsksNone seen.how old new) → IsAsked terms w old new entries
       by_calls (inl once) =
           let ended : asked_run run ∷ [] ≡ ended_with_memory w entries = sym (ended-one ∙ ap (λ (b : Bool). cond (not b) (asked_run run ∷ []) []) once.had) in
           with_runs (run ∷ []) (once.request ∷ []) (inl (refl, refl)) ended (once.is, tt) once.asked once.sent
@@ -265,5 +266,5 @@ pub asked_others : (terms : Terms) (w : ℕ) (start gate : GateTell) (es more : 
 asked_others terms w start gate es more others was = asked_then terms w start gate gate es more was (unasked w terms gate more others)
 
 -- a gate was asked for one more attempt, and other workers went on between its Start and its End
-pub asked_attempt : (terms : Terms) (w : ℕ) (start old new : GateTell) (es mid : List Entry) (t a : ℕ) (p : Option Placement) (seen : Seen) → list_any (is_by w) mid ≡ false → IsAsked terms w start old es → RunsAttempt terms (record { test = t; attempt = a; worker = w; placement = p }) seen old new → IsAsked terms w start new (es ++ (Start t a w p ∷ (mid ++ End t a w seen ∷ [])))
-asked_attempt terms w start old new es mid t a p seen others was ran = asked_then terms w start old new es (Start t a w p ∷ (mid ++ End t a w seen ∷ [])) was (asked_one t a w p seen mid others terms old new ran)
+pub asked_attempt : (terms : Terms) (pass : PassValue) (w : ℕ) (start old new : GateTell) (es mid : List Entry) (t a : ℕ) (p : Option Placement) (seen : Seen) → list_any (is_by w) mid ≡ false → IsAsked terms w start old es → RunsAttempt terms pass (record { test = t; attempt = a; worker = w; placement = p }) seen old new → IsAsked terms w start new (es ++ (Start t a w p ∷ (mid ++ End t a w seen ∷ [])))
+asked_attempt terms pass w start old new es mid t a p seen others was ran = asked_then terms w start old new es (Start t a w p ∷ (mid ++ End t a w seen ∷ [])) was (asked_one t a w p seen mid others terms pass old new ran)

@@ -2,6 +2,7 @@
 pub mod ListenerLemmas
 pub mod AskLemmas
 pub mod GateLemmas
+pub mod LentLemmas
 pub mod StopLemmas
 pub mod LineLemmas
 pub mod StateLemmas
@@ -12,3 +13,4 @@ pub mod CrewLemmas
 pub mod CrossLemmas
 pub mod PartLemmas
 pub mod PoolLemmas
+pub mod RunLemmas

@@ -4,6 +4,7 @@ use Rattle.std.specs.Prelude.{⊤, None, All}
 use Rattle.std.specs.List.{remove}
 use Rattle.std.proofs.Math.ListN.{get_or, take}
 use Rattle.std.proofs.lemmas.List.Elements.{All-cons, All-nil}
+use Rattle.atomic_table.specs.Seated.{TableId}
 use Rattle.ct_history.specs.declared.board.Base.{Base}
 use Rattle.ct_history.specs.declared.plan.PlanParts.{PlanParts}
 use Rattle.ct_history.specs.declared.history.Entry.{Entry}
@@ -15,6 +16,7 @@ use Rattle.ct_turn.specs.Turn.{TurnValue}
 use Rattle.ct_worker.specs.declared.jobs.Jobs.{Jobs}
 use Rattle.ct_worker.specs.Crew.{AllTookPart, AreReady, AreSplit, HasSplit, IsIdle, IsReady, TookPart, having_made}
 use Rattle.ct_worker.specs.Gates.{IsAsked, Terms}
+use Rattle.ct_worker.specs.Lent.{IsLentEach}
 use Rattle.ct_worker.specs.Work.{IsEnded, Reach, terms_in}
 use Rattle.ct_history.specs.History.{open_start_of_worker}
 
@@ -94,11 +96,40 @@ worked_split jobs turn known w (old ∷ olds) (new ∷ news) (before ∷ befores
   worked_split jobs turn known (w + 1) olds news befores nows seen are.1 part.1,
 )
 
+-- each worker from this one on lent its gate its pass for each attempt
+abbrev pub AllHaveLent : TableId → PlanParts → ℕ → List PassValue → List GateTell → List GateTell → Type 0
+AllHaveLent turn plan w [] [] [] = ⊤
+AllHaveLent turn plan w [] [] (now ∷ nows) = ⊥
+AllHaveLent turn plan w [] (before ∷ befores) nows = ⊥
+AllHaveLent turn plan w (pass ∷ passes) [] nows = ⊥
+AllHaveLent turn plan w (pass ∷ passes) (before ∷ befores) [] = ⊥
+AllHaveLent turn plan w (pass ∷ passes) (before ∷ befores) (now ∷ nows) = IsLentEach turn plan w before now pass.known.seen.entries × AllHaveLent turn plan (w + 1) passes befores nows
+
+lent_one : (jobs : Jobs) (turn : TurnValue) (plan : PlanParts) (w : ℕ) (old new : PassValue) (before now : GateTell) → old.turn ≡ turn.id → old.known.worker ≡ w → old.known.plan ≡ plan → TookPart jobs old new before now → IsLentEach turn.id plan w before now new.known.seen.entries
+lent_one jobs turn plan w old new before now belongs number planned part =
+    subst (λ (v : ℕ). IsLentEach turn.id plan v before now new.known.seen.entries) number
+    (subst (λ (p : PlanParts). IsLentEach turn.id p old.known.worker before now new.known.seen.entries) planned
+    (subst (λ (t : TableId). IsLentEach t old.known.plan old.known.worker before now new.known.seen.entries) belongs part.along.lent))
+
+lent_split : (jobs : Jobs) (turn : TurnValue) (known : Known) (w : ℕ) (olds news : List PassValue) (befores nows : List GateTell) → AreSplit turn known w olds → AllTookPart jobs olds news befores nows → AllHaveLent turn.id known.plan w news befores nows
+lent_split jobs turn known w [] [] [] [] are part = tt
+lent_split jobs turn known w [] [] [] (now ∷ nows) are part = absurd part
+lent_split jobs turn known w [] [] (before ∷ befores) nows are part = absurd part
+lent_split jobs turn known w [] (new ∷ news) befores nows are part = absurd part
+lent_split jobs turn known w (old ∷ olds) [] befores nows are part = absurd part
+lent_split jobs turn known w (old ∷ olds) (new ∷ news) [] nows are part = absurd part
+lent_split jobs turn known w (old ∷ olds) (new ∷ news) (before ∷ befores) [] are part = absurd part
+lent_split jobs turn known w (old ∷ olds) (new ∷ news) (before ∷ befores) (now ∷ nows) are part = (
+  lent_one jobs turn known.plan w old new before now (ap (λ (q : PassValue). q.turn) are.0) (ap (λ (q : PassValue). q.known.worker) are.0) (ap (λ (q : PassValue). q.known.plan) are.0) part.0,
+  lent_split jobs turn known (w + 1) olds news befores nows are.1 part.1,
+)
+
 -- the pass of worker 0 and the `count` others behind their work
 pub record Parted (jobs : Jobs) (turn : TurnValue) (plan : PlanParts) (base : Base) (count : ℕ) (first : PassValue) (others : List PassValue) (befores nows : List GateTell) : Type 0 where
   pub known : first.known ≡ has_seen (record (opener plan base) { made = 1 + count }) first.known.seen
   pub ended : IsEnded first
   pub all : AllWorked (terms_in jobs plan) turn 0 (first ∷ others) befores nows
+  pub lent : AllHaveLent turn.id plan 0 (first ∷ others) befores nows
   pub size : length others ≡ count
 
 same_length : (jobs : Jobs) (olds news : List PassValue) (befores nows : List GateTell) → AllTookPart jobs olds news befores nows → length news ≡ length olds
@@ -124,6 +155,10 @@ parted_cons jobs turn plan base count opens old new olds news (before ∷ before
         worked_one jobs turn plan 0 old new before now (ap (λ (q : PassValue). q.turn) own) (ap (λ (q : PassValue). q.taken) own) (ap (λ (q : PassValue). q.known.worker) own)
             (ap (λ (q : PassValue). q.known.seen) own) (ap (λ (q : PassValue). q.known.plan) own) part.0,
         worked_split jobs turn (opener plan base) 1 olds news befores nows refl others part.1,
+      );
+      lent = (
+        lent_one jobs turn plan 0 old new before now (ap (λ (q : PassValue). q.turn) own) (ap (λ (q : PassValue). q.known.worker) own) (ap (λ (q : PassValue). q.known.plan) own) part.0,
+        lent_split jobs turn (opener plan base) 1 olds news befores nows others part.1,
       );
       size = omega (arith, long, size);
     }

@@ -10,6 +10,7 @@ use Rattle.std.proofs.lemmas.Bool.Decides.{nat_tests}
 use Rattle.std.proofs.lemmas.List.{append-nil, map-append}
 use Rattle.std.proofs.lemmas.List.Elements.{All-cons, All-head, All-nil, All-tail}
 use Rattle.std.proofs.lemmas.List.Folds.{list_any-append}
+use Rattle.atomic_table.specs.Seated.{TableId}
 use Rattle.ct_base.proofs.OptionLemmas.{some_is}
 use Rattle.ct_verdict.specs.declared.verdict.Verdict.{Verdict}
 use Rattle.ct_history.specs.declared.board.Base.{Base}
@@ -37,6 +38,7 @@ use Rattle.ct_worker.specs.declared.jobs.Jobs.{Jobs}
 use Rattle.ct_worker.specs.Crew.{IsIdle, all_joined}
 use Rattle.ct_worker.specs.Gates.{AreAsked, IsAsked, Terms, are_below, is_below}
 use Rattle.ct_worker.specs.Halted.{IsHalted}
+use Rattle.ct_worker.specs.Lent.{AreLentEach, IsLentEach}
 use Rattle.ct_worker.specs.Pool.{IsPooled}
 use Rattle.ct_worker.specs.State.{StateValue, base_of, given_up, put_of}
 use Rattle.ct_worker.specs.declared.state.Halt.{Halt}
@@ -45,7 +47,8 @@ use Rattle.ct_worker.specs.Work.{terms_in}
 use Rattle.ct_worker.proofs.CrewLemmas.{joined_worker}
 use Rattle.ct_worker.proofs.EventLemmas.{sight_of}
 use Rattle.ct_worker.proofs.GateLemmas.{asked_none, asked_others}
-use Rattle.ct_worker.proofs.PartLemmas.{AllWorked, Parted, Worked, all_idle, front_of}
+use Rattle.ct_worker.proofs.LentLemmas.{lent_more, none_lent, nothing_lent}
+use Rattle.ct_worker.proofs.PartLemmas.{AllHaveLent, AllWorked, Parted, Worked, all_idle, front_of}
 
 -- what stays when passes are joined
 joined_plan : (keeper : Known) (passes : List PassValue) → (all_joined keeper passes).plan ≡ keeper.plan
@@ -140,6 +143,18 @@ asked_all terms turn w (p ∷ ps) (before ∷ befores) [] rest final all goes no
 asked_all terms turn w (p ∷ ps) (before ∷ befores) (now ∷ nows) rest final all goes none = (
   asked_one terms turn w p before now final all.0 goes.0,
   asked_all terms turn (w + 1) ps befores nows rest final all.1 goes.1 (λ v behind. none v (omega (arith, behind))),
+)
+
+-- the workers' gates were lent their passes, and the gates behind them were lent nothing
+lent_all : (turn : TableId) (plan : PlanParts) (w : ℕ) (passes : List PassValue) (befores nows rest : List GateTell) (final : List Entry) → AllHaveLent turn plan w passes befores nows → AllGo final passes → AreLentEach turn plan w (befores ++ rest) (nows ++ rest) final
+lent_all turn plan w [] [] [] rest final all goes = none_lent turn plan w rest final
+lent_all turn plan w [] [] (now ∷ nows) rest final all goes = absurd all
+lent_all turn plan w [] (before ∷ befores) nows rest final all goes = absurd all
+lent_all turn plan w (p ∷ ps) [] nows rest final all goes = absurd all
+lent_all turn plan w (p ∷ ps) (before ∷ befores) [] rest final all goes = absurd all
+lent_all turn plan w (p ∷ ps) (before ∷ befores) (now ∷ nows) rest final all goes = (
+  subst (λ (es : List Entry). IsLentEach turn plan w before now es) (sym goes.0.is) (lent_more turn plan w before now p.known.seen.entries goes.0.more all.0),
+  lent_all turn plan (w + 1) ps befores nows rest final all.1 goes.1,
 )
 
 -- if no entry is by a worker behind the first ones, each entry is by one of the first
@@ -275,6 +290,10 @@ module _ (jobs : Jobs) (turn : TurnValue) (plan : PlanParts) (base : Base) (coun
         workers = below_all workers new.entries none_behind;
         ended = λ none. subst (λ (p : PlanParts). are_all_final p new.entries ≡ true) (sym new_plan) (ended none);
         asked = asked_all (terms_in jobs plan) turn 0 (first ∷ others) befores nows rest new.entries parts.all goes (λ v behind. none_behind v (omega (arith, behind, many, parts.size)));
+        lent = record {
+          turn = turn.id;
+          each = subst (λ (p : PlanParts). AreLentEach turn.id p 0 (befores ++ rest) (nows ++ rest) new.entries) (sym new_plan) (lent_all turn.id plan 0 (first ∷ others) befores nows rest new.entries parts.lent goes);
+        };
         put = put;
         halted = stops;
       }
@@ -292,6 +311,7 @@ unpooled_is terms workers old new tells fresh going is put stops =
       workers = ap (are_below workers) none;
       ended = λ no. absurd (some_is_none (sym (ap (λ (s : StateValue). s.halt) is ∙ ap (λ (h : Option Halt). option_or h (Some Memory)) going) ∙ no));
       asked = asked_rest terms 0 tells new.entries (λ v behind. ap (list_any (is_by v)) none);
+      lent = nothing_lent new.plan tells new.entries;
       put = put;
       halted = stops;
     }

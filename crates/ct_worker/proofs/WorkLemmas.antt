@@ -11,13 +11,15 @@ use Rattle.ct_core.specs.declared.scheduler.Next.{Next}
 use Rattle.ct_core.specs.declared.scheduler.Next.TheVariants as Nexts
 use Rattle.ct_core.specs.declared.ticket.Ticket.{Ticket}
 use Rattle.ct_core.specs.Gate.{GateTell}
-use Rattle.ct_core.specs.Ticket.{end_of, start_of}
+use Rattle.ct_core.specs.Ticket.{end_of, run_of, start_of}
 use Rattle.ct_turn.specs.Pass.{PassValue}
 use Rattle.ct_turn.specs.Seen.{HistoryGoesOn, has_seen, held_start, is_by}
-use Rattle.ct_worker.specs.Attempt.{RunsAttempt, run_of}
+use Rattle.ct_worker.specs.Attempt.{RunsAttempt}
 use Rattle.ct_worker.specs.Gates.{IsAsked, Terms}
+use Rattle.ct_worker.specs.Lent.{IsLent, IsLentEach}
 use Rattle.ct_worker.specs.Work.{AsksSince, EndsAndAsks, EndsOwn, GoesAlong, IsUnderWay, SeesNext, Starts, Stays}
 use Rattle.ct_worker.proofs.GateLemmas.{asked_attempt, asked_none, asked_others, asked_then}
+use Rattle.ct_worker.proofs.LentLemmas.{lent_attempt, lent_more, lent_none, lent_then}
 use Rattle.ct_worker.proofs.StopLemmas.{due_keeps}
 
 -- while only other workers went on, the gate was not asked
@@ -58,6 +60,7 @@ along_stays terms old new tell pass stays = record {
   pass = pass;
   idle = stays.1;
   asked = asks_none terms old.known.worker tell old.known.seen.entries new.known.seen.entries stays.0;
+  lent = lent_none old.turn old.known.plan old.known.worker tell new.known.seen.entries;
 }
 
 -- at first the worker's gate was asked nothing
@@ -66,19 +69,24 @@ along_none terms pass tell idle = record {
   pass = refl;
   idle = idle;
   asked = record { more = []; is = sym (append-nil pass.known.seen.entries); asked = asked_none terms pass.known.worker tell };
+  lent = lent_none pass.turn pass.known.plan pass.known.worker tell pass.known.seen.entries;
 }
 
 pub along_then : (terms : Terms) (a b c : PassValue) (first second third : GateTell) → GoesAlong terms a b first second → GoesAlong terms b c second third → GoesAlong terms a c first third
 along_then terms a b c first second third one other =
     let worker : b.known.worker ≡ a.known.worker = ap (λ (p : PassValue). p.known.worker) one.pass in
+    let far : IsLentEach a.turn a.known.plan a.known.worker first second c.known.seen.entries = subst (λ (es : List Entry). IsLentEach a.turn a.known.plan a.known.worker first second es) (sym other.asked.is)
+    (lent_more a.turn a.known.plan a.known.worker first second b.known.seen.entries other.asked.more one.lent) in
+    let near : IsLentEach a.turn a.known.plan a.known.worker second third c.known.seen.entries = subst (λ (p : PassValue). IsLentEach p.turn p.known.plan p.known.worker second third c.known.seen.entries) one.pass other.lent in
     record {
       pass = other.pass ∙ ap (λ (p : PassValue). record p { known = has_seen p.known c.known.seen }) one.pass;
       idle = other.idle;
       asked = asks_then terms a.known.worker first second third a.known.seen.entries b.known.seen.entries c.known.seen.entries one.asked (subst (λ (w : ℕ). AsksSince terms w second third b.known.seen.entries c.known.seen.entries) worker other.asked);
+      lent = lent_then a.turn a.known.plan a.known.worker first second third c.known.seen.entries far near;
     }
 
 -- an attempt was started, run on the gate, and ended
-module _ (terms : Terms) (a b c : PassValue) (ticket : Ticket) (seen : Seen) (old new : GateTell) (pass : b ≡ record a { known = has_seen a.known b.known.seen }) (starts : Starts ticket a b) (runs : RunsAttempt terms (run_of ticket) seen old new) (ends : EndsOwn b ticket seen c) where
+module _ (terms : Terms) (a b c : PassValue) (ticket : Ticket) (seen : Seen) (old new : GateTell) (pass : b ≡ record a { known = has_seen a.known b.known.seen }) (starts : Starts ticket a b) (runs : RunsAttempt terms b (run_of ticket) seen old new) (ends : EndsOwn b ticket seen c) where
   abbrev w : ℕ
   w = a.known.worker
 
@@ -91,9 +99,9 @@ module _ (terms : Terms) (a b c : PassValue) (ticket : Ticket) (seen : Seen) (ol
   attempt_asked : IsAsked terms w old new (starts.went_on.more ++ (start_of ticket ∷ (behind.more ++ end_of ticket seen ∷ [])))
   attempt_asked =
       subst (λ (v : ℕ). IsAsked terms w old new (starts.went_on.more ++ (Is.Start ticket.test ticket.attempt v ticket.placement ∷ (behind.more ++ Is.End ticket.test ticket.attempt v seen ∷ [])))) (sym starts.by)
-      (asked_attempt terms w old old new starts.went_on.more behind.more ticket.test ticket.attempt ticket.placement seen behind.others
+      (asked_attempt terms b w old old new starts.went_on.more behind.more ticket.test ticket.attempt ticket.placement seen behind.others
       (asked_others terms w old old [] starts.went_on.more starts.went_on.others (asked_none terms w old))
-      (subst (λ (v : ℕ). RunsAttempt terms (record { test = ticket.test; attempt = ticket.attempt; worker = v; placement = ticket.placement }) seen old new) starts.by runs))
+      (subst (λ (v : ℕ). RunsAttempt terms b (record { test = ticket.test; attempt = ticket.attempt; worker = v; placement = ticket.placement }) seen old new) starts.by runs))
 
   entries_are : ends.others ++ end_of ticket seen ∷ [] ≡ a.known.seen.entries ++ (starts.went_on.more ++ (start_of ticket ∷ (behind.more ++ end_of ticket seen ∷ [])))
   entries_are =
@@ -105,6 +113,20 @@ module _ (terms : Terms) (a b c : PassValue) (ticket : Ticket) (seen : Seen) (ol
   asks_attempt : AsksSince terms w old new a.known.seen.entries (ends.others ++ end_of ticket seen ∷ [])
   asks_attempt = record { more = starts.went_on.more ++ (start_of ticket ∷ (behind.more ++ end_of ticket seen ∷ [])); is = entries_are; asked = attempt_asked }
 
+  -- the pass that was lent for the attempt had seen its start, and has seen its end since
+  is_lent : IsLent a.turn a.known.plan w (ends.others ++ end_of ticket seen ∷ []) (run_of ticket) b
+  is_lent = record {
+    belongs = ap (λ (p : PassValue). p.turn) pass;
+    planned = ap (λ (p : PassValue). p.known.plan) pass;
+    by = same_worker;
+    holds = starts.holds;
+    behind = behind.more ++ end_of ticket seen ∷ [];
+    goes_on = ap (λ (es : List Entry). es ++ end_of ticket seen ∷ []) behind.is ∙ append_assoc b.known.seen.entries behind.more (end_of ticket seen ∷ []);
+  }
+
+  lends_attempt : IsLentEach a.turn a.known.plan w old new (ends.others ++ end_of ticket seen ∷ [])
+  lends_attempt = lent_attempt a.turn a.known.plan w terms b (run_of ticket) seen old new (ends.others ++ end_of ticket seen ∷ []) is_lent runs
+
   pub along_attempt : GoesAlong terms a c old new
   along_attempt = record {
     pass = ends.pass ∙ ap (λ (p : PassValue). record p { known = has_seen p.known c.known.seen }) pass;
@@ -112,6 +134,9 @@ module _ (terms : Terms) (a b c : PassValue) (ticket : Ticket) (seen : Seen) (ol
     asked = subst (λ (es : List Entry). AsksSince terms w old new a.known.seen.entries es) (sym ends.ended)
         (due_keeps b.known.plan (ends.others ++ end_of ticket seen ∷ []) (λ xs. AsksSince terms w old new a.known.seen.entries xs) asks_attempt
         (asks_more terms w old new a.known.seen.entries (ends.others ++ end_of ticket seen ∷ []) (Is.Stop ∷ []) refl asks_attempt));
+    lent = subst (λ (es : List Entry). IsLentEach a.turn a.known.plan w old new es) (sym ends.ended)
+        (due_keeps b.known.plan (ends.others ++ end_of ticket seen ∷ []) (λ xs. IsLentEach a.turn a.known.plan w old new xs) lends_attempt
+        (lent_more a.turn a.known.plan w old new (ends.others ++ end_of ticket seen ∷ []) (Is.Stop ∷ []) lends_attempt));
   }
 
 -- after an answer without a ticket, the worker's gate was asked for all that the worker started
@@ -128,7 +153,7 @@ pub way_lends : (terms : Terms) (old now : PassValue) (first second : GateTell) 
 way_lends terms old now first second next lends way is = is ∙ ap (λ (p : PlanParts). is_some p.resources) (way_plan terms old now first second next way)
 
 -- an attempt was run and ended, and the worker asked what is next
-pub way_attempt : (terms : Terms) (old now new : PassValue) (first second third : GateTell) (next then : Next) (ticket : Ticket) (seen : Seen) → (way : IsUnderWay terms old now first second next) → Starts ticket way.before now → RunsAttempt terms (run_of ticket) seen second third → EndsAndAsks now ticket seen then new → IsUnderWay terms old new first third then
+pub way_attempt : (terms : Terms) (old now new : PassValue) (first second third : GateTell) (next then : Next) (ticket : Ticket) (seen : Seen) → (way : IsUnderWay terms old now first second next) → Starts ticket way.before now → RunsAttempt terms now (run_of ticket) seen second third → EndsAndAsks now ticket seen then new → IsUnderWay terms old new first third then
 way_attempt terms old now new first second third next then ticket seen way starts runs ends = record {
   before = ends.middle;
   along = along_then terms old way.before ends.middle first second third way.along (along_attempt terms way.before now ends.middle ticket seen second third way.asked.pass starts runs ends.ended);

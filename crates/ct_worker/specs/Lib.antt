@@ -2,6 +2,7 @@
 pub mod Gates
 pub mod Listener
 pub mod Attempt
+pub mod Lent
 pub mod State
 pub mod Halted
 pub mod Kept

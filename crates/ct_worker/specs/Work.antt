@@ -11,12 +11,12 @@ use Rattle.ct_core.specs.declared.scheduler.Next.TheVariants.{Start, Settled, Wa
 use Rattle.ct_core.specs.declared.ticket.Ticket.{Ticket}
 use Rattle.ct_core.specs.Core.{with_due_stop}
 use Rattle.ct_core.specs.Gate.{GateTell}
-use Rattle.ct_core.specs.Ticket.{end_of, start_of, test_of, worker_of}
+use Rattle.ct_core.specs.Ticket.{end_of, run_of, start_of, test_of, worker_of}
 use Rattle.ct_turn.specs.Pass.{PassValue}
 use Rattle.ct_turn.specs.Seen.{HistoryGoesOn, has_seen, held_start}
 use Rattle.ct_worker.specs.declared.jobs.Jobs.{Jobs}
-use Rattle.ct_worker.specs.Attempt.{run_of}
 use Rattle.ct_worker.specs.Gates.{IsAsked, Terms, terms_of}
+use Rattle.ct_worker.specs.Lent.{IsLentEach}
 
 -- the tests and the properties have the same places, and there is one of each for each test of the plan
 pub record Reach (jobs : Jobs) (plan : PlanParts) : Type 0 where
@@ -36,13 +36,15 @@ pub record AsksSince (terms : Terms) (worker : ℕ) (gate_before gate_now : Gate
   pub is : now ≡ before ++ more
   pub asked : IsAsked terms worker gate_before gate_now more
 
--- the pass has only seen more, and holds no start; its
--- worker's gate was asked for what the worker started
+-- the pass has only seen more, and holds no start; its worker's gate was asked for
+-- what the worker started, and was lent the worker's pass for each attempt
 pub record GoesAlong (terms : Terms) (old new : PassValue) (gate_before gate_now : GateTell) : Type 0 where
   pub pass : new ≡ record old { known = has_seen old.known new.known.seen }
   pub idle : held_start new.known ≡ None
   pub asked :
       AsksSince terms old.known.worker gate_before gate_now old.known.seen.entries new.known.seen.entries
+  pub lent :
+      IsLentEach old.turn old.known.plan old.known.worker gate_before gate_now new.known.seen.entries
 
 -- nothing is left to do: each test is final in what the pass has seen, or the run was given up there
 abbrev pub IsEnded : PassValue → Type 0

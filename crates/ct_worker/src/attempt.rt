@@ -1,9 +1,10 @@
-ghost use Rattle.std.specs.Prelude.{◌≡◌, ◌≤◌, true, IfOk, length, unwrap_or};
+ghost use Rattle.std.specs.Prelude.{◌≡◌, ◌≤◌, true, IfOk, None, Some, length, unwrap_or};
 ghost use Rattle.std.specs.Option.{option_copied};
 ghost use Rattle.ct_env.specs.Environment.{IsEnvironment};
 ghost use Rattle.ct_core.specs.Gate.{is_no_memory};
-ghost use Rattle.ct_core.specs.Ticket.{test_of};
-ghost use Rattle.ct_worker.specs.Attempt.{RunsAttempt, run_of};
+ghost use Rattle.ct_core.specs.Ticket.{run_of, test_of};
+ghost use Rattle.ct_turn.specs.Seen.{held_start};
+ghost use Rattle.ct_worker.specs.Attempt.{RunsAttempt};
 ghost use Rattle.ct_worker.specs.Gates.{IsRequestOf, limit_of, placement_shown, terms_of};
 
 use crate::Jobs;
@@ -13,24 +14,29 @@ use ct_base::{List, NoMemory, Pair, TestDef, copy_names};
 use ct_core::{Gate, Request, Ticket};
 use ct_env::environment;
 use ct_props::Props;
+use ct_turn::Pass;
 use ct_verdict::{How, Seen};
 use std::alloc::Global;
 
 /// Asks the gate to run the attempt of a ticket, and returns what is seen of it.
 ///
 /// All memory that the attempt wants is taken first. If it is wanting, the
-/// gate is not asked. `lends` is whether resources are lent.
+/// gate is not asked. `lends` is whether resources are lent. Meanwhile the gate
+/// is lent the worker's pass, which holds the attempt's start.
 pub(crate) fn ask<G: Gate>(
     alloc: Global,
+    pass: &Pass,
     ticket: &Ticket,
     jobs: &Jobs<'_>,
     lends: bool,
     gate: &mut G,
 ) -> Seen
+    requires away { pass.now.taken ≡ None }
+    requires holds { held_start pass.now.known ≡ Some (run_of ticket.now) }
     requires low { 1 ≤ test_of ticket.now }
     requires def { test_of ticket.now ≤ length jobs.now.defs.now }
     requires props { test_of ticket.now ≤ length jobs.now.props.now }
-    ensures { RunsAttempt (terms_of jobs.now lends) (run_of ticket.now) result (G.tells gate.old) (G.tells gate.new) }
+    ensures { RunsAttempt (terms_of jobs.now lends) pass.now (run_of ticket.now) result (G.tells gate.old) (G.tells gate.new) }
 {
     let def = jobs.def(ticket.test());
     let props = jobs.props(ticket.test());
@@ -40,7 +46,7 @@ pub(crate) fn ask<G: Gate>(
     let Ok(mut ear) = Listener::new(alloc, props) else {
         return unasked();
     };
-    let ended = gate.run(alloc, ticket, &request, &mut ear);
+    let ended = gate.run(alloc, pass, ticket, &request, &mut ear);
     ear.seen(ended)
 }
 

@@ -2,14 +2,15 @@
 //! each runs the attempts that it starts on its own gate.
 //!
 //! Hands up: `State`, the core of a run with the sink for its lines; `Jobs`, what workers
-//! have to know of the tests; `work` and `pool`, the work of one worker and of all.
-//! Read first: `specs/Gates.antt`, `specs/State.antt`,
+//! have to know of the tests; `work` and `pool`, the work of one worker and of all; `laws`.
+//! Read first: `specs/Gates.antt`, `specs/Lent.antt`, `specs/State.antt`,
 //! `specs/Halted.antt`; then `state.rt`, `worker.rt`, `crew.rt`.
 #![tactic(auto)]
 
 mod attempt;
 mod crew;
 mod jobs;
+pub mod laws;
 mod lines;
 mod listener;
 mod state;

@@ -1,8 +1,8 @@
 ghost use Rattle.std.specs.Prelude.{◌≡◌, None, Some, false, is_some, true};
 ghost use Rattle.ct_history.specs.History.{is_busy_in};
 ghost use Rattle.ct_history.specs.Legal.{is_legal};
+ghost use Rattle.ct_core.specs.Ticket.{run_of};
 ghost use Rattle.ct_turn.specs.Seen.{held_start};
-ghost use Rattle.ct_worker.specs.Attempt.{run_of};
 ghost use Rattle.ct_worker.specs.State.{IsStateNext};
 ghost use Rattle.ct_worker.specs.Work.{AsksNext, EndsAndAsks, GoesAlong, IsEnded, Reach, terms_in};
 
@@ -25,7 +25,7 @@ pub struct Worked<G> {
 /// Takes part in the run as this worker, until every test is final or the run was given up.
 ///
 /// It starts what may start, and runs the program of each attempt on its gate while
-/// others have the turn. If nothing can be done, it waits for an attempt of another
+/// others have the turn. Meanwhile it lends the gate its pass, which holds the start. If nothing can be done, it waits for an attempt of another
 /// worker to end. An attempt for which memory is wanting ends for want of memory.
 pub fn work<R: Wait, G: Gate, S: Sink>(
     rt: &R,
@@ -75,7 +75,7 @@ pub(crate) fn attend<R: Wait, G: Gate, S: Sink>(
         let Answer { next, lends } = answer;
         answer = match next {
             Next::Start(ticket) => {
-                let seen = ask(alloc, &ticket, jobs, lends, gate);
+                let seen = ask(alloc, pass, &ticket, jobs, lends, gate);
                 end(rt, turn, pass, worker, ticket, seen)
             }
             Next::Wait => {

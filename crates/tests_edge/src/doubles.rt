@@ -80,12 +80,25 @@ impl Write for Sip {
 /// A program that exits with 7 and is found ended at the third look. One of its calls fails.
 #[derive(Drop)]
 pub(crate) struct Dummy {
-    pub(crate) looks: u64,
+    looks: u64,
     /// `stop`, `end` or `look`, or another word.
-    pub(crate) fails: &'static str,
+    fails: &'static str,
+    /// How it ended, where it was waited for.
+    status: Option<ExitStatus>,
+    is_told: bool,
 }
 
 impl Dummy {
+    /// Makes the program of which this call fails.
+    pub(crate) fn failing(fails: &'static str) -> Dummy {
+        Dummy {
+            looks: 0,
+            fails,
+            status: None,
+            is_told: false,
+        }
+    }
+
     fn answer<T: Drop>(&self, call: &str, answer: T) -> io::Result<T> {
         if self.fails == call {
             return Err(io::Error::from(ErrorKind::Other));
@@ -95,12 +108,20 @@ impl Dummy {
 }
 
 impl Started for Dummy {
+    ghost status = { λ program. program.status };
+
+    ghost is_told = { λ program. program.is_told };
+
     fn stop(&mut self) -> io::Result<()> {
-        self.answer("stop", ())
+        self.answer("stop", ())?;
+        self.is_told = true;
+        Ok(())
     }
 
     fn end(&mut self) -> io::Result<ExitStatus> {
-        self.answer("end", ExitStatus::from_raw(7 << 8))
+        let status = self.answer("end", ExitStatus::from_raw(7 << 8))?;
+        self.status = Some(status);
+        Ok(status)
     }
 
     fn look(&mut self) -> io::Result<Option<ExitStatus>> {
@@ -110,7 +131,8 @@ impl Started for Dummy {
         } else {
             Some(ExitStatus::from_raw(7 << 8))
         };
-        self.answer("look", ended)
+        self.status = self.answer("look", ended)?;
+        Ok(self.status)
     }
 }
 

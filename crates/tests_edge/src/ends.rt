@@ -19,10 +19,10 @@ none none is Exited(7)
 none 60000000 is Exited(7)
 none 0 is TimedOut
 stop 60000000 is Exited(7)
-stop 0 is TimedOut
+stop 0 is a fault
 end none is a fault
 end 60000000 is Exited(7)
-end 0 is TimedOut
+end 0 is a fault
 look none is Exited(7)
 look 60000000 is a fault
 look 0 is TimedOut
@@ -53,7 +53,7 @@ fn ended<C: Clock>(
     ready: RawFd,
 ) -> Result<String, NoMemory> {
     let mut program = Running {
-        child: Dummy { looks: 0, fails },
+        child: Dummy::failing(fails),
         output: closed(ready),
         errors: closed(ready),
     };

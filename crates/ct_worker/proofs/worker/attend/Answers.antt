@@ -1,7 +1,8 @@
 use Rattle.std.proofs.Common.{◌∙◌, sym, ap, subst, Bool}
 use Rattle.std.specs.Prelude.{is_some}
+use Rattle.ct_core.specs.Ticket.{run_of}
 use Rattle.ct_turn.specs.Pass.{PassValue}
-use Rattle.ct_worker.specs.Attempt.{RunsAttempt, run_of}
+use Rattle.ct_worker.specs.Attempt.{RunsAttempt}
 use Rattle.ct_worker.specs.Gates.{terms_of}
 use Rattle.ct_worker.specs.Work.{GoesAlong, terms_in}
 use Rattle.ct_worker.proofs.WorkLemmas.{along_none, along_then_stays, done_stays, settled_stays, way_attempt, way_lends}
@@ -28,7 +29,7 @@ loop-preserved-in-Start g c =
     let terms = terms_in c.args.jobs.now c.args.pass.now.known.plan in
     let way = c.loop.invariant.0 in
     let starts = rw c.in-Start.is at way.asked.follows in
-    let runs = subst (λ (b : Bool). RunsAttempt (terms_of c.args.jobs.now b) (run_of c.in-Start.ticket) c.ask-seen.result (g.G.Gate.tells c.loop.gate) (g.G.Gate.tells c.ask-seen.new.gate)) c.loop.invariant.1 c.ask-seen.ensures in (
+    let runs = subst (λ (b : Bool). RunsAttempt (terms_of c.args.jobs.now b) c.loop.pass (run_of c.in-Start.ticket) c.ask-seen.result (g.G.Gate.tells c.loop.gate) (g.G.Gate.tells c.ask-seen.new.gate)) c.loop.invariant.1 c.ask-seen.ensures in (
       way_attempt terms c.args.pass.now c.loop.pass c.end.new.pass (g.G.Gate.tells c.args.gate.now) (g.G.Gate.tells c.loop.gate) (g.G.Gate.tells c.ask-seen.new.gate) c.loop.answer.next c.end.result.next c.in-Start.ticket c.ask-seen.result way starts runs c.end.ensures.ends,
       way_lends terms c.args.pass.now c.loop.pass (g.G.Gate.tells c.args.gate.now) (g.G.Gate.tells c.loop.gate) c.loop.answer.next c.end.result.lends way c.end.ensures.lends,
     )
