@@ -1,11 +1,11 @@
 //! Loads: runs of many generated tests.
 
-use crate::calls::status_told;
+use crate::calls::{Machine, status_told};
 use ct_base::NoMemory;
 use ct_load::load_main;
 use std::alloc::Global;
 use std::test::Fail;
-use tests_calls::{Machine, sink_failing_at, words_of};
+use tests_calls::{sink_failing_at, words_of};
 
 /// Loads. The cells of a row are:
 /// - the number of the put that fails, if one does;

@@ -1,104 +1,91 @@
-//! Whole runs on gates of their own: of programs that write much, and of one for which memory is wanting.
+//! Whole runs of programs that write much.
 
 ghost use Rattle.std.specs.Prelude.{◌≡◌, None};
 
-use crate::calls::{happened, name_of, run_on};
+use crate::calls::{Machine, expect, happened, name_of, run_on};
 use ct_app::Finished;
 use ct_base::{Ear, MemFiles, MemSink};
 use ct_core::{Ended, Gate, Request, Ticket};
+use ct_turn::Pass;
 use ct_verdict::How;
 use std::alloc::{AllocError, Global};
 use std::test::Fail;
-use tests_calls::{CallRow, Machine, calls_of, expect, written};
+use tests_calls::{CallRow, calls_of, written};
 
 /// A run of a test that writes 64 MiB of `x` and then `done`, the last word in two pieces.
 const ENDS: &str = "
-=== a pattern at the end
----
-add_test(t p)
-set_tests_properties(t PROPERTIES PASS_REGULAR_EXPRESSION \"done$\")
->>>
-Completed, status 0
-Start 1/1
-End 1/1
-Test project .
-1/1 Test #1: t ... Passed 0.00 sec
+row a pattern at the end
+file ./CTestTestfile.cmake
+    add_test(t p)
+    set_tests_properties(t PROPERTIES PASS_REGULAR_EXPRESSION \"done$\")
+call ctest
+want told
+    Completed, status 0
+    Start 1/1
+    End 1/1
+    Test project .
+    1/1 Test #1: t ... Passed 0.00 sec
 
-100% tests passed, 0 tests failed out of 1
+    100% tests passed, 0 tests failed out of 1
 ";
 
 /// A run of the same test with another pattern.
 const BEGINS: &str = "
-=== a pattern at the beginning
----
-add_test(t p)
-set_tests_properties(t PROPERTIES PASS_REGULAR_EXPRESSION \"^done\")
->>>
-Completed, status 8
-Start 1/1
-End 1/1
-Test project .
-1/1 Test #1: t ... ***Failed 0.00 sec
+row a pattern at the beginning
+file ./CTestTestfile.cmake
+    add_test(t p)
+    set_tests_properties(t PROPERTIES PASS_REGULAR_EXPRESSION \"^done\")
+call ctest
+want told
+    Completed, status 8
+    Start 1/1
+    End 1/1
+    Test project .
+    1/1 Test #1: t ... ***Failed 0.00 sec
 
-0% tests passed, 1 tests failed out of 1
+    0% tests passed, 1 tests failed out of 1
 
-The following tests FAILED:
-\t1 - t (Failed)
-Errors while running CTest
+    The following tests FAILED:
+    \t1 - t (Failed)
+    Errors while running CTest
 ";
 
 /// A run of the same test with a third pattern.
 const ACROSS: &str = "
-=== a pattern across two pieces
----
-add_test(t p)
-set_tests_properties(t PROPERTIES FAIL_REGULAR_EXPRESSION \"xdo\")
->>>
-Completed, status 8
-Start 1/1
-End 1/1
-Test project .
-1/1 Test #1: t ... ***Failed 0.00 sec
+row a pattern across two pieces
+file ./CTestTestfile.cmake
+    add_test(t p)
+    set_tests_properties(t PROPERTIES FAIL_REGULAR_EXPRESSION \"xdo\")
+call ctest
+want told
+    Completed, status 8
+    Start 1/1
+    End 1/1
+    Test project .
+    1/1 Test #1: t ... ***Failed 0.00 sec
 
-0% tests passed, 1 tests failed out of 1
+    0% tests passed, 1 tests failed out of 1
 
-The following tests FAILED:
-\t1 - t (Failed)
-Errors while running CTest
-";
-
-/// A run in which memory is wanting for the second of three tests.
-const STARVES: &str = "
-=== no test starts behind the one for which memory was wanting
----
-add_test(a p)
-add_test(b p)
-add_test(c p)
->>>
-Memory, status 5
-Start 1/1
-End 1/1
-Start 2/1
-End 2/1
-Test project .
-1/3 Test #1: a ... Passed 0.00 sec
-ctest: out of memory
+    The following tests FAILED:
+    \t1 - t (Failed)
+    Errors while running CTest
 ";
 
 /// A run with one test, which writes `done` in two pieces.
 const HALVES: &str = "
-=== a pattern of the whole output
----
-add_test(t p)
-set_tests_properties(t PROPERTIES PASS_REGULAR_EXPRESSION \"^done$\")
->>>
-Completed, status 0
-Start 1/1
-End 1/1
-Test project .
-1/1 Test #1: t ... Passed 0.00 sec
+row a pattern of the whole output
+file ./CTestTestfile.cmake
+    add_test(t p)
+    set_tests_properties(t PROPERTIES PASS_REGULAR_EXPRESSION \"^done$\")
+call ctest
+want told
+    Completed, status 0
+    Start 1/1
+    End 1/1
+    Test project .
+    1/1 Test #1: t ... Passed 0.00 sec
 
-100% tests passed, 0 tests failed out of 1
+    100% tests passed, 0 tests failed out of 1
 ";
 
 /// How many bytes a piece of a program's output has, and how many pieces of `x` come.
@@ -113,11 +100,12 @@ struct Writes {
 }
 
 impl Gate for Writes {
-    ghost tells = { λ _. record { world = None; asked = None; sent = None; faults = 0 } };
+    ghost tells = { λ _. record { world = None; asked = None; sent = None; lent = None; faults = 0 } };
 
     fn run<E: Ear>(
         &mut self,
         _alloc: Global,
+        _pass: &Pass,
         _ticket: &Ticket,
         _request: &Request,
         ear: &mut E,
@@ -141,35 +129,8 @@ fn hear_pieces<E: Ear>(ear: &mut E, count: u32)
     }
 }
 
-/// A gate that finds no memory for the program of test 2. Its `tells` is empty.
-#[derive(Drop)]
-struct Starves;
-
-impl Gate for Starves {
-    ghost tells = { λ _. record { world = None; asked = None; sent = None; faults = 0 } };
-
-    fn run<E: Ear>(
-        &mut self,
-        _alloc: Global,
-        _ticket: &Ticket,
-        request: &Request,
-        _ear: &mut E,
-    ) -> Ended {
-        let how = if request.test == 2 {
-            How::NoMemory
-        } else {
-            How::Exited(0)
-        };
-        Ended { how, micros: 0 }
-    }
-}
-
 /// Runs on this gate, and reports how the run came out, what happened and what was written.
-fn report<G: Gate + Send + Drop>(
-    rt: &impl Machine,
-    call: &CallRow<'_>,
-    gate: G,
-) -> Result<String, Fail> {
+fn report(rt: &impl Machine, call: &CallRow<'_>, gate: Writes) -> Result<String, Fail> {
     let mut gates = Vec::new(rt.alloc());
     gates.push(gate).map_err(AllocError::from)?;
     let ran = run_on(rt, call, gates)?;
@@ -179,7 +140,7 @@ fn report<G: Gate + Send + Drop>(
 }
 
 /// Tells how a run came out, what happened and what was written.
-fn told<G>(alloc: Global, ran: &Finished<MemFiles, G, MemSink>) -> Result<String, Fail> {
+fn told(alloc: Global, ran: &Finished<MemFiles, Writes, MemSink>) -> Result<String, Fail> {
     let happened = happened(alloc, ran.history.as_ref())?;
     let name = name_of(&ran.outcome);
     let text = written(&ran.sink);
@@ -189,7 +150,11 @@ fn told<G>(alloc: Global, ran: &Finished<MemFiles, G, MemSink>) -> Result<String
 /// Compares the reports of the calls of a table, whose programs write this many pieces of `x` first.
 fn writes_as_told(rt: &impl Machine, table: &str, pieces: u32) -> Result<(), Fail> {
     for call in &calls_of(rt.alloc(), table)? {
-        expect(call, report(rt, call, Writes { pieces })?.as_str())?;
+        expect(
+            rt.alloc(),
+            call,
+            report(rt, call, Writes { pieces })?.as_str(),
+        )?;
     }
     Ok(())
 }
@@ -212,12 +177,4 @@ fn finds_a_pattern_across_pieces_behind_much(rt: HostRuntime) -> Result<(), Fail
 #[test]
 fn finds_a_pattern_of_all_that_comes_in_two_pieces(rt: HostRuntime) -> Result<(), Fail> {
     writes_as_told(&rt, HALVES, 0)
-}
-
-#[test]
-fn gives_up_where_memory_is_wanting_for_a_program(rt: HostRuntime) -> Result<(), Fail> {
-    for call in &calls_of(rt.alloc(), STARVES)? {
-        expect(call, report(&rt, call, Starves)?.as_str())?;
-    }
-    Ok(())
 }

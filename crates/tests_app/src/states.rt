@@ -2,9 +2,10 @@
 
 ghost use Rattle.std.specs.Prelude.{◌≡◌, IfOk, [], None, Some, false};
 ghost use Rattle.ct_turn.specs.Seen.{held_start};
-ghost use Rattle.ct_worker.specs.Attempt.{run_of};
+ghost use Rattle.ct_core.specs.Ticket.{run_of};
 ghost use Rattle.ct_worker.specs.Work.{AsksNext, EndsOwn};
 
+use crate::calls::{Machine, expect};
 use ct_app::plan_main;
 use ct_base::{MemSink, NoMemory};
 use ct_core::{Core, Next, Ticket};
@@ -16,39 +17,41 @@ use std::alloc::Global;
 use std::process::Abort;
 use std::sync::Wait;
 use std::test::Fail;
-use tests_calls::{CallRow, Machine, calls_of, entries_of, expect, inputs_of, sink_of, written};
+use tests_calls::{CallRow, calls_of, entries_of, inputs_of, sink_of, written};
 
 /// A run of five tests on three processors, whose second put fails.
 const FIVE: &str = "
-=== five tests
-put 2 fails
----
-add_test(a p)
-add_test(b p)
-add_test(c p)
-add_test(d p)
-add_test(e p)
->>> -j 3
-1/5 Test #1: a ... Passed 0.00 sec
-Start 1/1
-Start 2/1
-Start 3/1
-End 1/1
-Start 4/1
-End 2/1
-End 3/1
-End 4/1
+row five tests
+fails put 2
+file ./CTestTestfile.cmake
+    add_test(a p)
+    add_test(b p)
+    add_test(c p)
+    add_test(d p)
+    add_test(e p)
+call ctest -j 3
+want told
+    1/5 Test #1: a ... Passed 0.00 sec
+    Start 1/1
+    Start 2/1
+    Start 3/1
+    End 1/1
+    Start 4/1
+    End 2/1
+    End 3/1
+    End 4/1
 ";
 
 /// A run of one test.
 const ONE: &str = "
-=== one test
----
-add_test(a p)
->>>
-1/1 Test #1: a ... Passed 0.00 sec
-Start 1/1
-End 1/1
+row one test
+file ./CTestTestfile.cmake
+    add_test(a p)
+call ctest
+want told
+    1/1 Test #1: a ... Passed 0.00 sec
+    Start 1/1
+    End 1/1
 ";
 
 /// Makes the plan of a call.
@@ -96,7 +99,7 @@ fn compare(
 ) -> Result<(), Fail> {
     let happened = entries_of(rt.alloc(), history.entries.as_slice())?;
     let text = format!(in rt.alloc(); "{}{happened}", written(sink))?;
-    expect(call, text.as_str())
+    expect(rt.alloc(), call, text.as_str())
 }
 
 /// Asks what a worker without an attempt has to do next.

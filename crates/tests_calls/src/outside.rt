@@ -1,21 +1,18 @@
-//! What a call is given: its words, its files, its sink and its gates.
+//! What a call is given: its words, its environment, its files, its sink and its gates.
 
 ghost use Rattle.std.specs.Prelude.{◌≡◌, ◌<◌, IfOk, length, vec_len};
 
-use crate::call::CallRow;
+use crate::row::{CallRow, text_behind};
 use ct_base::{Blob, List, MemFiles, MemSink, Name, NoMemory, Pair};
 use ct_core::{Ended, ScriptGate, Told};
 use ct_verdict::How;
 use std::alloc::Global;
 
-/// The test file of the folder.
-const TREE: &str = "./CTestTestfile.cmake";
-
 /// The cost file.
-pub const COSTS: &str = "./Testing/Temporary/CTestCostData.txt";
+const COSTS: &str = "./Testing/Temporary/CTestCostData.txt";
 
 /// The log of failed tests.
-pub const LOG: &str = "./Testing/Temporary/LastTestsFailed.log";
+const LOG: &str = "./Testing/Temporary/LastTestsFailed.log";
 
 /// The number of words from which on a call is not made.
 const TOO_MANY_WORDS: usize = 200;
@@ -24,6 +21,7 @@ const TOO_MANY_WORDS: usize = 200;
 #[derive(Drop)]
 pub struct Inputs {
     pub words: List<Name>,
+    pub env: List<Pair>,
     pub files: MemFiles,
     pub sink: MemSink,
 }
@@ -34,6 +32,7 @@ pub fn inputs_of(alloc: Global, call: &CallRow<'_>) -> Result<Inputs, NoMemory>
 {
     Ok(Inputs {
         words: words_of(alloc, call.words)?,
+        env: env_of(alloc, call)?,
         files: files_of(alloc, call)?,
         sink: sink_of(alloc, call)?,
     })
@@ -61,6 +60,28 @@ fn read_words(alloc: Global, line: &str) -> Result<List<Name>, NoMemory> {
     Ok(words)
 }
 
+/// Reads the variables of the environment.
+fn env_of(alloc: Global, call: &CallRow<'_>) -> Result<List<Pair>, NoMemory> {
+    let mut env = List::new(alloc);
+    for part in call.parts() {
+        push_env(alloc, &mut env, part)?;
+    }
+    Ok(env)
+}
+
+/// Adds the variables of a part.
+fn push_env(alloc: Global, env: &mut List<Pair>, part: &str) -> Result<(), NoMemory> {
+    for fact in part.lines().skip(1) {
+        if let Some((name, value)) = fact
+            .strip_prefix("env ")
+            .and_then(|said| said.split_once('='))
+        {
+            env.push(pair_of(alloc, name, value)?)?;
+        }
+    }
+    Ok(())
+}
+
 /// Makes the files of a call, with the files that the last run left.
 fn files_of(alloc: Global, call: &CallRow<'_>) -> Result<MemFiles, NoMemory> {
     let mut held = named_files(alloc, call)?;
@@ -70,28 +91,22 @@ fn files_of(alloc: Global, call: &CallRow<'_>) -> Result<MemFiles, NoMemory> {
     if let Some(log) = call.fact("log ") {
         held.push(file(alloc, LOG, lines_in(alloc, log)?)?)?;
     }
-    Ok(MemFiles::new(held, failing(alloc, call.facts, "call ")?))
+    Ok(MemFiles::new(held, failing(alloc, call, "fails call ")?))
 }
 
-/// Makes the files that the row of a call names, with a line feed at the end of each.
+/// Makes the files that the row of a call names.
 pub(crate) fn named_files(alloc: Global, call: &CallRow<'_>) -> Result<List<Pair>, NoMemory> {
     let mut files = List::new(alloc);
-    let Some(texts) = call.files else {
-        return Ok(files);
-    };
-    for text in texts.split("\n---") {
-        files.push(named_file(alloc, text)?)?;
+    for file in call.files().split("\nfile ").skip(1) {
+        files.push(named_file(alloc, file)?)?;
     }
     Ok(files)
 }
 
-/// Makes a file from its path and its text.
-fn named_file(alloc: Global, file_text: &str) -> Result<Pair, NoMemory> {
-    let (path, text) = file_text.split_once('\n').unwrap_or((file_text, ""));
-    let path = path.strip_prefix(' ').unwrap_or(TREE);
-    let mut text = Vec::from_slice(alloc, text.as_bytes())?;
-    text.push(b'\n')?;
-    file(alloc, path, text)
+/// Makes a file from its path and the lines behind it.
+fn named_file(alloc: Global, file: &str) -> Result<Pair, NoMemory> {
+    let (path, lines) = file.split_once('\n').unwrap_or((file, ""));
+    pair_of(alloc, path, text_behind(alloc, lines)?.as_str())
 }
 
 /// Makes the text of the cost file from its fact.
@@ -111,7 +126,7 @@ fn file(alloc: Global, path: &str, text: Vec<u8>) -> Result<Pair, NoMemory> {
 }
 
 /// Makes a pair.
-pub fn pair_of(alloc: Global, name: &str, value: &str) -> Result<Pair, NoMemory> {
+fn pair_of(alloc: Global, name: &str, value: &str) -> Result<Pair, NoMemory> {
     file(alloc, name, Vec::from_slice(alloc, value.as_bytes())?)
 }
 
@@ -125,20 +140,27 @@ fn lines_in(alloc: Global, fact: &str) -> Result<Vec<u8>, NoMemory> {
 }
 
 /// Reads the numbers, from 1, of the calls of a kind that fail.
-fn failing(alloc: Global, facts: &str, kind: &str) -> Result<List<u64>, NoMemory> {
+fn failing(alloc: Global, call: &CallRow<'_>, kind: &str) -> Result<List<u64>, NoMemory> {
     let mut failing = List::new(alloc);
-    for fact in facts.lines() {
-        let number = fact.strip_prefix(kind);
-        if let Some(number) = number.and_then(|rest| rest.strip_suffix(" fails")) {
-            failing.push(number.parse().unwrap_or(0))?;
-        }
+    for part in call.parts() {
+        push_failing(&mut failing, part, kind)?;
     }
     Ok(failing)
 }
 
+/// Adds the numbers of a part.
+fn push_failing(failing: &mut List<u64>, part: &str, kind: &str) -> Result<(), NoMemory> {
+    for fact in part.lines().skip(1) {
+        if let Some(number) = fact.strip_prefix(kind) {
+            failing.push(number.parse().unwrap_or(0))?;
+        }
+    }
+    Ok(())
+}
+
 /// Makes the sink of a call.
 pub fn sink_of(alloc: Global, call: &CallRow<'_>) -> Result<MemSink, NoMemory> {
-    Ok(MemSink::new(alloc, failing(alloc, call.facts, "put ")?))
+    Ok(MemSink::new(alloc, failing(alloc, call, "fails put ")?))
 }
 
 /// Makes a sink whose put with this number fails; without a number no put fails.
@@ -168,12 +190,20 @@ pub fn gates_of(
 /// Makes a gate that plays the attempts of the facts.
 fn gate_of(alloc: Global, call: &CallRow<'_>) -> Result<ScriptGate, NoMemory> {
     let mut world = List::new(alloc);
-    for fact in call.facts.lines() {
-        if let Some(cells) = fact.strip_prefix("told ") {
+    for part in call.parts() {
+        push_told(alloc, &mut world, part)?;
+    }
+    Ok(ScriptGate::new(alloc, world))
+}
+
+/// Adds the attempts of a part.
+fn push_told(alloc: Global, world: &mut List<Told>, part: &str) -> Result<(), NoMemory> {
+    for fact in part.lines().skip(1) {
+        if let Some(cells) = fact.strip_prefix("does ") {
             world.push(told(alloc, cells)?)?;
         }
     }
-    Ok(ScriptGate::new(alloc, world))
+    Ok(())
 }
 
 /// Reads an attempt: its test, how it ended, its microseconds, and its output.
@@ -185,19 +215,24 @@ fn told(alloc: Global, cells: &str) -> Result<Told, NoMemory> {
         test: test.parse().unwrap_or(0),
         attempt: attempt.parse().unwrap_or(0),
         ended: Ended {
-            how: how(cells.next().unwrap_or("")),
+            how: how(cells.next().unwrap_or("")).unwrap_or(How::NotStarted),
             micros: cells.next().unwrap_or("").parse().unwrap_or(0),
         },
         heard: Blob::of(alloc, cells.next().unwrap_or("").as_bytes())?,
     })
 }
 
-fn how(word: &str) -> How {
+/// Reads how an attempt ended.
+pub(crate) fn how(word: &str) -> Option<How> {
     match word {
-        "signalled" => How::Signalled,
-        "timeout" => How::TimedOut,
-        "unstarted" => How::NotStarted,
-        "lacks" => How::Lacks(1),
-        code => How::Exited(code.parse().unwrap_or(0)),
+        "signalled" => Some(How::Signalled),
+        "timeout" => Some(How::TimedOut),
+        "unstarted" => Some(How::NotStarted),
+        "lacks" => Some(How::Lacks(1)),
+        "memory" => Some(How::NoMemory),
+        _ => {
+            let code = word.strip_prefix("exit:")?.parse().ok()?;
+            Some(How::Exited(code))
+        }
     }
 }

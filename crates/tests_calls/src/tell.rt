@@ -1,22 +1,24 @@
 //! What was written, what files hold, and what gates were asked for behind a call.
 
-use crate::call::CallRow;
-use crate::outside::{COSTS, LOG, named_files};
+use crate::outside::named_files;
+use crate::row::CallRow;
 use ct_base::{List, MemFiles, MemSink, Name, NoMemory, Pair};
 use ct_core::{Request, ScriptGate};
 use ct_history::Entry;
 use std::alloc::Global;
 use std::str;
-use std::test::Fail;
 
-/// Fails unless a call comes to one of the texts that it may come to.
-pub fn expect(call: &CallRow<'_>, text: &str) -> Result<(), Fail> {
-    let text = text.trim_end();
-    if call.allows(text) {
-        return Ok(());
-    }
-    Err(Fail::new(format_args!("{call}\n{text}")))
-}
+/// The files that runs in the folders of the rows leave.
+const PATHS: [&str; 8] = [
+    "./Testing/Temporary/CTestCostData.txt",
+    "./Testing/Temporary/LastTestsFailed.log",
+    "build/Testing/Temporary/CTestCostData.txt",
+    "build/Testing/Temporary/LastTestsFailed.log",
+    "a/Testing/Temporary/CTestCostData.txt",
+    "a/Testing/Temporary/LastTestsFailed.log",
+    "b/Testing/Temporary/CTestCostData.txt",
+    "b/Testing/Temporary/LastTestsFailed.log",
+];
 
 /// Lends what was written.
 pub fn written(sink: &MemSink) -> &str {
@@ -30,7 +32,7 @@ pub fn text_of(name: &Name) -> &str {
 
 /// Makes a line of what a path holds, with `;` for the end of each of its lines; none where it holds
 /// nothing.
-pub fn line_of(alloc: Global, files: &MemFiles, path: &str) -> Result<Option<String>, NoMemory> {
+fn line_of(alloc: Global, files: &MemFiles, path: &str) -> Result<Option<String>, NoMemory> {
     let Some(held) = files.held(&Name::of(alloc, path.as_bytes())?) else {
         return Ok(None);
     };
@@ -41,17 +43,22 @@ pub fn line_of(alloc: Global, files: &MemFiles, path: &str) -> Result<Option<Str
     Ok(Some(line))
 }
 
-/// Makes a line of what a path holds behind the name of that file.
-pub fn left_in(
-    alloc: Global,
-    files: &MemFiles,
-    path: &str,
-    name: &str,
-) -> Result<String, NoMemory> {
-    match line_of(alloc, files, path)? {
-        Some(line) => Ok(format!(in alloc; "{name} {line}\n")?),
-        None => Ok(format!(in alloc; "no {name}\n")?),
+/// Makes a line of each file of a run that holds something, behind its path.
+pub fn left_in(alloc: Global, files: &MemFiles) -> Result<String, NoMemory> {
+    let mut text = String::new(alloc);
+    for path in PATHS {
+        if let Some(line) = line_of(alloc, files, path)? {
+            text = format!(in alloc; "{text}{path} {line}\n")?;
+        }
     }
+    Ok(text)
+}
+
+/// Makes a copy of what a path holds, or `none`.
+pub fn held_in(alloc: Global, files: &MemFiles, path: &str) -> Result<String, NoMemory> {
+    let name = Name::of(alloc, path.as_bytes())?;
+    let held = files.held(&name).map(text_of).unwrap_or("none");
+    Ok(String::from_str(alloc, held)?)
 }
 
 /// Returns whether the files that the row of a call names hold what they held before it.
@@ -65,23 +72,8 @@ pub fn keeps_files(alloc: Global, call: &CallRow<'_>, files: &MemFiles) -> Resul
     Ok(true)
 }
 
-/// Returns whether there are files of a run in the folder that a call is made in, or in `build` below it.
-pub fn holds_run_files(alloc: Global, files: &MemFiles) -> Result<bool, NoMemory> {
-    for path in [
-        COSTS,
-        LOG,
-        "build/Testing/Temporary/CTestCostData.txt",
-        "build/Testing/Temporary/LastTestsFailed.log",
-    ] {
-        if files.held(&Name::of(alloc, path.as_bytes())?).is_some() {
-            return Ok(true);
-        }
-    }
-    Ok(false)
-}
-
 /// Returns whether a gate was asked for an attempt, or sent a request.
-pub fn are_asked(gates: &[ScriptGate]) -> bool {
+pub fn is_asked(gates: &[ScriptGate]) -> bool {
     gates
         .iter()
         .any(|gate| !gate.asked().is_empty() || !gate.sent().is_empty())
