@@ -1,5 +1,0 @@
-use Rattle.std.proofs.Common.{ℕ, ◌+◌, ◌<◌, slice_index}
-use Rattle.tests_plan.proofs.order.ascend.Given as goal
-
-abbrev pub invariant-loop-at : goal.invariant-loop-at
-invariant-loop-at l = (k : ℕ) → k + 1 < l.at → slice_index l.numbers k < slice_index l.numbers (k + 1)

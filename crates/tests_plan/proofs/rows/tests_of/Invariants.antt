@@ -1,5 +1,0 @@
-use Rattle.ct_plan.specs.Source.{HaveProps}
-use Rattle.tests_plan.proofs.rows.tests_of.Given as goal
-
-abbrev pub invariant-loop-row : goal.invariant-loop-row
-invariant-loop-row l = HaveProps l.tests.defs l.tests.props
