@@ -1,0 +1,3 @@
+-- What the functions' proofs rest on.
+pub mod HeldLemmas
+pub mod RaceLemmas

@@ -1,9 +1,0 @@
-use Rattle.std.specs.Prelude.{length}
-use Rattle.measure_core.specs.Held.{HoldsOpen}
-use Rattle.measure_core.proofs.run.Run.close.Given as goal
-
-abbrev pub invariant-loop-self : goal.invariant-loop-self
-invariant-loop-self l = HoldsOpen l.self
-
-abbrev pub decreases-loop-self : goal.decreases-loop-self
-decreases-loop-self l = length l.self.tickets.items

@@ -1,2 +1,0 @@
--- What the functions' proofs rest on.
-pub mod RaceLemmas

@@ -1,6 +1,0 @@
-use Rattle.std.proofs.Common.{◌≡◌}
-use Rattle.measure_turn.proofs.turns.take_often.Given as goal
-
--- the pass is as it was
-abbrev pub invariant-loop : goal.invariant-loop
-invariant-loop g l = l.pass ≡ l.fn.pass
