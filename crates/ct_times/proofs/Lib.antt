@@ -1,0 +1,9 @@
+pub mod TimedLemmas
+pub mod TimingLemmas
+pub mod ChainLemmas
+pub mod BoundLemmas
+pub mod CodeLemmas
+pub mod AloneLemmas
+pub mod CapacityLemmas
+pub mod PathLemmas
+pub mod SlotLemmas

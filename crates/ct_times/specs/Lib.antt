@@ -1,0 +1,6 @@
+-- The definitions that contracts cite, in reading order.
+pub mod Times
+pub mod Chain
+pub mod Capacity
+pub mod Amounts
+pub mod Works
