@@ -1,0 +1,8 @@
+add_test(prepares "../note" "prepares")
+set_tests_properties(prepares PROPERTIES FIXTURES_SETUP data)
+add_test(uses_2 "../note" "uses_2")
+add_test(uses_3 "../note" "uses_3")
+add_test(uses_4 "../note" "uses_4")
+set_tests_properties(uses_2 uses_3 uses_4 PROPERTIES FIXTURES_REQUIRED data)
+add_test(waits "../note" "waits")
+set_tests_properties(waits PROPERTIES DEPENDS uses_4)
