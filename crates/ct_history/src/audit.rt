@@ -62,6 +62,20 @@ impl Audit {
         self.is_at_end_for(plan.parts())
     }
 
+    /// Lends the starts that no End has closed, in the order of the entries that were noted.
+    pub fn open_starts(&self) -> &[OpenStart]
+        ensures { result.now ≡ self.now.running.items }
+    {
+        self.running.as_slice()
+    }
+
+    /// Returns whether the next entry has to be a Stop.
+    pub fn is_stop_due(&self) -> bool
+        ensures { result ≡ self.now.due }
+    {
+        self.due
+    }
+
     /// Notes an entry that is allowed.
     pub fn note(&mut self, plan: &Plan, entry: Entry) -> Result<(), NoMemory>
         ensures { (front : List Entry) → IsAuditOf plan.now front self.old → is_allowed plan.now front entry ≡ true → OnOk result (IsAuditOf plan.now (front ++ entry ∷ []) self.new) }

@@ -26,6 +26,7 @@ pub use board::{Base, Board};
 pub use course::{Course, Courses, Ended, course_at, courses_of, verdict_by};
 pub use history::{Entry, History};
 pub use legal::judge;
+pub use open_start::{OpenStart, used_processors, used_slots};
 pub use opened::{holds_start, is_busy};
 pub use places::{expect_place, place_of, planned_test};
 pub use plan::{Plan, PlanParts, PlanTest, test_at};

@@ -13,11 +13,12 @@ use ct_alloc::Placement;
 
 /// A start that no End has closed so far.
 #[derive(Drop)]
-pub(crate) struct OpenStart {
-    pub(crate) test: u32,
-    pub(crate) attempt: u32,
-    pub(crate) worker: u32,
-    pub(crate) placement: Option<Placement>,
+pub struct OpenStart {
+    pub test: u32,
+    /// From 1, counted for each test.
+    pub attempt: u32,
+    pub worker: u32,
+    pub placement: Option<Placement>,
 }
 
 /// Returns whether one of these starts is of the test.
@@ -65,7 +66,7 @@ pub(crate) fn close(running: &mut Vec<OpenStart>, test: u32, attempt: u32)
 }
 
 /// Adds up the processors of these starts. A greater sum counts as 2^64 - 1.
-pub(crate) fn used_processors(tests: &[PlanTest], running: &[OpenStart]) -> u64
+pub fn used_processors(tests: &[PlanTest], running: &[OpenStart]) -> u64
     requires { Ascend tests.now }
     ensures { result ≡ min (Seen.processors_used tests.now (runs running.now)) (2 ^ 64 - 1) }
 {
@@ -87,7 +88,7 @@ fn processors_at(tests: &[PlanTest], number: u32) -> u32
 }
 
 /// Adds up the slots of a resource that these starts use. A greater sum counts as 2^64 - 1.
-pub(crate) fn used_slots(running: &[OpenStart], place: usize) -> u64
+pub fn used_slots(running: &[OpenStart], place: usize) -> u64
     ensures { result ≡ min (Seen.slots_used (runs running.now) place) (2 ^ 64 - 1) }
 {
     let mut used: u64 = 0;

@@ -62,7 +62,8 @@ impl Audit {
         }
     }
 
-    fn is_next(&self, number: u32, attempt: u32) -> bool
+    /// Returns whether this is the number of the test's next attempt: one more than the attempts that ended.
+    pub fn is_next(&self, number: u32, attempt: u32) -> bool
         ensures { result ≡ (attempt == Seen.next_attempt (course_at self.now.courses number).ended) }
     {
         u64::from(attempt) == next_attempt(course_at(&self.courses, number).ended)
@@ -174,7 +175,8 @@ impl Audit {
         }
     }
 
-    fn verdict_of(&self, plan: &PlanParts, number: u32) -> Option<Verdict>
+    /// Returns the verdict of the test with this number, if there is one and it is final.
+    pub fn verdict_of(&self, plan: &PlanParts, number: u32) -> Option<Verdict>
         requires { Ascend plan.now.tests }
         ensures { result ≡ Seen.verdict_by_number plan.now (runs self.now.running.items) (course_at self.now.courses) number }
     {

@@ -12,6 +12,7 @@ use ct_verdict::{Repeat, Verdict};
 /// else the verdict of its last attempt.
 ///
 /// It is `None` as long as the test is not final.
+/// It stands for callers of the library: no program calls it.
 pub fn final_verdict(plan: &Plan, history: &History, test: u32) -> Option<Verdict>
     requires { IsSome (planned_test plan.now.tests test) }
     ensures { result ≡ verdict_of_test plan.now history.now.entries.items test }

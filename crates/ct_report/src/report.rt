@@ -23,6 +23,7 @@ pub fn header<S: Sink>(alloc: Global, sink: &mut S, plan: &Plan) -> Result<(), S
 }
 
 /// Puts the line of a test, which is the `place`-th to become final, from 1.
+/// It stands for callers of the library: no program calls it.
 ///
 /// Source: CMake manual, ctest(1), Description. The wording is this project's choice.
 pub fn line<S: Sink>(

@@ -24,9 +24,10 @@ pub struct Worked<G> {
 
 /// Takes part in the run as this worker, until every test is final or the run was given up.
 ///
-/// It starts what may start, and runs the program of each attempt on its gate while
-/// others have the turn. Meanwhile it lends the gate its pass, which holds the start. If nothing can be done, it waits for an attempt of another
-/// worker to end. An attempt for which memory is wanting ends for want of memory.
+/// It starts what may start, and runs the program of each attempt on its gate while others have the turn.
+/// Meanwhile it lends the gate its pass, which holds the start. If nothing can be done, it waits for an
+/// attempt of another worker to end. An attempt for which memory is wanting ends for want of memory.
+/// It stands for callers of the library: no program calls it.
 pub fn work<R: Wait, G: Gate, S: Sink>(
     rt: &R,
     alloc: Global,
