@@ -5,7 +5,7 @@ use Rattle.std.specs.Prelude.{Option, Some, None, Result, Ok, Err, IfSome, ◌�
 use Rattle.std.proofs.lemmas.Option.{same_Some}
 use Rattle.ct_base.specs.declared.defs.Resource.{Resource}
 use Rattle.ct_base.specs.declared.defs.TestDef.{TestDef}
-use Rattle.ct_base.specs.Outside.{Held}
+use Rattle.ct_base.specs.Outside.{FilesTell, Held, Rose}
 use Rattle.ct_testfile.specs.declared.fault.ReadFault.{ReadFault}
 use Rattle.ct_testfile.specs.declared.fault.ReadFault.TheVariants.{At}
 use Rattle.ct_testfile.specs.Tree.{tree_of}
@@ -28,9 +28,11 @@ use Rattle.ct_app.specs.declared.outcome.Refusal.{Refusal}
 use Rattle.ct_app.specs.declared.outcome.Refusal.TheVariants.{TestFile, Prop, Spec, Cycle, TooManyEdges}
 use Rattle.ct_app.specs.declared.outcome.SpecRefusal.{SpecRefusal}
 use Rattle.ct_app.specs.Answers.{Answers}
-use Rattle.ct_app.specs.Calls.{IsReadFault, IsUndeclared, IsUnreadable, IsUsage, Sides}
-use Rattle.ct_app.specs.Complete.{Completes, CompletesList, CompletesRun, IsListable, IsRunnable, IsUnfailed}
+use Rattle.ct_app.specs.Calls.{IsReadFault, IsUndeclared, IsUnreadable, IsUsage, Sides, list_sides}
+use Rattle.ct_app.specs.Complete.{Completes, CompletesList, CompletesPlan, CompletesRun, IsListable, IsRunnable, IsUnfailed}
+use Rattle.ct_app.specs.Ends.{EndsUnrun}
 use Rattle.ct_app.specs.Lists.{AnswersList}
+use Rattle.ct_app.specs.Planning.{HasNoPlan}
 use Rattle.ct_app.specs.Reading.{AskFor, IsSource, ListFailsAt, RefusesReading, RunFailsAt}
 use Rattle.ct_app.specs.Rerun.{AreOnly, choice_for}
 use Rattle.ct_app.specs.RunFiles.{FilesStay}
@@ -203,7 +205,10 @@ module _ (s : Sides) (can : IsRunnable s) where
       let few = can.few in
       absurd (omega (arith, same, over, few))
 
-  refusal_never : (refusal : Refusal) (names : List (List ℕ)) → IsRefusal s refusal names → ⊥
+  pub words_never : (word : ℕ) (kind : UsageKind) → IsUsage s word kind → ⊥
+  words_never word kind usage = usage_never s listable word kind usage
+
+  pub refusal_never : (refusal : Refusal) (names : List (List ℕ)) → IsRefusal s refusal names → ⊥
   refusal_never refusal names (inl was) = unreadable_never s listable refusal was
   refusal_never refusal names (inr (inl was)) = undeclared_never refusal was
   refusal_never refusal names (inr (inr was)) = unplannable_never refusal names was
@@ -224,6 +229,20 @@ module _ (s : Sides) (can : IsRunnable s) where
   run_by OutputFault status answer calm =
       absurd (ran_never (λ i p es. IsCutOff p es s.sink.before s.sink.after × FilesStay s.files.before s.files.after) (λ i p es was. calm.sink (was.0.put.bytes.cause.failed refl)) answer.0)
   run_by Memory status answer calm = inr refl
+
+  plan_by : (names : List (List ℕ)) (outcome : Outcome) → EndsUnrun s names (Err outcome) → (Rose s.files.before.faults s.files.after.faults → ⊥) → outcome ≡ Memory
+  plan_by names Completed ends calm = absurd ends
+  plan_by names Listed ends calm = absurd ends
+  plan_by names (Usage word kind) ends calm = absurd (usage_never s listable word kind ends)
+  plan_by names (Refused refusal) ends calm = absurd (refusal_never refusal names ends)
+  plan_by names (FilesFault path) ends calm = absurd (calm ends.files.rose)
+  plan_by names OutputFault ends calm = absurd ends
+  plan_by names Memory ends calm = refl
+
+-- where a run can be made, its plan is made
+pub plan_completes : (words : List (List ℕ)) (before now : FilesTell) (names : List (List ℕ)) (outcome : Outcome) → HasNoPlan words before now names outcome → CompletesPlan words before now outcome
+plan_completes words before now names outcome none sink can calm =
+    plan_by (list_sides words before now sink sink) can names outcome (none sink) calm
 
 -- a list that can be made is put
 pub list_completes : (s : Sides) (outcome : Outcome) (status : ℕ) → AnswersList s outcome status → CompletesList s outcome

@@ -2,7 +2,7 @@
 -- faults that the gates count: the outcome is Completed or Listed, else Memory. This project's own.
 use Rattle.std.specs.Prelude.{◌≡◌, ◌⊎◌, ℕ, ◌≤◌, true, false, List, Some}
 use Rattle.ct_base.specs.declared.defs.TestDef.{TestDef}
-use Rattle.ct_base.specs.Outside.{Held, Rose}
+use Rattle.ct_base.specs.Outside.{FilesTell, Held, Rose, SinkTell}
 use Rattle.ct_props.specs.declared.props.Props.{Props}
 use Rattle.ct_graph.specs.Cycle.{is_cycle}
 use Rattle.ct_graph.specs.Order.{most_edges}
@@ -10,7 +10,7 @@ use Rattle.ct_args.specs.declared.invocation.Invocation.{Invocation}
 use Rattle.ct_plan.specs.Source.{Source, edge_count, members_before}
 use Rattle.ct_app.specs.declared.outcome.Outcome.{Outcome}
 use Rattle.ct_app.specs.declared.outcome.Outcome.TheVariants.{Completed, Listed, Memory}
-use Rattle.ct_app.specs.Calls.{Sides}
+use Rattle.ct_app.specs.Calls.{Sides, list_sides}
 use Rattle.ct_app.specs.Reading.{AreRead, AskFor, IsSource, ask_for_list}
 
 -- a list can be made: the words are accepted, the files tell what they hold, and the tests and their
@@ -50,6 +50,14 @@ CompletesRun s outcome = IsRunnable s → IsUnfailed s → (outcome ≡ Complete
 -- a list that can be made is put where no fault was counted, unless memory ran out
 abbrev pub CompletesList : Sides → Outcome → Type 0
 CompletesList s outcome = IsListable s → IsUnfailed s → (outcome ≡ Listed) ⊎ (outcome ≡ Memory)
+
+-- the plan of a run that can be made is made where no fault of the files was counted, unless memory ran out
+abbrev pub CompletesPlan : List (List ℕ) → FilesTell → FilesTell → Outcome → Type 0
+CompletesPlan words before now outcome =
+    (sink : SinkTell)
+    → IsRunnable (list_sides words before now sink sink)
+    → (Rose before.faults now.faults → ⊥)
+    → outcome ≡ Memory
 
 -- what the words ask for is carried out where it can be made and no fault was counted, unless memory ran out
 pub record Completes (s : Sides) (outcome : Outcome) : Type 0 where

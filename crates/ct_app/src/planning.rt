@@ -4,6 +4,7 @@ ghost use Rattle.ct_graph.specs.Order.{most_edges};
 ghost use Rattle.ct_history.specs.Plan.{IsSound};
 ghost use Rattle.ct_plan.specs.PlanOf.{IsPlanAnswer};
 ghost use Rattle.ct_plan.specs.Source.{HaveProps, source};
+ghost use Rattle.ct_app.specs.Complete.{CompletesPlan};
 ghost use Rattle.ct_app.specs.Ends.{AreReadInputs, IsReadFolder, IsUnplanned, IsUnreadFolder};
 ghost use Rattle.ct_app.specs.Planning.{HasNoPlan, HasPlan, HasSomeReason, IsPlannedFolder, IsUnplannedFolder};
 ghost use Rattle.ct_app.specs.Rerun.{wanted_of};
@@ -93,12 +94,14 @@ impl Folder {
 /// Makes the plan of the run that the words ask for, as `ctest_main` does, whatever their task is.
 ///
 /// It reads the words, the test files, the specification and the cost data. It writes nothing.
+/// It stands for callers of the library: no program calls it.
 ///
 /// Source: CMake manual, ctest(1), Run Tests.
 pub fn plan_main<F: Files>(alloc: Global, words: &[Name], files: &mut F) -> Result<Plan, Outcome>
     requires few { length words.now < 2 ^ 32 - 1 }
     ensures ok { IfOk result (λ plan. HasPlan words.now (F.tells files.old) (F.tells files.new) plan) }
     ensures err { IfErr result (λ outcome. HasSomeReason words.now (F.tells files.old) (F.tells files.new) outcome) }
+    ensures complete { IfErr result (λ outcome. CompletesPlan words.now (F.tells files.old) (F.tells files.new) outcome) }
 {
     match plan_words(alloc, words, files) {
         Ok(plan) => Ok(plan),

@@ -86,6 +86,7 @@ pub fn ctest_main<R: Threads + Wait + Sync, F: Files, G: Gate + Send, S: Sink + 
 /// Where the words ask for a run, the tests of this run are listed. The call reads no specification
 /// and no cost data, whatever the words name. It reads the log of the failed tests only where the
 /// words ask for the tests that failed last. It makes no plan and refuses no cycle.
+/// It stands for callers of the library: no program calls it.
 ///
 /// Source: CMake manual, ctest(1), --show-only, --print-labels, --rerun-failed. Statuses other than 0
 /// are this project's choice.
