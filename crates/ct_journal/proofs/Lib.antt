@@ -5,3 +5,5 @@ pub mod RecordLemmas
 pub mod CheckFoundLemmas
 pub mod CheckStepLemmas
 pub mod CheckAnswerLemmas
+pub mod AcyclicLemmas
+pub mod RecordAgainLemmas

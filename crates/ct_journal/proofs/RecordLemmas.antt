@@ -61,7 +61,7 @@ accepts_run s outcome status path files_then files_now sink_then sink_now FilesF
 accepts_run s outcome status path files_then files_now sink_then sink_now Memory meant journal fit = λ is. absurd (cc)
 
 -- the journal of a completed run is accepted for each plan that its words have where the files read alike
-rechecks : (s : Sides) (status : ℕ) (plan : Option PlanParts) (history : Option (List Entry)) → IfSome history EntriesFit → IsSomeAnd plan (λ plan. IsSomeAnd history (λ entries. RanAsMeant s status plan entries)) → IsSomeAnd history (λ entries. (before now : FilesTell) (other : PlanParts) → ReadsAlike s.words s.files.before.held before.held → HasPlan s.words before now other → IsAccepted other (journal_of entries))
+pub rechecks : (s : Sides) (status : ℕ) (plan : Option PlanParts) (history : Option (List Entry)) → IfSome history EntriesFit → IsSomeAnd plan (λ plan. IsSomeAnd history (λ entries. RanAsMeant s status plan entries)) → IsSomeAnd history (λ entries. (before now : FilesTell) (other : PlanParts) → ReadsAlike s.words s.files.before.held before.held → HasPlan s.words before now other → IsAccepted other (journal_of entries))
 rechecks s status None history fit ran = absurd ran
 rechecks s status (Some plan) None fit ran = absurd ran
 rechecks s status (Some plan) (Some entries) fit ran =

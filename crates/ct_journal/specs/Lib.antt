@@ -7,3 +7,4 @@ pub mod Record
 pub mod CheckFound
 pub mod Check
 pub mod CheckSteps
+pub mod RecordAgain

@@ -1,2 +1,2 @@
 /// The greatest number of bytes of a journal: 256 MiB. This project's choice.
-pub(crate) const MOST_JOURNAL_BYTES: u64 = 268_435_456;
+pub const MOST_JOURNAL_BYTES: u64 = 268_435_456;

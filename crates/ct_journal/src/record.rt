@@ -9,6 +9,7 @@ ghost use Rattle.ct_app.specs.Run.{OthersStay};
 ghost use Rattle.ct_app.specs.declared.outcome.Outcome.TheVariants as Ran;
 ghost use Rattle.ct_journal.specs.declared.record.JournalEnd.TheVariants as End;
 ghost use Rattle.ct_journal_text.specs.Journal.{EntriesFit, journal_of};
+ghost use Rattle.ct_journal.specs.RecordAgain.{ChecksAgain};
 ghost use Rattle.ct_journal.specs.RecordPaths.{RechecksKept};
 ghost use Rattle.ct_journal.specs.RecordReads.{RechecksWritten};
 ghost use Rattle.ct_journal.specs.Record.{AcceptsWritten, IsJournalEnd, RecordsFor, TriesLine, WritesJournal, run_end, status_after as status_with};
@@ -77,6 +78,7 @@ pub fn record_main<R: Threads + Wait + Sync, F: Files, G: Gate + Send, S: Sink +
         (record { outcome = result.finished.outcome; run_status = result.finished.status; journal = result.journal; status = result.status }) }
     ensures accepted { AcceptsWritten result.finished.plan (option_map history_entries result.finished.history) result.journal }
     ensures rechecked { RechecksWritten (drop 1 words.now) (F.tells files).held (option_map history_entries result.finished.history) result.journal }
+    ensures again { ChecksAgain (drop 1 words.now) (F.tells files).held (option_map history_entries result.finished.history) result.journal }
     ensures kept_paths { RechecksKept (drop 1 words.now) (F.tells files).held (option_map history_entries result.finished.history) result.journal }
     ensures all { length result.finished.gates.items ≡ length gates.items }
     ensures unasked { ask_for_list (drop 1 words.now) ≡ true → result.finished.gates.items ≡ gates.items }

@@ -80,7 +80,9 @@ fn note_entry(plan: &Plan, audit: &mut Audit, entry: Entry) -> Result<Step, NoMe
 }
 
 /// Completes the line of an entry to the entry.
-fn entry_of(alloc: Global, plan: &Plan, line: EntryLine) -> Result<Option<Entry>, NoMemory>
+///
+/// Source: this project's choice.
+pub fn entry_of(alloc: Global, plan: &Plan, line: EntryLine) -> Result<Option<Entry>, NoMemory>
     ensures { IfOk result (λ found. FindsEntry plan.now line found) }
 {
     match line {

@@ -2,7 +2,8 @@
 //!
 //! Hands up: `journal_text`, which writes the journal of a history, and `journal_within`, which writes one up
 //! to a limit; `check_text`, which finds the first line of a text that is not good; what it is made of:
-//! `read_line`, `placement_at`, `take_line`; and `hand_out_ranges`, which states the ranges of what is written.
+//! `read_line`, `placement_at`, `entry_of`, `take_line`; and `hand_out_ranges`, which states the ranges of
+//! what is written.
 //! Read first: `specs/Journal.antt`, `specs/Found.antt`, `specs/Completed.antt`, then `writer.rt`, `text.rt`.
 #![tactic(auto)]
 
@@ -18,7 +19,7 @@ mod text;
 mod words;
 mod writer;
 
-pub use check::{Step, take_line};
+pub use check::{Step, entry_of, take_line};
 pub use lines::{EntryLine, JournalLine};
 pub use placements::placement_at;
 pub use ranges::hand_out_ranges;

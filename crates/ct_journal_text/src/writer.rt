@@ -12,6 +12,7 @@ use ct_verdict::{Cause, Seen};
 use std::alloc::Global;
 
 /// Writes the journal of a history: its first line, a line for each entry, and its last line.
+/// It stands for callers of the library: no program calls it.
 ///
 /// Source: this project's choice.
 pub fn journal_text(alloc: Global, entries: &[Entry]) -> Result<Blob, NoMemory>
