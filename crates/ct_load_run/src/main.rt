@@ -2,14 +2,17 @@
 //! It prints the summary of that run.
 //!
 //! Hands up: nothing; it is the program.
-//! Read first: `start.rt`.
+//! Read first: `load_main` of ct_load.
 #![tactic(auto)]
 
-mod start;
-
-use ct_start::begin_by_words;
+use ct_edge::RealSink;
+use ct_load::load_main;
+use ct_start::{exit_code, start_by_words};
 use std::process::ExitCode;
 
 fn main(rt: HostRuntime) -> ExitCode {
-    start::exit_code(begin_by_words(rt, |args| start::run(&rt, rt, args)))
+    let load = start_by_words(rt, |words| {
+        load_main(&rt, rt.alloc(), words, RealSink::new(rt.stdout()))
+    });
+    exit_code(load, |load| load.status)
 }
