@@ -21,7 +21,7 @@ use Rattle.ct_history.proofs.MayLemmas.{pending-parts, starts-parts}
 use Rattle.ct_history.proofs.OpenLemmas.{is_of, open_starts-end, open_starts-snoc, opens_settle, opens_stop}
 use Rattle.ct_history.proofs.PlanLemmas.{find_passes}
 use Rattle.ct_times.specs.Times.{Timed, last_moment, length_of, next_timed, start_at, started, timed}
-use Rattle.ct_times.specs.Capacity.{HaveSameWork, IsCapacity, amount_open, bound, micros_by, over_up, work}
+use Rattle.ct_times.specs.Capacity.{HaveSameWork, IsCapacity, amount_open, bound, work_by, over_up, work}
 use Rattle.ct_times.proofs.TimedLemmas.{last-snoc, started-snoc, timed-snoc}
 
 -- the micros of the attempt that the entry ends, times the amount of its test
@@ -177,10 +177,10 @@ module _ (plan : PlanParts) (size : ℕ) (amount : ℕ → ℕ) (holds : IsCapac
         let e = End t a w s in
         let x = next_timed front e in
         let long : s.micros ≤ x.moment - begun t = omega arith in
-        let taken = taken_out amount begun t a w x.moment (open_starts es) is in
+        let amount_taken = taken_out amount begun t a w x.moment (open_starts es) is in
         let own : s.micros * amount t ≤ (x.moment - begun t) * amount t = mul-le-mul_right (amount t) long in
         fits_from (front ++ x ∷ []) (es ++ e ∷ []) x.moment begun (filter (λ r. not (is_of t a r)) (open_starts es)) (last-snoc front x) (λ r. started-snoc r.test front x) (open_starts-end es t a w s)
-        (omega (arith, one_sum (ended amount) es e, taken, own, fits_then x.moment (omega arith)))
+        (omega (arith, one_sum (ended amount) es e, amount_taken, own, fits_then x.moment (omega arith)))
 
     fits-settle : (e : Entry) → ended amount e ≡ 0 → open_starts (es ++ e ∷ []) ≡ open_starts es → ((test : ℕ) → unwrap_or (start_at test (next_timed front e).moment e) (begun test) ≡ begun test) → Fits size amount (front ++ next_timed front e ∷ []) (es ++ e ∷ [])
     fits-settle e none opens same =
@@ -238,23 +238,23 @@ no_amounts amount (u ∷ us) =
     let none : 0 * amount u.number ≡ 0 = omega arith in
     omega (arith, none, no_amounts amount us, sum_by-cons (λ (t : PlanTest). 0 * amount t.number) u us)
 
-entry_most : (amount : ℕ → ℕ) (least : ℕ) (ts : List PlanTest) (e : Entry) → IsAscendingFrom least (map (λ (t : PlanTest). t.number) ts) → sum_by (λ (t : PlanTest). micros_by t.number e * amount t.number) ts ≤ ended amount e
+entry_most : (amount : ℕ → ℕ) (least : ℕ) (ts : List PlanTest) (e : Entry) → IsAscendingFrom least (map (λ (t : PlanTest). t.number) ts) → sum_by (λ (t : PlanTest). work_by t.number e * amount t.number) ts ≤ ended amount e
 entry_most amount least ts (Start n a w p) ascends = no_amounts amount ts
 entry_most amount least ts (End n a w s) ascends = at_most_one amount n s.micros least ts ascends
 entry_most amount least ts (Settle n c) ascends = no_amounts amount ts
 entry_most amount least ts Stop ascends = no_amounts amount ts
 
-work-cons : (amount : ℕ → ℕ) (e : Entry) (es : List Entry) (ts : List PlanTest) → sum_by (λ (t : PlanTest). work t.number (e ∷ es) * amount t.number) ts ≡ sum_by (λ (t : PlanTest). micros_by t.number e * amount t.number) ts + sum_by (λ (t : PlanTest). work t.number es * amount t.number) ts
+work-cons : (amount : ℕ → ℕ) (e : Entry) (es : List Entry) (ts : List PlanTest) → sum_by (λ (t : PlanTest). work t.number (e ∷ es) * amount t.number) ts ≡ sum_by (λ (t : PlanTest). work_by t.number e * amount t.number) ts + sum_by (λ (t : PlanTest). work t.number es * amount t.number) ts
 work-cons amount e es [] = refl
 work-cons amount e es (t ∷ ts) =
-    let one : work t.number (e ∷ es) ≡ micros_by t.number e + work t.number es = sum_by-cons (micros_by t.number) e es in
-    let own : work t.number (e ∷ es) * amount t.number ≡ micros_by t.number e * amount t.number + work t.number es * amount t.number = ap (λ (k : ℕ). k * amount t.number) one ∙ add-mul (micros_by t.number e) (work t.number es) (amount t.number) in
+    let one : work t.number (e ∷ es) ≡ work_by t.number e + work t.number es = sum_by-cons (work_by t.number) e es in
+    let own : work t.number (e ∷ es) * amount t.number ≡ work_by t.number e * amount t.number + work t.number es * amount t.number = ap (λ (k : ℕ). k * amount t.number) one ∙ add-mul (work_by t.number e) (work t.number es) (amount t.number) in
     omega (
       arith,
       own,
       work-cons amount e es ts,
       sum_by-cons (λ (u : PlanTest). work u.number (e ∷ es) * amount u.number) t ts,
-      sum_by-cons (λ (u : PlanTest). micros_by u.number e * amount u.number) t ts,
+      sum_by-cons (λ (u : PlanTest). work_by u.number e * amount u.number) t ts,
       sum_by-cons (λ (u : PlanTest). work u.number es * amount u.number) t ts,
     )
 

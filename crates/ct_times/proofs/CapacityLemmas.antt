@@ -15,7 +15,7 @@ use Rattle.ct_history.specs.Rules.{exclude}
 use Rattle.ct_history.proofs.ApartLemmas.{starts_apart}
 use Rattle.ct_history.proofs.PlanLemmas.{find_passes}
 use Rattle.ct_times.specs.Capacity.{IsCapacity}
-use Rattle.ct_times.specs.Amounts.{amount_of, lock_amount, one_if, processor_amount, wide_amount}
+use Rattle.ct_times.specs.Amounts.{amount_of, lock_amount, amount_if, processor_amount, wide_amount}
 use Rattle.ct_times.proofs.AloneLemmas.{capacity_from, locks_parts, other_at, others}
 
 -- of numbers of which no two are above 0 together, and none is above 1, the sum is at most 1
@@ -46,12 +46,12 @@ pair_sum f (x ∷ xs) i zero d less lt = absurd (omega (arith, less))
 pair_sum f (x ∷ xs) zero (suc j) d less lt = omega (arith, get_or-le-sum_by f xs j d (omega (arith, lt)), sum_by-cons f x xs)
 pair_sum f (x ∷ xs) (suc i) (suc j) d less lt = omega (arith, pair_sum f xs i j d (omega (arith, less)) (omega (arith, lt)), sum_by-cons f x xs)
 
-pub one_most : (b : Bool) → one_if b ≤ 1
+pub one_most : (b : Bool) → amount_if b ≤ 1
 one_most true = omega arith
 one_most false = omega arith
 
-pub none_of : (b : Bool) → b ≡ false → one_if b ≡ 0
-none_of b is = ap one_if is
+pub none_of : (b : Bool) → b ≡ false → amount_if b ≡ 0
+none_of b is = ap amount_if is
 
 -- processors are a capacity
 pub processors_hold : (plan : PlanParts) (recorded : List Entry) → IsSound plan → 1 ≤ plan.level → IsCapacity plan plan.level (amount_of plan recorded plan.level processor_amount)

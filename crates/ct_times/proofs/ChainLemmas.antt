@@ -13,33 +13,33 @@ use Rattle.std.proofs.lemmas.List.Sums.{sum_by-cons}
 use Rattle.ct_history.specs.declared.history.Entry.{Entry}
 use Rattle.ct_history.specs.declared.history.Entry.TheVariants.{Start, End, Settle, Stop}
 use Rattle.ct_times.specs.Times.{Timed, last_moment, length_of, next_timed, over_at, start_at, started, timed}
-use Rattle.ct_times.specs.Chain.{Follow, HasOneChain, LeadBack, Link, earlier, ended_at, ended_by, rise_of}
+use Rattle.ct_times.specs.Chain.{Follow, HasOneChain, LeadBack, Link, earlier, ended_at, link_ended_by, rise_of}
 use Rattle.ct_times.proofs.TimedLemmas.{last-snoc, start_most, started-snoc, timed_induction}
 
 -- some entry stands at this moment
-abbrev is_moment : ℕ → List Timed → Bool
+abbrev pub is_moment : ℕ → List Timed → Bool
 is_moment m xs = list_any (λ (x : Timed). x.moment == m) xs
 
 -- the attempt whose End is the rise of a moment takes some time, and ends at the moment
-record HasLink (xs : List Timed) (m : ℕ) : Type 0 where
-  link : Link
-  is : ended_at m xs ≡ Some link
-  adds : link.start + link.micros ≡ m
-  takes : 0 < link.micros
-  from : (link.start ≡ 0) ⊎ (is_moment link.start xs ≡ true)
+pub record HasLink (xs : List Timed) (m : ℕ) : Type 0 where
+  pub link : Link
+  pub is : ended_at m xs ≡ Some link
+  pub adds : link.start + link.micros ≡ m
+  pub takes : 0 < link.micros
+  pub from : (link.start ≡ 0) ⊎ (is_moment link.start xs ≡ true)
 
 -- what holds of entries at their least moments
-record AreTimed (xs : List Timed) : Type 0 where
-  most : list_all (λ (x : Timed). nat_le x.moment (last_moment xs)) xs ≡ true
-  last : (last_moment xs ≡ 0) ⊎ (is_moment (last_moment xs) xs ≡ true)
-  starts : (test : ℕ) → started test xs ≤ last_moment xs
-  begins : (test : ℕ) → (started test xs ≡ 0) ⊎ (is_moment (started test xs) xs ≡ true)
-  links : (m : ℕ) → 0 < m → is_moment m xs ≡ true → HasLink xs m
+pub record AreTimed (xs : List Timed) : Type 0 where
+  pub most : list_all (λ (x : Timed). nat_le x.moment (last_moment xs)) xs ≡ true
+  pub last : (last_moment xs ≡ 0) ⊎ (is_moment (last_moment xs) xs ≡ true)
+  pub starts : (test : ℕ) → started test xs ≤ last_moment xs
+  pub begins : (test : ℕ) → (started test xs ≡ 0) ⊎ (is_moment (started test xs) xs ≡ true)
+  pub links : (m : ℕ) → 0 < m → is_moment m xs ≡ true → HasLink xs m
 
 moment-snoc : (m : ℕ) (xs : List Timed) (x : Timed) → is_moment m (xs ++ x ∷ []) ≡ (is_moment m xs || (x.moment == m || false))
 moment-snoc m xs x = list_any-append (λ (y : Timed). y.moment == m) xs (x ∷ [])
 
-same_moment : (m : ℕ) → (m == m) ≡ true
+pub same_moment : (m : ℕ) → (m == m) ≡ true
 same_moment m = grind (arith, nat_tests)
 
 moment_here : (xs : List Timed) (x : Timed) → is_moment x.moment (xs ++ x ∷ []) ≡ true
@@ -96,7 +96,7 @@ found_none m (x ∷ xs) is =
 
 -- the attempt that an entry ends, by the entries in front of it
 abbrev ended_from : List Timed → Option Timed → Option Link
-ended_from front found = option_and_then (λ (x : Timed). ended_by front x.entry) found
+ended_from front found = option_and_then (λ (x : Timed). link_ended_by front x.entry) found
 
 -- a moment that is reached keeps its attempt
 link_still : (m : ℕ) (xs : List Timed) (x : Timed) → m ≤ x.moment → is_moment m xs ≡ true → HasLink xs m → HasLink (xs ++ x ∷ []) m
@@ -119,7 +119,7 @@ link_still m xs x le is has =
     }
 
 -- what an entry ends that is over later than all entries in front of it
-ended_new : (xs : List Timed) (e : Entry) → AreTimed xs → last_moment xs < over_at xs e → (l : Link) × ((ended_by xs e ≡ Some l) × (l.start + l.micros ≡ over_at xs e) × (0 < l.micros) × ((l.start ≡ 0) ⊎ (is_moment l.start xs ≡ true)))
+ended_new : (xs : List Timed) (e : Entry) → AreTimed xs → last_moment xs < over_at xs e → (l : Link) × ((link_ended_by xs e ≡ Some l) × (l.start + l.micros ≡ over_at xs e) × (0 < l.micros) × ((l.start ≡ 0) ⊎ (is_moment l.start xs ≡ true)))
 ended_new xs (Start t a w p) all later = absurd (omega (arith, later))
 ended_new xs (End t a w seen) all later = (record { test = t; attempt = a; start = started t xs; micros = seen.micros }, (refl, refl, omega (arith, later, all.starts t), all.begins t))
 ended_new xs (Settle t c) all later = absurd (omega (arith, later))
@@ -226,7 +226,7 @@ timed-step xs e all = record {
         equal : (k : ℕ) → (k == m || false) ≡ true → m ≡ k
         equal k is = grind (arith, nat_tests, is)
 
-are_timed : (es : List Entry) → AreTimed (timed es)
+pub are_timed : (es : List Entry) → AreTimed (timed es)
 are_timed = timed_induction AreTimed timed-step (record {
   most = refl;
   last = inl refl;

@@ -10,7 +10,7 @@ use Rattle.indexmap.specs.IndexMap.{IndexMap}
 use Rattle.ct_history.specs.declared.history.Entry.{Entry}
 use Rattle.ct_history.specs.declared.history.Entry.TheVariants.{Start, End, Settle, Stop}
 use Rattle.ct_times.specs.Times.{Timed, last_moment, least_times, next_timed, over_by, start_at, started, timed}
-use Rattle.ct_times.specs.Capacity.{micros_by}
+use Rattle.ct_times.specs.Capacity.{work_by}
 use Rattle.ct_times.specs.Works.{AreWorks, kept_at}
 use Rattle.ct_times.proofs.TimedLemmas.{last-snoc, start_most, started-snoc, started_most, timed-snoc}
 
@@ -75,14 +75,14 @@ pub record AreAdded {S : Type 0} (works : IndexMap ℕ ℕ S) (at : ℕ) (es : L
 
 pub added_more : {S : Type 0} (works new : IndexMap ℕ ℕ S) (at : ℕ) (es : List Entry) (e : Entry)
     → at < length es → e ≡ get_or es at e → AreAdded works at (take at es)
-    → ((test : ℕ) → kept_at new test ≡ kept_at works test + micros_by test e)
-    → ((test : ℕ) → micros_by test e ≤ 2 ^ 64)
+    → ((test : ℕ) → kept_at new test ≡ kept_at works test + work_by test e)
+    → ((test : ℕ) → work_by test e ≤ 2 ^ 64)
     → AreAdded new (at + 1) (take (at + 1) es)
 added_more works new at es e within is added new_is small =
     subst (λ (ys : List Entry). AreAdded new (at + 1) ys) (sym (next_of es at e within is)) (record {
       are = λ test.
-          let one : sum_by (micros_by test) (e ∷ []) ≡ micros_by test e = omega arith in
-          omega (arith, new_is test, added.are test, one, sum_by-append (micros_by test) (take at es) (e ∷ []));
+          let one : sum_by (work_by test) (e ∷ []) ≡ work_by test e = omega arith in
+          omega (arith, new_is test, added.are test, one, sum_by-append (work_by test) (take at es) (e ∷ []));
       few = λ test. omega (arith, new_is test, added.few test, small test);
     })
 

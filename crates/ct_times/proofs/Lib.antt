@@ -7,3 +7,9 @@ pub mod AloneLemmas
 pub mod CapacityLemmas
 pub mod PathLemmas
 pub mod SlotLemmas
+pub mod StartLemmas
+pub mod LinkLemmas
+pub mod ShareLemmas
+pub mod MeasureLemmas
+pub mod WalkLemmas
+pub mod RanLemmas

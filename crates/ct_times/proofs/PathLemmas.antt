@@ -29,7 +29,7 @@ use Rattle.ct_history.proofs.OtherLemmas.{is_about, verdict_in_other}
 use Rattle.ct_history.proofs.PlanLemmas.{find_passes, found_at}
 use Rattle.ct_history.proofs.ProgressLemmas.{all_found}
 use Rattle.ct_times.specs.Capacity.{IsCapacity}
-use Rattle.ct_times.specs.Amounts.{amount_of, comes_behind, is_on, is_path, path_amount}
+use Rattle.ct_times.specs.Amounts.{amount_of, comes_behind, has_number, is_path, path_amount}
 use Rattle.ct_times.proofs.AloneLemmas.{capacity_from, other_at}
 use Rattle.ct_times.proofs.CapacityLemmas.{none_of, one_most, one_sum}
 
@@ -85,22 +85,22 @@ behind n [] = []
 behind n (m ∷ ms) = if m == n then ms else behind n ms
 
 -- of two numbers on a path, one stands behind the other
-one_behind : (path : List ℕ) (a b : ℕ) → is_on path a ≡ true → is_on path b ≡ true → a ≢ b → (is_on (behind a path) b ≡ true) ⊎ (is_on (behind b path) a ≡ true)
+one_behind : (path : List ℕ) (a b : ℕ) → has_number path a ≡ true → has_number path b ≡ true → a ≢ b → (has_number (behind a path) b ≡ true) ⊎ (has_number (behind b path) a ≡ true)
 one_behind [] a b on_a on_b apart = absurd (true≢false (sym on_a))
 one_behind (m ∷ ms) a b on_a on_b apart = elim (cases_Bool (m == a)) [
   | inl here ↦
       let unlike : (m == b) ≡ false = other m here in
-      let later : is_on ms b ≡ true = sym (ap (λ (c : Bool). c || is_on ms b) unlike) ∙ on_b in
-      inl (ap (λ (c : Bool). is_on (if c then ms else behind a ms) b) here ∙ later)
+      let later : has_number ms b ≡ true = sym (ap (λ (c : Bool). c || has_number ms b) unlike) ∙ on_b in
+      inl (ap (λ (c : Bool). has_number (if c then ms else behind a ms) b) here ∙ later)
   | inr not_a ↦
-      let later_a : is_on ms a ≡ true = sym (ap (λ (c : Bool). c || is_on ms a) not_a) ∙ on_a in
+      let later_a : has_number ms a ≡ true = sym (ap (λ (c : Bool). c || has_number ms a) not_a) ∙ on_a in
       elim (cases_Bool (m == b)) [
-        | inl here ↦ inr (ap (λ (c : Bool). is_on (if c then ms else behind b ms) a) here ∙ later_a)
+        | inl here ↦ inr (ap (λ (c : Bool). has_number (if c then ms else behind b ms) a) here ∙ later_a)
         | inr not_b ↦
-            let later_b : is_on ms b ≡ true = sym (ap (λ (c : Bool). c || is_on ms b) not_b) ∙ on_b in
+            let later_b : has_number ms b ≡ true = sym (ap (λ (c : Bool). c || has_number ms b) not_b) ∙ on_b in
             elim (one_behind ms a b later_a later_b apart) [
-              | inl first ↦ inl (ap (λ (c : Bool). is_on (if c then ms else behind a ms) b) not_a ∙ first)
-              | inr second ↦ inr (ap (λ (c : Bool). is_on (if c then ms else behind b ms) a) not_b ∙ second)
+              | inl first ↦ inl (ap (λ (c : Bool). has_number (if c then ms else behind a ms) b) not_a ∙ first)
+              | inr second ↦ inr (ap (λ (c : Bool). has_number (if c then ms else behind b ms) a) not_b ∙ second)
             ]
       ]
 ]
@@ -108,13 +108,13 @@ one_behind (m ∷ ms) a b on_a on_b apart = elim (cases_Bool (m == a)) [
     other : (k : ℕ) → (k == a) ≡ true → (k == b) ≡ false
     other k same = grind (arith, nat_tests, same, apart)
 
-all_on : (p : ℕ → Bool) (ns : List ℕ) (n : ℕ) → list_all p ns ≡ true → is_on ns n ≡ true → p n ≡ true
+all_on : (p : ℕ → Bool) (ns : List ℕ) (n : ℕ) → list_all p ns ≡ true → has_number ns n ≡ true → p n ≡ true
 all_on p [] n all on = absurd (true≢false (sym on))
 all_on p (m ∷ ms) n all on =
     let both = and_parts (p m) (list_all p ms) all in
     elim (cases_Bool (m == n)) [
       | inl here ↦ subst (λ (k : ℕ). p k ≡ true) (equal m n here) both.0
-      | inr other ↦ all_on p ms n both.1 (sym (ap (λ (c : Bool). c || is_on ms n) other) ∙ on)
+      | inr other ↦ all_on p ms n both.1 (sym (ap (λ (c : Bool). c || has_number ms n) other) ∙ on)
     ]
 
 some_value : {A : Type 0} (o : Option A) → is_some o ≡ true → (v : A) × (o ≡ Some v)
@@ -179,7 +179,7 @@ module _ (plan : PlanParts) (sound : IsSound plan) (path : List ℕ) where
   rest_final es goes on n t [] found follows is = refl
   rest_final es goes on n t (m ∷ ms) found follows is =
       let both = and_parts (comes_behind m (test_at plan.tests n)) (is_path plan.tests (m ∷ ms)) is in
-      let before : is_on t.before m ≡ true = sym (ap (λ (o : Option PlanTest). comes_behind m o) found) ∙ both.0 in
+      let before : has_number t.before m ≡ true = sym (ap (λ (o : Option PlanTest). comes_behind m o) found) ∙ both.0 in
       let done : final es m ≡ true = all_on (final es) t.before m follows before in
       let linked = all_found (has_sound_links plan.tests) (λ (x : PlanTest). x.number == n) plan.tests t sound.links found in
       let ranked = all_on (λ j. is_before_rank t.rank (test_at plan.tests j)) t.before m (and_parts (list_all (λ j. is_before_rank t.rank (test_at plan.tests j)) t.before) _ linked).0 before in
@@ -361,7 +361,7 @@ module _ (plan : PlanParts) (sound : IsSound plan) (path : List ℕ) where
   })
 
   -- no two tests of a path are open together
-  one_open : (es : List Entry) → GoesInOrder es → (m n : ℕ) (t v : PlanTest) → test_at plan.tests m ≡ Some t → test_at plan.tests n ≡ Some v → m ≢ n → is_open_in m es ≡ true → is_open_in n es ≡ true → is_on path m ≡ true → is_on path n ≡ true → ⊥
+  one_open : (es : List Entry) → GoesInOrder es → (m n : ℕ) (t v : PlanTest) → test_at plan.tests m ≡ Some t → test_at plan.tests n ≡ Some v → m ≢ n → is_open_in m es ≡ true → is_open_in n es ≡ true → has_number path m ≡ true → has_number path n ≡ true → ⊥
   one_open es goes m n t v at_m at_n apart open_m open_n on_m on_n = elim (one_behind path m n on_m on_n apart) [
     | inl later ↦ true≢false (sym (sym (ap (λ (o : Option PlanTest). is_some (verdict_at plan es o)) at_n) ∙ all_on (final es) (behind m path) n (goes.clear m open_m) later) ∙ (goes.opens n v at_n open_n).0)
     | inr later ↦ true≢false (sym (sym (ap (λ (o : Option PlanTest). is_some (verdict_at plan es o)) at_m) ∙ all_on (final es) (behind n path) m (goes.clear n open_n) later) ∙ (goes.opens m t at_m open_m).0)
@@ -384,19 +384,19 @@ path_holds plan recorded path sound is_way =
   where
     most : (o : Option PlanTest) → other_at plan sound recorded 1 (path_amount path) o ≤ 1
     most None = omega arith
-    most (Some t) = one_most (is_on path t.number)
+    most (Some t) = one_most (has_number path t.number)
 
     apart : (es : List Entry) → GoesInOrder plan sound path es → (m n : ℕ) (o u : Option PlanTest) → test_at plan.tests m ≡ o → test_at plan.tests n ≡ u → m ≢ n → is_open_in m es ≡ true → is_open_in n es ≡ true
         → (other_at plan sound recorded 1 (path_amount path) o ≡ 0) ⊎ (other_at plan sound recorded 1 (path_amount path) u ≡ 0)
     apart es goes m n None u at_m at_n differ open_m open_n = inl refl
     apart es goes m n (Some t) None at_m at_n differ open_m open_n = inr refl
-    apart es goes m n (Some t) (Some v) at_m at_n differ open_m open_n = elim (cases_Bool (is_on path t.number)) [
-      | inl on ↦ elim (cases_Bool (is_on path v.number)) [
+    apart es goes m n (Some t) (Some v) at_m at_n differ open_m open_n = elim (cases_Bool (has_number path t.number)) [
+      | inl on ↦ elim (cases_Bool (has_number path v.number)) [
         | inl too ↦
             absurd (one_open plan sound path es goes m n t v at_m at_n differ open_m open_n
-            (subst (λ (k : ℕ). is_on path k ≡ true) (number_is plan sound path m t at_m) on)
-            (subst (λ (k : ℕ). is_on path k ≡ true) (number_is plan sound path n v at_n) too))
-        | inr none ↦ inr (none_of (is_on path v.number) none)
+            (subst (λ (k : ℕ). has_number path k ≡ true) (number_is plan sound path m t at_m) on)
+            (subst (λ (k : ℕ). has_number path k ≡ true) (number_is plan sound path n v at_n) too))
+        | inr none ↦ inr (none_of (has_number path v.number) none)
       ]
-      | inr none ↦ inl (none_of (is_on path t.number) none)
+      | inr none ↦ inl (none_of (has_number path t.number) none)
     ]

@@ -74,12 +74,12 @@ module _ (kind : List ℕ) (block : ℕ) (some : 1 ≤ block) where
 
   module _ (resources : List Resource) where
     -- the blocks that a pick takes, if it takes a resource of the kind
-    abbrev taken : Pick → ℕ
-    taken p = cond (is_of_kind kind (slice_get resources p.resource)) (p.slots / block) 0
+    abbrev amount_taken : Pick → ℕ
+    amount_taken p = cond (is_of_kind kind (slice_get resources p.resource)) (p.slots / block) 0
 
     abbrev taken_by : Option Placement → ℕ
     taken_by None = 0
-    taken_by (Some p) = sum_by taken p.picks
+    taken_by (Some p) = sum_by amount_taken p.picks
 
     slots-cons : (i : ℕ) (p : Pick) (ps : List Pick) → slots_at i (p ∷ ps) ≡ cond (p.resource == i) p.slots 0 + slots_at i ps
     slots-cons i p ps = by_place (p.resource == i)
@@ -88,7 +88,7 @@ module _ (kind : List ℕ) (block : ℕ) (some : 1 ≤ block) where
         by_place true = sum_by-cons (λ (q : Pick). q.slots) p (filter (λ (q : Pick). q.resource == i) ps)
         by_place false = omega arith
 
-    picks_more : (ps : List Pick) (used more : ℕ → ℕ) → ((i : ℕ) → more i ≡ used i + slots_at i ps) → blocks_from 0 resources used + sum_by taken ps ≤ blocks_from 0 resources more
+    picks_more : (ps : List Pick) (used more : ℕ → ℕ) → ((i : ℕ) → more i ≡ used i + slots_at i ps) → blocks_from 0 resources used + sum_by amount_taken ps ≤ blocks_from 0 resources more
     picks_more [] used more adds = omega (arith, from_more 0 resources used more (λ i. omega (arith, adds i)))
     picks_more (p ∷ ps) used more adds =
         let mid : ℕ → ℕ = λ i. used i + cond (p.resource == i) p.slots 0 in
@@ -96,7 +96,7 @@ module _ (kind : List ℕ) (block : ℕ) (some : 1 ≤ block) where
           arith,
           pick_more 0 resources used mid p.resource p.slots (λ i. refl) p.resource (omega arith),
           picks_more ps mid more (λ i. omega (arith, adds i, slots-cons i p ps)),
-          sum_by-cons taken p ps,
+          sum_by-cons amount_taken p ps,
         )
 
     placed_more : (o : Option Placement) (used more : ℕ → ℕ) → ((i : ℕ) → more i ≡ used i + placed_slots i o) → blocks_from 0 resources used + taken_by o ≤ blocks_from 0 resources more
@@ -120,7 +120,7 @@ module _ (kind : List ℕ) (block : ℕ) (some : 1 ≤ block) where
     named_kind n p (Some r) same named =
         subst (λ (k : List ℕ). bytes_eq r.kind k ≡ true) (sym same) (and_parts (bytes_eq r.kind p.kind) (bytes_eq r.id p.id) named).0
 
-    need_taken : (n : Need) (p : Pick) → meets resources n p ≡ true → cond (bytes_eq n.kind kind) (n.slots / block) 0 ≤ taken p
+    need_taken : (n : Need) (p : Pick) → meets resources n p ≡ true → cond (bytes_eq n.kind kind) (n.slots / block) 0 ≤ amount_taken p
     need_taken n p is =
         let three = and_parts (n.group == p.group && bytes_eq n.kind p.kind && n.slots == p.slots) (names_resource p (slice_get resources p.resource)) is in
         let two = and_parts (n.group == p.group && bytes_eq n.kind p.kind) (n.slots == p.slots) three.0 in
@@ -131,7 +131,7 @@ module _ (kind : List ℕ) (block : ℕ) (some : 1 ≤ block) where
               let here : n.kind ≡ kind = (bytes_eq-Decides n.kind kind).0 of_kind in
               let there : is_of_kind kind (slice_get resources p.resource) ≡ true = subst (λ (k : List ℕ). is_of_kind k (slice_get resources p.resource) ≡ true) here (named_kind n p (slice_get resources p.resource) same three.1) in
               let one : cond (bytes_eq n.kind kind) (n.slots / block) 0 ≡ n.slots / block = ap (λ (c : Bool). cond c (n.slots / block) 0) of_kind in
-              let other : taken p ≡ p.slots / block = ap (λ (c : Bool). cond c (p.slots / block) 0) there in
+              let other : amount_taken p ≡ p.slots / block = ap (λ (c : Bool). cond c (p.slots / block) 0) there in
               omega (arith, one, other, ap (λ (m : ℕ). m / block) slots)
           | inr unlike ↦
               let none : cond (bytes_eq n.kind kind) (n.slots / block) 0 ≡ 0 = ap (λ (c : Bool). cond c (n.slots / block) 0) unlike in
@@ -151,12 +151,12 @@ module _ (kind : List ℕ) (block : ℕ) (some : 1 ≤ block) where
         by_kind true = sum_by-cons (λ (m : Need). m.slots / block) n (filter (λ (m : Need). bytes_eq m.kind kind) ns)
         by_kind false = omega arith
 
-    needs_taken : (ns : List Need) (ps : List Pick) → is_placement resources ns ps ≡ true → asked ns ≤ sum_by taken ps
+    needs_taken : (ns : List Need) (ps : List Pick) → is_placement resources ns ps ≡ true → asked ns ≤ sum_by amount_taken ps
     needs_taken [] ps is = omega arith
     needs_taken (n ∷ ns) [] is = absurd (true≢false (sym is))
     needs_taken (n ∷ ns) (p ∷ ps) is =
         let both = and_parts (meets resources n p) (is_placement resources ns ps) is in
-        omega (arith, need_taken n p both.0, needs_taken ns ps both.1, asked-cons n ns, sum_by-cons taken p ps)
+        omega (arith, need_taken n p both.0, needs_taken ns ps both.1, asked-cons n ns, sum_by-cons amount_taken p ps)
 
     -- the blocks of used slots are at most those that fit
     from_within : (k : ℕ) (rs : List Resource) (used : ℕ → ℕ) → ((j : ℕ) → IfSome (slice_get rs j) (λ (r : Resource). used (k + j) ≤ r.slots)) → blocks_from k rs used ≤ blocks kind block rs

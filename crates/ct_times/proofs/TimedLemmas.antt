@@ -8,7 +8,7 @@ use Rattle.ct_history.specs.declared.history.Entry.{Entry}
 use Rattle.ct_history.specs.declared.history.Entry.TheVariants.{Start, End, Settle, Stop}
 use Rattle.ct_history.specs.Verdicts.{last_of_list}
 use Rattle.ct_history.proofs.AttemptLemmas.{last_or-snoc}
-use Rattle.ct_times.specs.Times.{Timed, last_moment, next_timed, start_at, started, starts_of, timed, timed_behind}
+use Rattle.ct_times.specs.Times.{Timed, last_moment, next_timed, start_at, started, start_moments, timed, timed_behind}
 
 timed_behind-snoc : (front : List Timed) (es : List Entry) (e : Entry) → timed_behind front (es ++ e ∷ []) ≡ timed_behind front es ++ next_timed (front ++ timed_behind front es) e ∷ []
 timed_behind-snoc front [] e = ap (λ (f : List Timed). next_timed f e ∷ []) (sym (append-nil front))
@@ -35,7 +35,7 @@ started_option ms (Some m) = ap (λ (o : Option ℕ). unwrap_or o 0) (last_or-sn
 pub started-snoc : (test : ℕ) (xs : List Timed) (x : Timed) → started test (xs ++ x ∷ []) ≡ unwrap_or (start_at test x.moment x.entry) (started test xs)
 started-snoc test xs x =
     ap (λ (ms : List ℕ). unwrap_or (last_of_list ms) 0) (filter_map-append (λ (y : Timed). start_at test y.moment y.entry) xs (x ∷ []))
-    ∙ started_option (starts_of test xs) (start_at test x.moment x.entry)
+    ∙ started_option (start_moments test xs) (start_at test x.moment x.entry)
 
 -- what holds of no entries, and stays with each entry at its least moment, holds of each history
 module _ (P : List Timed → Type 0) (step : (front : List Timed) (e : Entry) → P front → P (front ++ next_timed front e ∷ [])) where

@@ -28,17 +28,17 @@ amount_of plan recorded size other test =
     if ran recorded test then amount_at plan.level size other (test_at plan.tests test) else 0
 
 -- 1 where it holds, else 0
-abbrev pub one_if : Bool → ℕ
-one_if b = if b then 1 else 0
+abbrev pub amount_if : Bool → ℕ
+amount_if b = if b then 1 else 0
 
 -- the number is one of these numbers
-abbrev pub is_on : List ℕ → ℕ → Bool
-is_on numbers number = list_any (λ n. n == number) numbers
+abbrev pub has_number : List ℕ → ℕ → Bool
+has_number numbers number = list_any (λ n. n == number) numbers
 
 -- the test that was looked up is there, and has this number in `before`
 abbrev pub comes_behind : ℕ → Option PlanTest → Bool
 comes_behind number None = false
-comes_behind number (Some t) = is_on t.before number
+comes_behind number (Some t) = has_number t.before number
 
 -- these tests are a path, from its end back: each has the next one in `before`
 abbrev pub is_path : List PlanTest → List ℕ → Bool
@@ -48,7 +48,7 @@ is_path tests (n ∷ m ∷ path) = comes_behind m (test_at tests n) && is_path t
 
 -- path: 1 on it
 abbrev pub path_amount : List ℕ → PlanTest → ℕ
-path_amount path t = one_if (is_on path t.number)
+path_amount path t = amount_if (has_number path t.number)
 
 -- processors: those of the test
 abbrev pub processor_amount : PlanTest → ℕ
@@ -56,11 +56,11 @@ processor_amount t = t.processors
 
 -- wide tests: 1 where twice its processors are above the level
 abbrev pub wide_amount : ℕ → PlanTest → ℕ
-wide_amount level t = one_if (nat_lt level (2 * t.processors))
+wide_amount level t = amount_if (nat_lt level (2 * t.processors))
 
 -- a lock: 1 where the test holds it alone, and for one test that shares it
 abbrev pub lock_amount : List ℕ → ℕ → PlanTest → ℕ
-lock_amount lock sharer t = one_if (is_among lock t.locks || t.number == sharer && is_among lock t.shared)
+lock_amount lock sharer t = amount_if (is_among lock t.locks || t.number == sharer && is_among lock t.shared)
 
 -- the blocks of this many slots that fit into the slots of the resources of a kind
 abbrev pub blocks : List ℕ → ℕ → List Resource → ℕ

@@ -9,15 +9,15 @@ use Rattle.ct_history.specs.History.{Running, open_starts}
 use Rattle.ct_history.specs.Legal.{is_allowed_so_far}
 
 -- how long the attempt of the test took that the entry ends, in microseconds; 0 where it ends none
-abbrev pub micros_by : ℕ → Entry → ℕ
-micros_by test (Start t a w p) = 0
-micros_by test (End t a w seen) = if t == test then seen.micros else 0
-micros_by test (Settle t cause) = 0
-micros_by test Stop = 0
+abbrev pub work_by : ℕ → Entry → ℕ
+work_by test (Start t a w p) = 0
+work_by test (End t a w seen) = if t == test then seen.micros else 0
+work_by test (Settle t cause) = 0
+work_by test Stop = 0
 
 -- the work of a test: how long all its attempts took together, in microseconds
 abbrev pub work : ℕ → List Entry → ℕ
-work test entries = sum_by (micros_by test) entries
+work test entries = sum_by (work_by test) entries
 
 -- the entry ends an attempt of the test
 abbrev pub is_end_of_test : ℕ → Entry → Bool

@@ -21,17 +21,17 @@ abbrev pub earlier : ℕ → List Timed → List Timed
 earlier moment entries = filter (λ (x : Timed). nat_lt x.moment moment) entries
 
 -- the attempt that the entry ends, where `front` stands in front of it
-abbrev pub ended_by : List Timed → Entry → Option Link
-ended_by front (Start t a w p) = None
-ended_by front (End t a w seen) =
+abbrev pub link_ended_by : List Timed → Entry → Option Link
+link_ended_by front (Start t a w p) = None
+link_ended_by front (End t a w seen) =
     Some (record { test = t; attempt = a; start = started t front; micros = seen.micros })
-ended_by front (Settle t cause) = None
-ended_by front Stop = None
+link_ended_by front (Settle t cause) = None
+link_ended_by front Stop = None
 
 -- the attempt whose End is the rise of this moment
 abbrev pub ended_at : ℕ → List Timed → Option Link
 ended_at moment entries =
-    option_and_then (λ (x : Timed). ended_by (earlier moment entries) x.entry) (rise_of moment entries)
+    option_and_then (λ (x : Timed). link_ended_by (earlier moment entries) x.entry) (rise_of moment entries)
 
 -- these attempts, the last one first, lead from a moment back to 0: the first one's End is the rise of the
 -- moment, and the others lead from its Start back to 0

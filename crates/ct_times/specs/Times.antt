@@ -17,13 +17,13 @@ start_at test moment (Settle t cause) = None
 start_at test moment Stop = None
 
 -- the moments at which these entries start attempts of the test, in order
-abbrev pub starts_of : ℕ → List Timed → List ℕ
-starts_of test timed = filter_map (λ (x : Timed). start_at test x.moment x.entry) timed
+abbrev pub start_moments : ℕ → List Timed → List ℕ
+start_moments test timed = filter_map (λ (x : Timed). start_at test x.moment x.entry) timed
 
 -- the moment of the last Start of the test, 0 without one. Attempts of a test never overlap, so it is
 -- the Start that an End of the test behind these entries ends
 abbrev pub started : ℕ → List Timed → ℕ
-started test timed = unwrap_or (last_of_list (starts_of test timed)) 0
+started test timed = unwrap_or (last_of_list (start_moments test timed)) 0
 
 -- the moment of the last entry, 0 without entries
 abbrev pub last_moment : List Timed → ℕ

@@ -1,0 +1,163 @@
+ghost use Rattle.std.specs.Prelude.{◌≡◌, ◌==◌, ◌&&◌, [], true, map, nat_lt, IfOk, OnOk};
+ghost use Rattle.std.specs.List.{list_all, list_any};
+ghost use Rattle.ct_history.specs.Plan.{IsAscendingFrom, IsSound, has_sound_links, test_at};
+ghost use Rattle.ct_times.specs.Amounts.{is_path};
+ghost use Rattle.ct_times.specs.Bounds as Bounds;
+ghost use Rattle.ct_times.specs.Bounds.{done_by};
+ghost use Rattle.ct_times.specs.Works.{kept_at};
+
+use crate::amounts::ran_beside;
+use crate::works::{Works, work_at};
+use ct_base::{List, NoMemory};
+use ct_history::{PlanParts, PlanTest, place_of};
+use indexmap::{IndexMap, IndexSet};
+use std::alloc::Global;
+
+/// The numbers of tests, from the last one back; each has the next one in `before`.
+pub type Path = IndexSet<u32>;
+
+/// Finds a heaviest path: from the first test of the greatest weight back to the first of the greatest
+/// weight before it, while some weight is left.
+pub(crate) fn heaviest_path(
+    alloc: Global,
+    plan: &PlanParts,
+    works: &Works,
+) -> Result<Path, NoMemory>
+    requires { IsSound plan.now }
+    ensures { IfOk result (λ path. is_path plan.now.tests path.keys ≡ true) }
+{
+    let weights = weights_of(alloc, plan, works)?;
+    let mut path = IndexSet::new(alloc);
+    if let Some(end) = heaviest_end(alloc, plan, works, &weights)? {
+        walk_back(plan.tests.as_slice(), &weights, end, &mut path)?;
+    }
+    Ok(path)
+}
+
+/// Weighs each test: its own work and the greatest weight of those before it.
+fn weights_of(alloc: Global, plan: &PlanParts, works: &Works) -> Result<Works, NoMemory> {
+    let mut weights: Works = IndexMap::new(alloc);
+    for test in by_rank(alloc, plan.tests.as_slice())? {
+        let weight = own_weight(plan.level, works, test).saturating_add(greatest(
+            &weights,
+            test.before.as_slice(),
+        ));
+        weights.insert(test.number, weight)?;
+    }
+    Ok(weights)
+}
+
+/// Lists tests such that those before a test come first.
+fn by_rank(alloc: Global, tests: &[PlanTest]) -> Result<Vec<&PlanTest>, NoMemory> {
+    let mut sorted = Vec::new(alloc);
+    for test in tests {
+        sorted.push(test)?;
+    }
+    sorted.sort_unstable_by(|one, other| one.rank.cmp(&other.rank));
+    Ok(sorted)
+}
+
+/// Returns what a test weighs by itself: its work, if it ran and is not lone.
+fn own_weight(level: u32, works: &Works, test: &PlanTest) -> u128
+    ensures { result ≡ Bounds.own_weight level (done_by works.now) test.now }
+{
+    if ran_beside(level, works, test) {
+        work_at(works, test.number)
+    } else {
+        0
+    }
+}
+
+/// Returns the greatest weight of these tests, 0 without one.
+fn greatest(weights: &Works, numbers: &[u32]) -> u128
+    ensures { result ≡ Bounds.greatest (kept_at weights.now) numbers.now }
+{
+    let mut most: u128 = 0;
+    for number in numbers {
+        most = most.max(work_at(weights, *number));
+    }
+    most
+}
+
+/// Finds the first of these tests that has their greatest weight, if that is above 0.
+fn heaviest(weights: &Works, numbers: &[u32]) -> Option<u32>
+    ensures { result ≡ Bounds.heaviest (kept_at weights.now) numbers.now }
+{
+    let most = greatest(weights, numbers);
+    let mut numbers = numbers.iter().copied();
+    numbers.find(|number| has_weight(weights, *number, most))
+}
+
+/// Returns whether a test weighs this much, and weighs at all.
+fn has_weight(weights: &Works, number: u32, wanted: u128) -> bool
+    ensures { result ≡ (nat_lt 0 (kept_at weights.now number) && kept_at weights.now number == wanted) }
+{
+    let weight = work_at(weights, number);
+    0 < weight && weight == wanted
+}
+
+/// Finds where the heaviest path ends: the first test of the greatest weight that weighs by itself.
+fn heaviest_end(
+    alloc: Global,
+    plan: &PlanParts,
+    works: &Works,
+    weights: &Works,
+) -> Result<Option<u32>, NoMemory>
+    ensures { IfOk result (λ end. end ≡ Bounds.heaviest (kept_at weights.now) (Bounds.weighing plan.now.level (done_by works.now) plan.now.tests)) }
+{
+    let numbers = weighing(alloc, plan.level, works, plan.tests.as_slice())?;
+    Ok(heaviest(weights, numbers.as_slice()))
+}
+
+/// Lists the tests that weigh by themselves.
+fn weighing(
+    alloc: Global,
+    level: u32,
+    works: &Works,
+    tests: &[PlanTest],
+) -> Result<List<u32>, NoMemory>
+    ensures { IfOk result (λ numbers. numbers ≡ Bounds.weighing level (done_by works.now) tests.now) }
+{
+    let mut numbers = List::new(alloc);
+    for test in tests {
+        if own_weight(level, works, test) > 0 {
+            numbers.push(test.number)?;
+        }
+    }
+    Ok(numbers)
+}
+
+/// Puts a test on an empty path, and behind it those that lead back from it.
+fn walk_back(tests: &[PlanTest], weights: &Works, end: u32, path: &mut Path) -> Result<(), NoMemory>
+    requires ascends { IsAscendingFrom 1 (map (λ t. t.number) tests.now) }
+    requires links { list_all (has_sound_links tests.now) tests.now ≡ true }
+    requires empty { path.old.keys ≡ [] }
+    ensures { OnOk result (is_path tests.now path.new.keys ≡ true) }
+{
+    let mut next = Some(end);
+    'walk: while let Some(number) = next {
+        if !path.insert(number)? {
+            return Ok(());
+        }
+        next = heaviest_before(tests, weights, number);
+    }
+    Ok(())
+}
+
+/// Finds the heaviest of those before a test.
+fn heaviest_before(tests: &[PlanTest], weights: &Works, number: u32) -> Option<u32>
+    requires { IsAscendingFrom 1 (map (λ t. t.number) tests.now) }
+    ensures { result ≡ Bounds.heaviest_before (kept_at weights.now) (test_at tests.now number) }
+{
+    match place_of(tests, number) {
+        Some(place) => heaviest(weights, tests[place].before.as_slice()),
+        None => None,
+    }
+}
+
+/// Returns whether a test is on a path.
+pub(crate) fn is_on_path(path: &Path, test: &PlanTest) -> bool
+    ensures { result ≡ list_any (λ n. n == test.now.number) path.now.keys }
+{
+    path.contains(&test.number)
+}
