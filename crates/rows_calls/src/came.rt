@@ -5,6 +5,7 @@ ghost use Rattle.std.specs.Prelude.{◌<◌, length};
 use ct_app::{Finished, Listed, Outcome, ctest_main, list_main};
 use ct_base::{List, MemFiles, MemSink, NoMemory};
 use ct_core::ScriptGate;
+use ct_explain::{Explained, explain_main};
 use ct_history::{History, Plan};
 use ct_journal::{Checked, JournalEnd, Recorded, check_main, record_main};
 use ct_trees::{TreesFinished, trees_main};
@@ -23,7 +24,7 @@ impl<R: AllocGlobal + Print + Threads + Wait + Sync> Machine for R {}
 #[derive(Drop)]
 pub(crate) struct Came {
     pub(crate) status: u8,
-    /// How it ended, unless it is a check.
+    /// How it ended, unless it reads a journal.
     pub(crate) outcome: Option<Outcome>,
     /// The tree, from 0, at which a refusal or a fault of the files came.
     pub(crate) tree: Option<u32>,
@@ -114,6 +115,7 @@ pub(crate) fn come(rt: &impl Machine, call: &CallRow<'_>) -> Result<Option<Came>
         "trees" => run_trees(rt, call)?,
         "record" => record(rt, call)?,
         "check" => check(rt.alloc(), call)?,
+        "explain" => explain(rt.alloc(), call)?,
         _ => return Ok(None),
     }))
 }
@@ -255,5 +257,22 @@ fn check(alloc: Global, call: &CallRow<'_>) -> Result<Came, NoMemory> {
         sink,
         ..
     } = check_main(alloc, words.as_slice(), files, sink);
+    Ok(Came::without_plan(alloc, status, None, files, sink))
+}
+
+/// Explains a journal.
+fn explain(alloc: Global, call: &CallRow<'_>) -> Result<Came, NoMemory> {
+    let Inputs {
+        words,
+        files,
+        sink,
+        ..
+    } = inputs_of(alloc, call)?;
+    let Explained {
+        status,
+        files,
+        sink,
+        ..
+    } = explain_main(alloc, words.as_slice(), files, sink);
     Ok(Came::without_plan(alloc, status, None, files, sink))
 }

@@ -1,0 +1,15 @@
+pub mod PutLemmas
+pub mod ReportLemmas
+pub mod StepLemmas
+pub mod AnswerLemmas
+pub mod WaitLemmas
+pub mod WhyLemmas
+pub mod ReadingLemmas
+pub mod StoryLemmas
+pub mod AllowedLemmas
+pub mod BarLemmas
+pub mod DrawLemmas
+pub mod ScaleLemmas
+pub mod SinkLemmas
+pub mod LawLemmas
+pub mod ApartLemmas

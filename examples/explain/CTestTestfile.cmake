@@ -1,0 +1,3 @@
+add_test(a x)
+add_test(b x)
+set_tests_properties(a b PROPERTIES RESOURCE_LOCK l)
