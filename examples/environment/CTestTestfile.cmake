@@ -1,4 +1,5 @@
 add_test(first "./has" "first" "one")
 add_test(equals "./has" "equals" "equals/has")
+add_test(leads "./has" "leads" "/has")
 add_test(last "./has" "last" "three")
 add_test(turned "./has" "one" "first")

@@ -6,4 +6,6 @@ add_test(elsewhere "beside")
 set_tests_properties(elsewhere PROPERTIES WORKING_DIRECTORY "here")
 add_test(requires "/bin/true")
 set_tests_properties(requires PROPERTIES REQUIRED_FILES "beside;dangling")
+# A folder of its name stands beside it: the program is found on PATH.
+add_test(named "true")
 include(long.cmake)

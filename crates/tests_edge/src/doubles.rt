@@ -81,6 +81,8 @@ impl Write for Sip {
 #[derive(Drop)]
 pub(crate) struct Dummy {
     looks: u64,
+    /// How often it was stopped, also where that failed.
+    pub(crate) stops: u64,
     /// `stop`, `end` or `look`, or another word.
     fails: &'static str,
     /// How it ended, where it was waited for.
@@ -93,6 +95,7 @@ impl Dummy {
     pub(crate) fn failing(fails: &'static str) -> Dummy {
         Dummy {
             looks: 0,
+            stops: 0,
             fails,
             status: None,
             is_told: false,
@@ -113,6 +116,7 @@ impl Started for Dummy {
     ghost is_told = { λ program. program.is_told };
 
     fn stop(&mut self) -> io::Result<()> {
+        self.stops = self.stops.saturating_add(1);
         self.answer("stop", ())?;
         self.is_told = true;
         Ok(())

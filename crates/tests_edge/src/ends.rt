@@ -1,4 +1,4 @@
-//! Programs of which a call fails, and a clock that does: how an attempt then ends.
+//! Programs of which a call fails, and a clock that does: how an attempt then ends, and that it stops the program.
 
 use crate::doubles::{Drip, Dummy, NoClock};
 use crate::rows::{asked_and_wanted, cell, expect, limit};
@@ -12,34 +12,37 @@ use std::process::{Command, Stdio};
 use std::rt::Clock;
 use std::test::Fail;
 
-/// The call that fails, the limit in microseconds, and how the attempt of a program ends that exits
-/// with 7 at its third look.
+/// The call that fails, or `read` for a read of the output, and the limit in microseconds. Then how
+/// the attempt of a program ends that exits with 7 at its third look, and how often it was stopped.
 const ENDS: &str = "\
-none none is Exited(7)
-none 60000000 is Exited(7)
-none 0 is TimedOut
-stop 60000000 is Exited(7)
-stop 0 is a fault
-end none is a fault
-end 60000000 is Exited(7)
-end 0 is a fault
-look none is Exited(7)
-look 60000000 is a fault
-look 0 is TimedOut
+none none is Exited(7) 0
+none 60000000 is Exited(7) 0
+none 0 is TimedOut 1
+stop 60000000 is Exited(7) 0
+stop 0 is a fault 1
+end none is a fault 1
+end 60000000 is Exited(7) 0
+end 0 is a fault 1
+look none is Exited(7) 0
+look 60000000 is a fault 1
+look 0 is TimedOut 1
+read none is a fault 1
+read 60000000 is a fault 1
+read 0 is TimedOut 1
 ";
 
 /// The same where the clock cannot be read. Without a limit it is not.
 const UNTIMED: &str = "\
-none none is Exited(7)
-none 60000000 is a fault
-stop 60000000 is a fault
+none none is Exited(7) 0
+none 60000000 is a fault 1
+stop 60000000 is a fault 1
 ";
 
-/// An output at whose end a reader is at once.
-fn closed(ready: RawFd) -> Drip {
+/// An output at whose end a reader is at once, or that cannot be read.
+fn closed(ready: RawFd, fails: bool) -> Drip {
     Drip {
         left: b"",
-        good: 9,
+        good: if fails { 0 } else { 9 },
         dries: false,
         ready,
     }
@@ -54,26 +57,24 @@ fn ended<C: Clock>(
 ) -> Result<String, NoMemory> {
     let mut program = Running {
         child: Dummy::failing(fails),
-        output: closed(ready),
-        errors: closed(ready),
+        output: closed(ready, fails == "read"),
+        errors: closed(ready, false),
     };
-    told_of(
-        alloc,
-        attend(
-            clock,
-            limit,
-            &mut program,
-            &mut Collect::new(alloc),
-            &mut Blob::new(alloc),
-        ),
-    )
+    let outcome = attend(
+        clock,
+        limit,
+        &mut program,
+        &mut Collect::new(alloc),
+        &mut Blob::new(alloc),
+    );
+    told_of(alloc, outcome, program.child.stops)
 }
 
-fn told_of(alloc: Global, ended: Result<How, StartFault>) -> Result<String, NoMemory> {
+fn told_of(alloc: Global, ended: Result<How, StartFault>, stops: u64) -> Result<String, NoMemory> {
     match ended {
-        Ok(how) => Ok(format!(in alloc; "{how:?}")?),
-        Err(StartFault::Failed) => Ok(format!(in alloc; "a fault")?),
-        Err(StartFault::NoMemory) => Ok(format!(in alloc; "no memory")?),
+        Ok(how) => Ok(format!(in alloc; "{how:?} {stops}")?),
+        Err(StartFault::Failed) => Ok(format!(in alloc; "a fault {stops}")?),
+        Err(StartFault::NoMemory) => Ok(format!(in alloc; "no memory {stops}")?),
     }
 }
 
@@ -90,14 +91,12 @@ fn are_ended<C: Clock>(rt: HostRuntime, clock: &C, rows: &'static str) -> Result
 }
 
 #[test]
-fn tells_how_a_program_ends_that_cannot_be_stopped_or_waited_for(
-    rt: HostRuntime,
-) -> Result<(), Fail> {
+fn tells_how_a_program_ends_and_stops_it_at_each_fault(rt: HostRuntime) -> Result<(), Fail> {
     are_ended(rt, &rt, ENDS)
 }
 
 #[test]
-fn tells_a_fault_where_a_limit_cannot_be_kept(rt: HostRuntime) -> Result<(), Fail> {
+fn stops_a_program_whose_limit_cannot_be_kept(rt: HostRuntime) -> Result<(), Fail> {
     are_ended(rt, &NoClock, UNTIMED)
 }
 

@@ -46,6 +46,7 @@ const OUTPUTS: &str = "\
 const KEPT: &str = "\
 9 one,two
 4 one,two,three
+4 one,two,x
 3 one,two,three
 0 one,two
 0 one

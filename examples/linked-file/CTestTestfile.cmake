@@ -1,0 +1,1 @@
+add_test(passes "true")

@@ -1,0 +1,23 @@
+# Eight programs close their outputs and end at once. Each has an exit code of its own, and this one alone skips its test.
+add_test(exits_1 "sh" "-c" "exec >&- 2>&-; sleep 1; exit 1")
+add_test(exits_2 "sh" "-c" "exec >&- 2>&-; sleep 1; exit 2")
+add_test(exits_3 "sh" "-c" "exec >&- 2>&-; sleep 1; exit 3")
+add_test(exits_4 "sh" "-c" "exec >&- 2>&-; sleep 1; exit 4")
+add_test(exits_5 "sh" "-c" "exec >&- 2>&-; sleep 1; exit 5")
+add_test(exits_6 "sh" "-c" "exec >&- 2>&-; sleep 1; exit 6")
+add_test(exits_7 "sh" "-c" "exec >&- 2>&-; sleep 1; exit 7")
+add_test(exits_8 "sh" "-c" "exec >&- 2>&-; sleep 1; exit 8")
+set_tests_properties(exits_1 PROPERTIES SKIP_RETURN_CODE 1)
+set_tests_properties(exits_2 PROPERTIES SKIP_RETURN_CODE 2)
+set_tests_properties(exits_3 PROPERTIES SKIP_RETURN_CODE 3)
+set_tests_properties(exits_4 PROPERTIES SKIP_RETURN_CODE 4)
+set_tests_properties(exits_5 PROPERTIES SKIP_RETURN_CODE 5)
+set_tests_properties(exits_6 PROPERTIES SKIP_RETURN_CODE 6)
+set_tests_properties(exits_7 PROPERTIES SKIP_RETURN_CODE 7)
+set_tests_properties(exits_8 PROPERTIES SKIP_RETURN_CODE 8)
+# The end of a program that closed its outputs is seen soon.
+add_test(ends_1 "sh" "-c" "exec >&- 2>&-; sleep 2")
+add_test(ends_2 "sh" "-c" "exec >&- 2>&-; sleep 2")
+# The other workers wait for these two.
+add_test(behind "true")
+set_tests_properties(behind PROPERTIES DEPENDS "ends_1;ends_2")
