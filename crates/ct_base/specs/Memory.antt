@@ -2,11 +2,12 @@
 use Rattle.std.specs.Prelude.{ℕ, ◌+◌, ◌-◌, ◌^◌, min, Bool, true, false, List, [], ◌∷◌, ◌++◌, Option, Some, option_map, Result, IsErrOf, OnOk, ◌≡◌, ◌==◌, ◌⊎◌, bytes_eq, reverse}
 use Rattle.std.specs.List.{find, list_any}
 use Rattle.ct_base.specs.declared.defs.Pair.{Pair}
+use Rattle.ct_base.specs.declared.file_call.FileCall.{FileCall}
 use Rattle.ct_base.specs.declared.files.FilesFault.{FilesFault}
 use Rattle.ct_base.specs.declared.files.FilesFault.TheVariants as Files
 use Rattle.ct_base.specs.declared.sink.SinkFault.{SinkFault}
 use Rattle.ct_base.specs.declared.sink.SinkFault.TheVariants as Sinks
-use Rattle.ct_base.specs.Outside.{FilesTell, Held, SinkTell}
+use Rattle.ct_base.specs.Outside.{FilesTell, Held, SinkTell, path_of}
 
 -- what the pairs hold: for each path the value of its last pair, and nothing for a path without a pair
 abbrev pub held_by : List Pair → Held
@@ -39,13 +40,14 @@ failed counts = record counts { calls = counted counts.calls; faults = counted c
 abbrev pub is_due : Calls → Bool
 is_due counts = list_any (λ (number : ℕ). number == counted counts.calls) counts.fail_at
 
--- files in memory: the pairs, the calls, and the path of the last call that failed
+-- files in memory: the pairs, the counts of the calls, the path of the last call that failed, and each call
 pub record MemFilesValue : Type 0 where
   pub pairs : List Pair
   pub counts : Calls
   pub refused : Option (List ℕ)
+  pub made : List FileCall
 
--- what files in memory tell: all three parts
+-- what files in memory tell of what they hold and of their faults
 abbrev pub told_by : MemFilesValue → FilesTell
 told_by files = record {
   held = Some (held_by files.pairs);
@@ -57,22 +59,28 @@ told_by files = record {
 abbrev pub with_pair : List Pair → List ℕ → List ℕ → List Pair
 with_pair pairs path bytes = pairs ++ record { name = path; value = bytes } ∷ []
 
--- the call was due to fail and failed; only the counts and the refused path changed
-pub record FailsAsDue (path : List ℕ) (before now : MemFilesValue) : Type 0 where
+-- the call was due to fail and failed; it was counted, its path is the refused one, and no pair changed
+pub record FailsAsDue (call : FileCall) (before now : MemFilesValue) : Type 0 where
   pub due : is_due before.counts ≡ true
-  pub is : now ≡ record before { counts = failed before.counts; refused = Some path }
+  pub is : now
+      ≡ record before {
+        counts = failed before.counts;
+        refused = Some (path_of call);
+        made = before.made ++ call ∷ [];
+      }
 
 -- the call was not due to fail; it was counted, and the files now hold `pairs`
-pub record PassesWith (pairs : List Pair) (before now : MemFilesValue) : Type 0 where
+pub record PassesWith (call : FileCall) (pairs : List Pair) (before now : MemFilesValue) : Type 0 where
   pub not_due : is_due before.counts ≡ false
-  pub is : now ≡ record before { pairs = pairs; counts = passed before.counts }
+  pub is : now
+      ≡ record before { pairs = pairs; counts = passed before.counts; made = before.made ++ call ∷ [] }
 
--- a call on files in memory: it fails exactly where it is due to, and is counted;
+-- a call on files in memory: it fails exactly where it is due to, and is counted and kept;
 -- where memory is wanting, nothing changes
-pub record IsCall {T : Type 0} (path : List ℕ) (pairs : List Pair) (before now : MemFilesValue)
+pub record IsCall {T : Type 0} (call : FileCall) (pairs : List Pair) (before now : MemFilesValue)
     (result : Result T FilesFault) : Type 0 where
-  pub passes : OnOk result (PassesWith pairs before now)
-  pub fails : IsErrOf result Files.Failed → FailsAsDue path before now
+  pub passes : OnOk result (PassesWith call pairs before now)
+  pub fails : IsErrOf result Files.Failed → FailsAsDue call before now
   pub unchanged : IsErrOf result Files.NoMemory → now ≡ before
 
 -- a sink in memory: all the bytes that it took, the same bytes put by put, and the counts of its calls

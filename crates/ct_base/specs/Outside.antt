@@ -1,5 +1,7 @@
 -- What a call does to files or to a sink, which may tell what they hold. This project's own.
-use Rattle.std.specs.Prelude.{◌≡◌, ◌≢◌, ⊤, ℕ, ◌+◌, ◌-◌, ◌^◌, ◌≤◌, ◌⊎◌, min, List, [], ◌++◌, Option, Some, Result, IfSome, IsSomeAnd, IsErrOf, OnOk, OnErr}
+use Rattle.std.specs.Prelude.{◌≡◌, ◌≢◌, ⊤, ℕ, ◌+◌, ◌-◌, ◌^◌, ◌≤◌, ◌⊎◌, min, List, [], ◌∷◌, ◌++◌, Option, Some, Result, IfSome, IsSomeAnd, IsErrOf, OnOk, OnErr}
+use Rattle.ct_base.specs.declared.file_call.FileCall.{FileCall}
+use Rattle.ct_base.specs.declared.file_call.FileCall.TheVariants as call
 use Rattle.ct_base.specs.declared.files.FilesFault.{FilesFault}
 use Rattle.ct_base.specs.declared.files.FilesFault.TheVariants as Files
 use Rattle.ct_base.specs.declared.sink.SinkFault.{SinkFault}
@@ -82,6 +84,20 @@ pub record WritesTo (path bytes : List ℕ) (before now : FilesTell) (result : R
   pub ok : OnOk result (Becomes before.held now.held (Writes path bytes))
   pub failed : IsErrOf result Files.Failed → Becomes before.held now.held (FailsToWrite path bytes)
   pub no_memory : IsErrOf result Files.NoMemory → Becomes before.held now.held SameHeld
+
+-- the path that a call on files is about
+abbrev pub path_of : FileCall → List ℕ
+path_of (call.Read path most) = path
+path_of (call.Exists path) = path
+path_of (call.Write path length) = path
+
+-- a call on files that may tell which calls were made: it stands behind those that were made before,
+-- whatever it returns; where memory was wanting, it may be missing
+pub record Makes {T : Type 0} (made : FileCall) (before now : Option (List FileCall))
+    (result : Result T FilesFault) : Type 0 where
+  pub ok : OnOk result (Becomes before now (Adds (made ∷ [])))
+  pub failed : IsErrOf result Files.Failed → Becomes before now (Adds (made ∷ []))
+  pub no_memory : IsErrOf result Files.NoMemory → Becomes before now (AddsPrefix (made ∷ []))
 
 -- what a sink tells: all that it took, the pieces that it took whole, put by put, and how many calls failed
 pub record SinkTell : Type 0 where

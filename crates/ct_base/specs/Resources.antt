@@ -1,6 +1,11 @@
 -- Resources that are told apart. Source: CMake manual, ctest(1), Resource Specification File.
-use Rattle.std.specs.Prelude.{◌≡◌, Bool, false, ◌&&◌, List, AllPairs, bytes_eq}
+use Rattle.std.specs.Prelude.{◌≡◌, ℕ, Bool, false, ◌&&◌, List, AllPairs, bytes_eq}
 use Rattle.ct_base.specs.declared.defs.Resource.{Resource}
+use Rattle.ct_base.specs.declared.defs.TheConstants.{MOST_SLOTS}
+
+-- the greatest number of slots of a resource, and of a need
+abbrev pub most_slots : ℕ
+most_slots = MOST_SLOTS
 
 -- the resource has this kind and this id
 abbrev pub same_resource : Resource → Resource → Bool

@@ -3,6 +3,11 @@ ghost use Rattle.std.specs.Prelude.{◌≡◌, ◌<◌, ◌^◌, IfOk};
 use crate::{List, Name, NoMemory};
 use std::alloc::Global;
 
+/// How many slots a resource may have, and how many a need may ask for.
+///
+/// Source: this project's choice.
+pub const MOST_SLOTS: u64 = 1_000_000_000;
+
 /// A name and its value: a property, a variable of an environment, or a path and what it holds.
 #[derive(Debug, Drop)]
 pub struct Pair {

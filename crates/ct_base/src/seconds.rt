@@ -5,7 +5,9 @@ ghost use Rattle.std.specs.Str.Parse.{digits_value_after};
 ghost use Rattle.ct_base.specs.Seconds.{is_numeral as is_digits, most_micros, six_decimals as decimals_of, micros_of_digits as value_of, micros_in, number_in, plain_micros as micros_of_plain};
 
 /// The greatest time, in microseconds.
-const MOST_MICROS: u64 = 1_000_000_000_000_000;
+///
+/// Source: this project's choice.
+pub const MOST_MICROS: u64 = 1_000_000_000_000_000;
 
 /// Reads a time in seconds as whole microseconds: an optional `-`, digits, and optionally a `.` and digits.
 ///

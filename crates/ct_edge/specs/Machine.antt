@@ -19,7 +19,14 @@ pub record RealSinkValue (W : Type 0) : Type 0 where
 
 -- what a gate tells after this many failed starts and waits
 abbrev pub gate_tell : ℕ → GateTell
-gate_tell faults = record { world = None; asked = None; sent = None; lent = None; faults = faults }
+gate_tell faults = record {
+  who = None;
+  world = None;
+  asked = None;
+  sent = None;
+  lent = None;
+  faults = faults;
+}
 
 -- what gates tell after these many failed starts and waits, one number for each
 abbrev pub gates_tell : List ℕ → List GateTell

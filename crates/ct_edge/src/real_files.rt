@@ -63,6 +63,8 @@ impl<R> RealFiles<R> {
 impl<R: rt::Files> Files for RealFiles<R> {
     ghost tells = { files_tell };
 
+    ghost calls = { λ _. None };
+
     fn read(&mut self, alloc: Global, path: &Name, most: u64) -> Result<Option<Blob>, FilesFault> {
         let got = read_file(&self.rt, alloc, path, most);
         self.count(got)
