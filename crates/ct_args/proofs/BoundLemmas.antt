@@ -14,7 +14,7 @@ use Rattle.ct_args.specs.declared.usage.UsageKind.{UsageKind}
 use Rattle.ct_args.specs.declared.usage.UsageKind.TheVariants.{BadNumber}
 use Rattle.ct_args.specs.declared.usage.UsageFault.{UsageFault}
 use Rattle.ct_args.specs.Given.{Value, Given, options_in, is_of, value_by, given_value, option_value}
-use Rattle.ct_args.specs.Values.{then_read, level_of, level_in, mode_in, times_of, times_in, repeat_at, repeat_in}
+use Rattle.ct_args.specs.Values.{greatest_level, greatest_times, then_read, level_of, level_in, mode_in, times_of, times_in, repeat_at, repeat_in}
 use Rattle.ct_args.specs.Fault.{faults_in}
 use Rattle.ct_args.specs.declared.invocation.Invocation.{Invocation}
 use Rattle.ct_args.specs.Invocation.{InvocationValue, once, invocation_of, unless_refused, invocation_in, IsBounded, invocation_seen}
@@ -52,42 +52,42 @@ record IsWithin (least most number : ℕ) : Type 0 where
   some : least ≤ number
   few : number ≤ most
 
-level-zero : (number level : ℕ) (zero : Bool) → (number == 0) ≡ zero → cond zero (Err BadNumber) (Ok (min number 65535)) ≡ Ok level → IsWithin 1 65535 level
+level-zero : (number level : ℕ) (zero : Bool) → (number == 0) ≡ zero → cond zero (Err BadNumber) (Ok (min number greatest_level)) ≡ Ok level → IsWithin 1 greatest_level level
 level-zero number level true e is = cc
 level-zero number level false e is =
-    let same : min number 65535 ≡ level = cc in
+    let same : min number greatest_level ≡ level = cc in
     record { some = grind (arith, nat_tests, same, e); few = omega (arith, same) }
 
-level-number : (number : Option ℕ) (level : ℕ) → then_read (ok_or number BadNumber) level_of ≡ Ok level → IsWithin 1 65535 level
+level-number : (number : Option ℕ) (level : ℕ) → then_read (ok_or number BadNumber) level_of ≡ Ok level → IsWithin 1 greatest_level level
 level-number None level is = cc
 level-number (Some number) level is = level-zero number level (number == 0) refl is
 
-level-bounded : Promises level_in (IsWithin 1 65535)
+level-bounded : Promises level_in (IsWithin 1 greatest_level)
 unfolding level_in
 level-bounded text level is = level-number (number_in text) level is
 
-times-test : (number times : ℕ) (out : Bool) → (number == 0 || nat_lt 99999 number) ≡ out → cond out (Err BadNumber) (Ok number) ≡ Ok times → IsWithin 1 99999 times
+times-test : (number times : ℕ) (out : Bool) → (number == 0 || nat_lt greatest_times number) ≡ out → cond out (Err BadNumber) (Ok number) ≡ Ok times → IsWithin 1 greatest_times times
 times-test number times true e is = cc
 times-test number times false e is =
     let same : number ≡ times = cc in
     record { some = grind (arith, nat_tests, same, e); few = grind (arith, nat_tests, same, e) }
 
-times-number : (number : Option ℕ) (times : ℕ) → then_read (ok_or number BadNumber) times_of ≡ Ok times → IsWithin 1 99999 times
+times-number : (number : Option ℕ) (times : ℕ) → then_read (ok_or number BadNumber) times_of ≡ Ok times → IsWithin 1 greatest_times times
 times-number None times is = cc
-times-number (Some number) times is = times-test number times (number == 0 || nat_lt 99999 number) refl is
+times-number (Some number) times is = times-test number times (number == 0 || nat_lt greatest_times number) refl is
 
 -- the number of times in a value of --repeat
 abbrev HasTimes : Repeat → Type 0
-HasTimes repeat = IsWithin 1 99999 repeat.times
+HasTimes repeat = IsWithin 1 greatest_times repeat.times
 
-times-made : (mode : Mode) (times : Result ℕ UsageKind) (repeat : Repeat) → ((n : ℕ) → times ≡ Ok n → IsWithin 1 99999 n) → then_read times (λ n. Ok (record { mode = mode; times = n })) ≡ Ok repeat → HasTimes repeat
+times-made : (mode : Mode) (times : Result ℕ UsageKind) (repeat : Repeat) → ((n : ℕ) → times ≡ Ok n → IsWithin 1 greatest_times n) → then_read times (λ n. Ok (record { mode = mode; times = n })) ≡ Ok repeat → HasTimes repeat
 times-made mode (Ok n) repeat bounded is =
     let made : Repeat = record { mode = mode; times = n } in
     let same : made ≡ repeat = cc in
     subst HasTimes same (bounded n refl)
 times-made mode (Err kind) repeat bounded is = cc
 
-mode-made : (mode : Result Mode UsageKind) (times : Result ℕ UsageKind) (repeat : Repeat) → ((n : ℕ) → times ≡ Ok n → IsWithin 1 99999 n) → then_read mode (λ m. then_read times (λ n. Ok (record { mode = m; times = n }))) ≡ Ok repeat → HasTimes repeat
+mode-made : (mode : Result Mode UsageKind) (times : Result ℕ UsageKind) (repeat : Repeat) → ((n : ℕ) → times ≡ Ok n → IsWithin 1 greatest_times n) → then_read mode (λ m. then_read times (λ n. Ok (record { mode = m; times = n }))) ≡ Ok repeat → HasTimes repeat
 mode-made (Ok mode) times repeat bounded is = times-made mode times repeat bounded is
 mode-made (Err kind) times repeat bounded is = cc
 
@@ -100,7 +100,7 @@ repeat-bounded : Promises repeat_in HasTimes
 unfolding repeat_in
 repeat-bounded text repeat is = repeat-bounded-at text (position (λ byte. byte == colon) text) repeat is
 
-level-usual : (level : Option ℕ) → ((n : ℕ) → level ≡ Some n → IsWithin 1 65535 n) → IsWithin 1 65535 (unwrap_or level 1)
+level-usual : (level : Option ℕ) → ((n : ℕ) → level ≡ Some n → IsWithin 1 greatest_level n) → IsWithin 1 greatest_level (unwrap_or level 1)
 level-usual None bounded = record { some = omega arith; few = omega arith }
 level-usual (Some n) bounded = bounded n refl
 
@@ -117,8 +117,8 @@ pub bounded : (words : List (List ℕ)) (made : Invocation) → invocation_in wo
 bounded words made e =
     let given = options_in words in
     let same : invocation_of given ≡ invocation_seen made = accepted (faults_in words) (invocation_of given) (invocation_seen made) e in
-    let level : IsWithin 1 65535 made.wanted.level =
-    subst (λ (value : InvocationValue). IsWithin 1 65535 value.level) same (level-usual (option_value level_in Parallel given) (λ n found. promised level_in (IsWithin 1 65535) Parallel level-bounded given n found)) in
+    let level : IsWithin 1 greatest_level made.wanted.level =
+    subst (λ (value : InvocationValue). IsWithin 1 greatest_level value.level) same (level-usual (option_value level_in Parallel given) (λ n found. promised level_in (IsWithin 1 greatest_level) Parallel level-bounded given n found)) in
     let repeat : HasTimes made.wanted.repeat =
     subst (λ (value : InvocationValue). HasTimes value.repeat) same (repeat-usual (option_value repeat_in RepeatOption given) (λ r found. promised repeat_in HasTimes RepeatOption repeat-bounded given r found)) in
     record { some_level = level.some; most_level = level.few; some_times = repeat.some; most_times = repeat.few }

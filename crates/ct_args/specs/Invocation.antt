@@ -12,7 +12,8 @@ use Rattle.ct_args.specs.declared.invocation.Task.{Task}
 use Rattle.ct_args.specs.declared.invocation.Task.TheVariants.{Run, ListTests, ListLabels, ListJson}
 use Rattle.ct_args.specs.declared.invocation.Invocation.{Invocation}
 use Rattle.ct_args.specs.Given.{Given, options_in, is_given, option_value, option_values}
-use Rattle.ct_args.specs.Values.{text_in, pattern_in, numbers_in, level_in, limit_in, repeat_in, is_error_in}
+use Rattle.ct_args.specs.declared.settings.TheConstants.{USUAL_LIMIT}
+use Rattle.ct_args.specs.Values.{greatest_level, greatest_times, text_in, pattern_in, numbers_in, level_in, limit_in, repeat_in, is_error_in}
 use Rattle.ct_args.specs.Fault.{faults_in}
 
 -- an invocation, with the trees of its patterns in place of the patterns
@@ -54,7 +55,7 @@ here = codes "."
 
 -- how long a test may run without --timeout, in microseconds
 abbrev pub usual_limit : ℕ
-usual_limit = 1500000000
+usual_limit = USUAL_LIMIT
 
 -- what options that have no fault ask for; none of them names the tests that alone are chosen
 abbrev pub invocation_of : List Given → InvocationValue
@@ -115,10 +116,10 @@ invocation_seen made = record {
   rerun = made.rerun;
 }
 
--- what holds of all that words ask for: the level is from 1 to 65,535, and a test is tried at most 1 to
--- 99,999 times
+-- what holds of all that words ask for: the level is from 1 to the greatest, and a test is tried at most so
+-- many times as is asked for, from 1 to the greatest number
 pub record IsBounded (made : Invocation) : Type 0 where
   pub some_level : 1 ≤ made.wanted.level
-  pub most_level : made.wanted.level ≤ 65535
+  pub most_level : made.wanted.level ≤ greatest_level
   pub some_times : 1 ≤ made.wanted.repeat.times
-  pub most_times : made.wanted.repeat.times ≤ 99999
+  pub most_times : made.wanted.repeat.times ≤ greatest_times

@@ -15,6 +15,7 @@ use Rattle.ct_verdict.specs.declared.repeat.Mode.TheVariants.{UntilFail, UntilPa
 use Rattle.ct_verdict.specs.declared.repeat.Repeat.{Repeat}
 use Rattle.ct_args.specs.declared.usage.UsageKind.{UsageKind}
 use Rattle.ct_args.specs.declared.usage.UsageKind.TheVariants.{BadNumber, BadPattern, BadMode}
+use Rattle.ct_args.specs.declared.values.TheConstants.{MOST_LEVEL, MOST_TIMES}
 
 -- what comes of a value that was read, or why it was refused
 abbrev pub then_read : {X Y : Type 0} → Result X UsageKind → (X → Result Y UsageKind) → Result Y UsageKind
@@ -25,9 +26,17 @@ then_read (Err kind) next = Err kind
 unfoldable pub pattern_in : List ℕ → Result Tree UsageKind
 pattern_in text = result_or (reading text) (Err BadPattern)
 
--- a level of at least 1; one above 65,535 is taken as that
+-- the greatest level
+abbrev pub greatest_level : ℕ
+greatest_level = MOST_LEVEL
+
+-- how often a test can be tried at most
+abbrev pub greatest_times : ℕ
+greatest_times = MOST_TIMES
+
+-- a level of at least 1; one above the greatest is taken as that
 abbrev pub level_of : ℕ → Result ℕ UsageKind
-level_of level = if level == 0 then Err BadNumber else Ok (min level 65535)
+level_of level = if level == 0 then Err BadNumber else Ok (min level greatest_level)
 
 -- -j: digits
 unfoldable pub level_in : List ℕ → Result ℕ UsageKind
@@ -45,9 +54,9 @@ mode_in word =
     else (if bytes_eq word (codes "after-timeout") then Ok AfterTimeout
     else Err BadMode))
 
--- so many times, from 1 to 99,999
+-- so many times, from 1 to the greatest number
 abbrev pub times_of : ℕ → Result ℕ UsageKind
-times_of times = if times == 0 || nat_lt 99999 times then Err BadNumber else Ok times
+times_of times = if times == 0 || nat_lt greatest_times times then Err BadNumber else Ok times
 
 -- how often: digits
 abbrev pub times_in : List ℕ → Result ℕ UsageKind

@@ -18,7 +18,9 @@ use ct_props::{Choice, Wanted};
 use ct_verdict::{Mode, Repeat};
 use std::alloc::Global;
 
-/// How long a test may run without --timeout, in microseconds. This project's choice.
+/// How long a test may run without --timeout, in microseconds: 1500 seconds.
+///
+/// Source: this project's choice.
 const USUAL_LIMIT: u64 = 1_500_000_000;
 
 /// What the options read so far say. Each option that may be given once has a slot.

@@ -9,10 +9,14 @@ use ct_regex::{Regex, RegexFault};
 use ct_verdict::{Mode, Repeat};
 use std::alloc::Global;
 
-/// The greatest level. This project's choice.
+/// The greatest level.
+///
+/// Source: this project's choice.
 const MOST_LEVEL: u64 = 65_535;
 
-/// How often a test can be tried at most. This project's choice.
+/// How often a test can be tried at most.
+///
+/// Source: this project's choice.
 const MOST_TIMES: u64 = 99_999;
 
 /// Reads a pattern.
@@ -27,7 +31,7 @@ pub fn pattern(alloc: Global, text: &[u8]) -> Result<Regex, ValueFault>
     }
 }
 
-/// Reads the value of -j: digits, at least 1. A level above 65,535 is taken as that.
+/// Reads the value of -j: digits, at least 1. A level above the greatest is taken as that.
 #[tactic(auto, unfolding(crate::specs::Values::level_in))]
 pub fn level(text: &[u8]) -> Result<u32, UsageKind>
     ensures { result ≡ level_in text.now }

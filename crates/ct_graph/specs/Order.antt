@@ -8,12 +8,13 @@ use Rattle.ct_graph.specs.Before.{before_of, setups_of}
 use Rattle.ct_graph.specs.Cycle.{is_cycle}
 use Rattle.ct_graph.specs.declared.ordering.Links.{Links}
 use Rattle.ct_graph.specs.declared.ordering.Ordered.{Ordered}
+use Rattle.ct_graph.specs.declared.ordering.TheConstants.{MOST_EDGES}
 use Rattle.ct_graph.specs.declared.fault.GraphFault.{GraphFault}
 use Rattle.ct_graph.specs.declared.fault.GraphFault.TheVariants.{Cycle, TooManyEdges, NoMemory}
 
 -- the greatest edge count: how many tests may come before the tests of a run, summed over those tests
 abbrev pub most_edges : ℕ
-most_edges = 4000000
+most_edges = MOST_EDGES
 
 -- how many tests come before the members, counted for each member
 abbrev pub edges_of : List TestDef → List Props → List ℕ → ℕ

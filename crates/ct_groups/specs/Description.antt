@@ -4,11 +4,13 @@
 use Rattle.std.specs.Prelude.{ℕ, ◌+◌, List, [], ◌∷◌, take, drop, nat_lt, Option, Some, None, Result, Ok, Err, ◌==◌, if◌then◌else◌}
 use Rattle.std.specs.List.{position, slice_split}
 use Rattle.ct_base.specs.Bytes.{colon, comma}
+use Rattle.ct_base.specs.Resources.{most_slots}
 use Rattle.ct_base.specs.Seconds.{is_numeral, number_in}
 use Rattle.ct_groups.specs.declared.fault.GroupsFault.{GroupsFault}
 use Rattle.ct_groups.specs.declared.fault.GroupsFault.TheVariants.{NoColon, BadType, BadCount, ZeroSlots, TooMany}
 use Rattle.ct_groups.specs.declared.description.Requirement.{Requirement}
 use Rattle.ct_groups.specs.declared.description.Description.{Description}
+use Rattle.ct_groups.specs.declared.description.TheConstants.{MOST}
 use Rattle.ct_base.specs.TypeNames.{is_type_name}
 
 -- continues with what was read, or returns its fault
@@ -17,11 +19,11 @@ abbrev pub reads_on : {X Y : Type 0}
 reads_on (Ok x) next = next x
 reads_on (Err why) next = Err why
 
--- a number of slots; no number, 0, and a number above 1,000,000,000 are refused
+-- a number of slots; no number, 0, and a number above the greatest are refused
 abbrev pub slots_asked : Option ℕ → Result ℕ GroupsFault
 slots_asked None = Err BadCount
 slots_asked (Some slots) =
-    if slots == 0 then Err ZeroSlots else if nat_lt 1000000000 slots then Err TooMany else Ok slots
+    if slots == 0 then Err ZeroSlots else if nat_lt most_slots slots then Err TooMany else Ok slots
 
 -- the requirement of a number of slots of a type, or the fault of that number
 abbrev pub requirement_for : List ℕ → Result ℕ GroupsFault → Result Requirement GroupsFault
@@ -45,9 +47,14 @@ requirements_of [] = Ok []
 requirements_of (piece ∷ pieces) =
     reads_on (requirement_of piece) (λ one. reads_on (requirements_of pieces) (λ others. Ok (one ∷ others)))
 
--- a number of groups; 0 and a number above 64 are refused
+-- the greatest number of groups of a test, and of needs of a test
+abbrev pub most_groups : ℕ
+most_groups = MOST
+
+-- a number of groups; 0 and a number above the greatest are refused
 abbrev pub checked_count : ℕ → Result ℕ GroupsFault
-checked_count count = if count == 0 then Err BadCount else if nat_lt 64 count then Err TooMany else Ok count
+checked_count count =
+    if count == 0 then Err BadCount else if nat_lt most_groups count then Err TooMany else Ok count
 
 -- the number of groups: the count in the first piece, or 1 where there is none
 abbrev pub count_in : Option ℕ → Result ℕ GroupsFault

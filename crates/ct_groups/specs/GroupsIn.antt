@@ -8,7 +8,7 @@ use Rattle.ct_groups.specs.declared.fault.GroupsFault.TheVariants.{TooMany}
 use Rattle.ct_groups.specs.declared.description.Requirement.{Requirement}
 use Rattle.ct_groups.specs.declared.description.Description.{Description}
 use Rattle.ct_groups.specs.declared.groups.Groups.{Groups}
-use Rattle.ct_groups.specs.Description.{reads_on, description_of}
+use Rattle.ct_groups.specs.Description.{reads_on, description_of, most_groups}
 
 -- the needs of all groups, in order
 abbrev pub needs_of_groups : Groups → List Need
@@ -30,10 +30,11 @@ group_needs requirements group = map (need_for group) requirements
 abbrev pub needs_from : ℕ → ℕ → List Requirement → List Need
 needs_from first count requirements = flat_map (group_needs requirements) (range_with_len first count)
 
--- with the groups of the description there would be more than 64 groups, or more than 64 needs
+-- with the groups of the description there would be more groups, or more needs, than the greatest number
 abbrev pub passes_limits : Groups → Description → Bool
 passes_limits groups d =
-    nat_lt 64 (groups.count + d.count) || nat_lt 64 (length groups.needs + d.count * length d.requirements)
+    nat_lt most_groups (groups.count + d.count)
+    || nat_lt most_groups (length groups.needs + d.count * length d.requirements)
 
 -- the groups followed by those of a description, or TooMany above the limits
 abbrev pub with_description : Groups → Description → Result Groups GroupsFault

@@ -4,14 +4,13 @@ ghost use Rattle.ct_groups.specs.Read.{ReadsGroups};
 
 use crate::GroupsFault;
 use crate::pieces::pieces_of;
-use ct_base::{List, Name, first_place, is_numeral, is_type_name, number};
+use ct_base::{List, MOST_SLOTS, Name, first_place, is_numeral, is_type_name, number};
 use std::alloc::Global;
 
-/// How many groups a test may have, and how many needs. This project's choice.
+/// How many groups a test may have, and how many needs.
+///
+/// Source: this project's choice.
 pub const MOST: u64 = 64;
-
-/// How many slots a requirement may ask for. This project's choice.
-const MOST_SLOTS: u64 = 1_000_000_000;
 
 /// What each group of a description asks for: a number of slots on one resource of a type.
 #[derive(Debug, Drop)]

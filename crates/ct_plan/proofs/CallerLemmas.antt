@@ -12,7 +12,7 @@ use Rattle.ct_props.specs.declared.props.Props.{Props}
 use Rattle.ct_props.specs.declared.wanted.Choice.{Choice}
 use Rattle.ct_props.specs.Numbered.{at_number}
 use Rattle.ct_props.specs.PropsOf.{HasProps}
-use Rattle.ct_props.specs.Values.{bounded_processors, or_bad_number, processors_in, value_of_key}
+use Rattle.ct_props.specs.Values.{bounded_processors, most_processors, or_bad_number, processors_in, value_of_key}
 use Rattle.ct_select.specs.Chosen.{chosen_tests, is_chosen_at}
 use Rattle.ct_fixture.specs.Drawing.{after_rounds, fixtures_required, is_drawn, next_round}
 use Rattle.ct_plan.specs.Source.{HaveProps, members_in}
@@ -28,7 +28,7 @@ length-have_props (def ∷ defs) (own ∷ owns) have = omega (arith, length-have
 of_number : (number : Option ℕ) (processors : ℕ) → or_bad_number (option_map bounded_processors number) ≡ Ok processors → 1 ≤ processors
 of_number None processors is = cc
 of_number (Some n) processors is =
-    let same : min (max n 1) 65535 ≡ processors = cc in
+    let same : min (max n 1) most_processors ≡ processors = cc in
     omega (arith, same)
 
 at_least_one : (value : Option (List ℕ)) (processors : ℕ) → processors_in value ≡ Ok processors → 1 ≤ processors

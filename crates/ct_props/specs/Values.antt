@@ -16,6 +16,7 @@ use Rattle.ct_regex.specs.declared.fault.RegexFault.{RegexFault}
 use Rattle.ct_groups.specs.GroupsIn.{groups_in}
 use Rattle.ct_groups.specs.declared.fault.GroupsFault.{GroupsFault}
 use Rattle.ct_groups.specs.declared.groups.Groups.{Groups}
+use Rattle.ct_props.specs.declared.numbers.TheConstants.{MOST_PROCESSORS}
 use Rattle.ct_props.specs.declared.fault.PropKind.{PropKind}
 use Rattle.ct_props.specs.declared.fault.PropKind.TheVariants.{BadNumber, BadPattern, BadGroups}
 
@@ -51,9 +52,13 @@ abbrev pub or_bad_number : {X : Type 0} → Option X → Result X PropKind
 or_bad_number None = Err BadNumber
 or_bad_number (Some x) = Ok x
 
--- the processors that a number asks for, from 1 to 65,535
+-- the greatest number of processors of a test
+abbrev pub most_processors : ℕ
+most_processors = MOST_PROCESSORS
+
+-- the processors that a number asks for, from 1 to the greatest number
 abbrev pub bounded_processors : ℕ → ℕ
-bounded_processors number = min (max number 1) 65535
+bounded_processors number = min (max number 1) most_processors
 
 -- PROCESSORS: digits; one without the key
 abbrev pub processors_in : Option (List ℕ) → Result ℕ PropKind

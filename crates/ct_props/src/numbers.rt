@@ -9,7 +9,9 @@ use crate::{PropFault, PropKind};
 use ct_base::{Pair, micros, number};
 use std::alloc::Global;
 
-/// The greatest number of processors that a test can ask for. This project's choice.
+/// The greatest number of processors that a test can ask for.
+///
+/// Source: this project's choice.
 const MOST_PROCESSORS: u64 = 65_535;
 
 /// Returns how many processors a test takes: 1 without the key and for 0, and at most 65,535.

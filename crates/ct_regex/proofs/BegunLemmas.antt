@@ -1,5 +1,6 @@
 -- The beginning of a pattern, in step with the groups that the reader has open behind it.
 use Rattle.std.proofs.Common.{◌≡◌, ◌<◌, ℕ, true, List, [], ◌∷◌, ◌++◌, length, refl, sym, ◌∙◌, ap, subst, append_assoc, arith}
+use Rattle.ct_regex.specs.Limits.{most_open_groups}
 use Rattle.ct_regex.specs.declared.tree.Quantifier.{Quantifier}
 use Rattle.ct_regex.specs.Tree.{Tree, repeat}
 use Rattle.ct_regex.specs.Reading.{Last, no_part, bare, quantified, Group, opened_at, with_atom, with_branch, closed, may_repeat}
@@ -68,9 +69,9 @@ pub bar_begun : (outer : List Group) (text : List ℕ) (inner : Group) → HasBe
 bar_begun outer text inner h =
     inner_begun outer text (124 ∷ []) inner (with_branch inner) (λ t r. bar_read t inner r) refl h (faulty.and_bar (begun_of outer text inner h))
 
-pub open_begun : (outer : List Group) (text : List ℕ) (inner : Group) (at : ℕ) → at ≡ length text → length outer < 200 → HasBegun text inner outer → HasBegun (text ++ 40 ∷ []) (opened_at at) (inner ∷ outer)
+pub open_begun : (outer : List Group) (text : List ℕ) (inner : Group) (at : ℕ) → at ≡ length text → length outer < most_open_groups → HasBegun text inner outer → HasBegun (text ++ 40 ∷ []) (opened_at at) (inner ∷ outer)
 open_begun outer text inner at e few h =
-    let room : length (places_of inner outer) < 200 = omega (arith, few, places_len inner outer) in (
+    let room : length (places_of inner outer) < most_open_groups = omega (arith, few, places_len inner outer) in (
       text,
       [],
       refl,

@@ -2,6 +2,7 @@
 use Rattle.std.proofs.Common.{◌≡◌, ◌<◌, ◌≤◌, ◌⊎◌, inl, inr, ℕ, zero, suc, Bool, true, false, List, [], ◌∷◌, ◌++◌, length, refl, sym, ◌∙◌, ap, subst, append-nil, append_assoc, nat_lt, Result, Ok, Err, arith}
 use Rattle.std.proofs.lemmas.Bool.Decides.{nat_tests}
 use Rattle.std.proofs.lemmas.List.{length-append}
+use Rattle.ct_regex.specs.Limits.{most_pattern_bytes, most_open_groups}
 use Rattle.ct_regex.specs.declared.tree.Quantifier.{Quantifier}
 use Rattle.ct_regex.specs.declared.fault.RegexFault.{RegexFault}
 use Rattle.ct_regex.specs.declared.fault.RegexFault.TheVariants.{OpenGroup, StrayClose, OpenSet, BadRange, NothingToRepeat, EmptyRepeat, NestedRepeat, EndsInBackslash, TooLarge, NoMemory}
@@ -61,17 +62,17 @@ take_close (around ∷ outer) text back at inner rest why e h k =
 
 take_open : (text back : List ℕ) (at : ℕ) (groups : Groups) (rest : Groups → Result Tree RegexFault) (why : RegexFault) → at ≡ length text → HasBegun text groups.inner groups.outer →
     and_then (with_group at groups) rest ≡ Err why → Goes (text ++ 40 ∷ []) back rest why
-take_open text back at groups rest why e h k = by_depth (nat_lt (length groups.outer) 200) refl
+take_open text back at groups rest why e h k = by_depth (nat_lt (length groups.outer) most_open_groups) refl
   where
     begun : IsBegun text (places_of groups.inner groups.outer) (end_of groups.inner.last)
     begun = begun_of groups.outer text groups.inner h
 
-    by_depth : (b : Bool) → nat_lt (length groups.outer) 200 ≡ b → Goes (text ++ 40 ∷ []) back rest why
+    by_depth : (b : Bool) → nat_lt (length groups.outer) most_open_groups ≡ b → Goes (text ++ 40 ∷ []) back rest why
     by_depth true few =
-        let room : length groups.outer < 200 = grind (arith, nat_tests) in
+        let room : length groups.outer < most_open_groups = grind (arith, nat_tests) in
         on (record { inner = opened_at at; outer = groups.inner ∷ groups.outer }) (rw few at k) (open_begun groups.outer text groups.inner at e room h)
     by_depth false few =
-        let many : 200 ≤ length (places_of groups.inner groups.outer) = (let deep : 200 ≤ length groups.outer = grind (arith, nat_tests) in omega (arith, deep, places_len groups.inner groups.outer)) in
+        let many : most_open_groups ≤ length (places_of groups.inner groups.outer) = (let deep : most_open_groups ≤ length groups.outer = grind (arith, nat_tests) in omega (arith, deep, places_len groups.inner groups.outer)) in
         stops_at text back 40 at rest (λ n. TooLarge n) why e (same_why (TooLarge at) why (rw few at k)) (faulty.too_deep back begun many)
 
 goes : {more : List ℕ} {sign : Sign} → IsSign more sign → (text back : List ℕ) (at : ℕ) (groups : Groups) (rest : Groups → Result Tree RegexFault) (why : RegexFault) → at ≡ length text →
@@ -115,14 +116,14 @@ reads_faulty (suc n) at text (byte ∷ rest) groups why few e h k = by_view (sig
 
 -- a text that is not read is faulty
 pub reading_faulty : (text : List ℕ) (why : RegexFault) → reading text ≡ Err why → IsFaulty text why
-reading_faulty text why h = by_len (nat_lt 65536 (length text)) refl
+reading_faulty text why h = by_len (nat_lt most_pattern_bytes (length text)) refl
   where
-    by_len : (b : Bool) → nat_lt 65536 (length text) ≡ b → IsFaulty text why
+    by_len : (b : Bool) → nat_lt most_pattern_bytes (length text) ≡ b → IsFaulty text why
     by_len true many =
-        let far : 65536 < length text = grind (arith, nat_tests) in
-        subst (λ (w : RegexFault). IsFaulty text w) (same_why (TooLarge 65536) why (rw many at h)) (faulty.too_long far)
+        let far : most_pattern_bytes < length text = grind (arith, nat_tests) in
+        subst (λ (w : RegexFault). IsFaulty text w) (same_why (TooLarge most_pattern_bytes) why (rw many at h)) (faulty.too_long far)
     by_len false few =
-        let short : length text ≤ 65536 = grind (arith, nat_tests) in
+        let short : length text ≤ most_pattern_bytes = grind (arith, nat_tests) in
         faulty.behind_begin short
         (reads_faulty (length text) 0 [] text (record { inner = opened_at 0; outer = [] }) why (omega arith) refl (opened_read 0, faulty.empty) (rw few at h))
 

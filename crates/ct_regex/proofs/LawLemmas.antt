@@ -7,6 +7,7 @@ use Rattle.std.proofs.lemmas.List.{drop_more, take-append-drop, length-append, l
 use Rattle.std.proofs.lemmas.Option.{slice_get-get_or, slice_get_past}
 use Rattle.std.proofs.lemmas.Bool.Decides.{nat_tests}
 use Rattle.std.proofs.Math.Seq.{drop-append_seam}
+use Rattle.ct_regex.specs.Limits.{most_pattern_bytes}
 use Rattle.ct_regex.specs.Tree.{Tree, never, one, same, choice, sequence_of, branch_of}
 use Rattle.ct_regex.specs.Ends.{ends, behind, place_if, has_place, hits, hits_up_to}
 use Rattle.ct_regex.specs.Signs.{atom, signs}
@@ -78,10 +79,10 @@ plain_read (byte ∷ bytes) place group e h =
     ∙ plain_read bytes (place + 1) (with_atom (one (same byte)) group) e both.1
     ∙ ap (λ ps. Ok (choice (sequence_of ps) never)) (append_assoc (all_parts group) (one (same byte) ∷ []) (parts_of bytes))
 
-pub plain_reading : (bytes : List ℕ) → are_plain bytes ≡ true → length bytes ≤ 65536 → reading bytes ≡ Ok (choice (sequence_of (parts_of bytes)) never)
+pub plain_reading : (bytes : List ℕ) → are_plain bytes ≡ true → length bytes ≤ most_pattern_bytes → reading bytes ≡ Ok (choice (sequence_of (parts_of bytes)) never)
 plain_reading bytes h few = rw few_is (plain_read bytes 0 (opened_at 0) refl h)
   where
-    few_is : nat_lt 65536 (length bytes) ≡ false
+    few_is : nat_lt most_pattern_bytes (length bytes) ≡ false
     few_is = grind (arith, nat_tests)
 
 -- if the parts match from a place on, the text there begins with the bytes

@@ -3,6 +3,7 @@ use Rattle.std.proofs.Common.{◌≡◌, ◌<◌, ◌≤◌, ◌⊎◌, inl, inr
 use Rattle.std.proofs.Transfers.{drop-appended}
 use Rattle.std.proofs.lemmas.Bool.Decides.{nat_tests}
 use Rattle.std.proofs.lemmas.List.{length-append}
+use Rattle.ct_regex.specs.Limits.{most_pattern_bytes, most_open_groups}
 use Rattle.ct_regex.specs.declared.tree.Span.{Span}
 use Rattle.ct_regex.specs.declared.tree.Quantifier.{Quantifier}
 use Rattle.ct_regex.specs.declared.fault.RegexFault.{RegexFault}
@@ -98,9 +99,9 @@ often_taken : (quantifier : Quantifier) (at : ℕ) (inner : Group) (outer : List
 often_taken quantifier at inner outer tree l may =
     ap (λ (last : Last). map_ok (λ (g : Group). record { inner = g; outer = outer }) (with_quantifier quantifier at inner last)) l ∙ rw may refl
 
-open_taken : (at : ℕ) (inner : Group) (outer : List Group) → length outer < 200 →
+open_taken : (at : ℕ) (inner : Group) (outer : List Group) → length outer < most_open_groups →
     with_sign (record { inner = inner; outer = outer }) (opens at) ≡ Ok (record { inner = opened_at at; outer = inner ∷ outer })
-open_taken at inner outer few = let test : nat_lt (length outer) 200 ≡ true = grind (arith, nat_tests) in rw test refl
+open_taken at inner outer few = let test : nat_lt (length outer) most_open_groups ≡ true = grind (arith, nat_tests) in rw test refl
 
 -- equal texts that part at one place have the same text behind it
 same_behind : (front other text back : List ℕ) → length front ≡ length other → front ++ text ≡ other ++ back → text ≡ back
@@ -168,7 +169,7 @@ taken (faulty.and_bar {front = front} b) =
     }
 taken (faulty.and_open {front = front} b few) =
     let h = taken b in
-    let room : length h.outer < 200 = omega (arith, few, places_len h.inner h.outer, ap length h.places) in
+    let room : length h.outer < most_open_groups = omega (arith, few, places_len h.inner h.outer, ap length h.places) in
     record {
       inner = opened_at (length front);
       outer = h.inner ∷ h.outer;
@@ -189,8 +190,8 @@ stops text back opened last sign others why h is refused =
     ∙ ap (read (record { inner = h.inner; outer = h.outer })) is
     ∙ ap (λ (step : Result Groups RegexFault). and_then step (λ (n : Groups). read n others)) refused
 
-open_refused : (at : ℕ) (inner : Group) (outer : List Group) → 200 ≤ length outer → with_sign (record { inner = inner; outer = outer }) (opens at) ≡ Err (TooLarge at)
-open_refused at inner outer many = let test : nat_lt (length outer) 200 ≡ false = grind (arith, nat_tests) in rw test refl
+open_refused : (at : ℕ) (inner : Group) (outer : List Group) → most_open_groups ≤ length outer → with_sign (record { inner = inner; outer = outer }) (opens at) ≡ Err (TooLarge at)
+open_refused at inner outer many = let test : nat_lt (length outer) most_open_groups ≡ false = grind (arith, nat_tests) in rw test refl
 
 close_refused : (at : ℕ) (inner : Group) (outer : List Group) → places_of inner outer ≡ [] → with_sign (record { inner = inner; outer = outer }) (closes at) ≡ Err (StrayClose at)
 close_refused at inner [] e = refl
@@ -223,7 +224,7 @@ set_says at text neg = ap (λ (b : Bool). set_signs at b (cond b 1 0) (at + 1) [
 fault_read : {text : List ℕ} {why : RegexFault} → HasFault text why → read at_first (signs 0 text) ≡ Err why
 fault_read (faulty.too_deep {front = front} {opened = opened} {last = last} back b many) =
     let h = taken b in
-    let deep : 200 ≤ length h.outer = omega (arith, many, places_len h.inner h.outer, ap length h.places) in
+    let deep : most_open_groups ≤ length h.outer = omega (arith, many, places_len h.inner h.outer, ap length h.places) in
     stops front (40 ∷ back) opened last (opens (length front)) (signs (length front + 1) back) (TooLarge (length front)) h refl (open_refused (length front) h.inner h.outer deep)
 fault_read (faulty.stray_close {front = front} {last = last} back b) =
     let h = taken b in
@@ -263,8 +264,8 @@ fault_read (faulty.bad_negated {front = front} {text = text} {back = back} {open
 
 -- a faulty text is read as its fault
 pub faulty_read : {text : List ℕ} {why : RegexFault} → IsFaulty text why → reading text ≡ Err why
-faulty_read {text} (faulty.too_long far) = let test : nat_lt 65536 (length text) ≡ true = grind (arith, nat_tests) in rw test refl
-faulty_read {text} (faulty.behind_begin short f) = let test : nat_lt 65536 (length text) ≡ false = grind (arith, nat_tests) in rw test (fault_read f)
+faulty_read {text} (faulty.too_long far) = let test : nat_lt most_pattern_bytes (length text) ≡ true = grind (arith, nat_tests) in rw test refl
+faulty_read {text} (faulty.behind_begin short f) = let test : nat_lt most_pattern_bytes (length text) ≡ false = grind (arith, nat_tests) in rw test (fault_read f)
 
 -- a text that is written as a tree is faulty for its size alone
 limit_alone : (text : List ℕ) (tree : Tree) (why : RegexFault) → reading text ≡ Err why → (reading text ≡ Ok tree) ⊎ ((place : ℕ) × (reading text ≡ Err (TooLarge place))) → IsLimit why

@@ -3,6 +3,7 @@ use Rattle.std.proofs.Common.{◌≡◌, ◌≤◌, ◌⊎◌, ◌&&◌, ◌==�
 use Rattle.std.proofs.lemmas.Bool.{le-ltb}
 use Rattle.std.proofs.Math.Bool.{and-false}
 use Rattle.std.proofs.lemmas.Bool.Decides.{nat_tests}
+use Rattle.ct_regex.specs.Limits.{most_pattern_bytes, most_open_groups}
 use Rattle.ct_regex.specs.declared.tree.Span.{Span}
 use Rattle.ct_regex.specs.declared.tree.Quantifier.{Quantifier}
 use Rattle.ct_regex.specs.declared.tree.Quantifier.TheVariants.{ZeroOrOne, ZeroOrMore, OneOrMore}
@@ -124,9 +125,9 @@ abbrev IsLimited : Groups → List Sign → Type 0
 IsLimited groups others = (read groups others ≡ read_all groups others) ⊎ ((place : ℕ) × (read groups others ≡ Err (TooLarge place)))
 
 open_limited : (place : ℕ) (groups : Groups) (others : List Sign) → IsLimited (record { inner = opened_at place; outer = groups.inner ∷ groups.outer }) others → IsLimited groups (opens place ∷ others)
-open_limited place groups others l = by_depth (nat_lt (length groups.outer) 200) refl
+open_limited place groups others l = by_depth (nat_lt (length groups.outer) most_open_groups) refl
   where
-    by_depth : (b : Bool) → nat_lt (length groups.outer) 200 ≡ b → IsLimited groups (opens place ∷ others)
+    by_depth : (b : Bool) → nat_lt (length groups.outer) most_open_groups ≡ b → IsLimited groups (opens place ∷ others)
     by_depth true few = rw few l
     by_depth false deep = inr (place, rw deep refl)
 
@@ -259,15 +260,15 @@ one_tree text tree other p q = let same : ◌≡◌ {A = Result Tree RegexFault}
 
 -- a text that is written as a tree is read as that tree, or is too large
 pub written_read : (text : List ℕ) (tree : Tree) → IsPattern text tree → (reading text ≡ Ok tree) ⊎ ((place : ℕ) × (reading text ≡ Err (TooLarge place)))
-written_read text tree p = by_len (nat_lt 65536 (length text)) refl
+written_read text tree p = by_len (nat_lt most_pattern_bytes (length text)) refl
   where
-    by_limit : nat_lt 65536 (length text) ≡ false → IsLimited (record { inner = opened_at 0; outer = [] }) (signs 0 text) →
+    by_limit : nat_lt most_pattern_bytes (length text) ≡ false → IsLimited (record { inner = opened_at 0; outer = [] }) (signs 0 text) →
         (reading text ≡ Ok tree) ⊎ ((place : ℕ) × (reading text ≡ Err (TooLarge place)))
     by_limit h (inl l) = inl (rw h (l ∙ all_read text tree p))
     by_limit h (inr l) = inr (l.0, rw h l.1)
 
-    by_len : (b : Bool) → nat_lt 65536 (length text) ≡ b → (reading text ≡ Ok tree) ⊎ ((place : ℕ) × (reading text ≡ Err (TooLarge place)))
-    by_len true many = inr (65536, rw many refl)
+    by_len : (b : Bool) → nat_lt most_pattern_bytes (length text) ≡ b → (reading text ≡ Ok tree) ⊎ ((place : ℕ) × (reading text ≡ Err (TooLarge place)))
+    by_len true many = inr (most_pattern_bytes, rw many refl)
     by_len false few = by_limit few (limited (signs 0 text) (record { inner = opened_at 0; outer = [] }))
 
 -- a call that returns the reading of a written text returns that tree, unless it is too large

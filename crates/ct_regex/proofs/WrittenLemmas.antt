@@ -1,6 +1,7 @@
 -- What the reader reads is what the grammar writes: groups, branches and parts.
 use Rattle.std.proofs.Common.{◌≡◌, ◌≤◌, ℕ, zero, suc, Bool, true, false, List, [], ◌∷◌, ◌++◌, length, ⊎_elim, refl, sym, ◌∙◌, ap, subst, append-nil, append_assoc, nat_lt, Result, Ok, Err, arith}
 use Rattle.std.proofs.lemmas.List.{length-append}
+use Rattle.ct_regex.specs.Limits.{most_pattern_bytes, most_open_groups}
 use Rattle.ct_regex.specs.declared.tree.Quantifier.{Quantifier}
 use Rattle.ct_regex.specs.declared.fault.RegexFault.{RegexFault}
 use Rattle.ct_regex.specs.Tree.{Tree, repeat}
@@ -139,9 +140,9 @@ take_close (around ∷ outer) text tree inner rest place h k = record {
 
 take_open : (text : List ℕ) (tree : Tree) (groups : Groups) (rest : Groups → Result Tree RegexFault) (place : ℕ) → HaveRead text groups.inner groups.outer →
     and_then (with_group place groups) rest ≡ Ok tree → Taken (text ++ 40 ∷ []) tree rest
-take_open text tree groups rest place h k = by_depth (nat_lt (length groups.outer) 200) refl
+take_open text tree groups rest place h k = by_depth (nat_lt (length groups.outer) most_open_groups) refl
   where
-    by_depth : (b : Bool) → nat_lt (length groups.outer) 200 ≡ b → Taken (text ++ 40 ∷ []) tree rest
+    by_depth : (b : Bool) → nat_lt (length groups.outer) most_open_groups ≡ b → Taken (text ++ 40 ∷ []) tree rest
     by_depth true few = record {
       next = record { inner = opened_at place; outer = groups.inner ∷ groups.outer };
       read_on = rw few at k;
@@ -189,8 +190,8 @@ reads_written (suc n) at text (byte ∷ rest) groups tree few h k =
     (sign_view at byte rest)
 
 pub reading_written : (text : List ℕ) (tree : Tree) → reading text ≡ Ok tree → IsPattern text tree
-reading_written text tree h = by_len (nat_lt 65536 (length text)) refl
+reading_written text tree h = by_len (nat_lt most_pattern_bytes (length text)) refl
   where
-    by_len : (b : Bool) → nat_lt 65536 (length text) ≡ b → IsPattern text tree
+    by_len : (b : Bool) → nat_lt most_pattern_bytes (length text) ≡ b → IsPattern text tree
     by_len true many = no_ok _ tree (rw many at h)
     by_len false few = reads_written (length text) 0 [] text (record { inner = opened_at 0; outer = [] }) tree (omega arith) (opened_read 0) (rw few at h)

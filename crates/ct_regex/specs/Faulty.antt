@@ -2,6 +2,7 @@
 -- Source: CMake manual, string(REGEX), Regex Specification; faults and limits are this project's choice.
 use Rattle.std.specs.Prelude.{◌≡◌, ◌<◌, ◌≤◌, ℕ, ◌+◌, ◌==◌, Bool, true, false, List, [], ◌∷◌, ◌++◌, length, Result, Ok, Err}
 use Rattle.ct_regex.specs.Bytes.{open_group, close_group, upright, escaping_byte, open_set, close_set, caret, dash}
+use Rattle.ct_regex.specs.Limits.{most_pattern_bytes, most_open_groups}
 use Rattle.ct_regex.specs.Tree.{Tree}
 use Rattle.ct_regex.specs.Signs.{begins_negated, is_range}
 use Rattle.ct_regex.specs.Grammar.{MayBegin, IsOne, IsPattern, byte_of, may_stand_behind}
@@ -15,8 +16,8 @@ pub data PartEnd : Type 0 where
   alone : Tree → PartEnd
   repeated : PartEnd
 
--- the beginning of a pattern in which at most 200 groups are open at once, with the places of the `(` that
--- are open, the last one first, and its end
+-- the beginning of a pattern in which at most `most_open_groups` groups are open at once, with the places of
+-- the `(` that are open, the last one first, and its end
 pub data IsBegun : List ℕ → List ℕ → PartEnd → Type 0 where
   empty : IsBegun [] [] nothing
   and_one : {front text opened : List ℕ} {last : PartEnd} {tree : Tree} →
@@ -26,7 +27,8 @@ pub data IsBegun : List ℕ → List ℕ → PartEnd → Type 0 where
       IsBegun (front ++ byte_of quantifier ∷ []) opened repeated
   and_bar : {front opened : List ℕ} {last : PartEnd} →
       IsBegun front opened last → IsBegun (front ++ upright ∷ []) opened nothing
-  and_open : {front opened : List ℕ} {last : PartEnd} → IsBegun front opened last → length opened < 200 →
+  and_open : {front opened : List ℕ} {last : PartEnd} →
+      IsBegun front opened last → length opened < most_open_groups →
       IsBegun (front ++ open_group ∷ []) (length front ∷ opened) nothing
   and_close : (front : List ℕ) {text opened : List ℕ} {last : PartEnd} {tree : Tree} →
       IsBegun (front ++ open_group ∷ text) (length front ∷ opened) last → IsPattern text tree →
@@ -54,7 +56,7 @@ pub data IsBrokenSet : Bool → List ℕ → List ℕ → Type 0 where
 -- the fault of the text that stands first from the left, found behind a beginning of it
 pub data HasFault : List ℕ → RegexFault → Type 0 where
   too_deep : {front opened : List ℕ} {last : PartEnd} (back : List ℕ) →
-      IsBegun front opened last → 200 ≤ length opened →
+      IsBegun front opened last → most_open_groups ≤ length opened →
       HasFault (front ++ open_group ∷ back) (TooLarge (length front))
   stray_close : {front : List ℕ} {last : PartEnd} (back : List ℕ) →
       IsBegun front [] last → HasFault (front ++ close_group ∷ back) (StrayClose (length front))
@@ -86,9 +88,9 @@ pub data HasFault : List ℕ → RegexFault → Type 0 where
 
 -- the text is refused for this fault: it has too many bytes, or else it is the first from the left
 pub data IsFaulty : List ℕ → RegexFault → Type 0 where
-  too_long : {text : List ℕ} → 65536 < length text → IsFaulty text (TooLarge 65536)
+  too_long : {text : List ℕ} → most_pattern_bytes < length text → IsFaulty text (TooLarge most_pattern_bytes)
   behind_begin : {text : List ℕ} {why : RegexFault} →
-      length text ≤ 65536 → HasFault text why → IsFaulty text why
+      length text ≤ most_pattern_bytes → HasFault text why → IsFaulty text why
 
 -- a refusal is the fault that the text has by the grammar; NoMemory says nothing
 abbrev pub RefusesFault : {X : Type 0} → List ℕ → Result X RegexFault → Type 0

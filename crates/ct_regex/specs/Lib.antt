@@ -1,5 +1,6 @@
 -- The definitions that contracts cite, in reading order.
 pub mod Bytes
+pub mod Limits
 pub mod Tree
 pub mod Ends
 pub mod Signs

@@ -1,6 +1,7 @@
 -- What a pattern's text says: its tree, or its first fault from the left.
 -- Source: CMake manual, string(REGEX), Regex Specification; the faults are this project's.
 use Rattle.std.specs.Prelude.{ℕ, nat_lt, Bool, true, false, ◌&&◌, ◌||◌, not, List, [], ◌∷◌, ◌++◌, length, Result, Ok, Err, if◌then◌else◌}
+use Rattle.ct_regex.specs.Limits.{most_pattern_bytes, most_open_groups}
 use Rattle.ct_regex.specs.Tree.{Tree, empty, never, start, end, one, sequence, choice, repeat, sequence_of, branch_of}
 use Rattle.ct_regex.specs.Signs.{Sign, atom, opens, closes, bar, often, fault, signs}
 use Rattle.ct_regex.specs.declared.tree.Quantifier.{Quantifier}
@@ -103,10 +104,10 @@ abbrev pub map_ok : {X Y : Type 0} → (X → Y) → Result X RegexFault → Res
 map_ok f (Ok x) = Ok (f x)
 map_ok f (Err e) = Err e
 
--- the groups behind a `(`, or the fault; at most 200 groups may be open at once
+-- the groups behind a `(`, or the fault; at most `most_open_groups` groups may be open at once
 abbrev pub with_group : ℕ → Groups → Result Groups RegexFault
 with_group place groups =
-    if nat_lt (length groups.outer) 200
+    if nat_lt (length groups.outer) most_open_groups
     then Ok (record { inner = opened_at place; outer = groups.inner ∷ groups.outer })
     else Err (TooLarge place)
 
@@ -146,5 +147,5 @@ read groups (sign ∷ others) = and_then (with_sign groups sign) (λ next. read 
 -- the tree of a pattern's text, or its first fault from the left
 abbrev pub reading : List ℕ → Result Tree RegexFault
 reading text =
-    if nat_lt 65536 (length text) then Err (TooLarge 65536)
+    if nat_lt most_pattern_bytes (length text) then Err (TooLarge most_pattern_bytes)
     else read (record { inner = opened_at 0; outer = [] }) (signs 0 text)

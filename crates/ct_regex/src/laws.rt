@@ -3,6 +3,7 @@
 ghost use Rattle.std.specs.Prelude.{◌≡◌, ◌≤◌, ◌||◌, ◌↔◌, ℕ, List, [], ◌∷◌, ◌++◌, length, IsTrue, Ok};
 ghost use Rattle.std.specs.Result.{IsOkAnd};
 ghost use Rattle.ct_regex.specs.Bytes.{open_group, close_group};
+ghost use Rattle.ct_regex.specs.Limits.{most_pattern_bytes};
 ghost use Rattle.ct_regex.specs.Tree.{Tree, choice, sequence_of, branch_of};
 ghost use Rattle.ct_regex.specs.Ends.{hits};
 ghost use Rattle.ct_regex.specs.Reading.{reading};
@@ -25,6 +26,6 @@ pub fn choice_hits_where_either_does()
 
 /// A pattern of bytes without special meaning hits exactly the texts that contain them.
 pub fn plain_bytes_hit_what_has_them()
-    ensures { (bytes text : List ℕ) → IsTrue (are_plain bytes) → length bytes ≤ 65536 →
+    ensures { (bytes text : List ℕ) → IsTrue (are_plain bytes) → length bytes ≤ most_pattern_bytes →
         IsOkAnd (reading bytes) (λ tree. IsTrue (hits tree text) ↔ HasPart bytes text) }
 {}

@@ -1,4 +1,5 @@
 ghost use Rattle.std.specs.Prelude.{◌≡◌, ◌≤◌, IsTrue, length};
+ghost use Rattle.ct_regex.specs.Limits.{most_pattern_bytes};
 ghost use Rattle.ct_regex.specs.Meaning.{meaning};
 ghost use Rattle.ct_regex.specs.Sound.{is_sound};
 ghost use Rattle.ct_regex.specs.Reading.{reading};
@@ -11,8 +12,10 @@ use crate::{RegexFault, Scan};
 use ct_base::NoMemory;
 use std::alloc::Global;
 
-/// How many bytes a pattern may have. This project's choice.
-const MOST_BYTES: usize = 65_536;
+/// How many bytes a pattern may have.
+///
+/// Source: this project's choice.
+const MOST_BYTES: u32 = 65_536;
 
 /// A pattern of CMake. In contracts `regex_tree` is its tree.
 ///
@@ -52,8 +55,8 @@ impl Regex {
         // The two grammars agree: a text is written as one tree or has one fault.
         ensures one { HasOneAnswer text.now }
     {
-        if text.len() > MOST_BYTES {
-            return Err(RegexFault::TooLarge(65_536));
+        if text.len() > MOST_BYTES as usize {
+            return Err(RegexFault::TooLarge(MOST_BYTES));
         }
         let root = read(alloc, text)?;
         Ok(Regex { root })
@@ -79,7 +82,7 @@ impl Regex {
 }
 
 fn read(alloc: Global, text: &[u8]) -> Result<Node, RegexFault>
-    requires few { length text.now ≤ 65536 }
+    requires few { length text.now ≤ most_pattern_bytes }
     ensures { Gives meaning result (reading text.now) }
 {
     let mut reader = Reader::new(alloc);

@@ -10,7 +10,9 @@ use crate::tree::{Node, Quantifier};
 use ct_base::NoMemory;
 use std::alloc::Global;
 
-/// How many groups may be open at once. This project's choice.
+/// How many groups may be open at once.
+///
+/// Source: this project's choice.
 const MOST_GROUPS: usize = 200;
 
 /// The last part of a branch.

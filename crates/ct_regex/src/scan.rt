@@ -45,7 +45,7 @@ pub struct Scan {
 }
 
 impl Scan {
-    ghost use Rattle.std.specs.Prelude.{ℕ, List, [], ◌∷◌, ◌++◌, IfOk, IsTrue, false};
+    ghost use Rattle.std.specs.Prelude.{ℕ, List, [], ◌∷◌, ◌++◌, IfOk, false};
     ghost use Rattle.ct_regex.specs.Tree.{Tree};
     ghost use Rattle.ct_regex.specs.TreeOf.{regex_tree};
     ghost use Rattle.ct_regex.specs.Ends.{hits};
@@ -107,16 +107,6 @@ impl Scan {
             StandsFor tree text self.now → result ≡ hits tree text }
     {
         either(self.found, self.memory.last(self.at))
-    }
-
-    /// Returns whether the text has a match, whatever comes behind it. Then `feed` passes over what comes.
-    ///
-    /// A match at the end of the text may show only when one more byte has come.
-    pub fn is_decided(&self) -> bool
-        ensures { (tree : Tree) (text more : List ℕ) → StandsFor tree text self.now →
-            IsTrue result → IsTrue (hits tree (text ++ more)) }
-    {
-        self.found
     }
 
     /// Sets the scan back to the empty text. It keeps the sets that it has met, and takes no memory.

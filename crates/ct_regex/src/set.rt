@@ -1,5 +1,6 @@
 ghost use Rattle.std.specs.Prelude.{◌≡◌, ℕ, ◌+◌, ◌<◌, ◌≤◌, ◌^◌, ◌==◌, [], ◌∷◌, ◌++◌, drop, length, slice_index, IfOk, if◌then◌else◌, ◌&&◌, not};
 ghost use Rattle.ct_regex.specs.Bytes.{open_set, close_set};
+ghost use Rattle.ct_regex.specs.Limits.{most_pattern_bytes};
 ghost use Rattle.ct_regex.specs.Signs.{begins_negated, is_range as is_range_in, item_high, set_of, is_none, atom};
 ghost use Rattle.ct_regex.specs.Tree.{one};
 ghost use Rattle.ct_regex.specs.Meaning.{byte_test};
@@ -18,7 +19,7 @@ pub(crate) fn set_at(
 ) -> Result<(ByteTest, usize), RegexFault>
     requires opens { slice_index text.now opened ≡ open_set }
     requires within { opened < length text.now }
-    requires few { length text.now ≤ 65536 }
+    requires few { length text.now ≤ most_pattern_bytes }
     ensures { ReadsSign (λ test. atom (one (byte_test test))) text.now opened result }
 {
     let negated = is_negated(&text[opened + 1..]);

@@ -1,4 +1,5 @@
 ghost use Rattle.std.specs.Prelude.{◌≡◌, ◌<◌, ◌≤◌, ℕ, length};
+ghost use Rattle.ct_regex.specs.Limits.{most_pattern_bytes};
 ghost use Rattle.ct_regex.specs.Signs.{plain_sign as plain_sign_at};
 ghost use Rattle.ct_regex.specs.Meaning.{sign_of};
 ghost use Rattle.ct_regex.specs.Gives.{ReadsSign};
@@ -28,7 +29,7 @@ pub enum Sign {
 /// Reads the sign at a place, and returns the place behind it.
 pub(crate) fn sign_at(alloc: Global, text: &[u8], at: usize) -> Result<(Sign, usize), RegexFault>
     requires within { at < length text.now }
-    requires few { length text.now ≤ 65536 }
+    requires few { length text.now ≤ most_pattern_bytes }
     ensures { ReadsSign (sign_of at) text.now at result }
 {
     let byte = text[at];

@@ -9,6 +9,7 @@ use Rattle.ct_spec.specs.declared.fault.SpecFault.{SpecFault}
 use Rattle.ct_spec.specs.declared.fault.SpecFault.TheVariants.{BadId, TwiceId, BadSlots}
 use Rattle.ct_spec.specs.Json.{whole}
 use Rattle.ct_base.specs.Names.{is_among}
+use Rattle.ct_base.specs.Resources.{most_slots}
 use Rattle.ct_base.specs.TypeNames.{is_name_byte}
 
 -- the text is the id of a resource
@@ -23,9 +24,9 @@ checked_id text = if is_id text then Some text else None
 abbrev pub id_in : Data → Option (List ℕ)
 id_in entry = option_and_then checked_id (option_and_then as_str (get (codes "id") entry))
 
--- the number of slots, if it is at most 1,000,000,000
+-- the number of slots, if it is at most the greatest
 abbrev pub checked_slots : ℕ → Option ℕ
-checked_slots slots = if nat_le slots 1000000000 then Some slots else None
+checked_slots slots = if nat_le slots most_slots then Some slots else None
 
 -- the slots in a member, if they are valid; 1 where the member is absent
 abbrev pub slots_said : Option Data → Option ℕ

@@ -6,6 +6,7 @@ use Rattle.serde_json.specs.Find.{get, as_array, as_object}
 use Rattle.ct_base.specs.declared.defs.Resource.{Resource}
 use Rattle.ct_spec.specs.declared.fault.SpecFault.{SpecFault}
 use Rattle.ct_spec.specs.declared.fault.SpecFault.TheVariants.{NotJson, BadVersion, BadLocal, BadKind, TooMany}
+use Rattle.ct_spec.specs.declared.document.TheConstants.{MOST_RESOURCES}
 use Rattle.ct_spec.specs.Json.{json_in, whole_at, only_item}
 use Rattle.ct_spec.specs.Entry.{resource_in}
 use Rattle.ct_base.specs.TypeNames.{is_type_name}
@@ -39,9 +40,13 @@ resources_of_kinds (member kind value kinds) =
     goes_on (resources_of_kind kind value)
     (λ these. goes_on (resources_of_kinds kinds) (λ others. Ok (these ++ others)))
 
--- the resources, or TooMany if there are more than 4,096
+-- the greatest number of resources of a machine
+abbrev pub most_resources : ℕ
+most_resources = MOST_RESOURCES
+
+-- the resources, or TooMany if there are more than that
 abbrev pub limited : List Resource → Result (List Resource) SpecFault
-limited resources = if nat_lt 4096 (length resources) then Err TooMany else Ok resources
+limited resources = if nat_lt most_resources (length resources) then Err TooMany else Ok resources
 
 -- the resources of a machine, or BadLocal where it is not described
 abbrev pub resources_of_local : Option Members → Result (List Resource) SpecFault

@@ -12,7 +12,9 @@ use ct_base::{List, Resource};
 use serde_json::{Map, Value};
 use std::alloc::Global;
 
-/// How many resources a machine may declare. This project's choice.
+/// How many resources a machine may declare.
+///
+/// Source: this project's choice.
 const MOST_RESOURCES: usize = 4_096;
 
 /// Reads the resources that a value declares.

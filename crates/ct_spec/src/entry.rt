@@ -6,12 +6,9 @@ ghost use Rattle.ct_spec.specs.Read.{ReadsResources};
 
 use crate::SpecFault;
 use crate::ids::Ids;
-use ct_base::{Name, Resource, has_name_bytes};
+use ct_base::{MOST_SLOTS, Name, Resource, has_name_bytes};
 use serde_json::Value;
 use std::alloc::Global;
-
-/// The most slots of a resource. This project's choice.
-const MOST_SLOTS: u64 = 1_000_000_000;
 
 /// Reads the entry at a place of a kind, behind entries with these ids.
 pub(crate) fn resource_in(

@@ -7,14 +7,15 @@ use Rattle.ct_base.specs.Entries.{entries_of}
 use Rattle.ct_base.specs.Names.{is_among}
 use Rattle.ct_base.specs.declared.defs.Pair.{Pair}
 use Rattle.ct_base.specs.declared.defs.TestDef.{TestDef}
+use Rattle.ct_suite.specs.declared.limits.TheConstants.{MOST_BYTES, MOST_TESTS}
 
 -- the greatest number of tests in a tree
 abbrev pub most_tests : ℕ
-most_tests = 400000
+most_tests = MOST_TESTS
 
 -- the greatest number of bytes in a value
 abbrev pub most_bytes : ℕ
-most_bytes = 1048576
+most_bytes = MOST_BYTES
 
 -- each of these values has at most `most` bytes
 abbrev pub AreShort : ℕ → List (List ℕ) → Type 0

@@ -21,7 +21,7 @@ mod words;
 
 pub use count::raised;
 pub use fault::ValueFault;
-pub use limits::ValueLimits;
+pub use limits::{MOST_BYTES, MOST_TESTS, ValueLimits};
 pub use named::{count_named, set_named};
 pub use suite::Suite;
 pub use table::Table;
