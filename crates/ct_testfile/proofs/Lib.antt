@@ -6,5 +6,6 @@ pub mod ConditionLemmas
 pub mod StepLemmas
 pub mod TreeLemmas
 pub mod AsksLemmas
+pub mod CallsLemmas
 pub mod KeptLemmas
 pub mod IfLemmas

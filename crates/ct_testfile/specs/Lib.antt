@@ -7,4 +7,5 @@ pub mod Ifs
 pub mod Tree
 pub mod Says
 pub mod Asks
+pub mod TreeCalls
 pub mod Laws

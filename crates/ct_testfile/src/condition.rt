@@ -1,8 +1,10 @@
-ghost use Rattle.std.specs.Prelude.{◌≡◌, IsTrue, Ok, is_some, length};
+ghost use Rattle.std.specs.Prelude.{◌≡◌, ◌∷◌, [], IsTrue, Ok, is_some, length};
 ghost use Rattle.ct_base.specs.Path.{joined};
 ghost use Rattle.ct_regex.specs.Reading as pattern;
 ghost use Rattle.ct_testfile.specs.Outcome.{on_line};
 ghost use Rattle.ct_testfile.specs.Asks.{Blames, NamesPath};
+ghost use Rattle.ct_testfile.specs.TreeCalls.{MakesCalls, exists_calls};
+ghost use Rattle.ct_base.specs.declared.file_call.FileCall.TheVariants.{Exists};
 ghost use Rattle.ct_testfile.specs.Says.{Follows, Over};
 ghost use Rattle.ct_testfile.specs.Condition.{bad_pattern, holds, is_exists, is_matches, is_bare_word, matched, subject};
 
@@ -27,6 +29,8 @@ pub(crate) fn holds<F: Files>(
         (λ held. on_line here.now.file.now.path line
         (holds held here.now.file.now.dir table.now values.now)) result }
     ensures asks { Blames (NamesPath here.now.file.now.dir values.now) result }
+    ensures calls { MakesCalls (exists_calls here.now.file.now.dir values.now)
+        (F.calls files.old) (F.calls files.new) result }
 {
     if is_exists(values) {
         return exists(here.alloc, files, &here.file.dir, &values[1].text);
@@ -73,6 +77,8 @@ fn exists<F: Files>(
 ) -> Result<bool, ReadFault>
     ensures says { Over (F.tells files.old) (F.tells files.new) (λ held. Ok (is_some (held (joined dir.now name.now)))) result }
     ensures asks { Blames (λ path. path ≡ joined dir.now name.now) result }
+    ensures calls { MakesCalls (Exists (joined dir.now name.now) ∷ [])
+        (F.calls files.old) (F.calls files.new) result }
 {
     let path = join_path(alloc, dir, name)?;
     match files.exists(alloc, &path) {

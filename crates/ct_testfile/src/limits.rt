@@ -1,7 +1,7 @@
 ghost use Rattle.std.specs.Prelude.{◌≡◌};
 ghost use Rattle.ct_testfile.specs.Commands.{value_limits};
 
-use ct_suite::ValueLimits;
+use ct_suite::{MOST_BYTES, MOST_TESTS, ValueLimits};
 
 /// How much of a tree of test files may be read. What is above a limit is refused.
 ///
@@ -24,15 +24,18 @@ pub struct Limits {
     pub tests: u32,
 }
 
-/// The limits of a tree of test files. Source: this project's choice.
+/// The limits of a tree of test files: 16 MiB a file and 256 MiB in all files, 512 MiB in all values,
+/// and those of the tests and of one value.
+///
+/// Source: this project's choice.
 pub const LIMITS: Limits = Limits {
     file_bytes: 16_777_216,
     all_file_bytes: 268_435_456,
-    value_bytes: 1_048_576,
+    value_bytes: MOST_BYTES,
     all_value_bytes: 536_870_912,
     open_files: 64,
     commands: 4_000_000,
-    tests: 400_000,
+    tests: MOST_TESTS,
 };
 
 /// Returns the limits on the values of a command.

@@ -1,5 +1,6 @@
-ghost use Rattle.std.specs.Prelude.{◌≡◌, Err, IfOk, Some, if◌then◌else◌, true};
+ghost use Rattle.std.specs.Prelude.{◌≡◌, [], Err, IfOk, Some, if◌then◌else◌, true};
 ghost use Rattle.ct_testfile.specs.Asks.{Blames, CallAsks, ConditionAsks, IsEvaluated};
+ghost use Rattle.ct_testfile.specs.TreeCalls.{MakesCalls, command_calls, condition_calls, is_evaluated, is_untaken};
 ghost use Rattle.ct_testfile.specs.Says.{AreBounded, Follows, IsAnswerOf, OverCall, Unfailed};
 ghost use Rattle.ct_testfile.specs.Ifs.{asked, begun_if, behind_else, behind_elseif, behind_if, begun_else, continued, done, in_branch, is_live, left, stepped};
 ghost use Rattle.ct_testfile.specs.declared.branch.Branch.TheVariants as branches;
@@ -41,6 +42,8 @@ pub(crate) fn advance<F: Files>(
     ensures says { OverCall (F.tells files.old) (F.tells files.new) here.now call.now
         (λ limits held dir. stepped limits held dir ifs state call.now) result }
     ensures asks { Blames (CallAsks here.now.limits.now here.now.file.now.dir ifs state call.now) result }
+    ensures calls { MakesCalls (command_calls here.now.limits.now here.now.file.now.dir ifs state call.now)
+        (F.calls files.old) (F.calls files.new) result }
 {
     let Some(flow) = flow_of(call.name.bytes()) else {
         let step = do_other(here, ifs, state, call);
@@ -88,6 +91,9 @@ fn do_if<F: Files>(
         (λ limits held dir. begun_if limits held dir call.now ifs state) result }
     ensures asks { Blames (λ path. IsEvaluated (Some flow.If) ifs
         × ConditionAsks here.now.limits.now here.now.file.now.dir call.now state path) result }
+    ensures calls { MakesCalls (if is_evaluated (Some flow.If) ifs
+        then condition_calls here.now.limits.now here.now.file.now.dir call.now state else [])
+        (F.calls files.old) (F.calls files.new) result }
 {
     let live = ifs.is_live();
     let (branch, state) = behind_if(files, here, live, state, call)?;
@@ -106,6 +112,9 @@ fn behind_if<F: Files>(
         (λ limits held dir. behind_if limits held dir call.now state live) result }
     ensures asks { Blames (λ path. (live ≡ true)
         × ConditionAsks here.now.limits.now here.now.file.now.dir call.now state path) result }
+    ensures calls { MakesCalls (if live
+        then condition_calls here.now.limits.now here.now.file.now.dir call.now state else [])
+        (F.calls files.old) (F.calls files.new) result }
 {
     if live {
         asked(files, here, state, call)
@@ -128,6 +137,9 @@ fn do_elseif<F: Files>(
         (λ limits held dir. continued limits held dir call.now ifs state) result }
     ensures asks { Blames (λ path. IsEvaluated (Some flow.ElseIf) ifs
         × ConditionAsks here.now.limits.now here.now.file.now.dir call.now state path) result }
+    ensures calls { MakesCalls (if is_evaluated (Some flow.ElseIf) ifs
+        then condition_calls here.now.limits.now here.now.file.now.dir call.now state else [])
+        (F.calls files.old) (F.calls files.new) result }
 {
     let Some((inner, outer)) = ifs.take_inner() else {
         return unpaired(here, call.line);
@@ -148,6 +160,9 @@ fn behind_elseif<F: Files>(
         (λ limits held dir. behind_elseif limits held dir call.now state branch) result }
     ensures asks { Blames (λ path. (branch ≡ branches.Waiting)
         × ConditionAsks here.now.limits.now here.now.file.now.dir call.now state path) result }
+    ensures calls { MakesCalls (if is_untaken branch
+        then condition_calls here.now.limits.now here.now.file.now.dir call.now state else [])
+        (F.calls files.old) (F.calls files.new) result }
 {
     match branch {
         Branch::Waiting => asked(files, here, state, call),
@@ -177,6 +192,8 @@ fn asked<F: Files>(
     ensures says { OverCall (F.tells files.old) (F.tells files.new) here.now call.now
         (λ limits held dir. asked limits held dir call.now state) result }
     ensures asks { Blames (ConditionAsks here.now.limits.now here.now.file.now.dir call.now state) result }
+    ensures calls { MakesCalls (condition_calls here.now.limits.now here.now.file.now.dir call.now state)
+        (F.calls files.old) (F.calls files.new) result }
 {
     let begun = state.begin(here.alloc, here.limits, &call.args);
     let (values, state) = here.at_line(call.line, begun)?;

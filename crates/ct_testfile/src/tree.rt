@@ -1,8 +1,10 @@
-ghost use Rattle.std.specs.Prelude.{◌≡◌, ◌+◌, ◌<◌, ◌≤◌, [], All, None, Ok, IfOk, IfErr, IfSome, IsSomeAnd, OnOk, length, option_map, take};
+ghost use Rattle.std.specs.Prelude.{◌≡◌, ◌+◌, ◌<◌, ◌≤◌, [], ◌∷◌, All, None, Ok, IfOk, IfErr, IfSome, IsSomeAnd, OnOk, length, option_map, take};
 ghost use Rattle.ct_base.specs.Outside.{Becomes, SameHeld};
 ghost use Rattle.ct_lex.specs.Place.{beginning};
 ghost use Rattle.ct_lex.specs.Reads.{commands_read};
 ghost use Rattle.ct_testfile.specs.Asks.{AsksWithin, Blames, BlamesBy, CarriedAsk, NestedAsks, OpenedAsk, OpeningAsks, TreeAsks};
+ghost use Rattle.ct_testfile.specs.TreeCalls.{MakesCalls, MakesCallsBy, calls_within, carried_calls, held_calls, nested_calls, opened_calls, opening_calls, tree_calls};
+ghost use Rattle.ct_base.specs.declared.file_call.FileCall.TheVariants.{Read};
 ghost use Rattle.ct_testfile.specs.Says.{AreBounded, Follows, HasFilesCause, IfFilesFailed, IsAnswerOf, IsAt, IsFaultIn, IsNextOf, IsRefusalOf, Over, Unfailed, inside};
 ghost use Rattle.ct_testfile.specs.Commands.{openings, test_file};
 ghost use Rattle.ct_testfile.specs.Tree.{absent, admitted, beginning_with, carried, ended, nested, all_opened, opened_by, top, tree_of, tree_within};
@@ -36,6 +38,8 @@ pub fn read_tree<F: Files>(
     ensures within { IfOk result (λ defs. All (HasShortValues most_bytes) defs) }
     ensures refused { IfErr result (λ fault. IfSome (F.tells files.old).held (λ held. IsRefusalOf (tree_of held dir.now config.now) fault)) }
     ensures asks { IfErr result (λ fault. IfSome (F.tells files.old).held (λ held. IfFilesFailed fault (TreeAsks held dir.now config.now))) }
+    ensures calls { IfSome (F.tells files.old).held (λ held.
+        MakesCalls (tree_calls held dir.now config.now) (F.calls files.old) (F.calls files.new) result) }
     ensures cause { HasFilesCause (F.tells files.old) (F.tells files.new) result }
     ensures kept { Becomes (F.tells files.old).held (F.tells files.new).held SameHeld }
 {
@@ -56,6 +60,9 @@ pub fn read_tree_within<F: Files>(
     ensures within { IfOk result (λ defs. All (HasShortValues most_bytes) defs) }
     ensures refused { IfErr result (λ fault. IfSome (F.tells files.old).held (λ held. IsRefusalOf (tree_within limits.now held dir.now config.now) fault)) }
     ensures asks { IfErr result (λ fault. IfSome (F.tells files.old).held (λ held. IfFilesFailed fault (AsksWithin limits.now held dir.now config.now))) }
+    ensures calls { IfSome (F.tells files.old).held (λ held.
+        MakesCalls (calls_within limits.now held dir.now config.now)
+        (F.calls files.old) (F.calls files.new) result) }
     ensures cause { HasFilesCause (F.tells files.old) (F.tells files.new) result }
     ensures kept { Becomes (F.tells files.old).held (F.tells files.new).held SameHeld }
 {
@@ -72,6 +79,9 @@ fn read_through<F: Files>(
     requires { AreBounded limits.now }
     ensures says { Over (F.tells files.old) (F.tells files.new) (λ held. tree_within limits.now held dir.now config.now) result }
     ensures asks { BlamesBy (F.tells files.old).held (λ held. AsksWithin limits.now held dir.now config.now) result }
+    ensures calls { MakesCallsBy (F.tells files.old).held
+        (λ held. calls_within limits.now held dir.now config.now)
+        (F.calls files.old) (F.calls files.new) result }
     ensures few { IfOk result (λ defs. length defs ≤ most_tests) }
     ensures within { IfOk result (λ defs. All (HasShortValues most_bytes) defs) }
 {
@@ -91,6 +101,10 @@ fn open_top<F: Files>(
     requires { AreBounded limits.now }
     ensures says { Over (F.tells files.old) (F.tells files.new) (λ held. opened_by (nested limits.now held limits.now.open_files) (test_file dir.now).path 0 (top dir.now) state (held (test_file dir.now).path)) result }
     ensures asks { BlamesBy (F.tells files.old).held (λ held. OpeningAsks (NestedAsks limits.now held limits.now.open_files) held (top dir.now) state) result }
+    ensures calls { MakesCallsBy (F.tells files.old).held
+        (λ held. opening_calls (nested_calls limits.now held limits.now.open_files) limits.now held
+        (top dir.now) state)
+        (F.calls files.old) (F.calls files.new) result }
 {
     let opening = top(alloc, dir)?;
     let here = OpenFile {
@@ -161,6 +175,10 @@ fn open_each<F: Files>(
     ensures asks { BlamesBy (F.tells files.old).held
         (λ held. OpenedAsk (inside here.now held) (NestedAsks here.now.limits.now held here.now.more) held
         here.now.file.now.path line (openings here.now.file.now.dir opens.now) state) result }
+    ensures calls { MakesCallsBy (F.tells files.old).held
+        (λ held. opened_calls (inside here.now held) (nested_calls here.now.limits.now held here.now.more)
+        here.now.limits.now held here.now.file.now.path line (openings here.now.file.now.dir opens.now) state)
+        (F.calls files.old) (F.calls files.new) result }
 {
     let mut known = state;
     for name in opens.names.as_slice() {
@@ -185,6 +203,9 @@ fn open<F: Files>(
         (held opening.now.file.path)) result }
     ensures asks { BlamesBy (F.tells files.old).held
         (λ held. OpeningAsks (NestedAsks here.now.limits.now held here.now.more) held opening.now state) result }
+    ensures calls { MakesCallsBy (F.tells files.old).held
+        (λ held. opening_calls (nested_calls here.now.limits.now held here.now.more) here.now.limits.now held
+        opening.now state) (F.calls files.old) (F.calls files.new) result }
 {
     let most = here.limits.file_bytes;
     let got = fetch(here.alloc, files, &opening.file.path, most)?;
@@ -206,6 +227,9 @@ fn enter<F: Files>(
         (λ held. opened_by (inside here.now held) here.now.file.now.path line opening.now state got) result }
     ensures asks { BlamesBy (F.tells files.old).held
         (λ held path. IsSomeAnd got (λ text. NestedAsks here.now.limits.now held here.now.more opening.now.file state text path)) result }
+    ensures calls { MakesCallsBy (F.tells files.old).held
+        (λ held. held_calls (nested_calls here.now.limits.now held here.now.more) opening.now.file state got)
+        (F.calls files.old) (F.calls files.new) result }
 {
     let Some(text) = got else {
         return here.at_line(line, absent(opening, state));
@@ -233,6 +257,7 @@ fn fetch<F: Files>(
 ) -> Result<Option<Blob>, ReadFault>
     ensures says { Over (F.tells files.old) (F.tells files.new) (λ held. Ok (option_map (take (most + 1)) (held path.now))) result }
     ensures asks { Blames (λ refused. refused ≡ path.now) result }
+    ensures calls { MakesCalls (Read path.now most ∷ []) (F.calls files.old) (F.calls files.new) result }
 {
     let asked = path.copy(alloc)?;
     match files.read(alloc, &asked, u64::from(most)) {
@@ -284,6 +309,10 @@ fn carry<F: Files>(
     ensures asks { BlamesBy (F.tells files.old).held
         (λ held. CarriedAsk (inside here.now held) (NestedAsks here.now.limits.now held here.now.more)
         here.now.limits.now held here.now.file.now [] state (commands_read (beginning text.now)).0) result }
+    ensures calls { MakesCallsBy (F.tells files.old).held
+        (λ held. carried_calls (inside here.now held) (nested_calls here.now.limits.now held here.now.more)
+        here.now.limits.now held here.now.file.now [] state (commands_read (beginning text.now)).0)
+        (F.calls files.old) (F.calls files.new) result }
 {
     let alloc = here.alloc;
     let mut lexer = Lexer::new(text);

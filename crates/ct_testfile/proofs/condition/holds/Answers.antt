@@ -10,6 +10,10 @@ use Rattle.ct_testfile.proofs.ConditionLemmas.{holds-exists, holds-matches, hold
 use Rattle.ct_testfile.proofs.OverLemmas.{IsAnswerOf-same, Over-same, Over-still}
 use Rattle.ct_testfile.specs.Asks.{NamesPath}
 use Rattle.ct_testfile.proofs.AsksLemmas.{blamed, names-second, unblamed}
+use Rattle.std.proofs.Common.{[], ◌∷◌}
+use Rattle.ct_base.specs.declared.file_call.FileCall.TheVariants.{Exists}
+use Rattle.ct_testfile.specs.TreeCalls.{exists_calls}
+use Rattle.ct_testfile.proofs.CallsLemmas.{exists-none, exists-one, made-same, still}
 use Rattle.ct_testfile.proofs.condition.holds.Goals as goal
 
 pub returns-then-is_exists-clause-says : goal.returns-then-is_exists-clause-says
@@ -66,3 +70,24 @@ returns-then-is_matches-clause-asks g c =
 pub returns-clause-asks : goal.returns-clause-asks
 returns-clause-asks g c =
     unblamed (NamesPath c.args.here.now.file.now.dir c.args.values.now) c.at_line-2.result c.at_line-2.ensures.unfailed
+
+pub returns-then-is_exists-clause-calls : goal.returns-then-is_exists-clause-calls
+returns-then-is_exists-clause-calls g c =
+    let dir = c.args.here.now.file.now.dir in
+    let values = c.args.values.now in
+    let name = get_or values 1 c.index-values-1.result in
+    made-same (Exists (joined dir name.text) ∷ []) (exists_calls dir values) (g.F.Files.calls c.args.files.now) (g.F.Files.calls c.exists.new.files) c.exists.result (sym (exists-one dir values name (sym c.is_exists.ensures.is ∙ c.if-is_exists.true) (ap (λ d. get_or values 1 d) c.index-values-1.is))) c.exists.ensures.calls
+
+pub returns-then-is_matches-clause-calls : goal.returns-then-is_matches-clause-calls
+returns-then-is_matches-clause-calls g c =
+    let dir = c.args.here.now.file.now.dir in
+    let values = c.args.values.now in
+    let told = g.F.Files.calls c.args.files.now in
+    made-same [] (exists_calls dir values) told told c.at_line.result (sym (exists-none dir values (sym c.is_exists.ensures.is ∙ c.if-is_exists.false))) (still told c.at_line.result c.at_line.ensures.unfailed)
+
+pub returns-clause-calls : goal.returns-clause-calls
+returns-clause-calls g c =
+    let dir = c.args.here.now.file.now.dir in
+    let values = c.args.values.now in
+    let told = g.F.Files.calls c.args.files.now in
+    made-same [] (exists_calls dir values) told told c.at_line-2.result (sym (exists-none dir values (sym c.is_exists.ensures.is ∙ c.if-is_exists.false))) (still told c.at_line-2.result c.at_line-2.ensures.unfailed)

@@ -10,6 +10,9 @@ use Rattle.ct_testfile.proofs.OverLemmas.{Over-same, Over-still}
 use Rattle.std.proofs.Common.{subst}
 use Rattle.ct_testfile.specs.Asks.{CallAsks, ConditionAsks, IsEvaluated}
 use Rattle.ct_testfile.proofs.AsksLemmas.{blamed, unblamed}
+use Rattle.std.proofs.Common.{false}
+use Rattle.ct_testfile.specs.TreeCalls.{condition_calls, is_evaluated}
+use Rattle.ct_testfile.proofs.CallsLemmas.{made-when, still}
 use Rattle.ct_testfile.proofs.step.advance.Goals as goal
 
 pub returns-in_default-clause-says : goal.returns-in_default-clause-says
@@ -83,3 +86,41 @@ returns-in-ElseIf-clause-asks g c =
     let asks = ConditionAsks c.args.here.now.limits.now c.args.here.now.file.now.dir call c.args.state in
     let is : flow_of call.name ≡ Some ElseIf = ap flow_of (sym c.bytes.ensures) ∙ sym c.flow_of.ensures ∙ c.in-Some.is ∙ ap Some c.in-ElseIf.is in
     blamed (λ path. IsEvaluated (Some ElseIf) c.args.ifs × asks path) (λ path. IsEvaluated (flow_of call.name) c.args.ifs × asks path) c.do_elseif.result (λ path asked. (subst (λ (flow : Option Flow). IsEvaluated flow c.args.ifs) (sym is) asked.0, asked.1)) c.do_elseif.ensures.asks
+
+pub returns-in_default-clause-calls : goal.returns-in_default-clause-calls
+returns-in_default-clause-calls g c =
+    let told = g.F.Files.calls c.args.files.now in
+    let call = c.args.call.now in
+    let calls = condition_calls c.args.here.now.limits.now c.args.here.now.file.now.dir call c.args.state in
+    let is : flow_of call.name ≡ None = ap flow_of (sym c.bytes.ensures) ∙ sym c.flow_of.ensures ∙ c.in_default.is in
+    made-when false (is_evaluated (flow_of call.name) c.args.ifs) calls told told c.at_line.result (sym (ap (λ (flow : Option Flow). is_evaluated flow c.args.ifs) is)) (still told c.at_line.result c.at_line.ensures.unfailed)
+
+pub returns-in-If-clause-calls : goal.returns-in-If-clause-calls
+returns-in-If-clause-calls g c =
+    let call = c.args.call.now in
+    let calls = condition_calls c.args.here.now.limits.now c.args.here.now.file.now.dir call c.args.state in
+    let is : flow_of call.name ≡ Some If = ap flow_of (sym c.bytes.ensures) ∙ sym c.flow_of.ensures ∙ c.in-Some.is ∙ ap Some c.in-If.is in
+    made-when (is_evaluated (Some If) c.args.ifs) (is_evaluated (flow_of call.name) c.args.ifs) calls (g.F.Files.calls c.args.files.now) (g.F.Files.calls c.do_if.new.files) c.do_if.result (sym (ap (λ (flow : Option Flow). is_evaluated flow c.args.ifs) is)) c.do_if.ensures.calls
+
+pub returns-in-ElseIf-clause-calls : goal.returns-in-ElseIf-clause-calls
+returns-in-ElseIf-clause-calls g c =
+    let call = c.args.call.now in
+    let calls = condition_calls c.args.here.now.limits.now c.args.here.now.file.now.dir call c.args.state in
+    let is : flow_of call.name ≡ Some ElseIf = ap flow_of (sym c.bytes.ensures) ∙ sym c.flow_of.ensures ∙ c.in-Some.is ∙ ap Some c.in-ElseIf.is in
+    made-when (is_evaluated (Some ElseIf) c.args.ifs) (is_evaluated (flow_of call.name) c.args.ifs) calls (g.F.Files.calls c.args.files.now) (g.F.Files.calls c.do_elseif.new.files) c.do_elseif.result (sym (ap (λ (flow : Option Flow). is_evaluated flow c.args.ifs) is)) c.do_elseif.ensures.calls
+
+pub returns-in-Else-clause-calls : goal.returns-in-Else-clause-calls
+returns-in-Else-clause-calls g c =
+    let told = g.F.Files.calls c.args.files.now in
+    let call = c.args.call.now in
+    let calls = condition_calls c.args.here.now.limits.now c.args.here.now.file.now.dir call c.args.state in
+    let is : flow_of call.name ≡ Some Else = ap flow_of (sym c.bytes.ensures) ∙ sym c.flow_of.ensures ∙ c.in-Some.is ∙ ap Some c.in-Else.is in
+    made-when false (is_evaluated (flow_of call.name) c.args.ifs) calls told told c.at_line-in-Else.result (sym (ap (λ (flow : Option Flow). is_evaluated flow c.args.ifs) is)) (still told c.at_line-in-Else.result c.at_line-in-Else.ensures.unfailed)
+
+pub returns-in-EndIf-clause-calls : goal.returns-in-EndIf-clause-calls
+returns-in-EndIf-clause-calls g c =
+    let told = g.F.Files.calls c.args.files.now in
+    let call = c.args.call.now in
+    let calls = condition_calls c.args.here.now.limits.now c.args.here.now.file.now.dir call c.args.state in
+    let is : flow_of call.name ≡ Some EndIf = ap flow_of (sym c.bytes.ensures) ∙ sym c.flow_of.ensures ∙ c.in-Some.is ∙ ap Some c.in-EndIf.is in
+    made-when false (is_evaluated (flow_of call.name) c.args.ifs) calls told told c.at_line-in-EndIf.result (sym (ap (λ (flow : Option Flow). is_evaluated flow c.args.ifs) is)) (still told c.at_line-in-EndIf.result c.at_line-in-EndIf.ensures.unfailed)

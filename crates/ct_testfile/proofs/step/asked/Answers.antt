@@ -15,6 +15,10 @@ use Rattle.ct_testfile.proofs.StepLemmas.{then_asked, branch_with, asked-on_line
 use Rattle.ct_testfile.specs.Asks.{ConditionAsks, NamesPath}
 use Rattle.ct_testfile.specs.Says.{IfFilesFailed}
 use Rattle.ct_testfile.proofs.AsksLemmas.{blamed-fault, ok-and, on_line-ok, unblamed}
+use Rattle.std.proofs.Common.{[]}
+use Rattle.ct_base.specs.declared.file_call.FileCall.{FileCall}
+use Rattle.ct_testfile.specs.TreeCalls.{MakesCalls, calls_behind, exists_calls}
+use Rattle.ct_testfile.proofs.CallsLemmas.{behind-on_line, made-fault, made-same, made-stopped, made-then, made-value, still}
 use Rattle.ct_testfile.proofs.step.asked.Goals as goal
 
 pub returns-in_err-values-clause-says : goal.returns-in_err-values-clause-says
@@ -88,3 +92,49 @@ returns-in_err-found-clause-asks g c =
     let named = subst (λ (vs : List Value). IfFilesFailed fault (NamesPath dir vs)) c.as_slice.ensures c.in_err-found.ensures.asks in
     let p = err_from_is_err_and c.from_residual-in_err-found.result c.from_residual-in_err-found.ensures.1 in
     rw (p.1, p.2) (blamed-fault (NamesPath dir values) asks fault (λ path. ok-and read (values, state) (λ r. NamesPath dir r.0 path) is) named)
+
+pub returns-in_err-values-clause-calls : goal.returns-in_err-values-clause-calls
+returns-in_err-values-clause-calls g c =
+    let told = g.F.Files.calls c.args.files.now in
+    let path = c.args.here.now.file.now.path in
+    let dir = c.args.here.now.file.now.dir in
+    let line = c.args.call.now.line in
+    let read = begun c.args.here.now.limits.now c.args.call.now.args c.args.state in
+    let rest : List Value × State → List FileCall = λ read. exists_calls dir read.0 in
+    let fault = c.in_err-values.field-0.0 in
+    let p = err_from_is_err_and c.from_residual.result c.from_residual.ensures.1 in
+    rw (p.1, p.2) (made-same {A = Branch × State} (calls_behind (on_line path line read) rest) (calls_behind read rest) told told (Err fault) (behind-on_line path line read rest) (made-stopped {A = List Value × State} (Branch × State) (on_line path line read) rest [] told told fault (c.in_err-values.ensures.says read c.begin-begun.ensures) (still {A = List Value × State} told (Err fault) c.in_err-values.ensures.unfailed)))
+
+pub returns-in_err-found-clause-calls : goal.returns-in_err-found-clause-calls
+returns-in_err-found-clause-calls g c =
+    let told = g.F.Files.calls c.args.files.now in
+    let now = g.F.Files.calls c.holds.new.files in
+    let path = c.args.here.now.file.now.path in
+    let dir = c.args.here.now.file.now.dir in
+    let line = c.args.call.now.line in
+    let read = begun c.args.here.now.limits.now c.args.call.now.args c.args.state in
+    let rest : List Value × State → List FileCall = λ read. exists_calls dir read.0 in
+    let fault = c.in_err-found.field-0.0 in
+    let state = c.in_ok-values.state in
+    let values = c.in_ok-values.values in
+    let Q : List Value → Type 0 = λ vs. MakesCalls {A = Bool} (exists_calls dir vs) told now (Err fault) in
+    let made = made-fault (Bool) (Branch × State) (exists_calls dir values) told now fault (subst Q c.as_slice.ensures c.in_err-found.ensures.calls) in
+    let p = err_from_is_err_and c.from_residual-in_err-found.result c.from_residual-in_err-found.ensures.1 in
+    rw (p.1, p.2) (made-same {A = Branch × State} (calls_behind (on_line path line read) rest) (calls_behind read rest) told now (Err fault) (behind-on_line path line read rest) (made-then {A = List Value × State} {B = Branch × State} (on_line path line read) rest [] told told now (values, state) (Err fault) (c.in_ok-values.ensures.says read c.begin-begun.ensures) (still {A = List Value × State} told (Ok (values, state)) tt) made))
+
+pub returns-clause-calls : goal.returns-clause-calls
+returns-clause-calls g c =
+    let told = g.F.Files.calls c.args.files.now in
+    let now = g.F.Files.calls c.holds.new.files in
+    let path = c.args.here.now.file.now.path in
+    let dir = c.args.here.now.file.now.dir in
+    let line = c.args.call.now.line in
+    let read = begun c.args.here.now.limits.now c.args.call.now.args c.args.state in
+    let rest : List Value × State → List FileCall = λ read. exists_calls dir read.0 in
+    let state = c.in_ok-values.state in
+    let values = c.in_ok-values.values in
+    let found = c.in_ok-found.found in
+    let answer : Branch × State = (c.branch_by.result, state) in
+    let Q : List Value → Type 0 = λ vs. MakesCalls {A = Bool} (exists_calls dir vs) told now (Ok found) in
+    let made = made-value {A = Bool} {B = Branch × State} (exists_calls dir values) told now found answer (subst Q c.as_slice.ensures c.in_ok-found.ensures.calls) in
+    made-same {A = Branch × State} (calls_behind (on_line path line read) rest) (calls_behind read rest) told now (Ok answer) (behind-on_line path line read rest) (made-then {A = List Value × State} {B = Branch × State} (on_line path line read) rest [] told told now (values, state) (Ok answer) (c.in_ok-values.ensures.says read c.begin-begun.ensures) (still {A = List Value × State} told (Ok (values, state)) tt) made)

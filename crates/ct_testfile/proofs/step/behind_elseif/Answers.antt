@@ -11,6 +11,7 @@ use Rattle.std.proofs.Common.{◌≡◌}
 use Rattle.ct_testfile.specs.Asks.{ConditionAsks}
 use Rattle.ct_testfile.specs.declared.branch.Branch.TheVariants.{Waiting}
 use Rattle.ct_testfile.proofs.AsksLemmas.{blamed, unblamed}
+use Rattle.ct_testfile.proofs.CallsLemmas.{still}
 use Rattle.ct_testfile.proofs.step.behind_elseif.Goals as goal
 
 pub returns-in-Waiting-clause-says : goal.returns-in-Waiting-clause-says
@@ -55,3 +56,26 @@ pub returns-in-ElseOver-clause-asks : goal.returns-in-ElseOver-clause-asks
 returns-in-ElseOver-clause-asks g c =
     let asks = ConditionAsks c.args.here.now.limits.now c.args.here.now.file.now.dir c.args.call.now c.args.state in
     unblamed (λ path. (c.args.branch ≡ Waiting) × asks path) c.unpaired-in-ElseOver.result c.unpaired-in-ElseOver.ensures.unfailed
+
+pub returns-in-Waiting-clause-calls : goal.returns-in-Waiting-clause-calls
+returns-in-Waiting-clause-calls g c = rw c.in-Waiting.is c.asked.ensures.calls
+
+pub returns-in-Taken-clause-calls : goal.returns-in-Taken-clause-calls
+returns-in-Taken-clause-calls g c =
+    rw c.in-Taken.is (still {A = Branch × State} (g.F.Files.calls c.args.files.now) (Ok (passed, c.args.state)) tt)
+
+pub returns-in-Over-clause-calls : goal.returns-in-Over-clause-calls
+returns-in-Over-clause-calls g c =
+    rw c.in-Over.is (still {A = Branch × State} (g.F.Files.calls c.args.files.now) (Ok (passed, c.args.state)) tt)
+
+pub returns-in-Idle-clause-calls : goal.returns-in-Idle-clause-calls
+returns-in-Idle-clause-calls g c =
+    rw c.in-Idle.is (still {A = Branch × State} (g.F.Files.calls c.args.files.now) (Ok (Idle, c.args.state)) tt)
+
+pub returns-in-ElseTaken-clause-calls : goal.returns-in-ElseTaken-clause-calls
+returns-in-ElseTaken-clause-calls g c =
+    rw c.in-ElseTaken.is (still (g.F.Files.calls c.args.files.now) c.unpaired.result c.unpaired.ensures.unfailed)
+
+pub returns-in-ElseOver-clause-calls : goal.returns-in-ElseOver-clause-calls
+returns-in-ElseOver-clause-calls g c =
+    rw c.in-ElseOver.is (still (g.F.Files.calls c.args.files.now) c.unpaired-in-ElseOver.result c.unpaired-in-ElseOver.ensures.unfailed)

@@ -16,6 +16,9 @@ use Rattle.ct_testfile.specs.Ifs.{innermost}
 use Rattle.ct_testfile.specs.declared.branch.Branch.TheVariants.{Waiting}
 use Rattle.ct_testfile.specs.declared.command.Flow.TheVariants.{ElseIf}
 use Rattle.ct_testfile.proofs.AsksLemmas.{blamed-fault, some-and, unblamed}
+use Rattle.ct_testfile.specs.TreeCalls.{condition_calls, is_open_to_elseif, is_untaken}
+use Rattle.std.proofs.Common.{cond, false}
+use Rattle.ct_testfile.proofs.CallsLemmas.{made-fault, made-memory, made-value, made-when, open-none, still}
 use Rattle.ct_testfile.proofs.step.do_elseif.Goals as goal
 
 pub returns-in_default-clause-says : goal.returns-in_default-clause-says
@@ -81,3 +84,41 @@ returns-in_err-branch-clause-asks g c =
     let is : innermost c.args.ifs ≡ Some (inner, outer) = sym c.take_inner.ensures ∙ c.in-Some.is in
     let p = err_from_is_err_and c.from_residual.result c.from_residual.ensures.1 in
     rw (p.1, p.2) (blamed-fault (λ path. (inner.branch ≡ Waiting) × asks path) (λ path. IsEvaluated (Some ElseIf) c.args.ifs × asks path) c.in_err-branch.field-0.0 (λ path waits. (some-and (innermost c.args.ifs) (inner, outer) (λ found. found.0.branch ≡ Waiting) is waits.0, waits.1)) c.in_err-branch.ensures.asks)
+
+pub returns-in_default-clause-calls : goal.returns-in_default-clause-calls
+returns-in_default-clause-calls g c =
+    let told = g.F.Files.calls c.args.files.now in
+    let calls = condition_calls c.args.here.now.limits.now c.args.here.now.file.now.dir c.args.call.now c.args.state in
+    made-when false (is_open_to_elseif c.args.ifs) calls told told c.unpaired.result (sym (open-none c.args.ifs (sym c.take_inner.ensures ∙ c.in_default.is))) (still told c.unpaired.result c.unpaired.ensures.unfailed)
+
+pub returns-in_err-branch-clause-calls : goal.returns-in_err-branch-clause-calls
+returns-in_err-branch-clause-calls g c =
+    let before = g.F.Files.calls c.args.files.now in
+    let now = g.F.Files.calls c.behind_elseif.new.files in
+    let calls = condition_calls c.args.here.now.limits.now c.args.here.now.file.now.dir c.args.call.now c.args.state in
+    let inner = c.in-Some.inner in
+    let some = innermost-some c.args.ifs c.in-Some.outer inner (sym c.take_inner.ensures ∙ c.in-Some.is) in
+    let fault = c.in_err-branch.field-0.0 in
+    let p = err_from_is_err_and c.from_residual.result c.from_residual.ensures.1 in
+    rw (p.1, p.2) (made-fault (Branch × State) (Step) (cond (is_open_to_elseif c.args.ifs) calls []) before now fault (made-when {A = Branch × State} (is_untaken inner.branch) (is_open_to_elseif c.args.ifs) calls before now (Err fault) (sym (ap is_open_to_elseif some)) c.in_err-branch.ensures.calls))
+
+pub returns-in_err-in_branch-clause-calls : goal.returns-in_err-in_branch-clause-calls
+returns-in_err-in_branch-clause-calls g c =
+    let before = g.F.Files.calls c.args.files.now in
+    let now = g.F.Files.calls c.behind_elseif.new.files in
+    let calls = condition_calls c.args.here.now.limits.now c.args.here.now.file.now.dir c.args.call.now c.args.state in
+    let inner = c.in-Some.inner in
+    let some = innermost-some c.args.ifs c.in-Some.outer inner (sym c.take_inner.ensures ∙ c.in-Some.is) in
+    let found : Branch × State = (c.in_ok-branch.branch, c.in_ok-branch.state) in
+    let p = err_from_is_err_and c.from_residual-in_err-in_branch.result c.from_residual-in_err-in_branch.ensures.1 in
+    rw (p.1, p.2) (made-memory {A = Branch × State} (Step) (cond (is_open_to_elseif c.args.ifs) calls []) before now found (made-when {A = Branch × State} (is_untaken inner.branch) (is_open_to_elseif c.args.ifs) calls before now (Ok found) (sym (ap is_open_to_elseif some)) c.in_ok-branch.ensures.calls))
+
+pub returns-clause-calls : goal.returns-clause-calls
+returns-clause-calls g c =
+    let before = g.F.Files.calls c.args.files.now in
+    let now = g.F.Files.calls c.behind_elseif.new.files in
+    let calls = condition_calls c.args.here.now.limits.now c.args.here.now.file.now.dir c.args.call.now c.args.state in
+    let inner = c.in-Some.inner in
+    let some = innermost-some c.args.ifs c.in-Some.outer inner (sym c.take_inner.ensures ∙ c.in-Some.is) in
+    let found : Branch × State = (c.in_ok-branch.branch, c.in_ok-branch.state) in
+    made-value {A = Branch × State} {B = Step} (cond (is_open_to_elseif c.args.ifs) calls []) before now found c.in_ok-in_branch.field-0 (made-when {A = Branch × State} (is_untaken inner.branch) (is_open_to_elseif c.args.ifs) calls before now (Ok found) (sym (ap is_open_to_elseif some)) c.in_ok-branch.ensures.calls)

@@ -11,6 +11,10 @@ use Rattle.ct_testfile.proofs.OverLemmas.{Over-same, Over-stopped, Over-memory, 
 use Rattle.std.proofs.Common.{◌≡◌, ◌∙◌, true}
 use Rattle.ct_testfile.specs.Asks.{ConditionAsks}
 use Rattle.ct_testfile.proofs.AsksLemmas.{blamed-fault}
+use Rattle.ct_testfile.specs.TreeCalls.{condition_calls}
+use Rattle.ct_testfile.specs.declared.step.Step.{Step}
+use Rattle.std.proofs.Common.{cond, []}
+use Rattle.ct_testfile.proofs.CallsLemmas.{made-fault, made-memory, made-value, made-when}
 use Rattle.ct_testfile.proofs.step.do_if.Goals as goal
 
 pub returns-in_err-branch-clause-says : goal.returns-in_err-branch-clause-says
@@ -57,3 +61,32 @@ returns-in_err-branch-clause-asks g c =
     let asks = ConditionAsks c.args.here.now.limits.now c.args.here.now.file.now.dir c.args.call.now c.args.state in
     let p = err_from_is_err_and c.from_residual.result c.from_residual.ensures.1 in
     rw (p.1, p.2) (blamed-fault (λ path. (c.is_live-live.result ≡ true) × asks path) (λ path. (is_live c.args.ifs ≡ true) × asks path) c.in_err-branch.field-0.0 (λ path is. (sym c.is_live-live.ensures ∙ is.0, is.1)) c.in_err-branch.ensures.asks)
+
+pub returns-in_err-branch-clause-calls : goal.returns-in_err-branch-clause-calls
+returns-in_err-branch-clause-calls g c =
+    let before = g.F.Files.calls c.args.files.now in
+    let now = g.F.Files.calls c.behind_if.new.files in
+    let calls = condition_calls c.args.here.now.limits.now c.args.here.now.file.now.dir c.args.call.now c.args.state in
+    let live = is_live c.args.ifs in
+    let fault = c.in_err-branch.field-0.0 in
+    let p = err_from_is_err_and c.from_residual.result c.from_residual.ensures.1 in
+    rw (p.1, p.2) (made-fault (Branch × State) (Step) (cond live calls []) before now fault (made-when {A = Branch × State} c.is_live-live.result live calls before now (Err fault) c.is_live-live.ensures c.in_err-branch.ensures.calls))
+
+pub returns-in_err-in_branch-clause-calls : goal.returns-in_err-in_branch-clause-calls
+returns-in_err-in_branch-clause-calls g c =
+    let before = g.F.Files.calls c.args.files.now in
+    let now = g.F.Files.calls c.behind_if.new.files in
+    let calls = condition_calls c.args.here.now.limits.now c.args.here.now.file.now.dir c.args.call.now c.args.state in
+    let live = is_live c.args.ifs in
+    let found : Branch × State = (c.in_ok-branch.branch, c.in_ok-branch.state) in
+    let p = err_from_is_err_and c.from_residual-in_err-in_branch.result c.from_residual-in_err-in_branch.ensures.1 in
+    rw (p.1, p.2) (made-memory {A = Branch × State} (Step) (cond live calls []) before now found (made-when {A = Branch × State} c.is_live-live.result live calls before now (Ok found) c.is_live-live.ensures c.in_ok-branch.ensures.calls))
+
+pub returns-clause-calls : goal.returns-clause-calls
+returns-clause-calls g c =
+    let before = g.F.Files.calls c.args.files.now in
+    let now = g.F.Files.calls c.behind_if.new.files in
+    let calls = condition_calls c.args.here.now.limits.now c.args.here.now.file.now.dir c.args.call.now c.args.state in
+    let live = is_live c.args.ifs in
+    let found : Branch × State = (c.in_ok-branch.branch, c.in_ok-branch.state) in
+    made-value {A = Branch × State} {B = Step} (cond live calls []) before now found c.in_ok-in_branch.field-0 (made-when {A = Branch × State} c.is_live-live.result live calls before now (Ok found) c.is_live-live.ensures c.in_ok-branch.ensures.calls)

@@ -15,13 +15,18 @@ use Rattle.ct_testfile.proofs.TreeLemmas.{from, from-start, from-end, from-refus
 use Rattle.std.proofs.Common.{inl, inr, IfOk, IsSomeAnd}
 use Rattle.ct_testfile.specs.Asks.{CallAsks, NestedAsks, OpeningAsks}
 use Rattle.ct_testfile.proofs.AsksLemmas.{asks-behind, asks-call, asks-inside, asks-more, asks-one, asks-opened, asks-taken, asks_from, asks_from-start, blamed, blamed-fault, ok-and, opened_ask_from, opened_asks, some-and, unblamed}
+use Rattle.ct_base.specs.declared.file_call.FileCall.{FileCall}
+use Rattle.ct_base.specs.declared.file_call.FileCall.TheVariants.{Read}
+use Rattle.std.proofs.Common.{◌∷◌}
+use Rattle.ct_testfile.specs.TreeCalls.{MakesCalls, calls_behind, held_calls, nested_calls}
+use Rattle.ct_testfile.proofs.CallsLemmas.{calls-entered, calls-none, calls-once-more, calls-one-more, calls-one-stopped, calls-stopped, calls-stopped-in, calls-taken, calls_from, calls_from-end, calls_from-refused, calls_from-start, made-same, made-stopped, made-then, opened-calls-all, opened_calls_from, so-far-end, so-far-start, still, wanting}
 use Rattle.ct_testfile.proofs.tree.+tree.Goals as goal
 
 pub carry-new-lexer-requires : goal.carry-new-lexer-requires
 carry-new-lexer-requires g t c = c.requires.lines
 
 pub carry-calls-init : goal.carry-calls-init
-carry-calls-init g t c = (SoFar-start _ _, λ held told path asks. asks)
+carry-calls-init g t c = (SoFar-start _ _, λ held told path asks. asks, λ held told. so-far-start _ _)
 
 pub carry-returns-in_err-call-clause-says : goal.carry-returns-in_err-call-clause-says
 carry-returns-in_err-call-clause-says g t c =
@@ -90,6 +95,10 @@ carry-calls-preserved g t c =
       λ held told path asks.
           let so_far = c.calls.invariant.0.kept held told in
           c.calls.invariant.1 held told path (asks-behind limits c.args.here.now.more file c.calls.ifs c.calls.known c.in-Some.call c.calls.lexer c.next_call.new.lexer next held path c.in_ok-step.step c.in_ok-known.known (c.in_ok-step.ensures.says.answer held so_far) (c.in_ok-known.ensures.says.answer held (c.in_ok-step.ensures.says.kept held so_far)) asks),
+      λ held told.
+          let so_far = c.calls.invariant.0.kept held told in
+          let kept = c.in_ok-step.ensures.says.kept held so_far in
+          calls-once-more limits c.args.here.now.more file c.calls.ifs c.calls.known c.in-Some.call c.calls.lexer c.next_call.new.lexer next held (calls_from limits c.args.here.now.more file c.new-ifs.result c.args.state c.new-lexer.result held) (g.F.Files.calls c.args.files.now) (g.F.Files.calls c.calls.files) (g.F.Files.calls c.advance.new.files) (c.calls.invariant.2 held told) (g.F.Files.calls c.open_each.new.files) c.in_ok-step.step (c.in_ok-step.ensures.says.answer held so_far) c.in_ok-step.ensures.calls c.in_ok-known.known (c.in_ok-known.ensures.says.answer held kept) (c.in_ok-known.ensures.calls held kept),
     )
 
 pub carry-same-ifs-2 : goal.carry-same-ifs-2
@@ -184,7 +193,7 @@ open-returns-clause-says g t c =
     Over-same before now (λ held. first held >>= next held) (λ held. next held (held opening.file.path)) c.enter.result (λ held. opened_by-taken limits held c.args.here.now.more c.args.here.now.file.now.path c.args.line opening c.args.state (held opening.file.path)) (Over-then before between now first next c.in_ok-got.got c.enter.result c.in_ok-got.ensures.says c.enter.ensures.says)
 
 pub open_each-loop-name-init : goal.open_each-loop-name-init
-open_each-loop-name-init g t c = (SoFar-start _ _, λ held told path asks. asks)
+open_each-loop-name-init g t c = (SoFar-start _ _, λ held told path asks. asks, λ held told. so-far-start _ _)
 
 pub open_each-returns-in_err-opening-clause-says : goal.open_each-returns-in_err-opening-clause-says
 open_each-returns-in_err-opening-clause-says g t c =
@@ -223,6 +232,15 @@ open_each-loop-name-preserved g t c =
       opened-more c.args.here.now.limits.now c.args.here.now.more c.args.here.now.file.now c.args.line opens before between now opens.names c.loop-name.name-index c.name-item.result c.in_ok-opening.opening c.loop-name.known within is c.in_ok-opening.ensures begin c.in_ok-known.known c.loop-name.invariant.0 c.in_ok-known.ensures.says,
       λ held told path asks.
           c.loop-name.invariant.1 held told path (asks-more c.args.here.now.limits.now c.args.here.now.more c.args.here.now.file.now c.args.line opens opens.names c.loop-name.name-index c.name-item.result c.in_ok-opening.opening c.loop-name.known within is c.in_ok-opening.ensures held path c.in_ok-known.known (c.in_ok-known.ensures.says.answer held (c.loop-name.invariant.0.kept held told)) asks),
+      λ held told.
+          let limits = c.args.here.now.limits.now in
+          let left = c.args.here.now.more in
+          let file = c.args.here.now.file.now in
+          let at = c.loop-name.name-index in
+          let opening = c.in_ok-opening.opening in
+          let known = c.in_ok-known.known in
+          let kept = c.loop-name.invariant.0.kept held told in
+          calls-one-more limits left file c.args.line opens opens.names at c.name-item.result opening c.loop-name.known within is c.in_ok-opening.ensures held (opened_calls_from limits left file c.args.line opens opens.names c.args.state held) (g.F.Files.calls c.args.files.now) (g.F.Files.calls c.loop-name.files) (g.F.Files.calls c.open.new.files) (c.loop-name.invariant.2 held told) known (c.in_ok-known.ensures.says.answer held kept) (c.in_ok-known.ensures.calls held kept),
     )
 
 pub open_each-returns-clause-says : goal.open_each-returns-clause-says
@@ -328,3 +346,181 @@ open_each-returns-in_err-known-clause-asks g t c =
     let is : c.name-item.result ≡ get_or opens.names at c.name-item.result = c.name-item.is ∙ ap (λ ns. get_or ns at c.name-item.result) c.as_slice-name-items.ensures in
     let p = err_from_is_err_and c.from_residual-in_err-known.result c.from_residual-in_err-known.ensures.1 in
     rw (p.1, p.2) (λ held told. blamed-fault (OpeningAsks (NestedAsks limits held left) held opening c.loop-name.known) (opened_ask_from limits left file c.args.line opens opens.names c.args.state held) fault (λ path asks. c.loop-name.invariant.1 held told path (asks-one limits left file c.args.line opens opens.names at c.name-item.result opening c.loop-name.known within is c.in_ok-opening.ensures held path asks)) (c.in_err-known.ensures.asks held (c.loop-name.invariant.0.kept held told)))
+
+pub carry-returns-in_err-call-clause-calls : goal.carry-returns-in_err-call-clause-calls
+carry-returns-in_err-call-clause-calls g t c =
+    let limits = c.args.here.now.limits.now in
+    let more = c.args.here.now.more in
+    let file = c.args.here.now.file.now in
+    let fault = c.in_err-call.field-0.0 in
+    let before = g.F.Files.calls c.args.files.now in
+    let now = g.F.Files.calls c.calls.files in
+    let whole = calls_from limits more file c.new-ifs.result c.args.state c.new-lexer.result in
+    let p = err_from_is_err_and c.from_residual.result c.from_residual.ensures.1 in
+    rw (p.1, p.2) (λ held told. made-same {A = State} (whole held) (calls_from limits more file [] c.args.state (beginning c.args.text.now) held) before now (Err fault) (calls_from-start limits more file c.new-ifs.result c.args.state c.new-lexer.result c.args.text.now c.new-ifs.ensures c.new-lexer.ensures.place held) (so-far-end {A = State} before now now (whole held) (calls_from limits more file c.calls.ifs c.calls.known c.calls.lexer held) (Err fault) (c.calls.invariant.2 held told) (calls_from-refused limits more file c.calls.ifs c.calls.known c.calls.lexer fault now c.in_err-call.ensures held)))
+
+pub carry-returns-in_err-step-clause-calls : goal.carry-returns-in_err-step-clause-calls
+carry-returns-in_err-step-clause-calls g t c =
+    let limits = c.args.here.now.limits.now in
+    let more = c.args.here.now.more in
+    let file = c.args.here.now.file.now in
+    let fault = c.in_err-step.field-0.0 in
+    let before = g.F.Files.calls c.args.files.now in
+    let between = g.F.Files.calls c.calls.files in
+    let mid = g.F.Files.calls c.advance.new.files in
+    let whole = calls_from limits more file c.new-ifs.result c.args.state c.new-lexer.result in
+    let P : Option Call → Type 0 = λ call. IsNextOf file.path c.calls.lexer c.next_call.new.lexer (Ok call) in
+    let next = subst P c.in-Some.is c.in_ok-call.ensures in
+    let p = err_from_is_err_and c.from_residual-in_err-step.result c.from_residual-in_err-step.ensures.1 in
+    rw (p.1, p.2) (λ held told. made-same {A = State} (whole held) (calls_from limits more file [] c.args.state (beginning c.args.text.now) held) before mid (Err fault) (calls_from-start limits more file c.new-ifs.result c.args.state c.new-lexer.result c.args.text.now c.new-ifs.ensures c.new-lexer.ensures.place held) (calls-stopped limits more file c.calls.ifs c.calls.known c.in-Some.call c.calls.lexer c.next_call.new.lexer next held (whole held) before between mid (c.calls.invariant.2 held told) fault (c.in_err-step.ensures.says.answer held (c.calls.invariant.0.kept held told)) c.in_err-step.ensures.calls))
+
+pub carry-returns-in_err-known-clause-calls : goal.carry-returns-in_err-known-clause-calls
+carry-returns-in_err-known-clause-calls g t c =
+    let limits = c.args.here.now.limits.now in
+    let more = c.args.here.now.more in
+    let file = c.args.here.now.file.now in
+    let fault = c.in_err-known.field-0.0 in
+    let before = g.F.Files.calls c.args.files.now in
+    let between = g.F.Files.calls c.calls.files in
+    let mid = g.F.Files.calls c.advance.new.files in
+    let now = g.F.Files.calls c.open_each.new.files in
+    let whole = calls_from limits more file c.new-ifs.result c.args.state c.new-lexer.result in
+    let P : Option Call → Type 0 = λ call. IsNextOf file.path c.calls.lexer c.next_call.new.lexer (Ok call) in
+    let next = subst P c.in-Some.is c.in_ok-call.ensures in
+    let p = err_from_is_err_and c.from_residual-in_err-known.result c.from_residual-in_err-known.ensures.1 in
+    rw (p.1, p.2) (λ held told.
+    let so_far = c.calls.invariant.0.kept held told in
+    let kept = c.in_ok-step.ensures.says.kept held so_far in
+    made-same {A = State} (whole held) (calls_from limits more file [] c.args.state (beginning c.args.text.now) held) before now (Err fault) (calls_from-start limits more file c.new-ifs.result c.args.state c.new-lexer.result c.args.text.now c.new-ifs.ensures c.new-lexer.ensures.place held) (calls-stopped-in limits more file c.calls.ifs c.calls.known c.in-Some.call c.calls.lexer c.next_call.new.lexer next held (whole held) before between mid (c.calls.invariant.2 held told) now c.in_ok-step.step (c.in_ok-step.ensures.says.answer held so_far) c.in_ok-step.ensures.calls fault (c.in_err-known.ensures.says.answer held kept) (c.in_err-known.ensures.calls held kept)))
+
+pub carry-returns-clause-calls : goal.carry-returns-clause-calls
+carry-returns-clause-calls g t c =
+    let limits = c.args.here.now.limits.now in
+    let more = c.args.here.now.more in
+    let file = c.args.here.now.file.now in
+    let before = g.F.Files.calls c.args.files.now in
+    let now = g.F.Files.calls c.calls.files in
+    let whole = calls_from limits more file c.new-ifs.result c.args.state c.new-lexer.result in
+    let rest = calls_from limits more file c.calls.ifs c.calls.known c.calls.lexer in
+    let P : Option Call → Type 0 = λ call. IsNextOf file.path c.calls.lexer c.next_call.new.lexer (Ok call) in
+    let next = subst P c.in_default.is c.in_ok-call.ensures in
+    λ held told. made-same (whole held) (calls_from limits more file [] c.args.state (beginning c.args.text.now) held) before now c.end.result (calls_from-start limits more file c.new-ifs.result c.args.state c.new-lexer.result c.args.text.now c.new-ifs.ensures c.new-lexer.ensures.place held) (so-far-end before now now (whole held) (rest held) c.end.result (c.calls.invariant.2 held told) (made-same [] (rest held) now now c.end.result (sym (calls_from-end limits more file c.calls.ifs c.calls.known c.calls.lexer c.next_call.new.lexer next held)) (still now c.end.result c.end.ensures.unfailed)))
+
+pub enter-returns-in_default-clause-calls : goal.enter-returns-in_default-clause-calls
+enter-returns-in_default-clause-calls g t c =
+    let told = g.F.Files.calls c.args.files.now in
+    λ held tells.
+    let calls : Option (List ℕ) → List FileCall = held_calls (nested_calls c.args.here.now.limits.now held c.args.here.now.more) c.args.opening.now.file c.args.state in
+    made-same [] (calls c.args.got) told told c.at_line.result (sym (ap calls c.in_default.is)) (still told c.at_line.result c.at_line.ensures.unfailed)
+
+pub enter-returns-then-here-eq0-clause-calls : goal.enter-returns-then-here-eq0-clause-calls
+enter-returns-then-here-eq0-clause-calls g t c =
+    let limits = c.args.here.now.limits.now in
+    let left = c.args.here.now.more in
+    let file = c.args.opening.now.file in
+    let told = g.F.Files.calls c.args.files.now in
+    λ held tells.
+    let calls : Option (List ℕ) → List FileCall = held_calls (nested_calls limits held left) file c.args.state in
+    made-same [] (calls c.args.got) told told c.at_line-then-here-eq0.result (sym (ap calls c.in-Some.is ∙ calls-none limits held file c.args.state left c.in-Some.text c.if-here-eq0.true)) (still told c.at_line-then-here-eq0.result c.at_line-then-here-eq0.ensures.unfailed)
+
+pub enter-returns-in_err-state-clause-calls : goal.enter-returns-in_err-state-clause-calls
+enter-returns-in_err-state-clause-calls g t c =
+    let limits = c.args.here.now.limits.now in
+    let left = c.args.here.now.more in
+    let file = c.args.opening.now.file in
+    let text = c.bytes.result.now in
+    let fault = c.in_err-state.field-0.0 in
+    let told = g.F.Files.calls c.args.files.now in
+    let says : Result State ReadFault = on_line file.path 0 (admitted limits text c.args.state) in
+    let p = err_from_is_err_and c.from_residual.result c.from_residual.ensures.1 in
+    rw (p.1, p.2) (λ held tells.
+    let rest : State → List FileCall = λ next. calls_from limits (left - 1) file [] next (beginning text) held in
+    made-same {A = State} (calls_behind says rest) (held_calls (nested_calls limits held left) file c.args.state c.args.got) told told (Err fault) (calls-entered limits held left (left - 1) file c.args.state c.args.got text (grind (arith, c.if-here-eq0.false)) (c.in-Some.is ∙ ap Some (sym c.bytes.ensures))) (made-stopped {A = State} (State) says rest [] told told fault (c.in_err-state.ensures.says (admitted limits text c.args.state) c.admit-admitted.ensures) (still {A = State} told (Err fault) c.in_err-state.ensures.unfailed)))
+
+pub enter-returns-clause-calls : goal.enter-returns-clause-calls
+enter-returns-clause-calls g t c =
+    let limits = c.args.here.now.limits.now in
+    let left = c.args.here.now.more in
+    let file = c.args.opening.now.file in
+    let text = c.bytes.result.now in
+    let state = c.in_ok-state.state in
+    let before = g.F.Files.calls c.args.files.now in
+    let now = g.F.Files.calls c.carry.new.files in
+    let says : Result State ReadFault = on_line file.path 0 (admitted limits text c.args.state) in
+    let same : c.bytes-2.result.now ≡ text = c.bytes-2.ensures ∙ sym c.bytes.ensures in
+    λ held tells.
+    let rest : State → List FileCall = λ next. calls_from limits (left - 1) file [] next (beginning text) held in
+    let carried = subst (λ (text : List ℕ). MakesCalls (calls_from limits (left - 1) file [] state (beginning text) held) before now c.carry.result) same (c.carry.ensures.calls held tells) in
+    made-same (calls_behind says rest) (held_calls (nested_calls limits held left) file c.args.state c.args.got) before now c.carry.result (calls-entered limits held left (left - 1) file c.args.state c.args.got text (grind (arith, c.if-here-eq0.false)) (c.in-Some.is ∙ ap Some (sym c.bytes.ensures))) (made-then {A = State} says rest [] before before now state c.carry.result (c.in_ok-state.ensures.says (admitted limits text c.args.state) c.admit-admitted.ensures) (still {A = State} before (Ok state) tt) carried)
+
+pub open-returns-in_err-got-clause-calls : goal.open-returns-in_err-got-clause-calls
+open-returns-in_err-got-clause-calls g t c =
+    let limits = c.args.here.now.limits.now in
+    let left = c.args.here.now.more in
+    let opening = c.args.opening.now in
+    let fault = c.in_err-got.field-0.0 in
+    let before = g.F.Files.calls c.args.files.now in
+    let now = g.F.Files.calls c.fetch.new.files in
+    let p = err_from_is_err_and c.from_residual.result c.from_residual.ensures.1 in
+    rw (p.1, p.2) (λ held tells.
+    let says : Result (Option (List ℕ)) ReadFault = Ok (option_map (take (limits.file_bytes + 1)) (held opening.file.path)) in
+    let rest : Option (List ℕ) → List FileCall = held_calls (nested_calls limits held left) opening.file c.args.state in
+    made-same {A = State} (Read opening.file.path limits.file_bytes ∷ calls_behind says rest) (Read opening.file.path limits.file_bytes ∷ rest (held opening.file.path)) before now (Err fault) (ap (λ (calls : List FileCall). Read opening.file.path limits.file_bytes ∷ calls) (calls-taken limits held opening.file c.args.state left (held opening.file.path))) (made-stopped {A = Option (List ℕ)} (State) says rest (Read opening.file.path limits.file_bytes ∷ []) before now fault (c.in_err-got.ensures.says.answer held tells) c.in_err-got.ensures.calls))
+
+pub open-returns-clause-calls : goal.open-returns-clause-calls
+open-returns-clause-calls g t c =
+    let limits = c.args.here.now.limits.now in
+    let left = c.args.here.now.more in
+    let opening = c.args.opening.now in
+    let got = c.in_ok-got.got in
+    let before = g.F.Files.calls c.args.files.now in
+    let between = g.F.Files.calls c.fetch.new.files in
+    let now = g.F.Files.calls c.enter.new.files in
+    λ held tells.
+    let says : Result (Option (List ℕ)) ReadFault = Ok (option_map (take (limits.file_bytes + 1)) (held opening.file.path)) in
+    let rest : Option (List ℕ) → List FileCall = held_calls (nested_calls limits held left) opening.file c.args.state in
+    made-same (Read opening.file.path limits.file_bytes ∷ calls_behind says rest) (Read opening.file.path limits.file_bytes ∷ rest (held opening.file.path)) before now c.enter.result (ap (λ (calls : List FileCall). Read opening.file.path limits.file_bytes ∷ calls) (calls-taken limits held opening.file c.args.state left (held opening.file.path))) (made-then {A = Option (List ℕ)} says rest (Read opening.file.path limits.file_bytes ∷ []) before between now got c.enter.result (c.in_ok-got.ensures.says.answer held tells) c.in_ok-got.ensures.calls (c.enter.ensures.calls held (c.in_ok-got.ensures.says.kept held tells)))
+
+pub open_each-returns-in_err-opening-clause-calls : goal.open_each-returns-in_err-opening-clause-calls
+open_each-returns-in_err-opening-clause-calls g t c =
+    let limits = c.args.here.now.limits.now in
+    let left = c.args.here.now.more in
+    let file = c.args.here.now.file.now in
+    let opens = c.args.opens.now in
+    let before = g.F.Files.calls c.args.files.now in
+    let now = g.F.Files.calls c.loop-name.files in
+    let p = err_from_is_err_and c.from_residual.result c.from_residual.ensures.1 in
+    rw (p.1, p.2) (λ held told.
+    let rest = opened_calls_from limits left file c.args.line opens (drop c.loop-name.name-index opens.names) c.loop-name.known held in
+    so-far-end {A = State} before now now (opened_calls_from limits left file c.args.line opens opens.names c.args.state held) rest (Err NoMemory) (c.loop-name.invariant.2 held told) (wanting (State) rest now))
+
+pub open_each-returns-in_err-known-clause-calls : goal.open_each-returns-in_err-known-clause-calls
+open_each-returns-in_err-known-clause-calls g t c =
+    let limits = c.args.here.now.limits.now in
+    let left = c.args.here.now.more in
+    let file = c.args.here.now.file.now in
+    let opens = c.args.opens.now in
+    let opening = c.in_ok-opening.opening in
+    let at = c.loop-name.name-index in
+    let fault = c.in_err-known.field-0.0 in
+    let within : at < length opens.names = subst (λ ns. at < length ns) c.as_slice-name-items.ensures c.loop-name-test.true in
+    let is : c.name-item.result ≡ get_or opens.names at c.name-item.result = c.name-item.is ∙ ap (λ ns. get_or ns at c.name-item.result) c.as_slice-name-items.ensures in
+    let p = err_from_is_err_and c.from_residual-in_err-known.result c.from_residual-in_err-known.ensures.1 in
+    rw (p.1, p.2) (λ held told.
+    let kept = c.loop-name.invariant.0.kept held told in
+    calls-one-stopped limits left file c.args.line opens opens.names at c.name-item.result opening c.loop-name.known within is c.in_ok-opening.ensures held (opened_calls_from limits left file c.args.line opens opens.names c.args.state held) (g.F.Files.calls c.args.files.now) (g.F.Files.calls c.loop-name.files) (g.F.Files.calls c.open.new.files) (c.loop-name.invariant.2 held told) fault (c.in_err-known.ensures.says.answer held kept) (c.in_err-known.ensures.calls held kept))
+
+pub open_each-returns-clause-calls : goal.open_each-returns-clause-calls
+open_each-returns-clause-calls g t c =
+    let limits = c.args.here.now.limits.now in
+    let left = c.args.here.now.more in
+    let file = c.args.here.now.file.now in
+    let opens = c.args.opens.now in
+    let at = c.loop-name.name-index in
+    let known = c.loop-name.known in
+    let before = g.F.Files.calls c.args.files.now in
+    let now = g.F.Files.calls c.loop-name.files in
+    let past : length opens.names ≤ at = subst (λ ns. length ns ≤ at) c.as_slice-name-items.ensures c.loop-name-test.false in
+    λ held told.
+    let rest = opened_calls_from limits left file c.args.line opens (drop at opens.names) known held in
+    so-far-end {A = State} before now now (opened_calls_from limits left file c.args.line opens opens.names c.args.state held) rest (Ok known) (c.loop-name.invariant.2 held told) (made-same {A = State} [] rest now now (Ok known) (sym (opened-calls-all limits left file c.args.line opens opens.names at known past held)) (still {A = State} now (Ok known) tt))
