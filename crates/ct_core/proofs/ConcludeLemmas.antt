@@ -18,6 +18,7 @@ use Rattle.ct_history.specs.Verdicts.{verdict_at}
 use Rattle.ct_history.proofs.LegalLemmas.{legal_from, legal_with_stop, stop-snoc}
 use Rattle.ct_history.proofs.OpenLemmas.{opens_stop}
 use Rattle.ct_queue.specs.Marks.{is_marked}
+use Rattle.ct_queue.specs.Ready.{ReadyValue}
 use Rattle.ct_core.specs.declared.state.State.{State}
 use Rattle.ct_core.specs.declared.in_use.InUse.{InUse}
 use Rattle.ct_core.specs.declared.parts.Parts.{Parts}
@@ -25,8 +26,9 @@ use Rattle.ct_core.specs.Core.{with_due_stop}
 use Rattle.ct_core.specs.InUse.{IsInUse}
 use Rattle.ct_core.specs.Places.{stop_places}
 use Rattle.ct_core.specs.Standing.{count_unfinished, state_of, states_of}
-use Rattle.ct_core.specs.Waiting.{followers_of, is_pending_at, settles_but}
+use Rattle.ct_core.specs.Waiting.{IsQueued, followers_of, is_pending_at, settles_but}
 use Rattle.ct_core.specs.Parts.{AreQueued, IsConcluding, IsKept, IsLowered, IsStopped, followers_at, is_pending_in, is_pending_at_place}
+use Rattle.ct_core.proofs.KeyLemmas.{before_first, bunches_stay}
 use Rattle.ct_core.proofs.StateLemmas.{pending_state}
 use Rattle.ct_core.proofs.StandingLemmas.{states_stopped}
 use Rattle.ct_core.proofs.WaitingLemmas.{stop_settleable}
@@ -83,18 +85,14 @@ module _ (plan : PlanParts) (es : List Entry) (room n : ℕ) (v : Verdict) (part
     reserved = c.reserved;
     current = record { sound = c.current.sound; states = c.current.states; in_use = c.current.in_use; stopped = c.current.stopped; followers = c.current.followers };
     unfinished = let u = c.unfinished in omega (arith, u);
-    queued = record {
-      ready = λ going. absurd (true≢false (sym stop ∙ going));
-      bunches = λ going. absurd (true≢false (sym stop ∙ going));
-      settleable = c.stopped stop;
-    };
+    queued = let q = c.stopped stop in record { ready = q.ready; halted = q.halted; bunches = q.bunches; settleable = q.settleable };
   }
 
   -- the followers of the test are the ones that are listed at its place
   pub followers_here : (place : ℕ) → IsPlaceOf plan.tests n place → followers_at parts place ≡ followers_of plan.tests n → has_stop es ≡ false → AreQueued plan es (followers_at parts place) (counted parts)
   followers_here place at same going =
       let q = c.waiting going in
-      subst (λ (left : List ℕ). AreQueued plan es left (counted parts)) (sym same) (record { ready = q.ready; bunches = q.bunches; settleable = q.settleable })
+      subst (λ (left : List ℕ). AreQueued plan es left (counted parts)) (sym same) (record { ready = q.ready; halted = q.halted; bunches = q.bunches; settleable = q.settleable })
 
   -- if no Stop is due, the run is kept once each follower is lowered
   pub kept_lowered : has_stop es ≡ false → is_stop_due plan es ≡ false → (new : Parts) → IsLowered (counted parts) new → AreQueued plan es [] new → IsKept plan es room new
@@ -116,56 +114,62 @@ module _ (plan : PlanParts) (es : List Entry) (room n : ℕ) (v : Verdict) (part
     queued = queued;
   }
 
-  -- if a Stop is due, the run is kept once the Stop is appended and noted
-  pub kept_halted : has_stop es ≡ false → is_stop_due plan es ≡ true → (room' : ℕ) → room ≤ room' → (new : Parts) → IsStopped (counted parts) new → IsKept plan (es ++ Stop ∷ []) room' new
-  kept_halted going due room' le new halted = record {
+  -- if a Stop is due, the run is kept once each follower is lowered, and the Stop is appended and noted
+  pub kept_halted : has_stop es ≡ false → is_stop_due plan es ≡ true → (room' : ℕ) → room ≤ room' → (low new : Parts) → IsLowered (counted parts) low → AreQueued plan es [] low → IsStopped low new → IsKept plan (es ++ Stop ∷ []) room' new
+  kept_halted going due room' le low new lowered queued halted = record {
     legal = legal_with_stop plan es c.allowed due;
     reserved = λ some.
         let longer = length-append es (Stop ∷ []) in
         let before : stop_places es ≡ 1 = ap (λ (b : Bool). if b then 0 else 1) going in
         let now : stop_places (es ++ Stop ∷ []) ≡ 0 = ap (λ (b : Bool). if b then 0 else 1) (stop_added es) in
-        let same : new.in_use.open_count ≡ parts.in_use.open_count = ap (λ (u : InUse). u.open_count) halted.in_use in
+        let same : new.in_use.open_count ≡ parts.in_use.open_count = ap (λ (u : InUse). u.open_count) (halted.in_use ∙ lowered.in_use) in
         let held = c.reserved (omega (arith, some, same)) in
         omega (arith, longer, before, now, same, held, le);
     current = record {
       sound = c.current.sound;
-      states = halted.states ∙ c.current.states ∙ sym (states_stopped plan es);
+      states = halted.states ∙ lowered.states ∙ c.current.states ∙ sym (states_stopped plan es);
       in_use =
           subst (λ (rs : List Running). IsInUse plan rs new.in_use) (sym (opens_stop es))
-          (subst (λ (u : InUse). IsInUse plan (open_starts es) u) (sym halted.in_use) c.current.in_use);
+          (subst (λ (u : InUse). IsInUse plan (open_starts es) u) (sym (halted.in_use ∙ lowered.in_use)) c.current.in_use);
       stopped = halted.stopped ∙ sym (stop_added es);
-      followers = halted.followers ∙ c.current.followers;
+      followers = halted.followers ∙ lowered.followers ∙ c.current.followers;
     };
     unfinished =
         let u = c.unfinished in
-        let same : count_unfinished new.states.items ≡ count_unfinished parts.states.items = ap count_unfinished halted.states in
-        let less = halted.unfinished in
+        let same : count_unfinished new.states.items ≡ count_unfinished parts.states.items = ap count_unfinished (halted.states ∙ lowered.states) in
+        let less = halted.unfinished ∙ lowered.unfinished in
         omega (arith, u, same, less);
     queued = record {
       ready = λ goes_on. absurd (true≢false (sym (stop_added es) ∙ goes_on));
-      bunches = λ goes_on. absurd (true≢false (sym (stop_added es) ∙ goes_on));
+      halted = λ _.
+          subst (λ (xs : List Entry). IsQueued plan xs [] new.ready) (sym (before_first es going))
+          (subst (λ (r : ReadyValue). IsQueued plan es [] r) (sym halted.ready) (queued.ready going));
+      bunches = bunches_stay plan low new halted.keys (ap (λ (r : ReadyValue). r.bunches) halted.ready) queued.bunches;
       settleable = stop_settleable plan es new.settleable
-          (let have = (c.waiting going).settleable.room in let same = halted.room in omega (arith, have, same))
+          (let have = queued.settleable.room in let same = halted.room in omega (arith, have, same))
           marked;
     };
   }
     where
-      count : length parts.states.items ≡ length plan.tests
-      count = ap length c.current.states ∙ length-map plan.tests (state_of plan.repeat es)
+      states : low.states.items ≡ states_of plan es
+      states = lowered.states ∙ c.current.states
+
+      count : length low.states.items ≡ length plan.tests
+      count = ap length states ∙ length-map plan.tests (state_of plan.repeat es)
 
       marked : (place : ℕ) → is_marked new.settleable place ≡ is_pending_at plan es (slice_get plan.tests place)
-      marked place = elim (cases_Bool (nat_lt place (length parts.states.items))) [
+      marked place = elim (cases_Bool (nat_lt place (length low.states.items))) [
         | inl within ↦
             halted.marked place
-            ∙ ap (λ (b : Bool). if b then is_pending_at_place parts.states.items place else is_marked parts.settleable place) within
-            ∙ ap (λ (ss : List State). is_pending_at_place ss place) c.current.states
+            ∙ ap (λ (b : Bool). if b then is_pending_at_place low.states.items place else is_marked low.settleable place) within
+            ∙ ap (λ (ss : List State). is_pending_at_place ss place) states
             ∙ pending_here plan es place
         | inr beyond ↦
-            let le : length plan.tests ≤ place = omega (arith, count, ltb-false place (length parts.states.items) beyond) in
+            let le : length plan.tests ≤ place = omega (arith, count, ltb-false place (length low.states.items) beyond) in
             let none = none_behind plan.tests place le in
             halted.marked place
-            ∙ ap (λ (b : Bool). if b then is_pending_at_place parts.states.items place else is_marked parts.settleable place) beyond
-            ∙ (c.waiting going).settleable.marked place
-            ∙ ap (λ (o : Option PlanTest). settles_but plan es (followers_of plan.tests n) o) none
+            ∙ ap (λ (b : Bool). if b then is_pending_at_place low.states.items place else is_marked low.settleable place) beyond
+            ∙ queued.settleable.marked place
+            ∙ ap (λ (o : Option PlanTest). settles_but plan es [] o) none
             ∙ sym (ap (λ (o : Option PlanTest). is_pending_at plan es o) none)
       ]

@@ -1,6 +1,7 @@
 -- A run is kept when an attempt ends.
 use Rattle.std.proofs.Common.{◌≡◌, ◌∙◌, sym, ap, subst, Bool, true, false, ℕ, ◌+◌, ◌<◌, ◌≤◌, List, [], ◌∷◌, ◌++◌, length, refl, arith, length-append, get_or}
 use Rattle.std.specs.Prelude.{AllPairs, Option, Some, None, not, ◌&&◌, slice_get, slice_set, if◌then◌else◌}
+use Rattle.std.proofs.lemmas.Bool.{true≢false}
 use Rattle.std.proofs.lemmas.List.{length-map, take_all}
 use Rattle.std.proofs.lemmas.Option.{slice_get_read}
 use Rattle.ct_alloc.specs.declared.placement.Placement.{Placement}
@@ -28,7 +29,7 @@ use Rattle.ct_core.specs.Places.{stop_places}
 use Rattle.ct_core.specs.Standing.{count_unfinished, state_of, states_of, verdict_of_state}
 use Rattle.ct_core.specs.Waiting.{AreSettleable, IsQueued, followers_of}
 use Rattle.ct_core.specs.Parts.{AreCurrent, HasRoomToEnd, IsConcluding, IsKept}
-use Rattle.ct_core.proofs.KeyLemmas.{bunches_stay}
+use Rattle.ct_core.proofs.KeyLemmas.{bunches_stay, halted_stays}
 use Rattle.ct_core.proofs.DueLemmas.{end_due}
 use Rattle.ct_core.proofs.KeptLemmas.{end_allowed, stop_stays}
 use Rattle.ct_core.proofs.InUseLemmas.{give_possible, given}
@@ -178,8 +179,8 @@ module _ (plan : PlanParts) (es : List Entry) (room : ℕ) (parts : Parts) (kept
     pub none_added : with_due_stop plan more ≡ more
     none_added = ap (λ (b : Bool). if b then more ++ Stop ∷ [] else more) not_due
 
-    pub kept-again : (new : Parts) → IsClosed place t placement (Pending (ended + 1)) parts new → (parts.stopped ≡ false → new.ready ≡ with_out parts.ready n false) → new.settleable ≡ (if parts.stopped then slice_set parts.settleable place true else parts.settleable) → (room' : ℕ) → room ≤ room' → IsKept plan more room' new
-    kept-again new closed ready marks room' le = record {
+    pub kept-again : (new : Parts) → IsClosed place t placement (Pending (ended + 1)) parts new → (parts.stopped ≡ false → new.ready ≡ with_out parts.ready n false) → (parts.stopped ≡ true → new.ready ≡ parts.ready) → new.settleable ≡ (if parts.stopped then slice_set parts.settleable place true else parts.settleable) → (room' : ℕ) → room ≤ room' → IsKept plan more room' new
+    kept-again new closed ready halted marks room' le = record {
       legal = legal_from plan more allowed not_due;
       reserved = reserved new closed.in_use room' le;
       current = told (Pending (ended + 1)) state new closed;
@@ -193,13 +194,18 @@ module _ (plan : PlanParts) (es : List Entry) (room : ℕ) (parts : Parts) (kept
         ready = λ going.
             let on : has_stop es ≡ false = sym stops ∙ going in
             subst (λ (r : ReadyValue). IsQueued plan more [] r) (sym (ready (kept.current.stopped ∙ on))) (again_queued plan kept.current.sound es n t found a w s so_far holds no_verdict parts.ready (kept.queued.ready on));
-        bunches = λ going.
-            let on : has_stop es ≡ false = sym stops ∙ going in
-            bunches_stay plan parts new closed.keys (ap (λ (r : ReadyValue). r.bunches) (ready (kept.current.stopped ∙ on))) (kept.queued.bunches on);
+        halted = λ stop.
+            let was : has_stop es ≡ true = sym stops ∙ stop in
+            halted_stays plan es (End n a w s) parts.ready new.ready was (halted (kept.current.stopped ∙ was)) (kept.queued.halted was);
+        bunches = bunches_stay plan parts new closed.keys (same_bunches parts.stopped refl) kept.queued.bunches;
         settleable = by_stop parts.stopped refl;
       };
     }
       where
+        same_bunches : (b : Bool) → parts.stopped ≡ b → new.ready.bunches ≡ parts.ready.bunches
+        same_bunches true is = ap (λ (r : ReadyValue). r.bunches) (halted is)
+        same_bunches false is = ap (λ (r : ReadyValue). r.bunches) (ready is)
+
         by_stop : (b : Bool) → parts.stopped ≡ b → AreSettleable plan more [] new.settleable
         by_stop true is =
             subst (λ (m : List Bool). AreSettleable plan more [] m) (sym (marks ∙ ap (λ (b : Bool). if b then slice_set parts.settleable place true else parts.settleable) is))
@@ -242,8 +248,16 @@ module _ (plan : PlanParts) (es : List Entry) (room : ℕ) (parts : Parts) (kept
           let on : has_stop es ≡ false = sym stops ∙ going in
           record {
             ready = λ _. subst (λ (r : ReadyValue). IsQueued plan more (followers_of plan.tests n) r) (sym ready) (over_queued plan kept.current.sound es n t found a w s so_far holds verdict final parts.ready (kept.queued.ready on));
-            bunches = λ _. bunches_stay plan parts new closed.keys (ap (λ (r : ReadyValue). r.bunches) ready) (kept.queued.bunches on);
+            halted = λ stop. absurd (true≢false (sym stop ∙ going));
+            bunches = bunches_stay plan parts new closed.keys (ap (λ (r : ReadyValue). r.bunches) ready) kept.queued.bunches;
             settleable = subst (λ (m : List Bool). AreSettleable plan more (followers_of plan.tests n) m) (sym marks) (over_settleable plan kept.current.sound es n t found a w s so_far holds verdict final parts.settleable on kept.queued.settleable);
           };
-      stopped = λ stop. subst (λ (m : List Bool). AreSettleable plan more [] m) (sym marks) (over_stopped plan kept.current.sound es n t found a w s so_far holds verdict final parts.settleable (sym stops ∙ stop) kept.queued.settleable);
+      stopped = λ stop.
+          let was : has_stop es ≡ true = sym stops ∙ stop in
+          record {
+            ready = λ going. absurd (true≢false (sym stop ∙ going));
+            halted = λ _. halted_stays plan es (End n a w s) parts.ready new.ready was ready (kept.queued.halted was);
+            bunches = bunches_stay plan parts new closed.keys (ap (λ (r : ReadyValue). r.bunches) ready) kept.queued.bunches;
+            settleable = subst (λ (m : List Bool). AreSettleable plan more [] m) (sym marks) (over_stopped plan kept.current.sound es n t found a w s so_far holds verdict final parts.settleable was kept.queued.settleable);
+          };
     }

@@ -1,7 +1,7 @@
 -- The parts of a run agree with the empty history.
 use Rattle.std.proofs.Common.{◌≡◌, ◌∙◌, sym, ap, Bool, true, false, not, cond, ◌&&◌, ℕ, suc, ◌+◌, ◌<◌, ◌≤◌, List, [], ◌∷◌, length, map, filter, set, ltb, slice_get, is_none, ⊎_elim, refl, subst, arith, inl, inr}
 use Rattle.std.specs.Prelude.{Option, Some, None}
-use Rattle.std.proofs.lemmas.Bool.{cases_eq, cases_lt, lt-ltb, le-ltb}
+use Rattle.std.proofs.lemmas.Bool.{cases_eq, cases_lt, lt-ltb, le-ltb, true≢false}
 use Rattle.std.proofs.lemmas.List.{get_or-set_other, length-map, length-set}
 use Rattle.std.proofs.lemmas.Grind.{get_or-set_at}
 use Rattle.std.proofs.lemmas.Option.{slice_get_past, slice_get_within}
@@ -115,5 +115,5 @@ begun plan parts sound states unfinished in_use followers ready bunches settleab
     followers = followers;
   };
   unfinished = unfinished ∙ unfinished_first plan sound ∙ ap (λ (ss : List State). count_unfinished ss) (sym (states ∙ first_states_of plan));
-  queued = record { ready = λ on. ready; bunches = λ on. bunches; settleable = settleable };
+  queued = record { ready = λ on. ready; halted = λ stop. absurd (true≢false (sym stop)); bunches = bunches; settleable = settleable };
 }

@@ -1,7 +1,7 @@
 -- A run is kept when it notes that a test is final, at one test that waited for it.
 use Rattle.std.proofs.Common.{◌≡◌, ◌∙◌, sym, ap, subst, Bool, true, false, ℕ, ◌+◌, ◌<◌, List, [], ◌∷◌, length, drop, get_or, refl, arith, inl, inr, suc}
 use Rattle.std.specs.Prelude.{Option, Some, None, ◌==◌, cond, is_some, slice_set}
-use Rattle.std.proofs.lemmas.Bool.{cases_Bool}
+use Rattle.std.proofs.lemmas.Bool.{cases_Bool, true≢false}
 use Rattle.std.proofs.lemmas.List.{drop_more, get_or-map, get_or_default, length-map}
 use Rattle.std.proofs.lemmas.Option.{slice_get_cases, slice_get_read}
 use Rattle.ct_verdict.specs.declared.verdict.Cause.{Cause}
@@ -14,7 +14,7 @@ use Rattle.ct_queue.specs.Ready.{ReadyValue, StandsIn, predecessors_left, is_in_
 use Rattle.ct_core.specs.declared.parts.Parts.{Parts}
 use Rattle.ct_core.specs.Waiting.{AreSettleable, IsQueued, cause_then, followers_of}
 use Rattle.ct_core.specs.Bunches.{AreBunchesOf}
-use Rattle.ct_core.specs.Parts.{AreQueued, AreCurrent, followers_at}
+use Rattle.ct_core.specs.Parts.{AreQueued, AreCurrent, before_stop, followers_at}
 use Rattle.ct_core.proofs.KeyLemmas.{bunches_stay}
 use Rattle.ct_core.proofs.AllowedLemmas.{number_at}
 use Rattle.ct_core.proofs.EnabledLemmas.{IsEnabled, queued_enabled}
@@ -111,8 +111,11 @@ module _ (plan : PlanParts) (sound : IsSound plan) (es : List Entry) (going : ha
     queue : has_stop es ≡ false → IsQueued plan es rest new.ready
     queue goes_on = subst (λ (r : ReadyValue). IsQueued plan es rest r) (sym now) lower
 
-    bunched : has_stop es ≡ false → AreBunchesOf plan new.keys.items new.ready.bunches
-    bunched goes_on = bunches_stay plan parts new keys (ap (λ (r : ReadyValue). r.bunches) now) (queued.bunches goes_on)
+    halted : has_stop es ≡ true → IsQueued plan (before_stop es) [] new.ready
+    halted stop = absurd (true≢false (sym stop ∙ going))
+
+    bunched : AreBunchesOf plan new.keys.items new.ready.bunches
+    bunched = bunches_stay plan parts new keys (ap (λ (r : ReadyValue). r.bunches) now) queued.bunches
 
     pub waits_on : is_in_ready_set (lowered parts.ready x) x ≡ false → new.settleable ≡ parts.settleable → AreQueued plan es rest new
     waits_on not_ready same =
@@ -121,6 +124,7 @@ module _ (plan : PlanParts) (sound : IsSound plan) (es : List Entry) (going : ha
         let low = follower_lowered plan sound es wait.number at x rest next parts.ready ready follower.test at_place.0 going follower.found at_place.1 in
         record {
           ready = queue;
+          halted = halted;
           bunches = bunched;
           settleable = subst (λ (m : List Bool). AreSettleable plan es rest m) (sym same) (marks_waiting plan sound es x rest follower.test at_place.0 (lowered parts.ready x) low parts.settleable marks not_ready);
         }
@@ -132,6 +136,7 @@ module _ (plan : PlanParts) (sound : IsSound plan) (es : List Entry) (going : ha
       pub settles_not : is_in_ready_set (lowered parts.ready x) x ≡ true → is_some (cause_then plan es t) ≡ false → new.settleable ≡ parts.settleable → AreQueued plan es rest new
       settles_not is_now none same = record {
         ready = queue;
+        halted = halted;
         bunches = bunched;
         settleable = subst (λ (m : List Bool). AreSettleable plan es rest m) (sym same) (marks_unsettled plan sound es x rest t here (lowered parts.ready x) low parts.settleable marks is_now (no_cause (cause_then plan es t) none));
       }
@@ -147,6 +152,7 @@ module _ (plan : PlanParts) (sound : IsSound plan) (es : List Entry) (going : ha
           by_cause None is none = cc
           by_cause (Some c) is has = record {
             ready = queue;
+            halted = halted;
             bunches = bunched;
             settleable = subst (λ (m : List Bool). AreSettleable plan es rest m) (sym same) (marks_settled plan sound es x rest t here (lowered parts.ready x) low parts.settleable marks c is_now is);
           }

@@ -1,6 +1,7 @@
 -- A run is kept when it settles a test.
 use Rattle.std.proofs.Common.{◌≡◌, ◌∙◌, sym, ap, subst, Bool, true, false, ℕ, ◌+◌, ◌≤◌, List, [], ◌∷◌, ◌++◌, length, refl, arith, length-append}
 use Rattle.std.specs.Prelude.{Option, Some, None, not, ◌&&◌, slice_get, slice_set}
+use Rattle.std.proofs.lemmas.Bool.{true≢false}
 use Rattle.ct_verdict.specs.declared.verdict.Cause.{Cause}
 use Rattle.ct_verdict.specs.declared.verdict.Verdict.TheVariants.{NotRun}
 use Rattle.ct_verdict.specs.Verdict.{is_failing_cause}
@@ -24,7 +25,7 @@ use Rattle.ct_core.specs.Places.{stop_places}
 use Rattle.ct_core.specs.Standing.{count_unfinished}
 use Rattle.ct_core.specs.Waiting.{AreSettleable, IsQueued, followers_of}
 use Rattle.ct_core.specs.Parts.{IsConcluding, IsKept, IsSettled}
-use Rattle.ct_core.proofs.KeyLemmas.{bunches_stay}
+use Rattle.ct_core.proofs.KeyLemmas.{bunches_stay, halted_stays}
 use Rattle.ct_core.proofs.DueLemmas.{settle_due}
 use Rattle.ct_core.proofs.KeptLemmas.{one_place_most, settle_allowed, stop_stays}
 use Rattle.ct_core.proofs.StateLemmas.{verdict_settled}
@@ -106,9 +107,17 @@ module _ (plan : PlanParts) (es : List Entry) (room : ℕ) (parts : Parts) (kept
         let runs : parts.stopped ≡ false = kept.current.stopped ∙ on in
         record {
           ready = λ _. subst (λ (r : ReadyValue). IsQueued plan more (followers_of plan.tests n) r) (sym (set.ready runs)) (settle_queued plan kept.current.sound es n one.test one.found c one.has parts.ready (kept.queued.ready on));
-          bunches = λ _. bunches_stay plan parts new set.keys (ap (λ (r : ReadyValue). r.bunches) (set.ready runs)) (kept.queued.bunches on);
+          halted = λ stop. absurd (true≢false (sym stop ∙ going));
+          bunches = bunches_stay plan parts new set.keys (ap (λ (r : ReadyValue). r.bunches) (set.ready runs)) kept.queued.bunches;
           settleable = subst (λ (m : List Bool). AreSettleable plan more (followers_of plan.tests n) m) (sym set.settleable) (settle_settleable plan kept.current.sound es n one.test one.found c one.has parts.settleable place on at kept.queued.settleable);
         };
     stopped = λ stop.
-        subst (λ (m : List Bool). AreSettleable plan more [] m) (sym set.settleable) (settle_stopped plan kept.current.sound es n one.test one.found c one.has parts.settleable place (sym stops ∙ stop) at kept.queued.settleable);
+        let was : has_stop es ≡ true = sym stops ∙ stop in
+        let same : new.ready ≡ parts.ready = set.halted (kept.current.stopped ∙ was) in
+        record {
+          ready = λ going. absurd (true≢false (sym stop ∙ going));
+          halted = λ _. halted_stays plan es (Settle n c) parts.ready new.ready was same (kept.queued.halted was);
+          bunches = bunches_stay plan parts new set.keys (ap (λ (r : ReadyValue). r.bunches) same) kept.queued.bunches;
+          settleable = subst (λ (m : List Bool). AreSettleable plan more [] m) (sym set.settleable) (settle_stopped plan kept.current.sound es n one.test one.found c one.has parts.settleable place was at kept.queued.settleable);
+        };
   }

@@ -1,6 +1,7 @@
 -- A run is kept when an attempt starts.
 use Rattle.std.proofs.Common.{◌≡◌, ◌∙◌, sym, ap, subst, Bool, true, false, ℕ, ◌+◌, ◌<◌, ◌≤◌, ◌^◌, List, [], ◌∷◌, ◌++◌, length, refl, arith, length-append}
 use Rattle.std.specs.Prelude.{Option, Some, None, slice_get, slice_set}
+use Rattle.std.proofs.lemmas.Bool.{true≢false}
 use Rattle.std.proofs.lemmas.List.{length-map}
 use Rattle.ct_alloc.specs.declared.placement.Placement.{Placement}
 use Rattle.ct_history.specs.declared.plan.PlanTest.{PlanTest}
@@ -138,7 +139,8 @@ module _ (plan : PlanParts) (es : List Entry) (room : ℕ) (parts : Parts) (kept
         omega (arith, equal, now, as_before, before);
     queued = record {
       ready = λ _. subst (λ (r : ReadyValue). IsQueued plan more [] r) (sym begun.ready) (start_queued plan kept.current.sound es n t found start.attempt w p may parts.ready (kept.queued.ready going));
-      bunches = λ _. bunches_stay plan parts new begun.keys (ap (λ (r : ReadyValue). r.bunches) begun.ready) (kept.queued.bunches going);
+      halted = λ stop. absurd (true≢false (sym stop ∙ stops ∙ going));
+      bunches = bunches_stay plan parts new begun.keys (ap (λ (r : ReadyValue). r.bunches) begun.ready) kept.queued.bunches;
       settleable = subst (λ (m : List Bool). AreSettleable plan more [] m) (sym begun.settleable) (start_settleable plan kept.current.sound es n t found start.attempt w p may parts.settleable kept.queued.settleable);
     };
   }

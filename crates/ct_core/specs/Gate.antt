@@ -41,10 +41,11 @@ abbrev pub told : List Told → ℕ → ℕ → Told
 told world test attempt =
     unwrap_or (find (λ (t : Told). t.test == test && t.attempt == attempt) world) (untold test attempt)
 
--- what a gate tells: what each attempt comes to, the attempts and requests that were run so
--- far, and the pass that was lent for each, with all that it had seen. Each of the four is told
--- if it is known. Then how many starts and waits failed.
+-- what a gate tells: which gate it is, by a number; what each attempt comes to; the attempts and
+-- requests that were run so far, and the pass that was lent for each, with all that it had seen.
+-- Each of the five is told if it is known. Then how many starts and waits failed.
 pub record GateTell : Type 0 where
+  pub who : Option ℕ
   pub world : Option (List Told)
   pub asked : Option (List Asked)
   pub sent : Option (List Request)
@@ -78,7 +79,8 @@ pub record HasStartCause (before now : ℕ) (how : How) : Type 0 where
   pub unfailed : is_not_started how ≡ false → now ≡ before
 
 -- a request was run while this pass was lent. Unless memory was wanting, the answer and what the ear heard
--- are as the world tells, and the call is recorded. The world stays, and the count of faults follows the answer.
+-- are as the world tells, and the call is recorded. It is the same gate, and its world stays. The count of
+-- faults follows the answer.
 pub record RunsRequest
     (pass : PassValue) (request : Request) (before now : GateTell) (heard_before heard_now : List ℕ → Type 0)
     (ended : Ended) : Type 0 where
@@ -88,5 +90,6 @@ pub record RunsRequest
       Becomes before.asked now.asked (Adds (recorded ended.how (asked_for request.test request.attempt)))
   pub sent : Becomes before.sent now.sent (Adds (recorded ended.how request))
   pub lent : Becomes before.lent now.lent (Adds (recorded ended.how pass))
+  pub who : now.who ≡ before.who
   pub world : now.world ≡ before.world
   pub cause : HasStartCause before.faults now.faults ended.how

@@ -1,5 +1,5 @@
 -- What a core keeps beside its history, so that no call has to search the history. This project's own.
-use Rattle.std.specs.Prelude.{◌≡◌, ℕ, ◌+◌, ◌<◌, ◌≤◌, Bool, ◌&&◌, not, true, false, List, [], length, map, Option, Some, None, slice_get, slice_set, nat_lt, slice_index_or, if◌then◌else◌}
+use Rattle.std.specs.Prelude.{◌≡◌, ℕ, ◌+◌, ◌<◌, ◌≤◌, Bool, ◌&&◌, not, true, false, List, [], ◌∷◌, length, map, Option, Some, None, slice_get, slice_set, nat_lt, slice_index_or, if◌then◌else◌}
 use Rattle.ct_verdict.specs.declared.verdict.Cause.{Cause}
 use Rattle.ct_verdict.specs.declared.verdict.Verdict.TheVariants.{NotRun}
 use Rattle.ct_queue.specs.Ready.{with_out}
@@ -12,7 +12,7 @@ use Rattle.ct_history.specs.declared.plan.PlanTest.{PlanTest}
 use Rattle.ct_history.specs.declared.plan.PlanParts.{PlanParts}
 use Rattle.ct_history.specs.declared.history.Entry.{Entry}
 use Rattle.ct_history.specs.Plan.{IsSound}
-use Rattle.ct_history.specs.History.{has_stop, open_starts}
+use Rattle.ct_history.specs.History.{has_stop, is_stop, open_starts}
 use Rattle.ct_history.specs.Legal.{is_allowed_so_far, is_legal, is_stop_due}
 use Rattle.ct_history.specs.Verdicts.{verdict_of_test}
 use Rattle.ct_core.specs.declared.parts.Parts.{Parts}
@@ -40,11 +40,18 @@ pub record AreCurrent (plan : PlanParts) (entries : List Entry) (parts : Parts) 
   pub stopped : parts.stopped ≡ has_stop entries
   pub followers : parts.followers.items ≡ map (λ (t : PlanTest). followers_of plan.tests t.number) plan.tests
 
--- the marks of the tests that may be settled agree with the history. While there is no Stop, the ready
--- set and the bunches agree with the plan and the history. The tests of `left` are not updated yet.
+-- the entries in front of the first Stop; all entries, if there is no Stop
+abbrev pub before_stop : List Entry → List Entry
+before_stop [] = []
+before_stop (e ∷ es) = if is_stop e then [] else e ∷ before_stop es
+
+-- the marks of the tests that may be settled agree with the history, and the bunches agree
+-- with the plan. Without a Stop, the ready set agrees with the history; behind a Stop, with
+-- the entries in front of it. The tests of `left` are not updated yet.
 pub record AreQueued (plan : PlanParts) (entries : List Entry) (left : List ℕ) (parts : Parts) : Type 0 where
   pub ready : has_stop entries ≡ false → IsQueued plan entries left parts.ready
-  pub bunches : has_stop entries ≡ false → AreBunchesOf plan parts.keys.items parts.ready.bunches
+  pub halted : has_stop entries ≡ true → IsQueued plan (before_stop entries) [] parts.ready
+  pub bunches : AreBunchesOf plan parts.keys.items parts.ready.bunches
   pub settleable : AreSettleable plan entries left parts.settleable
 
 -- while an attempt is open, the room suffices for an End of each open
@@ -75,7 +82,7 @@ pub record IsConcluding
   pub current : AreCurrent plan entries parts
   pub unfinished : parts.unfinished ≡ count_unfinished parts.states.items + 1
   pub waiting : has_stop entries ≡ false → AreQueued plan entries (followers_of plan.tests number) parts
-  pub stopped : has_stop entries ≡ true → AreSettleable plan entries [] parts.settleable
+  pub stopped : has_stop entries ≡ true → AreQueued plan entries [] parts
 
 -- the numbers of the tests that wait for the test at a place; none for a place past the last test
 abbrev pub followers_at : Parts → ℕ → List ℕ
@@ -91,7 +98,7 @@ pub record IsLowered (old new : Parts) : Type 0 where
   pub stopped : new.stopped ≡ old.stopped
 
 -- the test at this place is pending again, after so many attempts. Without a
--- Stop it is no longer out of the ready set; behind a Stop it may be settled.
+-- Stop it is no longer out of the ready set; behind a Stop it may be settled, and the ready set stays.
 pub record GoesOnPending (place number attempts : ℕ) (old new : Parts) : Type 0 where
   pub states : new.states.items ≡ slice_set old.states.items place (Pending attempts)
   pub unfinished : new.unfinished ≡ old.unfinished
@@ -100,11 +107,12 @@ pub record GoesOnPending (place number attempts : ℕ) (old new : Parts) : Type 
   pub followers : new.followers.items ≡ old.followers.items
   pub stopped : new.stopped ≡ old.stopped
   pub ready : old.stopped ≡ false → new.ready ≡ with_out old.ready number false
+  pub halted : old.stopped ≡ true → new.ready ≡ old.ready
   pub settleable :
       new.settleable ≡ (if old.stopped then slice_set old.settleable place true else old.settleable)
 
--- the test at this place is settled with this cause: it is final,
--- out of the ready set if there is no Stop, and not marked
+-- the test at this place is settled with this cause: it is final, and not marked.
+-- Without a Stop it is out of the ready set; behind a Stop the ready set stays.
 pub record IsSettled (place number : ℕ) (cause : Cause) (old new : Parts) : Type 0 where
   pub states : new.states.items ≡ slice_set old.states.items place (Final (NotRun cause))
   pub unfinished : new.unfinished ≡ old.unfinished
@@ -113,16 +121,18 @@ pub record IsSettled (place number : ℕ) (cause : Cause) (old new : Parts) : Ty
   pub followers : new.followers.items ≡ old.followers.items
   pub stopped : new.stopped ≡ old.stopped
   pub ready : old.stopped ≡ false → new.ready ≡ with_out old.ready number true
+  pub halted : old.stopped ≡ true → new.ready ≡ old.ready
   pub settleable : new.settleable ≡ slice_set old.settleable place false
 
--- a Stop is noted. Among the first `places` places exactly
--- those of pending tests are marked, and each other mark stays.
+-- a Stop is noted, and the ready set stays. Among the first `places` places
+-- exactly those of pending tests are marked, and each other mark stays.
 pub record IsStoppedTo (places : ℕ) (old new : Parts) : Type 0 where
   pub states : new.states.items ≡ old.states.items
   pub unfinished : new.unfinished ≡ old.unfinished
   pub in_use : new.in_use ≡ old.in_use
   pub keys : new.keys.items ≡ old.keys.items
   pub followers : new.followers.items ≡ old.followers.items
+  pub ready : new.ready ≡ old.ready
   pub stopped : new.stopped ≡ true
   pub room : length new.settleable ≡ length old.settleable
   pub marked : (place : ℕ)

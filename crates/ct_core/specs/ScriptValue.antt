@@ -1,5 +1,5 @@
 -- The value of a gate that follows a script, as its callers see it. This project's own.
-use Rattle.std.specs.Prelude.{◌≡◌, ℕ, ◌+◌, ◌-◌, ◌^◌, min, nat_lt, ◌==◌, Bool, true, false, ◌&&◌, ◌||◌, List, Some, [], ◌∷◌, ◌++◌, if◌then◌else◌}
+use Rattle.std.specs.Prelude.{◌≡◌, ℕ, ◌+◌, ◌-◌, ◌^◌, min, nat_lt, ◌==◌, Bool, true, false, ◌&&◌, ◌||◌, List, Some, None, [], ◌∷◌, ◌++◌, if◌then◌else◌}
 use Rattle.std.specs.List.Sorted.{IsPartitionPoint, IsSortedBy}
 use Rattle.ct_verdict.specs.declared.attempt.How.{How}
 use Rattle.ct_turn.specs.Pass.{PassValue}
@@ -17,10 +17,11 @@ pub record ScriptValue : Type 0 where
   pub lent : List PassValue
   pub faults : ℕ
 
--- what a gate that follows a script tells: its world, its attempts, its
--- requests, the passes that it was lent, and its count of faults
+-- what a gate that follows a script tells: its world, its attempts, its requests, the passes
+-- that it was lent, and its count of faults; it does not tell which gate it is
 abbrev pub told_of_script : ScriptValue → GateTell
 told_of_script gate = record {
+  who = None;
   world = Some gate.world;
   asked = Some gate.asked;
   sent = Some gate.sent;

@@ -82,9 +82,9 @@ pub struct Asked {
 
 /// What runs the programs of tests.
 ///
-/// `tells` has what each attempt comes to, the attempts and requests that were run so far, and the
-/// passes that were lent for them, each if the gate tells it. It also has how many starts and waits
-/// failed, a count that never falls.
+/// `tells` has which gate it is, what each attempt comes to, the attempts and requests that were run
+/// so far, and the passes that were lent for them, each if the gate tells it. It also has how many
+/// starts and waits failed, a count that never falls.
 pub trait Gate {
     ghost tells: { Self → GateTell };
 

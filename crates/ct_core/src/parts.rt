@@ -23,7 +23,7 @@ pub(crate) struct Parts {
     /// The key of each test, by its place in the queue: where the lock
     /// stands that it waits for together with other tests.
     pub(crate) keys: Vec<Option<KeyPlace>>,
-    /// The tests that are ready to start; right only while there is no Stop.
+    /// The tests that are ready to start; behind a Stop, those that were ready in front of it.
     pub(crate) ready: Ready,
     /// The places of the tests that may be settled.
     pub(crate) settleable: Marks,

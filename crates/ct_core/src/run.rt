@@ -86,11 +86,12 @@ impl Run {
         let verdict = one(&test.rules, &seen);
         let State::Open(_, placement) = mem::replace(
             &mut self.parts.states[place],
-            State::Pending(0),
+            State::Final(verdict),
         ) else {
             unreachable!();
         };
         self.parts.in_use.give(test, placement.as_ref());
+        drop(placement);
         append_reserved(
             &mut self.history.entries,
             Entry::End {
@@ -104,7 +105,6 @@ impl Run {
             self.parts.go_on(place, number, attempt);
             return None;
         }
-        self.parts.states[place] = State::Final(verdict);
         self.conclude(number, verdict);
         Some(verdict)
     }
@@ -135,8 +135,8 @@ impl Run {
         Ok(())
     }
 
-    /// Updates the parts after a test became final: sets the Stop that is due, or lowers the counts of its
-    /// followers.
+    /// Updates the parts after a test became final: unless there is a Stop already,
+    /// lowers the counts of its followers, and then sets the Stop if it is due.
     fn conclude(&mut self, number: u32, verdict: Verdict)
         requires concluding { IsConcludingRun number verdict self.old }
         ensures kept { IsKeptRun self.new }
@@ -147,12 +147,11 @@ impl Run {
         if self.parts.stopped {
             return;
         }
+        let place = expect_place(self.plan.parts().tests.as_slice(), number);
+        self.lower_followers(place);
         if stops_at(self.plan.parts(), verdict) {
             append_reserved(&mut self.history.entries, Entry::Stop);
             self.parts.stop();
-        } else {
-            let place = expect_place(self.plan.parts().tests.as_slice(), number);
-            self.lower_followers(place);
         }
     }
 

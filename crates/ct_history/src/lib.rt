@@ -30,4 +30,4 @@ pub use open_start::{OpenStart, used_processors, used_slots};
 pub use opened::{holds_start, is_busy};
 pub use places::{expect_place, place_of, planned_test};
 pub use plan::{Plan, PlanParts, PlanTest, test_at};
-pub use verdicts::{are_all_final, final_verdict, is_failing, verdict, verdict_of};
+pub use verdicts::{final_verdict, is_failing, verdict, verdict_of};

@@ -54,6 +54,8 @@ pub(crate) fn is_open(entries: &[Entry], test: u32) -> bool
 }
 
 /// Returns whether the worker has an open start.
+///
+/// It stands for callers of the library, who may ask a core only where it has none: no program calls it.
 pub fn is_busy(entries: &[Entry], worker: u32) -> bool
     ensures { result ≡ is_busy_in worker entries.now }
 {
@@ -68,6 +70,8 @@ pub fn is_busy(entries: &[Entry], worker: u32) -> bool
 }
 
 /// Returns whether this attempt of the test is open, and the worker made it.
+///
+/// It stands for callers of the library, who may finish only such an attempt: no program calls it.
 pub fn holds_start(entries: &[Entry], test: u32, attempt: u32, worker: u32) -> bool
     ensures { result ≡ History.holds_start test attempt worker entries.now }
 {

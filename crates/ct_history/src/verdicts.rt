@@ -1,6 +1,6 @@
 ghost use Rattle.std.specs.Prelude.{◌≡◌, IsSome};
 ghost use Rattle.ct_history.specs.Plan.{test_at as planned_test};
-ghost use Rattle.ct_history.specs.Verdicts.{are_all_final, is_failing_in, verdict_in, verdict_of_test};
+ghost use Rattle.ct_history.specs.Verdicts.{is_failing_in, verdict_in, verdict_of_test};
 
 use crate::course::{course_in, verdict_of_course};
 use crate::opened::is_open;
@@ -38,16 +38,6 @@ pub fn is_failing(verdict: Option<Verdict>) -> bool
         Some(verdict) => verdict.is_failing(),
         None => false,
     }
-}
-
-/// Returns whether each test of the plan is final.
-pub fn are_all_final(plan: &PlanParts, entries: &[Entry]) -> bool
-    ensures { result ≡ are_all_final plan.now entries.now }
-{
-    plan.tests
-        .as_slice()
-        .iter()
-        .all(|test| verdict(&plan.repeat, test, entries).is_some())
 }
 
 /// Returns the verdict of a test of the plan, if it is final.

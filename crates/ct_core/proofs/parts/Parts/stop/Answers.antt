@@ -18,6 +18,7 @@ loop-place-preserved c =
       in_use = kept.in_use;
       followers = kept.followers;
       keys = kept.keys;
+      ready = kept.ready;
       stopped = kept.stopped;
       room = ap length c.set.ensures ∙ length-set now.settleable c.loop-place.place c.is_pending-is_pending.result ∙ kept.room;
       marked = marked-more c.args.self.now.settleable now.settleable c.set.new.self c.args.self.now.states.items c.loop-place.place c.is_pending-is_pending.result within pending c.set.ensures kept.marked;

@@ -15,6 +15,7 @@ use Rattle.ct_history.specs.Plan.{IsPlaceOf, test_at}
 use Rattle.ct_history.proofs.LegalLemmas.{legal_allowed}
 use Rattle.ct_core.specs.declared.in_use.InUse.{InUse}
 use Rattle.ct_core.specs.declared.parts.Parts.{Parts}
+use Rattle.ct_core.specs.declared.state.State.{State}
 use Rattle.ct_core.specs.declared.state.State.TheVariants.{Final, Pending}
 use Rattle.ct_core.specs.InUse.{CanGive, GivesBack}
 use Rattle.ct_core.specs.Parts.{IsConcluding, IsKept}
@@ -138,7 +139,7 @@ returns-then-again-clause-kept c =
       unfinished = c.go_on.ensures.unfinished;
     } in
     subst (λ (xs : List Entry). IsKept run.plan xs room' c.go_on.new.self) (sym c.append_reserved.ensures.items)
-    (kept-again run.plan es room run.parts c.requires.kept c.args.number c.args.attempt c.args.worker c.args.seen c.requires.holds place at t found same c.go_on.new.self closed c.go_on.ensures.ready c.go_on.ensures.settleable room' c.append_reserved.ensures.room)
+    (kept-again run.plan es room run.parts c.requires.kept c.args.number c.args.attempt c.args.worker c.args.seen c.requires.holds place at t found same c.go_on.new.self closed c.go_on.ensures.ready c.go_on.ensures.halted c.go_on.ensures.settleable room' c.append_reserved.ensures.room)
 
 pub returns-then-again-clause-ended : goal.returns-then-again-clause-ended
 returns-then-again-clause-ended c =
@@ -201,12 +202,12 @@ conclude-requires c =
     let gives = subst (λ (p : Option Placement). GivesBack t p run.parts.in_use c.give.new.self) (c.as_ref.ensures.value ∙ opens.1) c.give.ensures in
     let room' = vec_capacity c.append_reserved.new.entries in
     let parts : Parts = record run.parts {
-      states = with_item (with_item run.parts.states place c.replace.new.dest) place (Final c.one-verdict.result);
+      states = with_item run.parts.states place c.replace.new.dest;
       in_use = c.give.new.self;
     } in
     let closed : IsClosed place t (placement run.plan es room run.parts c.requires.kept c.args.number c.args.attempt c.args.worker c.args.seen c.requires.holds place at t found) (Final (verdict_of t.rules c.args.seen)) run.parts parts = record {
       states =
-          set-set run.parts.states.items place c.replace.new.dest (Final c.one-verdict.result)
+          ap (λ (s : State). slice_set run.parts.states.items place s) c.replace.ensures.after
           ∙ ap (λ (v : Verdict). slice_set run.parts.states.items place (Final v)) c.one-verdict.ensures;
       in_use = gives;
       followers = refl;

@@ -13,6 +13,7 @@ returns-in-Ok g c =
         asked = search rules;
         sent = search rules;
         lent = search rules;
+        who = search rules;
         world = search rules;
         cause = subst (λ (n : ℕ). HasStartCause n c.count.new.self.faults c.told_end-ended.result.how) same c.count.ensures.cause;
       };
