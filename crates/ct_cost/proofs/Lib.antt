@@ -3,3 +3,4 @@ pub mod PlaceLemmas
 pub mod ReadingLemmas
 pub mod DurationLemmas
 pub mod EndingLemmas
+pub mod SoundLemmas

@@ -11,7 +11,7 @@ use Rattle.ct_history.specs.Verdicts.{verdict_in, is_passed_verdict}
 use Rattle.ct_history.specs.Failed.{failed_tests}
 use Rattle.ct_cost.specs.CostLine.{CostLine, after_run}
 
--- the microseconds that an attempt counts for, at most 10^15
+-- the microseconds that an attempt counts for, at most `most_micros`
 abbrev pub counted_micros : Option Seen → ℕ
 counted_micros None = 0
 counted_micros (Some seen) = min seen.micros most_micros

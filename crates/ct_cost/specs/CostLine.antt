@@ -1,8 +1,10 @@
 -- The lines of cost data. Source: CMake manual, cmake-properties(7), COST. That a name has one line with
 -- its last durations, and costs the greatest of them, is this project's choice.
-use Rattle.std.specs.Prelude.{ℕ, ◌-◌, max, List, [], ◌∷◌, ◌++◌, drop, length, find, bytes_eq, Option, is_some, option_and_then, if◌then◌else◌}
-use Rattle.std.specs.List.{reduce}
+use Rattle.std.specs.Prelude.{ℕ, ◌-◌, ◌<◌, ◌≤◌, max, All, List, [], ◌∷◌, ◌++◌, drop, length, map, find, bytes_eq, Option, is_some, option_and_then, if◌then◌else◌}
+use Rattle.std.specs.List.{reduce, IsDistinct}
 use Rattle.std.specs.Option.{option_map_or}
+use Rattle.ct_base.specs.Seconds.{most_micros}
+use Rattle.ct_cost.specs.declared.durations.TheConstants.{MOST_DURATIONS}
 
 -- what is known of a name: how long its last attempts that passed took, in microseconds, oldest first
 pub record CostLine : Type 0 where
@@ -11,7 +13,29 @@ pub record CostLine : Type 0 where
 
 -- how many durations of a name are kept
 abbrev pub most_durations : ℕ
-most_durations = 8
+most_durations = MOST_DURATIONS
+
+-- one to eight durations, each at most 10^15 microseconds
+pub record AreDurations (durations : List ℕ) : Type 0 where
+  pub some : 0 < length durations
+  pub few : length durations ≤ most_durations
+  pub short : All (λ micros. micros ≤ most_micros) durations
+
+-- each name has one line, with one to eight durations
+pub record AreCostLines (lines : List CostLine) : Type 0 where
+  pub durations : All (λ (line : CostLine). AreDurations line.durations) lines
+  pub names : IsDistinct bytes_eq (map (λ (line : CostLine). line.name) lines)
+
+-- what is known of earlier runs: the lines of costs, and the names of the tests that failed last time
+pub record Costs : Type 0 where
+  pub lines : List CostLine
+  pub failed : List (List ℕ)
+
+-- what holds of all cost data: each name has one line, with one to eight durations, and each failed name
+-- stands once
+pub record AreCosts (costs : Costs) : Type 0 where
+  pub lines : AreCostLines costs.lines
+  pub failed : IsDistinct bytes_eq costs.failed
 
 -- the last durations of these, as many as are kept
 abbrev pub last_durations : List ℕ → List ℕ

@@ -1,9 +1,6 @@
-ghost use Rattle.std.specs.Prelude.{◌≡◌, ◌++◌, IfOk, OnOk, true, codes, flat_map, fold, map};
+ghost use Rattle.std.specs.Prelude.{◌≡◌, ◌++◌, IfOk, OnOk, true, codes, flat_map};
 ghost use Rattle.ct_history.specs.Verdicts.{are_all_final};
-ghost use Rattle.ct_history.specs.Failed.{failed_tests};
-ghost use Rattle.ct_base.specs.Names.{with_new_name};
-ghost use Rattle.ct_cost.specs.Endings.{after_ending, with_failed};
-ghost use Rattle.ct_cost.specs.After.{after_test, passed_tests};
+ghost use Rattle.ct_cost.specs.CostLine.{AreCosts};
 ghost use Rattle.ct_cost.specs.Text.{cost_line_text, failed_text};
 ghost use Rattle.ct_cost.specs.Costs.{cost_of_name, costs_after, costs_in, costs_text, failed_last};
 
@@ -11,18 +8,30 @@ use crate::lines::Lines;
 use crate::names::Names;
 use crate::reading::Reading;
 use ct_base::{Blob, Name, NoMemory};
-use ct_history::{Courses, History, Plan, PlanTest, courses_of};
+use ct_history::{History, Plan, courses_of};
 use std::alloc::Global;
+use std::marker::Model;
 
 /// What is known of earlier runs: what the tests cost, and which of them failed last time.
 ///
-/// Names may hold spaces. A name has one line at most, and the lines keep their order.
+/// Names may hold spaces. A name has one line at most, and the lines keep their order. Contracts see the
+/// lines and the failed names.
 ///
 /// Source: this project's choice, after the files that ctest writes.
 #[derive(Drop)]
 pub struct CostData {
     lines: Lines,
     failed: Names,
+}
+
+impl Model for CostData {
+    ghost use Rattle.ct_cost.specs.CostLine.{AreCosts, Costs};
+
+    ghost Value = { Costs };
+
+    ghost view = { λ c. record { lines = c.lines; failed = c.failed } };
+
+    ghost invariant = { λ c. AreCosts (record { lines = c.lines; failed = c.failed }) };
 }
 
 impl CostData {
@@ -34,7 +43,8 @@ impl CostData {
     ///
     /// No text is refused: every other line is passed over, and so is a second line of a name.
     pub fn read(alloc: Global, text: &[u8]) -> Result<CostData, NoMemory>
-        ensures { IfOk result (λ costs. costs ≡ costs_in text.now) }
+        ensures is { IfOk result (λ costs. costs ≡ costs_in text.now) }
+        ensures sound { IfOk result AreCosts }
     {
         let reading = Reading::of(alloc, text)?;
         Ok(CostData {
@@ -63,40 +73,16 @@ impl CostData {
     /// The last eight durations of a name are kept. Lines of names that did not run stay.
     pub fn after(&self, alloc: Global, plan: &Plan, history: &History) -> Result<CostData, NoMemory>
         requires ended { are_all_final plan.now history.now.entries.items ≡ true }
-        ensures { IfOk result (λ costs. costs ≡ costs_after plan.now history.now.entries.items self.now) }
-    {
-        let mut costs = CostData {
-            lines: self.lines.copy()?,
-            failed: Names::new(alloc),
-        };
-        costs.add_run(alloc, plan, history)?;
-        Ok(costs)
-    }
-
-    /// Counts one more run of each test that passed, and adds the names of those that failed.
-    fn add_run(&mut self, alloc: Global, plan: &Plan, history: &History) -> Result<(), NoMemory>
-        requires ended { are_all_final plan.now history.now.entries.items ≡ true }
-        ensures lines { OnOk result (self.new.lines
-            ≡ fold (after_test history.now.entries.items) self.old.lines (passed_tests plan.now history.now.entries.items)) }
-        ensures failed { OnOk result (self.new.failed
-            ≡ fold with_new_name self.old.failed (map (λ t. t.name) (failed_tests plan.now history.now.entries.items))) }
+        ensures is { IfOk result (λ costs. costs ≡ costs_after plan.now history.now.entries.items self.now) }
+        ensures sound { IfOk result AreCosts }
     {
         let courses = courses_of(alloc, history.entries.as_slice())?;
-        self.add_tests(alloc, plan.parts().tests.as_slice(), &courses)
-    }
-
-    /// Counts tests by how they ended.
-    fn add_tests(
-        &mut self,
-        alloc: Global,
-        tests: &[PlanTest],
-        courses: &Courses,
-    ) -> Result<(), NoMemory>
-        ensures lines { OnOk result (self.new.lines ≡ fold (after_ending courses.now) self.old.lines tests.now) }
-        ensures failed { OnOk result (self.new.failed ≡ fold (with_failed courses.now) self.old.failed tests.now) }
-    {
-        self.lines.add_tests(alloc, tests, courses)?;
-        self.failed.add_failed(alloc, tests, courses)
+        let tests = plan.parts().tests.as_slice();
+        let mut lines = self.lines.copy()?;
+        lines.add_tests(alloc, tests, &courses)?;
+        let mut failed = Names::new(alloc);
+        failed.add_failed(alloc, tests, &courses)?;
+        Ok(CostData { lines, failed })
     }
 
     /// Writes the text of version 2 that `read` reads, with durations as seconds with six decimals.

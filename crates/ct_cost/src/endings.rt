@@ -2,11 +2,9 @@ ghost use Rattle.std.specs.Prelude.{◌≡◌};
 ghost use Rattle.ct_cost.specs.After.{counted_micros};
 ghost use Rattle.ct_cost.specs.Endings.{passed_micros as passed_for, fails_by as failed_for};
 
+use ct_base::MOST_MICROS;
 use ct_history::{Course, PlanTest, verdict_by};
 use ct_verdict::{Seen, Verdict};
-
-/// The greatest number of microseconds that a run counts for. This project's choice.
-const MOST_MICROS: u64 = 1_000_000_000_000_000;
 
 /// Returns the microseconds that a test counts for, if it passed.
 pub(crate) fn passed_micros(test: &PlanTest, course: Course) -> Option<u64>

@@ -1,0 +1,11 @@
+mod CutLemmas
+mod PlaceLemmas
+mod StopLemmas
+mod NumberLemmas
+mod LineLemmas
+mod LogLemmas
+mod SecondsLemmas
+mod CostLemmas
+mod OverLemmas
+mod ReadLemmas
+mod EarlierLemmas

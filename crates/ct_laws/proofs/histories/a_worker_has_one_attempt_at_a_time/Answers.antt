@@ -1,0 +1,5 @@
+use Rattle.ct_laws.proofs.PlaceLemmas.{one_of_worker}
+use Rattle.ct_laws.proofs.histories.a_worker_has_one_attempt_at_a_time.Goals as goal
+
+pub returns : goal.returns
+returns c = one_of_worker
