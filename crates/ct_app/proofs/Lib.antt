@@ -12,6 +12,7 @@ pub mod EndLemmas
 pub mod LeaveLemmas
 pub mod TermLemmas
 pub mod AnswerLemmas
+pub mod GateOrderLemmas
 pub mod ListLemmas
 pub mod MeantLemmas
 pub mod EntryLemmas

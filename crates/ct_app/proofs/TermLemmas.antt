@@ -91,6 +91,7 @@ module _ (base : List Pair) (defs : List TestDef) (props : List Props) (limit : 
     ended = is.ended;
     asked = is.asked;
     sent = was_sent is.runs before.sent now.sent is.sent;
+    who = is.who;
     world = is.world;
     unstarted = is.unstarted;
   }

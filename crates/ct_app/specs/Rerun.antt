@@ -9,11 +9,12 @@ use Rattle.ct_select.specs.FailedLog.{failed_in}
 use Rattle.ct_args.specs.declared.invocation.Invocation.{Invocation}
 use Rattle.ct_app.specs.declared.run_files.RunFileFault.{RunFileFault}
 use Rattle.ct_app.specs.declared.run_files.RunFileFault.TheVariants as Fault
+use Rattle.ct_app.specs.declared.rerun.TheConstants.{MOST_LOG_BYTES}
 use Rattle.ct_app.specs.RunFiles.{FilesFail, FilesStay, log_path}
 
--- the greatest number of bytes of a log that counts: 64 MiB
+-- the greatest number of bytes of a log that counts
 abbrev pub most_log_bytes : ℕ
-most_log_bytes = 67108864
+most_log_bytes = MOST_LOG_BYTES
 
 -- the names in the text at a path; none where the text is absent or too long
 abbrev pub names_in_text : Option (List ℕ) → List (List ℕ)

@@ -15,6 +15,7 @@ use Rattle.ct_cost.specs.After.{failed_log_text}
 use Rattle.ct_cost.specs.Costs.{costs_after, costs_in, costs_text}
 use Rattle.ct_app.specs.declared.run_files.RunFileFault.{RunFileFault}
 use Rattle.ct_app.specs.declared.run_files.RunFileFault.TheVariants as Fault
+use Rattle.ct_app.specs.declared.run_files.TheConstants.{MOST_COST_BYTES}
 
 -- no call on the files failed, and `Change` holds between what the files held before and now
 pub record FilesServe (Change : Held → Held → Type 0) (before now : FilesTell) : Type 0 where
@@ -42,9 +43,9 @@ costs_path dir = joined dir (codes "Testing/Temporary/CTestCostData.txt")
 abbrev pub log_path : List ℕ → List ℕ
 log_path dir = joined dir (codes "Testing/Temporary/LastTestsFailed.log")
 
--- the greatest number of bytes of cost data that counts: 64 MiB
+-- the greatest number of bytes of cost data that counts
 abbrev pub most_cost_bytes : ℕ
-most_cost_bytes = 67108864
+most_cost_bytes = MOST_COST_BYTES
 
 -- the cost data in the text at a path; where the text is absent or too long, the cost data of an empty text
 abbrev pub costs_of : Option (List ℕ) → CostData

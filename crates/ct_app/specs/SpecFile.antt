@@ -10,11 +10,12 @@ use Rattle.ct_app.specs.declared.outcome.SpecRefusal.{SpecRefusal}
 use Rattle.ct_app.specs.declared.outcome.SpecRefusal.TheVariants.{Absent, TooLong, Fault}
 use Rattle.ct_app.specs.declared.spec_file.SpecFileFault.{SpecFileFault}
 use Rattle.ct_app.specs.declared.spec_file.SpecFileFault.TheVariants.{Refused, Failed, NoMemory}
+use Rattle.ct_app.specs.declared.spec_file.TheConstants.{MOST_SPEC_BYTES}
 use Rattle.ct_app.specs.RunFiles.{FilesFail, FilesStay}
 
--- the greatest number of bytes of a specification: 16 MiB
+-- the greatest number of bytes of a specification
 abbrev pub most_spec_bytes : ℕ
-most_spec_bytes = 16777216
+most_spec_bytes = MOST_SPEC_BYTES
 
 -- the resources that a text declares, or its first fault as a refusal
 abbrev pub declared_by : List ℕ → Result (List Resource) SpecRefusal

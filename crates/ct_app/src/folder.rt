@@ -1,4 +1,4 @@
-ghost use Rattle.std.specs.Prelude.{◌≡◌, ◌==◌, ◌<◌, ◌≤◌, [], None, true, IfOk, IfErr, if◌then◌else◌, length, map, option_map, vec_len};
+ghost use Rattle.std.specs.Prelude.{◌≡◌, ◌==◌, ◌<◌, ◌≤◌, [], None, true, IfOk, IfErr, if◌then◌else◌, length, map, option_map};
 ghost use Rattle.ct_args.specs.Invocation.{IsBounded};
 ghost use Rattle.ct_app.specs.Calls.{sides};
 ghost use Rattle.ct_app.specs.Ends.{EndsFor, EndsWithFiles, PlanEnds, ended_as, history_entries, with_status as ended_with};
@@ -23,9 +23,9 @@ use std::alloc::Global;
 use std::sync::Wait;
 use std::thread::Threads;
 
-/// How a call ended, before the line of its outcome is put, and the gates and the sink of the call.
+/// How a call ended, before the line of its outcome is put, and the sink of the call.
 #[derive(Drop)]
-pub(crate) struct Ran<G, S> {
+pub(crate) struct Ran<S> {
     /// The status of a complete run, or the outcome of any other call.
     pub(crate) ended: Result<u8, Outcome>,
     /// The names of the tests of a cycle, if a cycle is refused; else empty.
@@ -34,17 +34,15 @@ pub(crate) struct Ran<G, S> {
     pub(crate) plan: Option<Plan>,
     /// The history of the run, if a plan was made.
     pub(crate) history: Option<History>,
-    pub(crate) gates: Vec<G>,
     pub(crate) sink: S,
 }
 
 /// How the run of a plan ended, before its files are written.
 #[derive(Drop)]
-struct PlanRun<G, S> {
+struct PlanRun<S> {
     ended: Result<(), Outcome>,
     plan: Plan,
     history: History,
-    gates: Vec<G>,
     sink: S,
 }
 
@@ -58,19 +56,18 @@ pub(crate) fn run_folder<R: Threads + Wait + Sync, F: Files, G: Gate + Send, S: 
     invocation: Invocation,
     env: &[Pair],
     files: &mut F,
-    gates: Vec<G>,
+    gates: &mut [G],
     sink: S,
-) -> Ran<G, S>
+) -> Ran<S>
     requires bounded { IsBounded invocation }
-    requires some { 0 < vec_len gates }
-    ensures ends { EndsFor invocation (λ words. sides words env.now (F.tells files.old) (F.tells files.new) (map G.tells gates.items) (map G.tells result.gates.items) (S.tells sink) (S.tells result.sink) result.plan (option_map history_entries result.history)) result.names result.ended }
-    ensures all { vec_len result.gates ≡ vec_len gates }
-    ensures others { OthersStay result.plan gates.items result.gates.items }
+    requires some { 0 < length gates.old }
+    ensures ends { EndsFor invocation (λ words. sides words env.now (F.tells files.old) (F.tells files.new) (map G.tells gates.old) (map G.tells gates.new) (S.tells sink) (S.tells result.sink) result.plan (option_map history_entries result.history)) result.names result.ended }
+    ensures others { OthersStay result.plan gates.old gates.new }
 {
     let (timeout, empty_is_error) = (invocation.timeout, invocation.empty_is_error);
     let PlannedFolder { tests, costs, plan } = match plan_folder(alloc, files, invocation) {
         Ok(folder) => folder,
-        Err(bad) => return unplanned(bad, gates, sink),
+        Err(bad) => return unplanned(bad, sink),
     };
     hand_out_sound(&plan);
     let tests = without_links(alloc, tests);
@@ -84,7 +81,6 @@ pub(crate) fn run_folder<R: Threads + Wait + Sync, F: Files, G: Gate + Send, S: 
         ended,
         plan,
         history,
-        gates,
         sink,
     } = run_plan(rt, alloc, plan, &jobs, gates, sink);
     let ended = leave_files(alloc, files, empty_is_error, &costs, &plan, &history, ended);
@@ -93,35 +89,32 @@ pub(crate) fn run_folder<R: Threads + Wait + Sync, F: Files, G: Gate + Send, S: 
         names: List::new(alloc),
         plan: Some(plan),
         history: Some(history),
-        gates,
         sink,
     }
 }
 
 /// Makes the end of a call whose folder has no plan.
-fn unplanned<G, S>(bad: Unplanned, gates: Vec<G>, sink: S) -> Ran<G, S>
-    ensures { result ≡ record { ended = Err bad.outcome; names = bad.names; plan = None; history = None; gates = gates; sink = sink } }
+fn unplanned<S>(bad: Unplanned, sink: S) -> Ran<S>
+    ensures { result ≡ record { ended = Err bad.outcome; names = bad.names; plan = None; history = None; sink = sink } }
 {
     Ran {
         ended: Err(bad.outcome),
         names: bad.names,
         plan: None,
         history: None,
-        gates,
         sink,
     }
 }
 
 /// Makes the end of a call that made no plan.
-pub(crate) fn unrun<G, S>(alloc: Global, outcome: Outcome, gates: Vec<G>, sink: S) -> Ran<G, S>
-    ensures { result ≡ record { ended = Err outcome; names = []; plan = None; history = None; gates = gates; sink = sink } }
+pub(crate) fn unrun<S>(alloc: Global, outcome: Outcome, sink: S) -> Ran<S>
+    ensures { result ≡ record { ended = Err outcome; names = []; plan = None; history = None; sink = sink } }
 {
     Ran {
         ended: Err(outcome),
         names: List::new(alloc),
         plan: None,
         history: None,
-        gates,
         sink,
     }
 }
@@ -132,33 +125,26 @@ fn run_plan<R: Threads + Wait + Sync, G: Gate + Send, S: Sink + Send>(
     alloc: Global,
     plan: Plan,
     jobs: &Jobs<'_>,
-    gates: Vec<G>,
+    gates: &mut [G],
     sink: S,
-) -> PlanRun<G, S>
+) -> PlanRun<S>
     requires level { 1 ≤ plan.level }
-    requires some { 0 < vec_len gates }
+    requires some { 0 < length gates.old }
     requires reach { Reach jobs.now plan }
     ensures plan { result.plan ≡ plan }
-    ensures ran { HasRun (terms_in jobs.now plan) (map G.tells gates.items) (map G.tells result.gates.items) result.plan (history_entries result.history) }
+    ensures ran { HasRun (terms_in jobs.now plan) (map G.tells gates.old) (map G.tells gates.new) result.plan (history_entries result.history) }
     ensures order { FollowsQueue result.plan (history_entries result.history) }
-    ensures all { vec_len result.gates ≡ vec_len gates }
     ensures ends { PlanEnds result.plan (history_entries result.history) (S.tells sink) (S.tells result.sink) result.ended }
-    ensures others { RestStays result.plan gates.items result.gates.items }
+    ensures others { RestStays result.plan gates.old gates.new }
 {
     match Core::open(alloc, plan) {
         Ok(core) => {
-            let PoolRun {
-                core,
-                gates,
-                sink,
-                put,
-            } = run(rt, alloc, core, jobs, gates, sink);
+            let PoolRun { core, sink, put } = run(rt, alloc, core, jobs, gates, sink);
             let (plan, history) = core.into_parts();
             PlanRun {
                 ended: outcome_of(put),
                 plan,
                 history,
-                gates,
                 sink,
             }
         }
@@ -168,7 +154,6 @@ fn run_plan<R: Threads + Wait + Sync, G: Gate + Send, S: Sink + Send>(
             history: History {
                 entries: Vec::new(alloc),
             },
-            gates,
             sink,
         },
     }

@@ -12,6 +12,7 @@
 
 mod fault;
 mod folder;
+pub mod limits;
 mod list;
 mod outcome;
 mod planning;

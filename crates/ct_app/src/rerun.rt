@@ -7,7 +7,9 @@ use ct_base::{Blob, Files, List, Name, NoMemory, join_path};
 use ct_select::failed_names;
 use std::alloc::Global;
 
-/// The greatest number of bytes of a log that counts: 64 MiB. This project's choice.
+/// The greatest number of bytes of a log that counts: 64 MiB.
+///
+/// Source: this project's choice.
 const MOST_LOG_BYTES: u64 = 67_108_864;
 
 /// Reads the names that a choice is limited to, if any.

@@ -1,4 +1,4 @@
-ghost use Rattle.std.specs.Prelude.{◌≡◌, ◌<◌, ◌≤◌, min, [], IfErr, false, true, map, vec_len};
+ghost use Rattle.std.specs.Prelude.{◌≡◌, ◌<◌, ◌≤◌, min, [], IfErr, false, true, length, map};
 ghost use Rattle.ct_app.specs.Run.{BeginsReport, HasRun, RestStays, RunEnds, lines_of_run};
 ghost use Rattle.ct_app.specs.Stops.{PutsBehind, StopsAt, StopsBehind};
 ghost use Rattle.ct_history.specs.Verdicts.{are_all_final};
@@ -11,16 +11,15 @@ ghost use Rattle.ct_worker.specs.Work.{Reach, terms_in};
 use ct_base::{Sink, SinkFault};
 use ct_core::{Core, Gate};
 use ct_report::{header, no_tests, summary};
-use ct_worker::{Halt, Jobs, Pooled, State, pool};
+use ct_worker::{Halt, Jobs, State, run_workers};
 use std::alloc::Global;
 use std::sync::Wait;
 use std::thread::Threads;
 
-/// How the tests of a plan ran, and the core, the gates and the sink of the run.
+/// How the tests of a plan ran, and the core and the sink of the run.
 #[derive(Drop)]
-pub struct PoolRun<G, S> {
+pub struct PoolRun<S> {
     pub core: Core,
-    pub gates: Vec<G>,
     pub sink: S,
     /// Whether all lines were put; `NoMemory` also says that memory ran out for an attempt.
     pub put: Result<(), SinkFault>,
@@ -34,32 +33,29 @@ pub(crate) fn run<R: Threads + Wait + Sync, G: Gate + Send, S: Sink + Send>(
     alloc: Global,
     core: Core,
     jobs: &Jobs<'_>,
-    gates: Vec<G>,
+    gates: &mut [G],
     mut sink: S,
-) -> PoolRun<G, S>
+) -> PoolRun<S>
     requires fresh { core ≡ record { plan = core.plan; entries = []; aborted = false } }
     requires level { 1 ≤ core.plan.level }
-    requires some { 0 < vec_len gates }
+    requires some { 0 < length gates.old }
     requires reach { Reach jobs.now core.plan }
     ensures plan { result.core.plan ≡ core.plan }
-    ensures ran { HasRun (terms_in jobs.now core.plan) (map G.tells gates.items) (map G.tells result.gates.items) result.core.plan result.core.entries }
-    ensures all { vec_len result.gates ≡ vec_len gates }
+    ensures ran { HasRun (terms_in jobs.now core.plan) (map G.tells gates.old) (map G.tells gates.new) result.core.plan result.core.entries }
     ensures puts { PutsLines (report_lines result.core.plan result.core.entries) (S.tells sink) (S.tells result.sink) result.put }
     ensures ends { RunEnds result.core.plan result.core.entries result.put }
     ensures stops { IfErr result.put (λ fault. StopsAt fault result.core.plan result.core.entries (S.tells sink) (S.tells result.sink)) }
-    ensures others { RestStays result.core.plan gates.items result.gates.items }
+    ensures others { RestStays result.core.plan gates.old gates.new }
 {
     match begin(alloc, &core, &mut sink) {
         Ok(true) => run_tests(rt, alloc, core, jobs, gates, sink),
         Ok(false) => PoolRun {
             core,
-            gates,
             sink,
             put: Ok(()),
         },
         Err(fault) => PoolRun {
             core,
-            gates,
             sink,
             put: Err(fault),
         },
@@ -85,31 +81,28 @@ fn run_tests<R: Threads + Wait + Sync, G: Gate + Send, S: Sink + Send>(
     alloc: Global,
     core: Core,
     jobs: &Jobs<'_>,
-    gates: Vec<G>,
+    gates: &mut [G],
     sink: S,
-) -> PoolRun<G, S>
+) -> PoolRun<S>
     requires fresh { core ≡ record { plan = core.plan; entries = []; aborted = false } }
     requires level { 1 ≤ core.plan.level }
-    requires some { 0 < vec_len gates }
+    requires some { 0 < length gates.old }
     requires reach { Reach jobs.now core.plan }
     ensures plan { result.core.plan ≡ core.plan }
-    ensures ran { HasRun (terms_in jobs.now core.plan) (map G.tells gates.items) (map G.tells result.gates.items) result.core.plan result.core.entries }
-    ensures all { vec_len result.gates ≡ vec_len gates }
+    ensures ran { HasRun (terms_in jobs.now core.plan) (map G.tells gates.old) (map G.tells gates.new) result.core.plan result.core.entries }
     ensures puts { PutsLines (lines_of_run result.core.plan result.core.entries) (S.tells sink) (S.tells result.sink) result.put }
     ensures ends { RunEnds result.core.plan result.core.entries result.put }
     ensures stops { IfErr result.put (λ fault. StopsBehind fault result.core.plan result.core.entries (S.tells sink) (S.tells result.sink)) }
-    ensures others { RestStays result.core.plan gates.items result.gates.items }
+    ensures others { RestStays result.core.plan gates.old gates.new }
 {
     let PoolRun {
         core,
-        gates,
         mut sink,
         put,
     } = run_pool(rt, alloc, core, jobs, gates, sink);
     let ended = put_behind(alloc, &core, &mut sink, put);
     PoolRun {
         core,
-        gates,
         sink,
         put: ended,
     }
@@ -123,31 +116,25 @@ pub fn run_pool<R: Threads + Wait + Sync, G: Gate + Send, S: Sink + Send>(
     alloc: Global,
     core: Core,
     jobs: &Jobs<'_>,
-    gates: Vec<G>,
+    gates: &mut [G],
     sink: S,
-) -> PoolRun<G, S>
+) -> PoolRun<S>
     requires fresh { core ≡ record { plan = core.plan; entries = []; aborted = false } }
     requires level { 1 ≤ core.plan.level }
-    requires some { 0 < vec_len gates }
+    requires some { 0 < length gates.old }
     requires reach { Reach jobs.now core.plan }
     ensures plan { result.core.plan ≡ core.plan }
-    ensures ran { HasRun (terms_in jobs.now core.plan) (map G.tells gates.items) (map G.tells result.gates.items) result.core.plan result.core.entries }
-    ensures all { vec_len result.gates ≡ vec_len gates }
+    ensures ran { HasRun (terms_in jobs.now core.plan) (map G.tells gates.old) (map G.tells gates.new) result.core.plan result.core.entries }
     ensures puts { PutsLines (test_lines result.core.plan result.core.entries) (S.tells sink) (S.tells result.sink) result.put }
     ensures ends { RunEnds result.core.plan result.core.entries result.put }
     ensures halted { IfErr result.put (λ fault. IsHalted fault result.core.plan result.core.entries (S.tells sink) (S.tells result.sink)) }
-    ensures others { RestStays result.core.plan gates.items result.gates.items }
+    ensures others { RestStays result.core.plan gates.old gates.new }
 {
     let workers = worker_count(&core, gates.len());
-    let Pooled { state, gates } = pool(rt, alloc, State::open(core, sink), gates, workers, jobs);
+    let state = run_workers(rt, alloc, State::open(core, sink), gates, workers, jobs);
     let put = put_of(state.halt());
     let (core, sink) = state.into_parts();
-    PoolRun {
-        core,
-        gates,
-        sink,
-        put,
-    }
+    PoolRun { core, sink, put }
 }
 
 /// Counts the workers: one for each processor of the level, but at most one for each gate.

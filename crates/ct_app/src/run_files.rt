@@ -19,7 +19,9 @@ const COSTS: &[u8] = b"Testing/Temporary/CTestCostData.txt";
 /// Source: CMake manual, ctest(1), --rerun-failed. The path is ctest's.
 pub(crate) const LOG: &[u8] = b"Testing/Temporary/LastTestsFailed.log";
 
-/// The greatest number of bytes of cost data that counts: 64 MiB. This project's choice.
+/// The greatest number of bytes of cost data that counts: 64 MiB.
+///
+/// Source: this project's choice.
 const MOST_COST_BYTES: u64 = 67_108_864;
 
 /// Why a file that a run reads or writes could not be used.

@@ -8,7 +8,9 @@ use ct_base::{Blob, Files, FilesFault, Name, NoMemory};
 use ct_spec::{Spec, SpecFault};
 use std::alloc::Global;
 
-/// The greatest number of bytes of a specification: 16 MiB. This project's choice.
+/// The greatest number of bytes of a specification: 16 MiB.
+///
+/// Source: this project's choice.
 const MOST_SPEC_BYTES: u64 = 16_777_216;
 
 /// Why the resources were not read from the file that declares those of the machine.

@@ -7,6 +7,7 @@ ghost use Rattle.ct_app.specs.Lists.{AnswersList};
 ghost use Rattle.ct_app.specs.MeantRuns.{AnswersAsMeant};
 ghost use Rattle.ct_app.specs.Reading.{ask_for_list};
 ghost use Rattle.ct_app.specs.Run.{OthersStay};
+ghost use Rattle.ct_worker.specs.Gates.{AreSameGates};
 
 use crate::fault::{report_end, report_outcome};
 use crate::folder::Ran;
@@ -43,7 +44,7 @@ pub fn ctest_main<R: Threads + Wait + Sync, F: Files, G: Gate + Send, S: Sink + 
     words: &[Name],
     env: &[Pair],
     mut files: F,
-    gates: Vec<G>,
+    mut gates: Vec<G>,
     sink: S,
 ) -> Finished<F, G, S>
     requires some { 0 < vec_len gates }
@@ -57,7 +58,7 @@ pub fn ctest_main<R: Threads + Wait + Sync, F: Files, G: Gate + Send, S: Sink + 
     ensures complete { Completes (sides words.now env.now (F.tells files) (F.tells result.files)
         (map G.tells gates.items) (map G.tells result.gates.items) (S.tells sink) (S.tells result.sink)
         result.plan (option_map history_entries result.history)) result.outcome }
-    ensures all { length result.gates.items ≡ length gates.items }
+    ensures all { AreSameGates (map G.tells gates.items) (map G.tells result.gates.items) }
     ensures unasked { ask_for_list words.now ≡ true → result.gates.items ≡ gates.items }
     ensures others { OthersStay result.plan gates.items result.gates.items }
 {
@@ -66,9 +67,16 @@ pub fn ctest_main<R: Threads + Wait + Sync, F: Files, G: Gate + Send, S: Sink + 
         names,
         plan,
         history,
-        gates,
         mut sink,
-    } = run_words(rt, alloc, words, env, &mut files, gates, sink);
+    } = run_words(
+        rt,
+        alloc,
+        words,
+        env,
+        &mut files,
+        gates.as_mut_slice(),
+        sink,
+    );
     let (outcome, status) = report_end(alloc, &mut sink, names.as_slice(), ended);
     Finished {
         outcome,

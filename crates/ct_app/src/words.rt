@@ -1,4 +1,4 @@
-ghost use Rattle.std.specs.Prelude.{◌≡◌, ◌-◌, ◌^◌, ◌<◌, None, false, true, length, map, option_map, vec_len};
+ghost use Rattle.std.specs.Prelude.{◌≡◌, ◌-◌, ◌^◌, ◌<◌, None, false, true, length, map, option_map};
 ghost use Rattle.ct_app.specs.Calls.{list_sides, sides};
 ghost use Rattle.ct_app.specs.Ends.{Ends, EndsList, ListEnds, history_entries};
 ghost use Rattle.ct_app.specs.Reading.{ask_for_list};
@@ -21,28 +21,27 @@ pub(crate) fn run_words<R: Threads + Wait + Sync, F: Files, G: Gate + Send, S: S
     words: &[Name],
     env: &[Pair],
     files: &mut F,
-    gates: Vec<G>,
+    gates: &mut [G],
     mut sink: S,
-) -> Ran<G, S>
+) -> Ran<S>
     requires few { length words.now < 2 ^ 32 - 1 }
-    requires some { 0 < vec_len gates }
-    ensures run { ask_for_list words.now ≡ false → Ends (sides words.now env.now (F.tells files.old) (F.tells files.new) (map G.tells gates.items) (map G.tells result.gates.items) (S.tells sink) (S.tells result.sink) result.plan (option_map history_entries result.history)) result.names result.ended }
+    requires some { 0 < length gates.old }
+    ensures run { ask_for_list words.now ≡ false → Ends (sides words.now env.now (F.tells files.old) (F.tells files.new) (map G.tells gates.old) (map G.tells gates.new) (S.tells sink) (S.tells result.sink) result.plan (option_map history_entries result.history)) result.names result.ended }
     ensures list { ask_for_list words.now ≡ true → EndsList (list_sides words.now (F.tells files.old) (F.tells files.new) (S.tells sink) (S.tells result.sink)) result.names result.ended }
-    ensures unasked { ask_for_list words.now ≡ true → result.gates ≡ gates }
+    ensures unasked { ask_for_list words.now ≡ true → gates.new ≡ gates.old }
     ensures plan { ask_for_list words.now ≡ true → result.plan ≡ None }
     ensures history { ask_for_list words.now ≡ true → result.history ≡ None }
-    ensures all { vec_len result.gates ≡ vec_len gates }
-    ensures others { OthersStay result.plan gates.items result.gates.items }
+    ensures others { OthersStay result.plan gates.old gates.new }
 {
     match read_words(alloc, words) {
         Ok(invocation) => match invocation.task {
             Task::Run => run_folder(rt, alloc, invocation, env, files, gates, sink),
             Task::ListTests | Task::ListLabels | Task::ListJson => {
                 let outcome = list_folder(alloc, invocation, files, &mut sink);
-                unrun(alloc, outcome, gates, sink)
+                unrun(alloc, outcome, sink)
             }
         },
-        Err(fault) => unrun(alloc, Outcome::from(fault), gates, sink),
+        Err(fault) => unrun(alloc, Outcome::from(fault), sink),
     }
 }
 

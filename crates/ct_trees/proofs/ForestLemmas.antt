@@ -1,6 +1,6 @@
 -- Trees that were read and planned one behind the other, from what was read for each.
 use Rattle.std.proofs.Common.{◌≡◌, ◌∙◌, sym, ap, subst, refl, ℕ, suc, ◌+◌, ◌≤◌, List, [], ◌∷◌, ◌++◌, length, map, take, drop, get_or, ◌<◌, inl, inr, arith}
-use Rattle.std.specs.Prelude.{Option, Some, None, Ok, Err, slice_get}
+use Rattle.std.specs.Prelude.{⊤, Option, Some, None, Ok, Err, slice_get}
 use Rattle.std.proofs.lemmas.List.{drop_more, length-append, length-map, map-id, take-append-drop}
 use Rattle.ct_base.specs.declared.defs.Resource.{Resource}
 use Rattle.ct_base.specs.declared.defs.TestDef.{TestDef}
@@ -194,7 +194,7 @@ module _ (invocation own : Invocation) (lent : Option (List Resource)) (before b
       by_outcome (FilesFault path) bad =
           (stops_at behind (λ n d. TreeFailsAt before.held invocation n d path) (same_fault invocation count dir path before.held between.held so_far.stay.held bad.0), then_fail path before between now so_far.stay bad.1)
       by_outcome OutputFault bad = absurd bad
-      by_outcome Memory bad = ((trees, first_trees (dir ∷ behind)), then_stay before between now so_far.stay bad)
+      by_outcome Memory bad = (stops_at behind (λ n d. ⊤) tt, then_stay before between now so_far.stay bad)
 
 -- the trees that are read are those that were read before, if the files stayed
 same_trees : (invocation : Invocation) (lent : Option (List Resource)) (dirs : List (List ℕ)) (trees : List Tree) (before between : Option Held) → Becomes before between SameHeld → AreTrees between invocation lent dirs trees → AreTrees before invocation lent dirs trees
@@ -243,7 +243,7 @@ few_plans invocation lent dirs before now trees names outcome lack =
     by_outcome (Refused refusal) bad = few_first before.held invocation lent dirs (plans_of trees) bad.0.trees bad.0.front
     by_outcome (FilesFault path) bad = few_first before.held invocation lent dirs (plans_of trees) bad.0.trees bad.0.front
     by_outcome OutputFault bad = absurd bad
-    by_outcome Memory bad = few_first before.held invocation lent dirs (plans_of trees) bad.0.0 bad.0.1
+    by_outcome Memory bad = few_first before.held invocation lent dirs (plans_of trees) bad.0.trees bad.0.front
 
 -- some tree has no plan, where the specification was read before it
 module _ (invocation : Invocation) (dirs : List (List ℕ)) (before between now : FilesTell) (lent : Option (List Resource)) (named : ReadsSpec invocation.spec_file before between (Ok lent)) where
@@ -260,16 +260,16 @@ module _ (invocation : Invocation) (dirs : List (List ℕ)) (before between now 
       (record { lent = lent; declared = named.0; stops = same_stop invocation lent dirs plans (length plans) _ _ before.held between.held named.1.held (λ n dir. same_fault invocation n dir path before.held between.held named.1.held) bad.0 }, then_fail path before between now named.1 bad.1)
   lacks_plan plans names OutputFault bad = absurd bad
   lacks_plan plans names Memory bad =
-      (inr (record { lent = lent; declared = named.0; trees = bad.0.0; are = same_first invocation lent dirs plans bad.0.0 before.held between.held named.1.held bad.0.1 }), then_stay before between now named.1 bad.1)
+      (record { lent = lent; declared = named.0; stops = same_stop invocation lent dirs plans (length plans) _ _ before.held between.held named.1.held (λ n dir all. all) bad.0 }, then_stay before between now named.1 bad.1)
 
 -- the specification was not read
 pub lacks_spec : (invocation : Invocation) (dirs : List (List ℕ)) (before now : FilesTell) (names : List (List ℕ)) (fault : SpecFileFault) (outcome : Outcome) → outcome ≡ outcome_of_spec fault → ReadsSpec invocation.spec_file before now (Err fault) → LackPlans invocation dirs before now [] None names outcome
 lacks_spec invocation dirs before now names (Named.Refused why) outcome is bad =
-    subst (λ (o : Outcome). LackPlans invocation dirs before now [] None names o) (sym is) (refl, bad.0, bad.1)
+    subst (λ (o : Outcome). LackPlans invocation dirs before now [] None names o) (sym is) (refl, bad)
 lacks_spec invocation dirs before now names (Named.Failed path) outcome is bad =
-    subst (λ (o : Outcome). LackPlans invocation dirs before now [] None names o) (sym is) (refl, bad.0, bad.1)
+    subst (λ (o : Outcome). LackPlans invocation dirs before now [] None names o) (sym is) (refl, bad)
 lacks_spec invocation dirs before now names Named.NoMemory outcome is bad =
-    subst (λ (o : Outcome). LackPlans invocation dirs before now [] None names o) (sym is) (inl refl, bad)
+    subst (λ (o : Outcome). LackPlans invocation dirs before now [] None names o) (sym is) (refl, bad)
 
 -- trees that are planned are as many as their folders
 pub have_no_more : (told : Option Held) (invocation : Invocation) (dirs : List (List ℕ)) (trees : List Tree) → HaveTrees told invocation dirs trees → length trees ≤ length dirs

@@ -15,6 +15,7 @@ pub mod TreeFilesLemmas
 pub mod PartFileLemmas
 pub mod CallLemmas
 pub mod TreeCompleteLemmas
+pub mod TreeGateLemmas
 pub mod TreeSummaryLemmas
 pub mod TreeAlikeLemmas
 pub mod TreePartLemmas

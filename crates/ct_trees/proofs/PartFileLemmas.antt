@@ -19,5 +19,5 @@ pub each_ended : (trees : List TreeRest) (entries : List Entry) (parts : List (L
 each_ended trees entries parts are final = subst (λ (ps : List (List Entry)). AreEnded trees ps) (sym are) (ended_behind trees 0 entries final)
 
 -- without memory no file is written
-pub none_left : (texts : List FileText) (IsOf : ℕ → List ℕ → Type 0) (files : FilesTell) → WritesTexts texts IsOf files files (Err Fault.NoMemory)
-none_left texts IsOf files = serves_as SameHeld (LeavesFirstTexts texts) (λ x y same. record { first = []; rest = texts; split = refl; written = same }) files files (stays files)
+pub none_left : (texts : List FileText) (files : FilesTell) → WritesTexts texts files files (Err Fault.NoMemory)
+none_left texts files = serves_as SameHeld (LeavesFirstTexts texts) (λ x y same. record { first = []; rest = texts; split = refl; written = same }) files files (stays files)

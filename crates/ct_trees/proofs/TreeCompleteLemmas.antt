@@ -34,7 +34,7 @@ use Rattle.ct_app.specs.Tests.{RefusesFirst}
 use Rattle.ct_app.proofs.CompleteLemmas.{lent_unrefused, none_refused_first, not_both, same_choice}
 use Rattle.ct_app.proofs.SourceLemmas.{IsSameChoice, before_same, edges_same, same_ok}
 use Rattle.ct_trees.specs.declared.tree_run.RunTerms.{RunTerms}
-use Rattle.ct_trees.specs.Planning.{LackPlans}
+use Rattle.ct_trees.specs.Planning.{LackPlans, LackSpec}
 use Rattle.ct_trees.specs.TreeAnswers.{AnswersTrees, EndsForDirs, EndsTrees, TreesMade}
 use Rattle.ct_trees.specs.TreeComplete.{ArePlannable, AreRunnable, CompletesTrees, IsPlannable, count_together, source_held}
 use Rattle.ct_trees.specs.TreeEnds.{EndsWithTrees}
@@ -172,17 +172,25 @@ module _ (words : List (List ℕ)) (told : Option Held) (can : AreRunnable words
   -- where trees are not planned and the files did not fail, memory ran out
   module _ (before now : FilesTell) (same : before.held ≡ told) (calm : Rose before.faults now.faults → ⊥) where
     lack_memory : (plans : List PlanParts) (place : Option ℕ) (names : List (List ℕ)) (outcome : Outcome) → LackPlans invocation dirs before now plans place names outcome → outcome ≡ Memory
-    lack_memory plans place names Completed lack = absurd lack
-    lack_memory plans place names Listed lack = absurd lack
-    lack_memory plans place names (Usage word kind) lack = absurd lack
-    lack_memory plans None names (Refused refusal) lack =
-        absurd (undeclared_never refusal (subst (λ (t : Option Held). RefusesSpec t invocation refusal) same lack.1))
+    lack_memory plans None names outcome lack = by_spec outcome lack.1
+      where
+        by_spec : (o : Outcome) → LackSpec invocation before now o → o ≡ Memory
+        by_spec Completed lack = absurd lack
+        by_spec Listed lack = absurd lack
+        by_spec (Usage word kind) lack = absurd lack
+        by_spec (Refused refusal) lack =
+            absurd (undeclared_never refusal (subst (λ (t : Option Held). RefusesSpec t invocation refusal) same lack.0))
+        by_spec (FilesFault path) lack = absurd (calm lack.1.rose)
+        by_spec OutputFault lack = absurd lack
+        by_spec Memory lack = refl
+    lack_memory plans (Some place) names Completed lack = absurd lack
+    lack_memory plans (Some place) names Listed lack = absurd lack
+    lack_memory plans (Some place) names (Usage word kind) lack = absurd lack
     lack_memory plans (Some place) names (Refused refusal) lack =
         absurd (refused_never plans place refusal names (subst (λ (t : Option Held). StopsReading t invocation dirs plans place (λ lent count dir. RefusesTree t invocation lent count dir refusal names)) same lack.0))
-    lack_memory plans None names (FilesFault path) lack = absurd (calm lack.2.rose)
     lack_memory plans (Some place) names (FilesFault path) lack = absurd (calm lack.1.rose)
-    lack_memory plans place names OutputFault lack = absurd lack
-    lack_memory plans place names Memory lack = refl
+    lack_memory plans (Some place) names OutputFault lack = absurd lack
+    lack_memory plans (Some place) names Memory lack = refl
 
 -- a call ended with a complete run, or out of memory
 abbrev EndsWell : Result ℕ Outcome → Type 0

@@ -33,7 +33,7 @@ use Rattle.ct_app.proofs.MeantLemmas.{IsRanked}
 use Rattle.ct_app.proofs.MeantRunLemmas.{are_meant}
 use Rattle.ct_trees.specs.declared.tree_run.RunTerms.{RunTerms}
 use Rattle.ct_trees.specs.Joining.{props_of_trees}
-use Rattle.ct_trees.specs.Planning.{LackPlans}
+use Rattle.ct_trees.specs.Planning.{LackPlans, LackSpec}
 use Rattle.ct_trees.specs.TreeAnswers.{AnswersTrees, EndsForDirs, EndsTrees, TreesMade}
 use Rattle.ct_trees.specs.TreeEnds.{EndsWithTrees}
 use Rattle.ct_trees.specs.TreeMeant.{AnswersTreesAsMeant, IsTreeFor, IsTreeRun, PartIsMeant, PartsAreMeant, PartsAreRuns, RanTreesAsMeant, seen_by, told_behind}
@@ -180,8 +180,10 @@ module _ (words : List (List ℕ)) (own : List Pair) (s : RunSides) (middle : Si
 
   module _ (dirs : List (List ℕ)) (invocation : Invocation) (asked : AskForTrees words dirs invocation) where
     lack_never : (plans : List PlanParts) (place : Option ℕ) (others : List (List ℕ)) (outcome : Outcome) → LackPlans invocation dirs s.files.before s.files.after plans place others outcome → ended ≡ Err outcome → ⊥
-    lack_never plans place others outcome lack is =
-        never_ended outcome is (λ same. subst (λ (o : Outcome). LackPlans invocation dirs s.files.before s.files.after plans place others o) same lack)
+    lack_never plans None others outcome lack is =
+        never_ended outcome is (λ same. subst (λ (o : Outcome). LackSpec invocation s.files.before s.files.after o) same lack.1)
+    lack_never plans (Some place) others outcome lack is =
+        never_ended outcome is (λ same. subst (λ (o : Outcome). LackPlans invocation dirs s.files.before s.files.after plans (Some place) others o) same lack)
 
     -- the trees ran, and so to the end
     module _ (between : FilesTell) (run : RunTerms) (trees : List Tree) (read : HaveTrees s.files.before.held invocation dirs trees) (plans : List PlanParts) (plans_are : plans ≡ plans_of trees) (whole : PlanParts) (entries : List Entry) (place : Option ℕ) where

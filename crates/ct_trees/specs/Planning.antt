@@ -1,5 +1,5 @@
 -- The steps in which trees are read and planned, as their calls return. This project's own.
-use Rattle.std.specs.Prelude.{◌≡◌, ◌⊎◌, ℕ, ◌+◌, ◌<◌, ◌≤◌, List, [], ◌∷◌, ◌++◌, length, Option, Some, None, IfSome}
+use Rattle.std.specs.Prelude.{◌≡◌, ◌⊎◌, ⊤, ℕ, ◌+◌, ◌<◌, ◌≤◌, List, [], ◌∷◌, ◌++◌, length, Option, Some, None, IfSome}
 use Rattle.ct_base.specs.declared.defs.Resource.{Resource}
 use Rattle.ct_base.specs.Outside.{FilesTell, SameHeld}
 use Rattle.ct_testfile.specs.declared.fault.ReadKind.TheVariants.{TooManyTests}
@@ -14,7 +14,7 @@ use Rattle.ct_app.specs.Reading.{RefusesSpec}
 use Rattle.ct_app.specs.RunFiles.{FilesFail, FilesStay, last_costs}
 use Rattle.ct_plan.specs.declared.whole.Tree.{Tree}
 use Rattle.ct_trees.specs.declared.planning.TreeFolder.{TreeFolder}
-use Rattle.ct_trees.specs.Trees.{AreFirstTrees, HaveFirstTrees, IsTreeIn, RefusesTreeTests, RefusesTree, StopsAtTree, StopsReading, TreeFailsAt, most_tree_tests}
+use Rattle.ct_trees.specs.Trees.{IsTreeIn, RefusesTreeTests, RefusesTree, StopsAtTree, StopsReading, TreeFailsAt, most_tree_tests}
 
 -- the tests of a tree are refused for their number, or memory ran out
 abbrev pub RefusesNumber : ℕ → List ℕ → Outcome → Type 0
@@ -67,7 +67,7 @@ pub record AddsTree
   pub is : new ≡ old ++ tree ∷ []
   pub counted : all ≡ count + length tree.defs
 
--- why some tree has no plan, behind those with these plans; the tests of a cycle have these names
+-- why the tree behind those with these plans has no plan; the tests of a cycle have these names
 abbrev pub LackTree : Invocation
     → Option (List Resource) → List (List ℕ) → FilesTell → FilesTell → List PlanParts → List (List ℕ)
     → Outcome → Type 0
@@ -80,25 +80,33 @@ LackTree invocation lent dirs before now plans names (FilesFault path) =
     (λ count dir. TreeFailsAt before.held invocation count dir path)
     × FilesFail path SameHeld before now
 LackTree invocation lent dirs before now plans names Memory =
-    ((trees : List Tree) × AreFirstTrees before.held invocation lent dirs plans trees) × FilesStay before now
+    StopsAtTree before.held invocation lent dirs plans (length plans) (λ count dir. ⊤) × FilesStay before now
 LackTree invocation lent dirs before now plans names other = ⊥
 
--- why the trees in these folders are not all planned, behind those with these plans: the specification was
--- not read, or the tree at the place has no plan. The tests of a cycle have these names.
+-- why no tree was begun: the specification was not read, or memory ran out
+abbrev pub LackSpec : Invocation → FilesTell → FilesTell → Outcome → Type 0
+LackSpec invocation before now (Refused refusal) =
+    RefusesSpec before.held invocation refusal × FilesStay before now
+LackSpec invocation before now (FilesFault path) =
+    (invocation.spec_file ≡ Some path) × FilesFail path SameHeld before now
+LackSpec invocation before now Memory = FilesStay before now
+LackSpec invocation before now other = ⊥
+
+-- why the trees in these folders are not all planned; the tests of a cycle have these names:
+-- - without a place no tree was begun, since the specification is read before all trees: there is no plan;
+-- - the tree at the place has no plan: the plans are those of the trees in front of it
 abbrev pub LackPlans : Invocation
     → List (List ℕ) → FilesTell → FilesTell → List PlanParts → Option ℕ → List (List ℕ) → Outcome → Type 0
-LackPlans invocation dirs before now plans place names Memory =
-    ((plans ≡ []) ⊎ HaveFirstTrees before.held invocation dirs plans) × FilesStay before now
-LackPlans invocation dirs before now plans None names (Refused refusal) =
-    (plans ≡ []) × RefusesSpec before.held invocation refusal × FilesStay before now
+LackPlans invocation dirs before now plans None names outcome =
+    (plans ≡ []) × LackSpec invocation before now outcome
 LackPlans invocation dirs before now plans (Some place) names (Refused refusal) =
     StopsReading before.held invocation dirs plans place
     (λ lent count dir. RefusesTree before.held invocation lent count dir refusal names)
     × FilesStay before now
-LackPlans invocation dirs before now plans None names (FilesFault path) =
-    (plans ≡ []) × (invocation.spec_file ≡ Some path) × FilesFail path SameHeld before now
 LackPlans invocation dirs before now plans (Some place) names (FilesFault path) =
     StopsReading before.held invocation dirs plans place
     (λ lent count dir. TreeFailsAt before.held invocation count dir path)
     × FilesFail path SameHeld before now
-LackPlans invocation dirs before now plans place names other = ⊥
+LackPlans invocation dirs before now plans (Some place) names Memory =
+    StopsReading before.held invocation dirs plans place (λ lent count dir. ⊤) × FilesStay before now
+LackPlans invocation dirs before now plans (Some place) names other = ⊥

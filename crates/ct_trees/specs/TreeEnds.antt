@@ -36,5 +36,6 @@ EndsWithTrees empty_is_error trees entries before now (Ok done) place (Ok status
 EndsWithTrees empty_is_error trees entries before now (Ok done) place (Err Memory) =
     FilesServe (LeavesFirstTexts (texts_behind trees entries)) before now × (place ≡ None)
 EndsWithTrees empty_is_error trees entries before now (Ok done) (Some place) (Err (FilesFault path)) =
-    IsPathOf trees place path × FilesFail path (TearsText (texts_behind trees entries) path) before now
+    IsPathOf (texts_behind trees entries) place path
+    × FilesFail path (TearsText (texts_behind trees entries) place path) before now
 EndsWithTrees empty_is_error trees entries before now (Ok done) place (Err other) = ⊥

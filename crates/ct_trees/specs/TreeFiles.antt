@@ -1,6 +1,6 @@
 -- What a run over several trees writes: for each tree its cost data and, where a test of it failed, its log.
 -- Source: CMake manual, ctest(1), --rerun-failed; cmake-properties(7), COST; the order is this project's own.
-use Rattle.std.specs.Prelude.{◌≡◌, ◌⊎◌, ℕ, List, [], ◌∷◌, ◌++◌, Option, Some, Result, Ok, Err, IsSomeAnd, bytes_eq, slice_get, if◌then◌else◌}
+use Rattle.std.specs.Prelude.{◌≡◌, ℕ, ◌+◌, List, [], ◌∷◌, ◌++◌, Contains, Option, Some, Result, Ok, Err, bytes_eq, if◌then◌else◌}
 use Rattle.ct_base.specs.Outside.{FailsToWrite, FilesTell, Held}
 use Rattle.ct_cost.specs.declared.cost_data.CostData.{CostData}
 use Rattle.ct_cost.specs.After.{failed_log_text}
@@ -14,42 +14,46 @@ use Rattle.ct_trees.specs.declared.tree_files.TreeFileFault.{TreeFileFault}
 use Rattle.ct_trees.specs.declared.tree_files.TreeFileFault.TheVariants.{Failed, NoMemory}
 use Rattle.ct_trees.specs.TreeParts.{parts_behind}
 
--- a text that is written, and its path
+-- a text that is written for the tree at a place, from 0, and its path
 pub record FileText : Type 0 where
+  pub tree : ℕ
   pub path : List ℕ
   pub text : List ℕ
 
--- the cost data after a run of a plan that began with this cost data
-abbrev pub cost_text : PlanParts → List Entry → CostData → FileText
-cost_text plan part costs = record { path = costs_path plan.dir; text = new_costs plan part costs }
+-- for the tree at this place: the cost data after a run of a plan that began with this cost data
+abbrev pub cost_text : ℕ → PlanParts → List Entry → CostData → FileText
+cost_text place plan part costs =
+    record { tree = place; path = costs_path plan.dir; text = new_costs plan part costs }
 
--- the log of the failed tests after a run of a plan
-abbrev pub log_text : PlanParts → List Entry → FileText
-log_text plan part = record { path = log_path plan.dir; text = failed_log_text plan part }
+-- for the tree at this place: the log of the failed tests after a run of a plan
+abbrev pub log_text : ℕ → PlanParts → List Entry → FileText
+log_text place plan part =
+    record { tree = place; path = log_path plan.dir; text = failed_log_text plan part }
 
 -- the log where a test failed, else nothing
-abbrev pub log_texts : PlanParts → List Entry → List FileText
-log_texts plan part = if has_failing plan part then log_text plan part ∷ [] else []
+abbrev pub log_texts : ℕ → PlanParts → List Entry → List FileText
+log_texts place plan part = if has_failing plan part then log_text place plan part ∷ [] else []
 
 -- what is written for a plan with these tests: its cost data, and its log if there is one; nothing without
 -- tests
-abbrev pub texts_for : List PlanTest → PlanParts → List Entry → CostData → List FileText
-texts_for [] plan part costs = []
-texts_for (test ∷ tests) plan part costs = cost_text plan part costs ∷ log_texts plan part
+abbrev pub texts_for : ℕ → List PlanTest → PlanParts → List Entry → CostData → List FileText
+texts_for place [] plan part costs = []
+texts_for place (test ∷ tests) plan part costs = cost_text place plan part costs ∷ log_texts place plan part
 
--- what is written for a tree after a history with this part
-abbrev pub tree_texts : TreeRest → List Entry → List FileText
-tree_texts tree part = texts_for tree.plan.tests tree.plan part tree.costs
+-- what is written for the tree at this place after a history with this part
+abbrev pub tree_texts : ℕ → TreeRest → List Entry → List FileText
+tree_texts place tree part = texts_for place tree.plan.tests tree.plan part tree.costs
 
--- what is written for these trees, in order, where each has its part
-abbrev pub texts_of_parts : List TreeRest → List (List Entry) → List FileText
-texts_of_parts [] parts = []
-texts_of_parts (tree ∷ trees) [] = []
-texts_of_parts (tree ∷ trees) (part ∷ parts) = tree_texts tree part ++ texts_of_parts trees parts
+-- what is written for these trees, in order, where each has its part; the first of them is at this place
+abbrev pub texts_of_parts : ℕ → List TreeRest → List (List Entry) → List FileText
+texts_of_parts place [] parts = []
+texts_of_parts place (tree ∷ trees) [] = []
+texts_of_parts place (tree ∷ trees) (part ∷ parts) =
+    tree_texts place tree part ++ texts_of_parts (place + 1) trees parts
 
 -- what is written for these trees after a history
 abbrev pub texts_behind : List TreeRest → List Entry → List FileText
-texts_behind trees entries = texts_of_parts trees (parts_behind 0 trees entries)
+texts_behind trees entries = texts_of_parts 0 trees (parts_behind 0 trees entries)
 
 -- what a path holds behind these texts: the last text of this path, else what it held
 abbrev pub held_after_files : List FileText → List ℕ → Option (List ℕ) → Option (List ℕ)
@@ -61,13 +65,14 @@ held_after_files (file ∷ files) path held =
 abbrev pub LeavesTexts : List FileText → Held → Held → Type 0
 LeavesTexts texts before now = (path : List ℕ) → now path ≡ held_after_files texts path (before path)
 
--- some first texts were written, and the write of the next one failed at this path; each path that is not one
--- of theirs holds what it held
-pub record TearsText (texts : List FileText) (path : List ℕ) (before now : Held) : Type 0 where
+-- some first texts were written, and the write of the next one failed: it is for the tree at this place, and
+-- has this path; each path that is not one of theirs holds what it held
+pub record TearsText (texts : List FileText) (place : ℕ) (path : List ℕ) (before now : Held) : Type 0 where
   pub first : List FileText
   pub torn : FileText
   pub rest : List FileText
   pub split : texts ≡ first ++ torn ∷ rest
+  pub tree_is : place ≡ torn.tree
   pub named : path ≡ torn.path
   pub between : Held
   pub written : LeavesTexts first before between
@@ -80,19 +85,17 @@ pub record LeavesFirstTexts (texts : List FileText) (before now : Held) : Type 0
   pub split : texts ≡ first ++ rest
   pub written : LeavesTexts first before now
 
--- the path is that of the cost data or of the log of the tree
-abbrev pub IsPathIn : TreeRest → List ℕ → Type 0
-IsPathIn tree path = (path ≡ costs_path tree.plan.dir) ⊎ (path ≡ log_path tree.plan.dir)
+-- one of these texts is for the tree at this place, and has this path
+pub record IsPathOf (texts : List FileText) (place : ℕ) (path : List ℕ) : Type 0 where
+  pub file : FileText
+  pub due : Contains texts file
+  pub tree_is : place ≡ file.tree
+  pub named : path ≡ file.path
 
--- the path is that of the cost data or of the log of the tree at this place
-abbrev pub IsPathOf : List TreeRest → ℕ → List ℕ → Type 0
-IsPathOf trees place path = IsSomeAnd (slice_get trees place) (λ tree. IsPathIn tree path)
-
--- these texts were written in order; or the write of one failed, and `IsOf` holds of the place of its tree
--- and of its path; or memory ran out behind some first texts
-abbrev pub WritesTexts : List FileText
-    → (ℕ → List ℕ → Type 0) → FilesTell → FilesTell → Result (Unit {0}) TreeFileFault → Type 0
-WritesTexts texts IsOf before now (Ok done) = FilesServe (LeavesTexts texts) before now
-WritesTexts texts IsOf before now (Err (Failed tree path)) =
-    IsOf tree path × FilesFail path (TearsText texts path) before now
-WritesTexts texts IsOf before now (Err NoMemory) = FilesServe (LeavesFirstTexts texts) before now
+-- these texts were written in order; or the write of one failed, which is for the tree that the fault names;
+-- or memory ran out behind some first texts
+abbrev pub WritesTexts : List FileText → FilesTell → FilesTell → Result (Unit {0}) TreeFileFault → Type 0
+WritesTexts texts before now (Ok done) = FilesServe (LeavesTexts texts) before now
+WritesTexts texts before now (Err (Failed place path)) =
+    IsPathOf texts place path × FilesFail path (TearsText texts place path) before now
+WritesTexts texts before now (Err NoMemory) = FilesServe (LeavesFirstTexts texts) before now

@@ -8,6 +8,7 @@ use Rattle.ct_args.specs.declared.usage.UsageKind.TheVariants.{NoValue, BadNumbe
 use Rattle.ct_args.specs.Invocation.{InvocationValue, invocation_in, invocation_seen}
 use Rattle.ct_app.specs.Reading.{is_list}
 use Rattle.ct_trees.specs.declared.words.Trees.{Trees}
+use Rattle.ct_trees.specs.declared.words.TheConstants.{MOST_TREES}
 
 -- the word in front of the folder of a tree
 abbrev pub tree_word : List ℕ
@@ -15,7 +16,7 @@ tree_word = codes "--tree"
 
 -- the greatest number of trees
 abbrev pub most_trees : ℕ
-most_trees = 64
+most_trees = MOST_TREES
 
 -- a folder of a tree stands at the front of the words, behind its --tree
 abbrev pub front_dir : List (List ℕ) → Option (List ℕ)

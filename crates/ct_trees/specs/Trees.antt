@@ -23,11 +23,12 @@ use Rattle.ct_app.specs.Reading.{AreRead, RefusesPlan, RefusesReading}
 use Rattle.ct_app.specs.RunFiles.{costs_path, last_costs}
 use Rattle.ct_app.specs.SpecFile.{AreLent}
 use Rattle.ct_plan.specs.declared.whole.Tree.{Tree}
+use Rattle.ct_trees.specs.declared.planning.TheConstants.{MOST_TREE_TESTS}
 use Rattle.ct_trees.specs.TreeWords.{trees_in}
 
 -- the greatest number of tests that all trees define together
 abbrev pub most_tree_tests : ℕ
-most_tree_tests = 400000
+most_tree_tests = MOST_TREE_TESTS
 
 -- the plans of these trees
 abbrev pub plans_of : List Tree → List PlanParts
@@ -155,15 +156,6 @@ pub record HaveTrees (told : Option Held) (invocation : Invocation) (dirs : List
   pub declared : AreLent told invocation.spec_file lent
   pub are : AreTrees told invocation lent dirs trees
   pub few : defined_in trees ≤ most_tree_tests
-
--- some first trees were read and planned with these plans, and share what the named specification declares
-pub record HaveFirstTrees
-    (told : Option Held) (invocation : Invocation) (dirs : List (List ℕ)) (plans : List PlanParts)
-    : Type 0 where
-  pub lent : Option (List Resource)
-  pub declared : AreLent told invocation.spec_file lent
-  pub trees : List Tree
-  pub are : AreFirstTrees told invocation lent dirs plans trees
 
 -- the trees in front of the one at this place have these plans, and `Stops` holds of that one. It is told
 -- what is lent, how many tests the trees in front define together, and the folder.

@@ -1,4 +1,4 @@
-ghost use Rattle.std.specs.Prelude.{◌≡◌, ◌<◌, ◌≤◌, ◌-◌, ◌^◌, Err, None, length, map, option_map, vec_len};
+ghost use Rattle.std.specs.Prelude.{◌≡◌, ◌<◌, ◌≤◌, ◌-◌, ◌^◌, Err, None, length, map, option_map};
 ghost use Rattle.ct_args.specs.Invocation.{IsBounded};
 ghost use Rattle.ct_app.specs.Ends.{history_entries};
 ghost use Rattle.ct_app.specs.Run.{OthersStay};
@@ -25,23 +25,22 @@ pub(crate) fn run_words<R: Threads + Wait + Sync, F: Files, G: Gate + Send, S: S
     words: &[Name],
     env: &[Pair],
     files: &mut F,
-    gates: Vec<G>,
+    gates: &mut [G],
     sink: S,
-) -> TreesRun<G, S>
-    requires some { 0 < vec_len gates }
+) -> TreesRun<S>
+    requires some { 0 < length gates.old }
     requires few { length words.now < 2 ^ 32 - 1 }
     ensures ends { EndsTrees words.now env.now
-        (sides_of_run (F.tells files.old) (F.tells files.new) (map G.tells gates.items) (map G.tells result.gates.items) (S.tells sink) (S.tells result.sink))
+        (sides_of_run (F.tells files.old) (F.tells files.new) (map G.tells gates.old) (map G.tells gates.new) (S.tells sink) (S.tells result.sink))
         (record { tree = result.tree; plans = result.plans; whole = result.whole; history = option_map history_entries result.history }) result.names result.ended }
-    ensures all { vec_len result.gates ≡ vec_len gates }
-    ensures others { OthersStay result.whole gates.items result.gates.items }
+    ensures others { OthersStay result.whole gates.old gates.new }
 {
     match read_trees(alloc, words) {
         Ok(asked) => {
             let Trees { dirs, invocation } = asked;
             run_dirs(rt, alloc, dirs, invocation, env, files, gates, sink)
         }
-        Err(fault) => unrun(alloc, Outcome::from(fault), List::new(alloc), gates, sink),
+        Err(fault) => unrun(alloc, Outcome::from(fault), List::new(alloc), sink),
     }
 }
 
@@ -53,21 +52,20 @@ fn run_dirs<R: Threads + Wait + Sync, F: Files, G: Gate + Send, S: Sink + Send>(
     invocation: Invocation,
     env: &[Pair],
     files: &mut F,
-    gates: Vec<G>,
+    gates: &mut [G],
     sink: S,
-) -> TreesRun<G, S>
+) -> TreesRun<S>
     requires bounded { IsBounded invocation }
     requires one { 0 < length dirs }
     requires few { length dirs < 2 ^ 32 }
-    requires some { 0 < vec_len gates }
+    requires some { 0 < length gates.old }
     ensures ends { EndsForDirs dirs invocation env.now
-        (sides_of_run (F.tells files.old) (F.tells files.new) (map G.tells gates.items) (map G.tells result.gates.items) (S.tells sink) (S.tells result.sink))
+        (sides_of_run (F.tells files.old) (F.tells files.new) (map G.tells gates.old) (map G.tells gates.new) (S.tells sink) (S.tells result.sink))
         (record { tree = result.tree; plans = result.plans; whole = result.whole; history = option_map history_entries result.history }) result.names result.ended }
-    ensures all { vec_len result.gates ≡ vec_len gates }
-    ensures others { OthersStay result.whole gates.items result.gates.items }
+    ensures others { OthersStay result.whole gates.old gates.new }
 {
     let Ok(room) = Vec::with_capacity(alloc, dirs.len()) else {
-        return unrun(alloc, Outcome::Memory, List::new(alloc), gates, sink);
+        return unrun(alloc, Outcome::Memory, List::new(alloc), sink);
     };
     let run = RunTerms {
         own: env,
@@ -77,13 +75,13 @@ fn run_dirs<R: Threads + Wait + Sync, F: Files, G: Gate + Send, S: Sink + Send>(
     let mut trees = List::new(alloc);
     match read_and_plan(alloc, files, invocation, dirs, &mut trees) {
         Ok(()) => run_planned(rt, alloc, trees, room, &run, files, gates, sink),
-        Err(bad) => unplanned(bad, plans_of_trees(room, trees), gates, sink),
+        Err(bad) => unplanned(bad, plans_of_trees(room, trees), sink),
     }
 }
 
 /// Makes the end of a call whose trees are not all planned.
-fn unplanned<G, S>(bad: UnplannedTrees, plans: List<Plan>, gates: Vec<G>, sink: S) -> TreesRun<G, S>
-    ensures { result ≡ record { ended = Err bad.why.outcome; names = bad.why.names; tree = bad.tree; plans = plans; whole = None; history = None; gates = gates; sink = sink } }
+fn unplanned<S>(bad: UnplannedTrees, plans: List<Plan>, sink: S) -> TreesRun<S>
+    ensures { result ≡ record { ended = Err bad.why.outcome; names = bad.why.names; tree = bad.tree; plans = plans; whole = None; history = None; sink = sink } }
 {
     TreesRun {
         ended: Err(bad.why.outcome),
@@ -92,7 +90,6 @@ fn unplanned<G, S>(bad: UnplannedTrees, plans: List<Plan>, gates: Vec<G>, sink: 
         plans,
         whole: None,
         history: None,
-        gates,
         sink,
     }
 }

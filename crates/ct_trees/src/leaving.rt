@@ -3,7 +3,7 @@ ghost use Rattle.std.specs.List.{list_any};
 ghost use Rattle.ct_app.specs.RunFiles.{done_of};
 ghost use Rattle.ct_trees.specs.Joining.{AreFinalParts, defined_by};
 ghost use Rattle.ct_trees.specs.TreeEnds.{EndsWithTrees, lacks_tests as lack_tests};
-ghost use Rattle.ct_trees.specs.TreeFiles.{IsPathOf, WritesTexts, texts_behind};
+ghost use Rattle.ct_trees.specs.TreeFiles.{WritesTexts, texts_behind};
 ghost use Rattle.ct_trees.specs.TreeParts.{parts_behind, some_failing};
 
 use crate::joining::TreeRest;
@@ -74,7 +74,7 @@ fn write_parts<F: Files>(
     requires complete { AreFinalParts 0 trees.now history.now.entries.items }
     requires few { defined_by trees.now < 2 ^ 32 }
     requires places { length trees.now ≤ 2 ^ 32 }
-    ensures written { WritesTexts (texts_behind trees.now history.now.entries.items) (IsPathOf trees.now) (F.tells files.old) (F.tells files.new) (done_of result) }
+    ensures written { WritesTexts (texts_behind trees.now history.now.entries.items) (F.tells files.old) (F.tells files.new) (done_of result) }
     ensures failed { IfOk result (λ failed. failed ≡ some_failing trees.now (parts_behind 0 trees.now history.now.entries.items)) }
 {
     match parts_of_trees(alloc, trees, history) {

@@ -9,6 +9,7 @@
 mod call;
 mod joining;
 mod leaving;
+pub mod limits;
 mod parts;
 mod planning;
 mod reports;

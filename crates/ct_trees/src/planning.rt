@@ -19,7 +19,9 @@ use ct_spec::Spec;
 use ct_testfile::ReadKind;
 use std::alloc::Global;
 
-/// The greatest number of tests that all trees define together. This project's choice.
+/// The greatest number of tests that all trees define together.
+///
+/// Source: this project's choice.
 const MOST_TREE_TESTS: usize = 400_000;
 
 /// What is read for one tree.

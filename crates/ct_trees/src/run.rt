@@ -1,4 +1,4 @@
-ghost use Rattle.std.specs.Prelude.{◌≡◌, ◌<◌, ◌≤◌, ◌^◌, [], IfErr, false, map, vec_len};
+ghost use Rattle.std.specs.Prelude.{◌≡◌, ◌<◌, ◌≤◌, ◌^◌, [], IfErr, false, length, map};
 ghost use Rattle.ct_app.specs.Run.{HasRun, RestStays, RunEnds};
 ghost use Rattle.ct_app.specs.Stops.{PutsBehind};
 ghost use Rattle.ct_report.specs.PutLines.{PutsLines};
@@ -28,44 +28,36 @@ pub(crate) fn run_trees<R: Threads + Wait + Sync, G: Gate + Send, S: Sink + Send
     core: Core,
     jobs: &Jobs<'_>,
     trees: &[TreeRest],
-    gates: Vec<G>,
+    gates: &mut [G],
     mut sink: S,
-) -> PoolRun<G, S>
+) -> PoolRun<S>
     requires fresh { core ≡ record { plan = core.plan; entries = []; aborted = false } }
     requires level { 1 ≤ core.plan.level }
-    requires some { 0 < vec_len gates }
+    requires some { 0 < length gates.old }
     requires reach { Reach jobs.now core.plan }
     requires parts { AreRestParts core.plan 0 trees.now }
     requires few { defined_by trees.now < 2 ^ 32 }
     ensures plan { result.core.plan ≡ core.plan }
-    ensures ran { HasRun (terms_in jobs.now core.plan) (map G.tells gates.items) (map G.tells result.gates.items) result.core.plan result.core.entries }
-    ensures all { vec_len result.gates ≡ vec_len gates }
+    ensures ran { HasRun (terms_in jobs.now core.plan) (map G.tells gates.old) (map G.tells gates.new) result.core.plan result.core.entries }
     ensures puts { PutsLines (trees_report trees.now result.core.plan result.core.entries) (S.tells sink) (S.tells result.sink) result.put }
     ensures ends { RunEnds result.core.plan result.core.entries result.put }
     ensures stops { IfErr result.put (λ fault. StopsInTrees fault trees.now result.core.plan result.core.entries (S.tells sink) (S.tells result.sink)) }
-    ensures others { RestStays result.core.plan gates.items result.gates.items }
+    ensures others { RestStays result.core.plan gates.old gates.new }
 {
     if let Err(fault) = put_headers(alloc, &mut sink, trees) {
         return PoolRun {
             core,
-            gates,
             sink,
             put: Err(fault),
         };
     }
     let PoolRun {
         core,
-        gates,
         mut sink,
         put,
     } = run_pool(rt, alloc, core, jobs, gates, sink);
     let put = put_behind(alloc, &mut sink, trees, &core, put);
-    PoolRun {
-        core,
-        gates,
-        sink,
-        put,
-    }
+    PoolRun { core, sink, put }
 }
 
 /// Puts the lines of the trees, if those of all tests were put.

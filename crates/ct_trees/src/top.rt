@@ -5,6 +5,7 @@ ghost use Rattle.ct_trees.specs.TreeAnswers.{AnswersTrees, place_for as place_of
 ghost use Rattle.ct_trees.specs.TreeComplete.{CompletesTrees};
 ghost use Rattle.ct_trees.specs.TreeMeant.{AnswersTreesAsMeant};
 ghost use Rattle.ct_trees.specs.TreeRuns.{sides_of_run};
+ghost use Rattle.ct_worker.specs.Gates.{AreSameGates};
 
 use crate::call::run_words;
 use crate::tree_run::TreesRun;
@@ -58,7 +59,7 @@ pub fn trees_main<R: Threads + Wait + Sync, F: Files, G: Gate + Send, S: Sink + 
     words: &[Name],
     env: &[Pair],
     mut files: F,
-    gates: Vec<G>,
+    mut gates: Vec<G>,
     sink: S,
 ) -> TreesFinished<F, G, S>
     requires some { 0 < vec_len gates }
@@ -71,7 +72,7 @@ pub fn trees_main<R: Threads + Wait + Sync, F: Files, G: Gate + Send, S: Sink + 
     ensures meant { AnswersTreesAsMeant words.now
         (sides_of_run (F.tells files) (F.tells result.files) (map G.tells gates.items) (map G.tells result.gates.items) (S.tells sink) (S.tells result.sink))
         (record { tree = result.tree; plans = result.plans; whole = result.whole; history = option_map history_entries result.history }) result.outcome }
-    ensures all { length result.gates.items ≡ length gates.items }
+    ensures all { AreSameGates (map G.tells gates.items) (map G.tells result.gates.items) }
     ensures others { OthersStay result.whole gates.items result.gates.items }
 {
     let TreesRun {
@@ -81,9 +82,16 @@ pub fn trees_main<R: Threads + Wait + Sync, F: Files, G: Gate + Send, S: Sink + 
         plans,
         whole,
         history,
-        gates,
         mut sink,
-    } = run_words(rt, alloc, words, env, &mut files, gates, sink);
+    } = run_words(
+        rt,
+        alloc,
+        words,
+        env,
+        &mut files,
+        gates.as_mut_slice(),
+        sink,
+    );
     let (outcome, status) = report_end(alloc, &mut sink, names.as_slice(), ended);
     TreesFinished {
         tree: place_for(&outcome, tree),

@@ -2,7 +2,7 @@ ghost use Rattle.std.specs.Prelude.{◌≡◌, ◌≤◌, ◌^◌, true, IfOk, l
 ghost use Rattle.ct_app.specs.RunFiles.{done_of};
 ghost use Rattle.ct_history.specs.Legal.{has_failing};
 ghost use Rattle.ct_history.specs.Verdicts.{are_all_final};
-ghost use Rattle.ct_trees.specs.TreeFiles.{IsPathIn, IsPathOf, WritesTexts, texts_of_parts, tree_texts};
+ghost use Rattle.ct_trees.specs.TreeFiles.{WritesTexts, texts_of_parts, tree_texts};
 ghost use Rattle.ct_trees.specs.TreeParts.{AreEnded, entries_of_each, some_failing};
 
 use crate::joining::TreeRest;
@@ -35,7 +35,7 @@ pub(crate) fn write_tree_files<F: Files>(
 ) -> Result<bool, TreeFileFault>
     requires few { length trees.now ≤ 2 ^ 32 }
     requires ended { AreEnded trees.now (entries_of_each parts.now) }
-    ensures written { WritesTexts (texts_of_parts trees.now (entries_of_each parts.now)) (IsPathOf trees.now) (F.tells files.old) (F.tells files.new) (done_of result) }
+    ensures written { WritesTexts (texts_of_parts 0 trees.now (entries_of_each parts.now)) (F.tells files.old) (F.tells files.new) (done_of result) }
     ensures failed { IfOk result (λ failed. failed ≡ some_failing trees.now (entries_of_each parts.now)) }
 {
     let mut failed = false;
@@ -54,7 +54,7 @@ fn write_tree<F: Files>(
     place: u32,
 ) -> Result<bool, TreeFileFault>
     requires ended { are_all_final tree.now.plan part.now.entries.items ≡ true }
-    ensures written { WritesTexts (tree_texts tree.now part.now.entries.items) (λ at path. (at ≡ place) × IsPathIn tree.now path) (F.tells files.old) (F.tells files.new) (done_of result) }
+    ensures written { WritesTexts (tree_texts place tree.now part.now.entries.items) (F.tells files.old) (F.tells files.new) (done_of result) }
     ensures failed { IfOk result (λ failed. failed ≡ has_failing tree.now.plan part.now.entries.items) }
 {
     match write_files(alloc, files, &tree.costs, &tree.plan, part) {

@@ -32,7 +32,7 @@ pub struct RunTerms<'a> {
 
 /// How the run of several trees ended, before the line of its outcome is put.
 #[derive(Drop)]
-pub(crate) struct TreesRun<G, S> {
+pub(crate) struct TreesRun<S> {
     /// The status of a complete run, or the outcome of any other.
     pub(crate) ended: Result<u8, Outcome>,
     /// The names of the tests of a cycle, if a cycle is refused; else empty.
@@ -45,7 +45,6 @@ pub(crate) struct TreesRun<G, S> {
     pub(crate) whole: Option<Plan>,
     /// The history of the run, if the whole plan was made.
     pub(crate) history: Option<History>,
-    pub(crate) gates: Vec<G>,
     pub(crate) sink: S,
 }
 
@@ -59,9 +58,9 @@ pub(crate) fn run_planned<R: Threads + Wait + Sync, F: Files, G: Gate + Send, S:
     room: Vec<Plan>,
     run: &RunTerms<'_>,
     files: &mut F,
-    gates: Vec<G>,
+    gates: &mut [G],
     sink: S,
-) -> TreesRun<G, S>
+) -> TreesRun<S>
     requires planned { All IsPlannedTree trees }
     requires alike { RunAlike trees }
     requires few { defined_in trees < 2 ^ 32 - 1 }
@@ -69,15 +68,14 @@ pub(crate) fn run_planned<R: Threads + Wait + Sync, F: Files, G: Gate + Send, S:
     requires none { vec_len room ≡ 0 }
     requires room { length trees ≤ vec_capacity room }
     requires level { All (λ tree. 1 ≤ tree.plan.level) trees }
-    requires some { 0 < vec_len gates }
-    ensures ran { RunsTrees (sides_of_run (F.tells files.old) (F.tells files.new) (map G.tells gates.items) (map G.tells result.gates.items) (S.tells sink) (S.tells result.sink)) run.now trees result.plans result.whole (option_map history_entries result.history) result.tree result.ended }
+    requires some { 0 < length gates.old }
+    ensures ran { RunsTrees (sides_of_run (F.tells files.old) (F.tells files.new) (map G.tells gates.old) (map G.tells gates.new) (S.tells sink) (S.tells result.sink)) run.now trees result.plans result.whole (option_map history_entries result.history) result.tree result.ended }
     ensures names { result.names ≡ [] }
-    ensures all { vec_len result.gates ≡ vec_len gates }
-    ensures others { OthersStay result.whole gates.items result.gates.items }
+    ensures others { OthersStay result.whole gates.old gates.new }
 {
     match prepare(alloc, trees, room) {
         Ok(ready) => run_prepared(rt, alloc, ready, run, files, gates, sink),
-        Err(plans) => unrun(alloc, Outcome::Memory, plans, gates, sink),
+        Err(plans) => unrun(alloc, Outcome::Memory, plans, sink),
     }
 }
 
@@ -88,15 +86,14 @@ fn run_prepared<R: Threads + Wait + Sync, F: Files, G: Gate + Send, S: Sink + Se
     ready: Prepared,
     run: &RunTerms<'_>,
     files: &mut F,
-    gates: Vec<G>,
+    gates: &mut [G],
     sink: S,
-) -> TreesRun<G, S>
+) -> TreesRun<S>
     requires ready { HasReadyTrees ready }
-    requires some { 0 < vec_len gates }
-    ensures ran { RunsReadyTrees (sides_of_run (F.tells files.old) (F.tells files.new) (map G.tells gates.items) (map G.tells result.gates.items) (S.tells sink) (S.tells result.sink)) run.now ready result.plans result.whole (option_map history_entries result.history) result.tree result.ended }
+    requires some { 0 < length gates.old }
+    ensures ran { RunsReadyTrees (sides_of_run (F.tells files.old) (F.tells files.new) (map G.tells gates.old) (map G.tells gates.new) (S.tells sink) (S.tells result.sink)) run.now ready result.plans result.whole (option_map history_entries result.history) result.tree result.ended }
     ensures names { result.names ≡ [] }
-    ensures all { vec_len result.gates ≡ vec_len gates }
-    ensures others { OthersStay result.whole gates.items result.gates.items }
+    ensures others { OthersStay result.whole gates.old gates.new }
 {
     let Prepared {
         joined,
@@ -115,7 +112,6 @@ fn run_prepared<R: Threads + Wait + Sync, F: Files, G: Gate + Send, S: Sink + Se
         ended,
         plan,
         history,
-        gates,
         sink,
     } = run_whole(rt, alloc, whole, &jobs, rests.as_slice(), gates, sink);
     let WrittenEnd { ended, tree } = leave_files(
@@ -133,20 +129,13 @@ fn run_prepared<R: Threads + Wait + Sync, F: Files, G: Gate + Send, S: Sink + Se
         plans: plans_of(room, rests),
         whole: Some(plan),
         history: Some(history),
-        gates,
         sink,
     }
 }
 
 /// Makes the end of a call in which no tree ran, and no tree is named.
-pub(crate) fn unrun<G, S>(
-    alloc: Global,
-    outcome: Outcome,
-    plans: List<Plan>,
-    gates: Vec<G>,
-    sink: S,
-) -> TreesRun<G, S>
-    ensures { result ≡ record { ended = Err outcome; names = []; tree = None; plans = plans; whole = None; history = None; gates = gates; sink = sink } }
+pub(crate) fn unrun<S>(alloc: Global, outcome: Outcome, plans: List<Plan>, sink: S) -> TreesRun<S>
+    ensures { result ≡ record { ended = Err outcome; names = []; tree = None; plans = plans; whole = None; history = None; sink = sink } }
 {
     TreesRun {
         ended: Err(outcome),
@@ -155,7 +144,6 @@ pub(crate) fn unrun<G, S>(
         plans,
         whole: None,
         history: None,
-        gates,
         sink,
     }
 }

@@ -1,4 +1,4 @@
-ghost use Rattle.std.specs.Prelude.{◌≡◌, ◌<◌, ◌≤◌, ◌^◌, map, vec_len};
+ghost use Rattle.std.specs.Prelude.{◌≡◌, ◌<◌, ◌≤◌, ◌^◌, length, map};
 ghost use Rattle.ct_app.specs.Ends.{ended_as, history_entries};
 ghost use Rattle.ct_app.specs.Run.{HasRun, RestStays};
 ghost use Rattle.ct_core.specs.Order.{FollowsQueue};
@@ -19,11 +19,10 @@ use std::thread::Threads;
 
 /// How the run of a whole plan ended, before the files of its trees are written.
 #[derive(Drop)]
-pub(crate) struct WholeRun<G, S> {
+pub(crate) struct WholeRun<S> {
     pub ended: Result<(), Outcome>,
     pub plan: Plan,
     pub history: History,
-    pub gates: Vec<G>,
     pub sink: S,
 }
 
@@ -34,20 +33,19 @@ pub(crate) fn run_whole<R: Threads + Wait + Sync, G: Gate + Send, S: Sink + Send
     plan: Plan,
     jobs: &Jobs<'_>,
     trees: &[TreeRest],
-    gates: Vec<G>,
+    gates: &mut [G],
     sink: S,
-) -> WholeRun<G, S>
+) -> WholeRun<S>
     requires level { 1 ≤ plan.level }
-    requires some { 0 < vec_len gates }
+    requires some { 0 < length gates.old }
     requires reach { Reach jobs.now plan }
     requires parts { AreRestParts plan 0 trees.now }
     requires few { defined_by trees.now < 2 ^ 32 }
     ensures plan { result.plan ≡ plan }
-    ensures ran { HasRun (terms_in jobs.now plan) (map G.tells gates.items) (map G.tells result.gates.items) result.plan (history_entries result.history) }
+    ensures ran { HasRun (terms_in jobs.now plan) (map G.tells gates.old) (map G.tells gates.new) result.plan (history_entries result.history) }
     ensures order { FollowsQueue result.plan (history_entries result.history) }
-    ensures all { vec_len result.gates ≡ vec_len gates }
     ensures ends { TreesEnd trees.now result.plan (history_entries result.history) (S.tells sink) (S.tells result.sink) result.ended }
-    ensures others { RestStays result.plan gates.items result.gates.items }
+    ensures others { RestStays result.plan gates.old gates.new }
 {
     match Core::open(alloc, plan) {
         Ok(core) => {
@@ -57,7 +55,6 @@ pub(crate) fn run_whole<R: Threads + Wait + Sync, G: Gate + Send, S: Sink + Send
                 ended: outcome_of(ran.put),
                 plan,
                 history,
-                gates: ran.gates,
                 sink: ran.sink,
             }
         }
@@ -67,7 +64,6 @@ pub(crate) fn run_whole<R: Threads + Wait + Sync, G: Gate + Send, S: Sink + Send
             history: History {
                 entries: Vec::new(alloc),
             },
-            gates,
             sink,
         },
     }

@@ -14,7 +14,9 @@ use std::alloc::Global;
 /// The word in front of the folder of a tree.
 const TREE: &[u8] = b"--tree";
 
-/// The greatest number of trees. This project's choice.
+/// The greatest number of trees.
+///
+/// Source: this project's choice.
 const MOST_TREES: usize = 64;
 
 /// What the words of a call over several build trees ask for.

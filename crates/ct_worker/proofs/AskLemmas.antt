@@ -38,6 +38,7 @@ pub unasked_attempt : (terms : Terms) (pass : PassValue) (run : Running) (seen :
 unasked_attempt terms pass run seen tell lacks = record {
   told = λ memory. absurd (both_ways (is_no_memory seen.how) lacks memory);
   calls = inr (record { lacks = lacks; asked = adds_none tell.asked; sent = adds_none tell.sent; lent = adds_none tell.lent });
+  who = refl;
   world = refl;
   cause = record { later = omega arith; failed = λ failed. absurd (no_memory_starts seen.how lacks failed); unfailed = λ passed. refl };
 }
@@ -104,6 +105,7 @@ module _ (terms : Terms) (pass : PassValue) (run : Running) (def : TestDef) (own
   ran_attempt = record {
     told = told_seen;
     calls = calls;
+    who = runs.who;
     world = runs.world;
     cause = subst (λ (h : How). HasStartCause old.faults new.faults h) (sym how) runs.cause;
   }

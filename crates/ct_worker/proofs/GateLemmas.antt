@@ -96,6 +96,7 @@ asked_then terms w start old new es more first second = record {
       (may_miss-more (ended_lacking more) (ended_lacking (es ++ more)) (λ run is. lacking_behind es more run is) (starts_of w more) second.runs second.kept));
   asked = subst (λ (xs : List Asked). Becomes start.asked new.asked (Adds xs)) (sym (map-append asked_run first.runs second.runs)) (adds_then_adds start.asked old.asked new.asked (map asked_run first.runs) (map asked_run second.runs) first.asked second.asked);
   sent = sends_then terms start.sent old.sent new.sent first.runs second.runs first.sent second.sent;
+  who = second.who ∙ first.who;
   world = second.world ∙ first.world;
   ended = map-append asked_run first.runs second.runs
       ∙ ap (λ (xs : List Asked). xs ++ map asked_run second.runs) first.ended
@@ -166,6 +167,7 @@ module _ (w : ℕ) where
     ended = sym (none_ended es is);
     asked = adds_none tell.asked;
     sent = sends_these terms tell.sent tell.sent [] [] tt (adds_none tell.sent);
+    who = refl;
     world = refl;
     unstarted = record { later = omega arith; rose = omega (arith, none_counted (is_unstarted w) not_unstarted es is); stays = λ none. refl };
   }
@@ -245,6 +247,7 @@ module _ (t a w : ℕ) (p : Option Placement) (seen : Seen) (mid : List Entry) (
         ended = ended;
         asked = asked;
         sent = sends_these terms old.sent new.sent runs requests are sent;
+        who = ran.who;
         world = ran.world;
         unstarted = counts;
       }

@@ -4,7 +4,6 @@ use Rattle.std.proofs.Common.{◌≡◌, ◌∙◌, sym, ap, subst, refl, ℕ, s
 use Rattle.std.specs.Prelude.{⊤, Contains, IfErr, Option, Some, None, is_some, All, map, ◌==◌, ◌||◌, nat_lt}
 use Rattle.std.specs.Option.{option_or}
 use Rattle.std.specs.List.{list_all, list_any}
-use Rattle.std.proofs.Math.ListN.{take}
 use Rattle.std.proofs.lemmas.Bool.{and_parts, and_from, cases_Bool, true≢false, or_from, or_parts}
 use Rattle.std.proofs.lemmas.Bool.Decides.{nat_tests}
 use Rattle.std.proofs.lemmas.List.{append-nil, map-append}
@@ -36,7 +35,7 @@ use Rattle.ct_report.specs.PutLines.{PutsLines}
 use Rattle.ct_report.specs.Report.{test_lines}
 use Rattle.ct_worker.specs.declared.jobs.Jobs.{Jobs}
 use Rattle.ct_worker.specs.Crew.{IsIdle, all_joined}
-use Rattle.ct_worker.specs.Gates.{AreAsked, IsAsked, Terms, are_below, is_below}
+use Rattle.ct_worker.specs.Gates.{AreAsked, AreSameGates, IsAsked, Terms, are_below, is_below}
 use Rattle.ct_worker.specs.Halted.{IsHalted}
 use Rattle.ct_worker.specs.Lent.{AreLentEach, IsLentEach}
 use Rattle.ct_worker.specs.Pool.{IsPooled}
@@ -48,7 +47,7 @@ use Rattle.ct_worker.proofs.CrewLemmas.{joined_worker}
 use Rattle.ct_worker.proofs.EventLemmas.{sight_of}
 use Rattle.ct_worker.proofs.GateLemmas.{asked_none, asked_others}
 use Rattle.ct_worker.proofs.LentLemmas.{lent_more, none_lent, nothing_lent}
-use Rattle.ct_worker.proofs.PartLemmas.{AllHaveLent, AllWorked, Parted, Worked, all_idle, front_of}
+use Rattle.ct_worker.proofs.PartLemmas.{AllHaveLent, AllWorked, Parted, Worked, all_idle}
 
 -- what stays when passes are joined
 joined_plan : (keeper : Known) (passes : List PassValue) → (all_joined keeper passes).plan ≡ keeper.plan
@@ -319,10 +318,17 @@ unpooled_is terms workers old new tells fresh going is put stops =
     some_is_none : Some Memory ≡ None → ⊥
     some_is_none is = cc
 
--- the run is pooled with its gates in a vector, behind the work on the first of them
-pub pooled_in : {G : Type 0} (tells : G → GateTell) (terms : Terms) (workers : ℕ) (old new : StateValue) (items front back now over : List G) (len : ℕ) → items ≡ front ++ back → len ≡ length items → length now ≡ length front → IsPooled terms workers old new (map tells front ++ map tells back) (map tells now ++ map tells back) → IsPooled terms workers old new (map tells items) (map tells (take len ((now ++ back) ++ over)))
-pooled_in tells terms workers old new items front back now over len are sized same pooled =
-    let all : length (now ++ back) ≡ len =
-    (let one = length-append now back in let two = length-append front back in let three = ap length are in omega (arith, one, two, three, sized, same)) in
-    subst (λ (ts : List GateTell). IsPooled terms workers old new ts (map tells (take len ((now ++ back) ++ over)))) (sym (ap (map tells) are ∙ map-append tells front back))
-    (subst (λ (ts : List GateTell). IsPooled terms workers old new (map tells front ++ map tells back) ts) (sym (ap (map tells) (front_of len (now ++ back) over all) ∙ map-append tells now back)) pooled)
+-- the run is pooled with all its gates, behind the work on the first of them
+pub pooled_in : {G : Type 0} (tells : G → GateTell) (terms : Terms) (workers : ℕ) (old new : StateValue) (gates front back now : List G) → gates ≡ front ++ back → IsPooled terms workers old new (map tells front ++ map tells back) (map tells now ++ map tells back) → IsPooled terms workers old new (map tells gates) (map tells (now ++ back))
+pooled_in tells terms workers old new gates front back now are pooled =
+    subst (λ (ts : List GateTell). IsPooled terms workers old new ts (map tells (now ++ back))) (sym (ap (map tells) are ∙ map-append tells front back))
+    (subst (λ (ts : List GateTell). IsPooled terms workers old new (map tells front ++ map tells back) ts) (sym (map-append tells now back)) pooled)
+
+-- gates that were asked for the attempts of their workers are the same ones in the same order
+pub asked_in_order : (terms : Terms) (w : ℕ) (befores nows : List GateTell) (es : List Entry) → AreAsked terms w befores nows es → AreSameGates befores nows
+asked_in_order terms w [] [] es asked = refl
+asked_in_order terms w [] (now ∷ nows) es asked = absurd asked
+asked_in_order terms w (before ∷ befores) [] es asked = absurd asked
+asked_in_order terms w (before ∷ befores) (now ∷ nows) es asked =
+    ap (λ (who : Option ℕ). who ∷ map (λ (gate : GateTell). gate.who) nows) asked.0.who
+    ∙ ap (λ (whos : List (Option ℕ)). before.who ∷ whos) (asked_in_order terms (w + 1) befores nows es asked.1)

@@ -28,11 +28,13 @@ pub record AsksNone (how : How) (old new : GateTell) : Type 0 where
 
 -- an attempt of a test was run on a gate, and this was seen of it. Unless memory was
 -- wanting, that is what the world tells, and the gate was asked once, while it was lent
--- this pass. Once the gate has recorded the call, memory is not wanting.
+-- this pass. Once the gate has recorded the call, memory is not wanting. It is the same
+-- gate as before, and it tells the same world.
 pub record RunsAttempt (terms : Terms) (pass : PassValue) (run : Running) (seen : Seen) (old new : GateTell)
     : Type 0 where
   pub told : is_no_memory seen.how ≡ false
       → IfSome old.world (λ world. SeesTold terms.props world run.test run.attempt seen)
   pub calls : AsksOnce terms pass run seen.how old new ⊎ AsksNone seen.how old new
+  pub who : new.who ≡ old.who
   pub world : new.world ≡ old.world
   pub cause : HasStartCause old.faults new.faults seen.how

@@ -213,6 +213,7 @@ ended_with_memory worker entries = filter_map (ended_by worker) entries
 -- a gate was asked for the attempts of its worker, but for some that lacked memory,
 -- and the worker saw what the gate's world tells. Each attempt that the gate recorded
 -- ended with memory: once a gate has run a program, memory is not wanting for its End.
+-- It is the same gate as before, and it tells the same world.
 pub record IsAsked (terms : Terms) (worker : ℕ) (before now : GateTell) (entries : List Entry) : Type 0 where
   pub told : IfSome before.world (λ world. SawAllTold terms.props world worker entries)
   pub runs : List Running
@@ -220,6 +221,7 @@ pub record IsAsked (terms : Terms) (worker : ℕ) (before now : GateTell) (entri
   pub ended : map asked_run runs ≡ ended_with_memory worker entries
   pub asked : Becomes before.asked now.asked (Adds (map asked_run runs))
   pub sent : Becomes before.sent now.sent (Sends terms runs)
+  pub who : now.who ≡ before.who
   pub world : now.world ≡ before.world
   pub unstarted : CountsUnstarted (unstarted_count worker entries) before.faults now.faults
 
@@ -231,6 +233,11 @@ AreAsked terms worker [] (now ∷ nows) entries = ⊥
 AreAsked terms worker (before ∷ befores) [] entries = ⊥
 AreAsked terms worker (before ∷ befores) (now ∷ nows) entries =
     IsAsked terms worker before now entries × AreAsked terms (worker + 1) befores nows entries
+
+-- the gates are the same ones in the same order: they are as many, and at each place
+-- the same is told of which gate it is
+abbrev pub AreSameGates : List GateTell → List GateTell → Type 0
+AreSameGates before now = map (λ gate. gate.who) now ≡ map (λ gate. gate.who) before
 
 -- a Start or an End is by one of the first `workers` workers; other entries pass
 abbrev pub is_below : ℕ → Entry → Bool

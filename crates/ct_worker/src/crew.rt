@@ -6,6 +6,7 @@ ghost use Rattle.ct_report.specs.PutLines.{PutsLines};
 ghost use Rattle.ct_report.specs.Report.{test_lines};
 ghost use Rattle.ct_turn.specs.Seen.{HistoryGoesOn, held_start};
 ghost use Rattle.ct_worker.specs.Crew.{AllTookPart, AreReady, HasSplit, IsIdle, all_joined};
+ghost use Rattle.ct_worker.specs.Gates.{AreSameGates};
 ghost use Rattle.ct_worker.specs.declared.state.Halt.TheVariants.{Memory};
 ghost use Rattle.ct_worker.specs.Halted.{IsHalted};
 ghost use Rattle.ct_worker.specs.Pool.{IsPooled};
@@ -28,11 +29,9 @@ pub struct Pooled<G, S: Sink> {
     pub gates: Vec<G>,
 }
 
-/// Runs the tests by this many workers, each on the gate of its place:
-/// worker 0 in the caller's thread, the others in threads of their own.
+/// Runs the tests by this many workers, each on the gate of its place, as `run_workers` does.
 ///
-/// It returns the gates in order; further gates are not asked. If memory is
-/// wanting for the workers, the run is given up before anything has started.
+/// It returns the gates in order. It stands for callers of the library: no program calls it.
 pub fn pool<R: Threads + Wait + Sync, G: Gate + Send, S: Sink + Send>(
     rt: &R,
     alloc: Global,
@@ -45,13 +44,39 @@ pub fn pool<R: Threads + Wait + Sync, G: Gate + Send, S: Sink + Send>(
     requires some { 1 ≤ workers }
     requires gates { workers ≤ vec_len gates }
     requires reach { Reach jobs.now state.plan }
-    ensures pooled { IsPooled (terms_in jobs.now state.plan) workers state result.state (map G.tells gates.items) (map G.tells result.gates.items) }
-    ensures all { vec_len result.gates ≡ vec_len gates }
+    ensures pooled { IsPooled (terms_in jobs.now state.plan) workers state result.state
+        (map G.tells gates.items) (map G.tells result.gates.items) }
+    ensures all { AreSameGates (map G.tells gates.items) (map G.tells result.gates.items) }
     ensures others { drop workers result.gates.items ≡ drop workers gates.items }
+{
+    let state = run_workers(rt, alloc, state, gates.as_mut_slice(), workers, jobs);
+    Pooled { state, gates }
+}
+
+/// Runs the tests by this many workers, each on the gate of its place:
+/// worker 0 in the caller's thread, the others in threads of their own.
+///
+/// Further gates are not asked. If memory is wanting for the workers,
+/// the run is given up before anything has started.
+pub fn run_workers<R: Threads + Wait + Sync, G: Gate + Send, S: Sink + Send>(
+    rt: &R,
+    alloc: Global,
+    state: State<S>,
+    gates: &mut [G],
+    workers: u32,
+    jobs: &Jobs<'_>,
+) -> State<S>
+    requires fresh { (state.entries ≡ []) × (state.halt ≡ None) }
+    requires some { 1 ≤ workers }
+    requires gates { workers ≤ length gates.old }
+    requires reach { Reach jobs.now state.plan }
+    ensures pooled { IsPooled (terms_in jobs.now state.plan) workers state result
+        (map G.tells gates.old) (map G.tells gates.new) }
+    ensures others { drop workers gates.new ≡ drop workers gates.old }
 {
     hand_out_sound(&state);
     let Ok(mut passes) = Vec::with_capacity(alloc, workers as usize) else {
-        return unpooled(state, gates);
+        return unstarted(state);
     };
     match Turn::open(alloc, state, workers) {
         Ok((turn, first)) => {
@@ -62,24 +87,22 @@ pub fn pool<R: Threads + Wait + Sync, G: Gate + Send, S: Sink + Send>(
             join_all(&turn, &mut first, passes);
             let state = turn.close(first);
             state.hand_out_lines();
-            Pooled { state, gates }
+            state
         }
-        Err(OpenRefused { state }) => unpooled(state, gates),
+        Err(OpenRefused { state }) => unstarted(state),
     }
 }
 
 /// Gives the run up for want of memory, before anything has started.
-fn unpooled<G, S: Sink>(mut state: State<S>, gates: Vec<G>) -> Pooled<G, S>
-    ensures state { result.state ≡ given_up Memory state }
-    ensures gates { result.gates ≡ gates }
-    ensures put { PutsLines (test_lines result.state.plan result.state.entries)
-        result.state.opened result.state.sink (put_of result.state.halt) }
-    ensures halted { IfErr (put_of result.state.halt)
-        (λ fault. IsHalted fault result.state.plan result.state.entries result.state.opened result.state.sink) }
+fn unstarted<S: Sink>(mut state: State<S>) -> State<S>
+    ensures state { result ≡ given_up Memory state }
+    ensures put { PutsLines (test_lines result.plan result.entries) result.opened result.sink (put_of result.halt) }
+    ensures halted { IfErr (put_of result.halt)
+        (λ fault. IsHalted fault result.plan result.entries result.opened result.sink) }
 {
     state.give_up_for_memory();
     state.hand_out_lines();
-    Pooled { state, gates }
+    state
 }
 
 /// Does nothing when it runs; its clause says that the plan of a run is sound.

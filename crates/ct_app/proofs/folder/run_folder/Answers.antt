@@ -31,8 +31,8 @@ returns-clause-ends g c words asked =
     let run = c.run_plan-ended in
     let files = g.F.Files.tells c.args.files.now in
     let files_now = g.F.Files.tells c.leave_files-ended.new.files in
-    let gates = map g.G.Gate.tells c.args.gates.items in
-    let gates_now = map g.G.Gate.tells run.result.gates.items in
+    let gates = map g.G.Gate.tells c.args.gates.now in
+    let gates_now = map g.G.Gate.tells run.new.gates in
     let sink = g.S.Sink.tells c.args.sink in
     let sink_now = g.S.Sink.tells run.result.sink in
     let entries = history_entries run.result.history in
@@ -48,6 +48,6 @@ returns-clause-ends g c words asked =
 
 pub returns-in-Err-clause-ends : goal.returns-in-Err-clause-ends
 returns-in-Err-clause-ends g c words asked =
-    let gates = map g.G.Gate.tells c.args.gates.items in
+    let gates = map g.G.Gate.tells c.args.gates.now in
     let sink = g.S.Sink.tells c.args.sink in
     rw c.unplanned.ensures (inr (c.in-Err.ensures.err words c.args.env.now gates sink asked, refl))

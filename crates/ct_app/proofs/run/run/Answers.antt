@@ -18,7 +18,7 @@ returns-in-Ok-true-clause-puts g c =
     body_puts ran.result.core.plan ran.result.core.entries now.1 (g.S.Sink.tells c.args.sink) (g.S.Sink.tells c.begin.new.sink) (g.S.Sink.tells ran.result.sink) ran.result.put now.0 ran.ensures.puts
 
 pub returns-in-Ok-false-clause-ran : goal.returns-in-Ok-false-clause-ran
-returns-in-Ok-false-clause-ran g c = unrun (terms_in c.args.jobs.now c.args.core.plan) (map g.G.Gate.tells c.args.gates.items) c.args.core.plan c.args.core.entries (ap (λ (k : CoreValue). k.entries) c.requires.fresh)
+returns-in-Ok-false-clause-ran g c = unrun (terms_in c.args.jobs.now c.args.core.plan) (map g.G.Gate.tells c.args.gates.now) c.args.core.plan c.args.core.entries (ap (λ (k : CoreValue). k.entries) c.requires.fresh)
 
 pub returns-in-Ok-false-clause-puts : goal.returns-in-Ok-false-clause-puts
 returns-in-Ok-false-clause-puts g c =
@@ -26,7 +26,7 @@ returns-in-Ok-false-clause-puts g c =
     begun.0 c.args.core.entries
 
 pub returns-in-Err-clause-ran : goal.returns-in-Err-clause-ran
-returns-in-Err-clause-ran g c = unrun (terms_in c.args.jobs.now c.args.core.plan) (map g.G.Gate.tells c.args.gates.items) c.args.core.plan c.args.core.entries (ap (λ (k : CoreValue). k.entries) c.requires.fresh)
+returns-in-Err-clause-ran g c = unrun (terms_in c.args.jobs.now c.args.core.plan) (map g.G.Gate.tells c.args.gates.now) c.args.core.plan c.args.core.entries (ap (λ (k : CoreValue). k.entries) c.requires.fresh)
 
 pub returns-in-Ok-true-clause-stops : goal.returns-in-Ok-true-clause-stops
 returns-in-Ok-true-clause-stops g c =

@@ -49,6 +49,6 @@ returns-in_default-clause-ends g c =
     rw c.unrun.ensures (inl (record {
       outcome = Memory;
       is = refl;
-      lack = (inl c.new.ensures, stays (g.F.Files.tells c.args.files.now));
+      lack = (c.new.ensures, stays (g.F.Files.tells c.args.files.now));
       unrun = record { no_plan = refl; no_history = refl; gates = refl; sink = refl };
     }))

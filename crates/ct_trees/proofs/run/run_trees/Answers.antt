@@ -6,7 +6,7 @@ use Rattle.ct_trees.proofs.TreeRunLemmas.{headers_cut, trees_stop}
 use Rattle.ct_trees.proofs.run.run_trees.Goals as goal
 
 pub returns-in-Err-clause-ran : goal.returns-in-Err-clause-ran
-returns-in-Err-clause-ran g c = unrun (terms_in c.args.jobs.now c.args.core.plan) (map g.G.Gate.tells c.args.gates.items) c.args.core.plan c.args.core.entries (ap (λ (k : CoreValue). k.entries) c.requires.fresh)
+returns-in-Err-clause-ran g c = unrun (terms_in c.args.jobs.now c.args.core.plan) (map g.G.Gate.tells c.args.gates.now) c.args.core.plan c.args.core.entries (ap (λ (k : CoreValue). k.entries) c.requires.fresh)
 
 pub returns-in-Err-clause-puts : goal.returns-in-Err-clause-puts
 returns-in-Err-clause-puts g c = headers_cut c.args.trees.now c.args.core.plan c.args.core.entries (g.S.Sink.tells c.args.sink) (g.S.Sink.tells c.put_headers.new.sink) c.in-Err.fault c.in-Err.ensures

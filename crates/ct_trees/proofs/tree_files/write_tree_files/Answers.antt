@@ -1,5 +1,4 @@
 use Rattle.std.proofs.Common.{rules, ◌≡◌, Err}
-use Rattle.ct_trees.specs.TreeFiles.{IsPathIn}
 use Rattle.ct_trees.proofs.TreeFilesLemmas.{next_tree, part_there, tree_stops}
 use Rattle.ct_trees.proofs.tree_files.write_tree_files.Goals as goal
 
@@ -11,7 +10,7 @@ loop-at-preserved g c =
     let there = part_there trees parts at c.requires.ended c.loop-at-test.true in
     next_tree trees parts at c.loop-at.failed (g.F.Files.tells c.args.files.now) (g.F.Files.tells c.loop-at.files) c.loop-at.invariant
     c.index-trees-at.result c.index-parts-at.result c.loop-at-test.true c.index-trees-at.is there c.index-parts-at.is
-    (g.F.Files.tells c.write_tree.new.files) (λ place path. (place ≡ at) × IsPathIn c.index-trees-at.result path) c.in_ok-failed.field-0 c.in_ok-failed.ensures.written c.in_ok-failed.ensures.failed
+    (g.F.Files.tells c.write_tree.new.files) c.in_ok-failed.field-0 c.in_ok-failed.ensures.written c.in_ok-failed.ensures.failed
 
 pub returns-in_err-failed-clause-written : goal.returns-in_err-failed-clause-written
 returns-in_err-failed-clause-written g c =

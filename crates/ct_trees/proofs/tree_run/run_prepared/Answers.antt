@@ -46,8 +46,8 @@ returns-clause-ran g c trees is =
     let alike : c.as_slice-2.result.now ≡ rests = c.as_slice-2.ensures ∙ sym c.as_slice.ensures in
     let files = g.F.Files.tells c.args.files.now in
     let files_now = g.F.Files.tells left.new.files in
-    let gates = map g.G.Gate.tells c.args.gates.items in
-    let gates_now = map g.G.Gate.tells run.result.gates.items in
+    let gates = map g.G.Gate.tells c.args.gates.now in
+    let gates_now = map g.G.Gate.tells run.new.gates in
     let s = sides_of_run files files_now gates gates_now (g.S.Sink.tells c.args.sink) (g.S.Sink.tells run.result.sink) in (
       c.plans_of.ensures ∙ rests_plans trees c.args.ready.rests is.rests,
       run_so trees rests same s c.args.run.now run.result.plan entries left.result.tree left.result.ended run.result.ended

@@ -9,9 +9,9 @@ use Rattle.ct_trees.proofs.whole.run_whole.Goals as goal
 
 pub returns-in-Ok-clause-ran : goal.returns-in-Ok-clause-ran
 returns-in-Ok-clause-ran g c =
-    core_ran (terms_in c.args.jobs.now c.args.plan) (map g.G.Gate.tells c.args.gates.items) (map g.G.Gate.tells c.run_trees-ran.result.gates.items) c.run_trees-ran.result.core c.into_parts-plan.result.0 c.into_parts-plan.result.1.entries.items
+    core_ran (terms_in c.args.jobs.now c.args.plan) (map g.G.Gate.tells c.args.gates.now) (map g.G.Gate.tells c.run_trees-ran.new.gates) c.run_trees-ran.result.core c.into_parts-plan.result.0 c.into_parts-plan.result.1.entries.items
     c.into_parts-plan.ensures.plan c.into_parts-plan.ensures.history
-    (subst (λ (p : PlanParts). HasRun (terms_in c.args.jobs.now p) (map g.G.Gate.tells c.args.gates.items) (map g.G.Gate.tells c.run_trees-ran.result.gates.items) c.run_trees-ran.result.core.plan c.run_trees-ran.result.core.entries) (ap (λ (k : CoreValue). k.plan) c.in-Ok.ensures.ok) c.run_trees-ran.ensures.ran)
+    (subst (λ (p : PlanParts). HasRun (terms_in c.args.jobs.now p) (map g.G.Gate.tells c.args.gates.now) (map g.G.Gate.tells c.run_trees-ran.new.gates) c.run_trees-ran.result.core.plan c.run_trees-ran.result.core.entries) (ap (λ (k : CoreValue). k.plan) c.in-Ok.ensures.ok) c.run_trees-ran.ensures.ran)
 
 pub returns-in-Ok-clause-ends : goal.returns-in-Ok-clause-ends
 returns-in-Ok-clause-ends g c =
@@ -19,7 +19,7 @@ returns-in-Ok-clause-ends g c =
     c.into_parts-plan.ensures.plan c.into_parts-plan.ensures.history c.run_trees-ran.ensures.puts c.run_trees-ran.ensures.ends c.run_trees-ran.ensures.stops c.outcome_of.ensures
 
 pub returns-in-Err-clause-ran : goal.returns-in-Err-clause-ran
-returns-in-Err-clause-ran g c = unrun (terms_in c.args.jobs.now c.args.plan) (map g.G.Gate.tells c.args.gates.items) c.in-Err.plan c.new.result.items c.new.ensures.items
+returns-in-Err-clause-ran g c = unrun (terms_in c.args.jobs.now c.args.plan) (map g.G.Gate.tells c.args.gates.now) c.in-Err.plan c.new.result.items c.new.ensures.items
 
 pub returns-in-Err-clause-ends : goal.returns-in-Err-clause-ends
 returns-in-Err-clause-ends g c = unopened_trees c.args.trees.now (g.S.Sink.tells c.args.sink) c.in-Err.plan c.new.result.items c.new.ensures.items

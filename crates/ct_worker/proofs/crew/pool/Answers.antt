@@ -1,103 +1,20 @@
-use Rattle.std.proofs.Common.{◌≡◌, ◌∙◌, sym, ap, subst, refl, ℕ, ◌+◌, ◌-◌, List, length, drop, ◌++◌, arith, Vec, Global}
-use Rattle.std.specs.Prelude.{map}
-use Rattle.ct_core.specs.Gate.{GateTell}
-use Rattle.ct_turn.specs.Pass.{PassValue}
-use Rattle.ct_worker.specs.declared.state.Halt.TheVariants.{Memory}
-use Rattle.ct_worker.specs.Crew.{AreReady}
+use Rattle.std.proofs.Common.{◌≡◌, ◌∙◌, sym, subst, List, length, drop, ◌++◌, map}
+use Rattle.std.proofs.Math.ListN.{take}
 use Rattle.ct_worker.specs.Pool.{IsPooled}
-use Rattle.ct_worker.specs.State.{base_of, given_up}
 use Rattle.ct_worker.specs.Work.{terms_in}
-use Rattle.ct_worker.proofs.PartLemmas.{parted_in, ready_all}
-use Rattle.ct_worker.proofs.PoolLemmas.{first_idle, first_opener, is_pooled, joined_all, joined_opener, joined_taken, joined_turn, others_idle, pooled_in, unpooled_is}
+use Rattle.ct_worker.proofs.PartLemmas.{front_of}
+use Rattle.ct_worker.proofs.PoolLemmas.{asked_in_order}
 use Rattle.ct_worker.proofs.crew.pool.Goals as goal
 
-pub returns-in_default-clause-pooled : goal.returns-in_default-clause-pooled
-returns-in_default-clause-pooled g c =
-    let terms = terms_in c.args.jobs.now c.args.state.plan in
-    subst (λ (ts : List GateTell). IsPooled terms c.args.workers c.args.state c.unpooled.result.state (map g.G.Gate.tells c.args.gates.items) ts)
-    (sym (ap (λ (v : Vec g.row.G.Denot Global). map g.G.Gate.tells v.items) c.unpooled.ensures.gates))
-    (unpooled_is terms c.args.workers c.args.state c.unpooled.result.state (map g.G.Gate.tells c.args.gates.items) c.requires.fresh.0 c.requires.fresh.1 c.unpooled.ensures.state c.unpooled.ensures.put c.unpooled.ensures.halted)
+pub returns-clause-pooled : goal.returns-clause-pooled
+returns-clause-pooled g c =
+    let gates = c.args.gates in
+    let lent = c.as_mut_slice.ensures in
+    let run = c.run_workers-state in
+    let now = run.new.gates in
+    let back : take gates.len (now ++ drop (length now) gates.items) ≡ now = front_of gates.len now (drop (length now) gates.items) (run.auto.gates ∙ lent.len) in
+    subst (λ (gs : List _). IsPooled (terms_in c.args.jobs.now c.args.state.plan) c.args.workers c.args.state run.result (map g.G.Gate.tells gates.items) (map g.G.Gate.tells gs)) (sym back)
+    (subst (λ (gs : List _). IsPooled (terms_in c.args.jobs.now c.args.state.plan) c.args.workers c.args.state run.result (map g.G.Gate.tells gs) (map g.G.Gate.tells now)) lent.value run.ensures.pooled)
 
-pub returns-in-Err-clause-pooled : goal.returns-in-Err-clause-pooled
-returns-in-Err-clause-pooled g c =
-    let terms = terms_in c.args.jobs.now c.args.state.plan in
-    subst (λ (ts : List GateTell). IsPooled terms c.args.workers c.args.state c.unpooled-in-Err.result.state (map g.G.Gate.tells c.args.gates.items) ts)
-    (sym (ap (λ (v : Vec g.row.G.Denot Global). map g.G.Gate.tells v.items) c.unpooled-in-Err.ensures.gates))
-    (unpooled_is terms c.args.workers c.args.state c.unpooled-in-Err.result.state (map g.G.Gate.tells c.args.gates.items) c.requires.fresh.0 c.requires.fresh.1
-    (c.unpooled-in-Err.ensures.state ∙ ap (given_up Memory) c.in-Err.ensures.err) c.unpooled-in-Err.ensures.put c.unpooled-in-Err.ensures.halted)
-
-pub crew-requires-clause-ready : goal.crew-requires-clause-ready
-crew-requires-clause-ready g c κs within =
-    subst (λ (ps : List PassValue). AreReady c.args.jobs.now c.in-Ok-open.turn 0 ps) (sym c.as_mut_slice.ensures.value)
-    (ready_all c.args.jobs.now c.in-Ok-open.turn c.args.state.plan (base_of c.args.state) c.in-Ok-open.first (c.args.workers - 1) c.split_all.new.passes.items
-    c.in-Ok-open.ensures.ok.1 c.requires.reach c.split_all.ensures.split)
-
-pub join_all-requires : goal.join_all-requires
-join_all-requires g c =
-    let jobs = c.args.jobs.now in
-    let turn = c.in-Ok-open.turn in
-    let plan = c.args.state.plan in
-    let base = base_of c.args.state in
-    let count : ℕ = c.args.workers - 1 in
-    let first = c.remove-first.result in
-    let others = c.remove-first.new.self.items in
-    let passes = c.split_all.new.passes in
-    let befores = map g.G.Gate.tells c.split_at_mut-working.result.0.now in
-    let nows = map g.G.Gate.tells c.crew.new.gates in
-    let parts = parted_in jobs turn plan base count c.in-Ok-open.first first passes.items c.as_mut_slice.result.now c.crew.new.passes (drop (length c.crew.new.passes) passes.items) others passes.len befores nows
-    c.in-Ok-open.ensures.ok.1 c.split_all.ensures.split passes.ok.0 c.split_all.ensures.count c.as_mut_slice.ensures.value c.crew.ensures c.remove-first.ensures.value c.remove-first.ensures.items in
-    record {
-      opener = first_opener jobs turn plan base count first first others befores nows parts;
-      first = first_idle jobs turn plan base count first first others befores nows parts;
-      others = others_idle jobs turn plan base count first first others befores nows parts;
-    }
-
-pub close-state-requires : goal.close-state-requires
-close-state-requires g c =
-    let jobs = c.args.jobs.now in
-    let turn = c.in-Ok-open.turn in
-    let plan = c.args.state.plan in
-    let base = base_of c.args.state in
-    let count : ℕ = c.args.workers - 1 in
-    let first = c.remove-first.result in
-    let now = c.join_all.new.first in
-    let others = c.remove-first.new.self.items in
-    let passes = c.split_all.new.passes in
-    let befores = map g.G.Gate.tells c.split_at_mut-working.result.0.now in
-    let nows = map g.G.Gate.tells c.crew.new.gates in
-    let parts = parted_in jobs turn plan base count c.in-Ok-open.first first passes.items c.as_mut_slice.result.now c.crew.new.passes (drop (length c.crew.new.passes) passes.items) others passes.len befores nows
-    c.in-Ok-open.ensures.ok.1 c.split_all.ensures.split passes.ok.0 c.split_all.ensures.count c.as_mut_slice.ensures.value c.crew.ensures c.remove-first.ensures.value c.remove-first.ensures.items in
-    let joined = c.join_all.ensures.known in
-    record {
-      turn = joined_turn jobs turn plan base count first now others befores nows parts joined;
-      opener = joined_opener jobs turn plan base count first now others befores nows parts joined;
-      idle = joined_taken jobs turn plan base count first now others befores nows parts joined;
-      done = c.join_all.ensures.held ∙ (first_idle jobs turn plan base count first now others befores nows parts).start;
-      joined = joined_all jobs turn plan base count first now others befores nows parts joined;
-    }
-
-pub returns-in-Ok-open-clause-pooled : goal.returns-in-Ok-open-clause-pooled
-returns-in-Ok-open-clause-pooled g c =
-    let jobs = c.args.jobs.now in
-    let turn = c.in-Ok-open.turn in
-    let plan = c.args.state.plan in
-    let base = base_of c.args.state in
-    let count : ℕ = c.args.workers - 1 in
-    let first = c.remove-first.result in
-    let now = c.join_all.new.first in
-    let others = c.remove-first.new.self.items in
-    let passes = c.split_all.new.passes in
-    let front = c.split_at_mut-working.result.0.now in
-    let back = c.split_at_mut-working.result.1.now in
-    let befores = map g.G.Gate.tells front in
-    let nows = map g.G.Gate.tells c.crew.new.gates in
-    let parts = parted_in jobs turn plan base count c.in-Ok-open.first first passes.items c.as_mut_slice.result.now c.crew.new.passes (drop (length c.crew.new.passes) passes.items) others passes.len befores nows
-    c.in-Ok-open.ensures.ok.1 c.split_all.ensures.split passes.ok.0 c.split_all.ensures.count c.as_mut_slice.ensures.value c.crew.ensures c.remove-first.ensures.value c.remove-first.ensures.items in
-    let some = c.requires.some in
-    let many : c.args.workers ≡ c.args.workers - 1 + 1 = omega (arith, some) in
-    let kept : length c.crew.new.gates ≡ length front = c.crew.auto.gates in
-    pooled_in g.G.Gate.tells (terms_in jobs plan) c.args.workers c.args.state c.close-state.result c.args.gates.items front back c.crew.new.gates
-    (drop (length (c.crew.new.gates ++ back)) c.args.gates.items) c.args.gates.len
-    (sym c.deref_mut.ensures.value ∙ c.split_at_mut-working.ensures.value) c.args.gates.ok.0 kept
-    (is_pooled jobs turn plan base count first now others befores nows parts c.join_all.ensures.known c.args.state c.close-state.result c.args.workers (map g.G.Gate.tells back) many refl refl
-    c.hand_out_sound.ensures c.join_all.ensures.own c.close-state.ensures c.hand_out_lines.ensures.put c.hand_out_lines.ensures.halted)
+pub returns-clause-all : goal.returns-clause-all
+returns-clause-all g c = asked_in_order (terms_in c.args.jobs.now c.args.state.plan) 0 _ _ _ (returns-clause-pooled g c).asked
