@@ -1,6 +1,7 @@
 -- The check of a journal that a run left refuses nothing, where the files hold the same as when the run began.
 use Rattle.std.proofs.Common.{◌≡◌, ◌∙◌, sym, subst, Bool, true, false, ℕ, ◌<◌, ◌≤◌, List, length, refl, arith, inl, inr}
-use Rattle.std.specs.Prelude.{IfSome, IsSomeAnd, Option, Some, None}
+use Rattle.std.specs.Prelude.{IfSome, IsSomeAnd, Option, Some, None, Result}
+use Rattle.ct_base.specs.declared.memory.NoMemory.{NoMemory}
 use Rattle.ct_base.specs.declared.defs.Resource.{Resource}
 use Rattle.ct_base.specs.Outside.{FilesTell, Held, SinkTell}
 use Rattle.ct_graph.specs.Order.{most_edges}
@@ -126,16 +127,16 @@ checks s status (Some plan) (Some entries) fit size ran =
     (rechecks s status (Some plan) (Some entries) fit ran) size path files files_now sink sink_now outcome ended
     (reads_alike s.words s.files.before.held files.held alike) holds answer
 
--- the journal that was written has the size of one
-sized : (history : Option (List Entry)) (Rest : List Entry → Type 0) → IsSomeAnd history (λ entries. HasJournalSize (journal_of entries) × Rest entries) → IsSomeAnd history (λ entries. HasJournalSize (journal_of entries))
-sized None Rest has = has
-sized (Some entries) Rest has = has.0
+-- the journal that was written within a limit of a check has the size of one
+sized : (most : ℕ) (history : Option (List Entry)) (Rest : List Entry → Type 0) → most ≤ most_journal_bytes → IsSomeAnd history (λ entries. (length (journal_of entries) ≤ most) × Rest entries) → IsSomeAnd history (λ entries. HasJournalSize (journal_of entries))
+sized most None Rest checked has = has
+sized most (Some entries) Rest checked has = let within = has.0 in omega (arith, within, checked)
 
 -- a journal that was written behind a run is not refused by a check of the words of the run
-pub checks_run : (s : Sides) (outcome : Outcome) (status : ℕ) (path : List ℕ) (files_then files_now : FilesTell) (sink_then sink_now : SinkTell) (end : JournalEnd) → AnswersAsMeant s outcome status → IsJournalEnd (run_end path outcome s.history files_then files_now sink_then sink_now) end → (end ≡ Written → IfSome s.history EntriesFit) → ChecksAgain s.words s.files.before.held s.history end
-checks_run s outcome status path files_then files_now sink_then sink_now Written meant journal fit =
-    checks s status s.plan s.history (fit refl) (sized s.history _ journal.journal) (meant journal.completed)
-checks_run s outcome status path files_then files_now sink_then sink_now NoRun meant journal fit = λ is. absurd (cc)
-checks_run s outcome status path files_then files_now sink_then sink_now TooLong meant journal fit = λ is. absurd (cc)
-checks_run s outcome status path files_then files_now sink_then sink_now FilesFault meant journal fit = λ is. absurd (cc)
-checks_run s outcome status path files_then files_now sink_then sink_now Memory meant journal fit = λ is. absurd (cc)
+pub checks_run : (s : Sides) (outcome : Outcome) (status : ℕ) (most : ℕ) (path : List ℕ) (files_then files_now : FilesTell) (sink_then sink_now : SinkTell) (told : Result (Unit {0}) NoMemory) (end : JournalEnd) → most ≤ most_journal_bytes → AnswersAsMeant s outcome status → IsJournalEnd (run_end most path outcome s.history files_then files_now sink_then sink_now) told end → (end ≡ Written → IfSome s.history EntriesFit) → ChecksAgain s.words s.files.before.held s.history end
+checks_run s outcome status most path files_then files_now sink_then sink_now told Written checked meant journal fit =
+    checks s status s.plan s.history (fit refl) (sized most s.history _ checked journal.journal) (meant journal.completed)
+checks_run s outcome status most path files_then files_now sink_then sink_now told NoRun checked meant journal fit = λ is. absurd (cc)
+checks_run s outcome status most path files_then files_now sink_then sink_now told TooLong checked meant journal fit = λ is. absurd (cc)
+checks_run s outcome status most path files_then files_now sink_then sink_now told FilesFault checked meant journal fit = λ is. absurd (cc)
+checks_run s outcome status most path files_then files_now sink_then sink_now told Memory checked meant journal fit = λ is. absurd (cc)

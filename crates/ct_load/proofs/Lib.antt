@@ -1,2 +1,10 @@
 pub mod ListLemmas
 pub mod RunLemmas
+pub mod TreeCommands
+pub mod WrittenLemmas
+pub mod TreeTests
+pub mod CarriedLemmas
+pub mod TreeReadLemmas
+pub mod PropsLemmas
+pub mod EdgeLemmas
+pub mod RunnableLemmas

@@ -1,5 +1,5 @@
 -- What a load is asked for, and what it puts and returns. This project's own.
-use Rattle.std.specs.Prelude.{◌≡◌, ◌⊎◌, ℕ, nat_le, ◌&&◌, List, [], ◌∷◌, codes, Option, Some, None, IsSomeAnd, Result, Ok, Err, if◌then◌else◌}
+use Rattle.std.specs.Prelude.{◌≡◌, ◌⊎◌, ℕ, ◌≤◌, nat_le, ◌&&◌, List, [], ◌∷◌, codes, Option, Some, None, IsSomeAnd, Result, Ok, Err, if◌then◌else◌}
 use Rattle.ct_base.specs.declared.sink.SinkFault.{SinkFault}
 use Rattle.ct_base.specs.declared.sink.SinkFault.TheVariants.{Failed, NoMemory}
 use Rattle.ct_base.specs.Outside.{Rose, SinkTell}
@@ -7,12 +7,18 @@ use Rattle.ct_base.specs.Seconds.{number_in}
 use Rattle.ct_report.specs.PutLines.{PutsLines}
 use Rattle.ct_report.specs.Report.{summary_lines}
 use Rattle.ct_app.specs.Calls.{Tries}
+use Rattle.ct_app.specs.Complete.{IsRunnable}
 use Rattle.ct_app.specs.Ends.{history_entries}
-use Rattle.ct_load.specs.Run.{IsLoadRun, LoadRun}
+use Rattle.ct_load.specs.declared.load.TheConstants.{MOST_TESTS}
+use Rattle.ct_load.specs.Run.{IsLoadRun, LoadRun, run_sides}
 
 -- the greatest number of tests
 abbrev pub most_load_tests : ℕ
-most_load_tests = 100000
+most_load_tests = MOST_TESTS
+
+-- the number is from 1 to the greatest number of tests
+abbrev pub IsLoadCount : ℕ → Type 0
+IsLoadCount count = (1 ≤ count) × (count ≤ most_load_tests)
 
 -- a number of tests, if it is from 1 to the greatest number
 abbrev pub count_within : ℕ → Option ℕ
@@ -28,6 +34,11 @@ abbrev pub asked_count : List (List ℕ) → Option ℕ
 asked_count [] = None
 asked_count (word ∷ []) = count_in_word (number_in word)
 asked_count (word ∷ other ∷ words) = None
+
+-- a run of so many tests can be made: its words are accepted, its tests and their properties are read without
+-- refusal, there are not too many edges, and no cycle
+abbrev pub CanBeRun : ℕ → Type 0
+CanBeRun count = (run : LoadRun) → IsRunnable (run_sides count run)
 
 -- the line that says which words a load takes
 abbrev pub usage_line : List ℕ
@@ -55,7 +66,7 @@ pub record IsCut (count : ℕ) (run : LoadRun) (before now : SinkTell) (status :
   pub rose : Rose before.faults now.faults
   pub is : status ≡ 4
 
--- memory was wanting or the run was not completed: nothing was put, or a beginning of the summary of a run
+-- memory was wanting: nothing was put, or a beginning of the summary of a run
 abbrev pub EndsEarly : ℕ → SinkTell → SinkTell → Type 0
 EndsEarly count before now = (now ≡ before) ⊎ ((run : LoadRun) × IsShown count run before now (Err NoMemory))
 

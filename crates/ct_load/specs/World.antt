@@ -3,6 +3,7 @@ use Rattle.std.specs.Prelude.{ℕ, ◌%◌, ℤ, pos, List, [], map, replicate, 
 use Rattle.ct_verdict.specs.declared.attempt.How.TheVariants.{Exited}
 use Rattle.ct_core.specs.declared.gate.Told.{Told}
 use Rattle.ct_core.specs.ScriptValue.{ScriptValue}
+use Rattle.ct_load.specs.declared.world.TheConstants.{GATES}
 use Rattle.ct_load.specs.Tree.{numbers}
 
 -- the exit code of a test: 1 for each that 97 divides
@@ -28,7 +29,7 @@ gate_of count = record { world = world_of count; asked = []; sent = []; lent = [
 
 -- how many gates a load has
 abbrev pub load_gate_count : ℕ
-load_gate_count = 4
+load_gate_count = GATES
 
 -- the gates of a load
 abbrev pub gates_of : ℕ → List ScriptValue

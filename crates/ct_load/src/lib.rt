@@ -5,6 +5,7 @@
 //! what it calls: `run.rt`, `tree.rt`, `world.rt`.
 #![tactic(auto)]
 
+pub mod limits;
 mod load;
 mod run;
 mod tree;

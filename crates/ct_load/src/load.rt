@@ -1,6 +1,6 @@
-ghost use Rattle.std.specs.Prelude.{◌≡◌, ◌↔◌, None};
+ghost use Rattle.std.specs.Prelude.{◌≡◌, ◌↔◌, None, IfSome};
 ghost use Rattle.ct_app.specs.Calls.{Tries};
-ghost use Rattle.ct_load.specs.Load.{Loads, LoadsTests, PutsSummary, asked_count, count_within, usage_line};
+ghost use Rattle.ct_load.specs.Load.{CanBeRun, IsLoadCount, Loads, LoadsTests, PutsSummary, asked_count, count_within, usage_line};
 ghost use Rattle.ct_load.specs.Run.{IsFinal};
 
 use crate::LoadRun;
@@ -31,8 +31,8 @@ pub struct Loaded<S> {
 ///
 /// The status is that of the run. It is 4 where the sink fails at the summary, and 5 where memory
 /// is wanting. For words other than one number in that range, it puts a line that says so, and the
-/// status is 1, whether or not that put fails. The status is 5 too where the run is not completed.
-/// That the generated tests are never refused is shown by tests, and not by a proof.
+/// status is 1, whether or not that put fails. The generated tests are never refused: a run of them is
+/// completed, unless memory runs out (`runnable`).
 ///
 /// Source: this project's choice.
 pub fn load_main<R: Threads + Wait + Sync, S: Sink>(
@@ -44,6 +44,7 @@ pub fn load_main<R: Threads + Wait + Sync, S: Sink>(
     ensures usage { (result.status ≡ 1) ↔ (asked_count words.now ≡ None) }
     ensures answer { Loads (asked_count words.now) (S.tells sink) (S.tells result.sink)
         result.run result.status }
+    ensures runnable { IfSome (asked_count words.now) CanBeRun }
 {
     match asked_count(words) {
         Some(count) => load(rt, alloc, count, sink),
@@ -53,7 +54,8 @@ pub fn load_main<R: Threads + Wait + Sync, S: Sink>(
 
 /// Returns the number of tests that the words ask for, if they ask for one.
 fn asked_count(words: &[Name]) -> Option<u32>
-    ensures { result ≡ asked_count words.now }
+    ensures is { result ≡ asked_count words.now }
+    ensures within { IfSome result IsLoadCount }
 {
     let [word] = words else {
         return None;
@@ -62,7 +64,8 @@ fn asked_count(words: &[Name]) -> Option<u32>
 }
 
 fn count_within(count: u64) -> Option<u32>
-    ensures { result ≡ count_within count }
+    ensures is { result ≡ count_within count }
+    ensures within { IfSome result IsLoadCount }
 {
     if 1 <= count && count <= MOST_TESTS {
         Some(count as u32)
@@ -92,6 +95,7 @@ fn load<R: Threads + Wait + Sync, S: Sink>(
     count: u32,
     mut sink: S,
 ) -> Loaded<S>
+    requires { IsLoadCount count }
     ensures { LoadsTests count (S.tells sink) (S.tells result.sink) result.run result.status }
 {
     let Ok(run) = run_of(rt, alloc, count) else {

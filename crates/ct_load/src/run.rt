@@ -1,4 +1,5 @@
 ghost use Rattle.std.specs.Prelude.{◌≡◌, IfOk};
+ghost use Rattle.ct_load.specs.Load.{IsLoadCount};
 ghost use Rattle.ct_load.specs.Run.{IsLoadRun, run_words};
 
 use crate::tree::tree_files;
@@ -15,12 +16,13 @@ pub type LoadRun = Finished<CalmFiles, ScriptGate, CalmSink>;
 
 /// Runs `count` generated tests by four workers.
 ///
-/// A run that was not completed is dropped.
+/// Where memory ran out in the run, what is left of it is dropped. A run of so many tests has no other end.
 pub(crate) fn run_of<R: Threads + Wait + Sync>(
     rt: &R,
     alloc: Global,
     count: u32,
 ) -> Result<LoadRun, NoMemory>
+    requires { IsLoadCount count }
     ensures { IfOk result (λ run. IsLoadRun count run) }
 {
     let words = run_words(alloc)?;
@@ -28,10 +30,10 @@ pub(crate) fn run_of<R: Threads + Wait + Sync>(
     let gates = gates_of(alloc, count)?;
     let sink = CalmSink::new(alloc);
     let run = ctest_main(rt, alloc, words.as_slice(), &[], files, gates, sink);
-    if let Outcome::Completed = run.outcome {
-        Ok(run)
-    } else {
-        Err(NoMemory)
+    match run.outcome {
+        Outcome::Completed => Ok(run),
+        Outcome::Memory => Err(NoMemory),
+        _ => unreachable!(),
     }
 }
 

@@ -7,6 +7,8 @@ use ct_verdict::How;
 use std::alloc::Global;
 
 /// How many gates a load has.
+///
+/// Source: this project's choice.
 const GATES: usize = 4;
 
 /// Makes the gates of a load of `count` tests, all of one world.

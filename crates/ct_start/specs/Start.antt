@@ -6,10 +6,11 @@ use Rattle.ct_core.specs.Gate.{GateTell}
 use Rattle.ct_edge.specs.Machine.{gate_tell}
 use Rattle.ct_start.specs.declared.fault.BeginFault.{BeginFault}
 use Rattle.ct_start.specs.declared.fault.BeginFault.TheVariants.{Failed, NoMemory}
+use Rattle.ct_start.specs.declared.gates.TheConstants.{GATES}
 
 -- how many programs of tests can run at once
 abbrev pub gate_count : ℕ
-gate_count = 256
+gate_count = GATES
 
 -- the words behind the program's name
 abbrev pub words_in : {A : Type 0} → List (String A) → List (List ℕ)

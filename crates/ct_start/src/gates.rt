@@ -1,4 +1,4 @@
-ghost use Rattle.std.specs.Prelude.{◌≡◌, IfOk};
+ghost use Rattle.std.specs.Prelude.{◌≡◌, IfOk, length};
 ghost use Rattle.ct_edge.specs.Machine.{gates_tell};
 ghost use Rattle.ct_start.specs.Start.{unused_gates};
 
@@ -13,7 +13,8 @@ const GATES: usize = 256;
 
 /// Makes the gates through which tests may run, none of which has failed.
 pub fn gates_of(alloc: Global, rt: HostRuntime) -> Result<Vec<ProcessGate>, NoMemory>
-    ensures { IfOk result (λ gates. gates_tell gates.items ≡ unused_gates) }
+    ensures are { IfOk result (λ gates. gates_tell gates.items ≡ unused_gates) }
+    ensures count { length unused_gates ≡ 256 }
 {
     let mut gates = Vec::new(alloc);
     for _ in 0..GATES {
