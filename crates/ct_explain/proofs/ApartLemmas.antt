@@ -1,5 +1,5 @@
 -- The bars of one worker do not overlap, since it has one open start at most.
-use Rattle.std.proofs.Common.{◌≡◌, ◌∙◌, sym, ap, subst, ℕ, ◌+◌, ◌<◌, ◌⊎◌, List, [], ◌∷◌, ◌++◌, length, get_or, refl, append_assoc, arith, length-append, Bool, true, false, inl, inr, ⊎_elim, eq-eqb}
+use Rattle.std.proofs.Common.{◌≡◌, ◌∙◌, sym, ap, subst, ℕ, ◌<◌, ◌⊎◌, List, [], ◌∷◌, ◌++◌, length, get_or, refl, append_assoc, arith, length-append, Bool, true, false, inl, inr, ⊎_elim, eq-eqb}
 use Rattle.std.specs.Prelude.{All, Option, Some, None, cond, filter, not, slice_index, ◌==◌, ◌&&◌, ◌||◌}
 use Rattle.std.specs.Option.{option_to_list}
 use Rattle.std.specs.List.{list_any}

@@ -1,6 +1,6 @@
 -- In a legal history each End has its bar, since a Start of its test stands in front of it.
 use Rattle.std.proofs.Common.{◌≡◌, ◌∙◌, sym, ap, ℕ, ◌+◌, List, [], ◌∷◌, ◌++◌, length, refl, Bool, true, false, inl, inr}
-use Rattle.std.specs.Prelude.{Option, Some, None, cond, filter_map, map, not, option_map, ◌==◌, ◌&&◌, ◌||◌}
+use Rattle.std.specs.Prelude.{Option, Some, None, cond, filter_map, map, not, option_map, ◌==◌, ◌||◌}
 use Rattle.std.specs.Option.{option_or}
 use Rattle.std.specs.List.{cons_option, list_any}
 use Rattle.std.proofs.lemmas.Bool.{and_parts, cases_Bool}

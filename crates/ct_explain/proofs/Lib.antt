@@ -13,3 +13,6 @@ pub mod ScaleLemmas
 pub mod SinkLemmas
 pub mod LawLemmas
 pub mod ApartLemmas
+pub mod TimeLemmas
+pub mod WorkerLemmas
+pub mod NothingLemmas

@@ -1,5 +1,5 @@
 -- How often a length goes into a million times a moment, by three steps of a hundred.
-use Rattle.std.proofs.Common.{◌≡◌, ◌∙◌, sym, ap, ℕ, ◌+◌, ◌*◌, ◌<◌, ◌≤◌, arith}
+use Rattle.std.proofs.Common.{◌≡◌, ◌∙◌, sym, ap, ℕ, ◌+◌, ◌*◌, ◌<◌, arith}
 use Rattle.std.specs.Prelude.{◌/◌, ◌==◌, Bool, false, cond, nat_le}
 use Rattle.std.proofs.lemmas.Bool.{eqb-true, false_from_ne_true, leb-true}
 use Rattle.std.proofs.lemmas.Nat.{div-mul-add}

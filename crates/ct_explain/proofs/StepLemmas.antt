@@ -1,5 +1,5 @@
 -- The steps of an explanation, one behind the other.
-use Rattle.std.proofs.Common.{◌≡◌, ◌∙◌, sym, subst, refl, Bool, ℕ, ◌+◌, ◌^◌, ◌<◌, List, [], ◌∷◌, length, take, inl, inr, arith}
+use Rattle.std.proofs.Common.{◌≡◌, sym, subst, refl, Bool, ℕ, ◌+◌, ◌^◌, ◌<◌, List, [], ◌∷◌, length, take, inl, inr, arith}
 use Rattle.std.specs.Prelude.{Option, Some, None, Result, Ok, Err, IfErr, IfSome, option_map}
 use Rattle.ct_base.specs.declared.sink.SinkFault.TheVariants as Sinks
 use Rattle.ct_base.specs.Outside.{Becomes, FilesTell, LooksAt, SameHeld, SinkTell}

@@ -1,6 +1,6 @@
 -- The waits of a chain, in one pass over the entries.
-use Rattle.std.proofs.Common.{◌≡◌, ◌∙◌, sym, ap, subst, ℕ, ◌+◌, ◌-◌, ◌<◌, ◌≤◌, true, List, [], ◌∷◌, ◌++◌, get_or, length, take, drop, refl, arith, zero, suc}
-use Rattle.std.specs.Prelude.{All, AllPairs, ◌&&◌, slice_get, Some}
+use Rattle.std.proofs.Common.{◌≡◌, ◌∙◌, sym, ap, subst, ℕ, ◌+◌, ◌<◌, ◌≤◌, true, List, [], ◌∷◌, ◌++◌, get_or, length, take, drop, refl, arith, zero, suc}
+use Rattle.std.specs.Prelude.{All, AllPairs, slice_get, Some}
 use Rattle.std.proofs.lemmas.Bool.{and_from, and_parts}
 use Rattle.std.proofs.lemmas.List.{append-nil, append_assoc, drop_more, length-drop, take-append-drop, take_more}
 use Rattle.ct_history.specs.declared.plan.PlanParts.{PlanParts}

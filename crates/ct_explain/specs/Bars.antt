@@ -1,5 +1,5 @@
 -- The attempts of a history as a picture shows them. This project's own.
-use Rattle.std.specs.Prelude.{◌≡◌, ℕ, ◌+◌, ◌<◌, AllPairs, Bool, false, List, [], ◌∷◌, ◌++◌, fold, filter_map, length, map, nat_eq, slice_index, Option, Some, None, option_map, ◌==◌, if◌then◌else◌}
+use Rattle.std.specs.Prelude.{◌≡◌, ℕ, ◌+◌, ◌<◌, ◌≤◌, AllPairs, Bool, false, List, [], ◌∷◌, ◌++◌, fold, filter_map, length, map, nat_eq, slice_index, Option, Some, None, option_map, ◌==◌, if◌then◌else◌}
 use Rattle.std.specs.Option.{option_or}
 use Rattle.std.specs.List.{cons_option}
 use Rattle.std.specs.Ordering.{nat_cmp}
@@ -101,3 +101,10 @@ ShowEachEnd entries bars = map bar_attempt bars ≡ filter_map attempt_ended ent
 abbrev pub DoNotOverlap : List Bar → Type 0
 DoNotOverlap bars =
     AllPairs (λ (one other : Bar). one.worker ≡ other.worker → one.link.end < other.link.begin) bars
+
+-- the bars of one worker do not overlap in time: of two of them, the first is over, by its start and its
+-- micros, when the second starts
+abbrev pub DoNotOverlapInTime : List Bar → Type 0
+DoNotOverlapInTime bars =
+    AllPairs (λ (one other : Bar).
+    one.worker ≡ other.worker → one.link.start + one.link.micros ≤ other.link.start) bars

@@ -1,6 +1,6 @@
 -- Texts as they may stand in an XML document. Source: XML 1.0, sections 2.2 and 2.4; UTF-8: RFC 3629, section
 -- 4. That control characters are replaced is this project's own.
-use Rattle.std.specs.Prelude.{ℕ, ◌+◌, ◌-◌, Bool, ◌&&◌, ◌||◌, List, [], ◌∷◌, ◌++◌, slice_index, nat_le, nat_lt, codes, ◌==◌, if◌then◌else◌}
+use Rattle.std.specs.Prelude.{ℕ, ◌-◌, Bool, ◌&&◌, ◌||◌, List, [], ◌∷◌, ◌++◌, slice_index, nat_le, nat_lt, codes, ◌==◌, if◌then◌else◌}
 
 -- the byte at a place, 0 where there is none
 abbrev pub byte_at : List ℕ → ℕ → ℕ

@@ -21,15 +21,18 @@ use Rattle.ct_explain.specs.declared.explain.ExplainOutcome.TheVariants.{Explain
 use Rattle.ct_explain.specs.Found.{IsRefusedSo, IsStoryOfText, refusal_line, story_lines}
 use Rattle.ct_explain.specs.Words.{asks_picture, journal_words}
 
--- the text that was read is the journal of a complete legal history, and `P` holds of what is put of its story
+-- the text that was read is the journal of a complete legal history, and `P` holds of what is put of its
+-- story
 abbrev pub TellsStory : Bool → PlanParts → Option (List ℕ) → (List (List ℕ) → Type 0) → Type 0
 TellsStory picture plan found P =
-    (story : Story) × IsGoodJournal plan found × IsStoryOfText plan found story × P (story_lines picture plan story)
+    (story : Story) × IsGoodJournal plan found × IsStoryOfText plan found story
+    × P (story_lines picture plan story)
 
 -- the line with this number is refused for a reason, and `P` holds of the line that is put for it
 abbrev pub TellsWhy : PlanParts → Option (List ℕ) → ℕ → (List (List ℕ) → Type 0) → Type 0
 TellsWhy plan found line P =
-    (why : Why) × IsBadJournal plan found line × IsRefusedSo plan found line why × P (refusal_line plan line why ∷ [])
+    (why : Why) × IsBadJournal plan found line × IsRefusedSo plan found line why
+    × P (refusal_line plan line why ∷ [])
 
 -- a put of these lines failed
 abbrev pub FailsToPut : Sides → List (List ℕ) → Type 0
@@ -117,8 +120,8 @@ ExplainsOrRefuses (No line) = ⊤
 ExplainsOrRefuses Memory = ⊤
 ExplainsOrRefuses outcome = ⊥
 
--- a journal is explained or refused where a run of the words can be made, it is short enough, and no fault was
--- counted, unless memory ran out
+-- a journal is explained or refused where a run of the words can be made, it is short enough, and no
+-- fault was counted, unless memory ran out
 abbrev pub CompletesFrom : List (List ℕ)
     → FilesTell → FilesTell → SinkTell → SinkTell → ExplainOutcome → Type 0
 CompletesFrom [] files files_now sink sink_now outcome = ⊤

@@ -28,7 +28,8 @@ refusal_line plan line why =
 -- the text that was read is the journal of a complete legal history, and this is the story of that history
 abbrev pub IsStoryOfText : PlanParts → Option (List ℕ) → Story → Type 0
 IsStoryOfText plan None story = ⊥
-IsStoryOfText plan (Some text) story = IsJournalOfRun plan text story.entries × IsStory plan story.entries story
+IsStoryOfText plan (Some text) story =
+    IsJournalOfRun plan text story.entries × IsStory plan story.entries story
 
 -- the line of what was read is refused for this reason. An absent file has no line of a journal
 abbrev pub IsRefusedSo : PlanParts → Option (List ℕ) → ℕ → Why → Type 0

@@ -39,7 +39,8 @@ abbrev pub IsWhyAt : PlanParts → List Entry → List ℕ → List ℕ → Why 
 IsWhyAt plan front line [] why = why ≡ NoLine
 IsWhyAt plan front line (byte ∷ rest) why = IsWhy plan front line why
 
--- behind the first line of a journal, the line with this number is the first that is not good, for this reason
+-- behind the first line of a journal, the line with this number is the first that is not good, for this
+-- reason
 pub record IsRefusedWhy (plan : PlanParts) (text : List ℕ) (number : ℕ) (why : Why) : Type 0 where
   pub refused : IsRefusedBehind plan text number
   pub reason : IsWhyAt plan refused.entries refused.line refused.rest why

@@ -146,7 +146,8 @@ bound_lines plan story = bound_title_lines story ++ amount_lines plan story
 
 -- the lines behind the first ones: the chain and the bound, or nothing where the length is 0
 abbrev pub explained_lines : PlanParts → Story → List (List ℕ)
-explained_lines plan story = if story.length == 0 then [] else chain_lines plan story ++ bound_lines plan story
+explained_lines plan story =
+    if story.length == 0 then [] else chain_lines plan story ++ bound_lines plan story
 
 -- the report of what a story tells
 abbrev pub explanation_lines : PlanParts → Story → List (List ℕ)

@@ -14,7 +14,8 @@ use Rattle.ct_times.specs.Times.{least_times, length_of}
 use Rattle.ct_times.specs.Works.{AreWorks}
 use Rattle.ct_times.specs.Chain.{IsChain}
 use Rattle.ct_times.specs.Links.{IsPlaced, as_link}
-use Rattle.ct_times.specs.Bounds.{IsExact, NoneIsShorter}
+use Rattle.ct_times.specs.Bounds.{IsExact, NoneIsShorter, done_in}
+use Rattle.ct_times.specs.First.{IsFirstOfAll}
 use Rattle.ct_explain.specs.declared.wait.Wait.{Wait}
 use Rattle.ct_explain.specs.declared.wait.Wait.TheVariants.{Nothing}
 use Rattle.ct_explain.specs.declared.story.Story.{Story}
@@ -55,7 +56,8 @@ MayStart plan entries link =
 -- - its entries, their least times, its length, and the work of each test;
 -- - its chain, with the places of the attempts, each of which was allowed where it started;
 -- - what each attempt of the chain but the first waited for;
--- - a bound, which is that of its capacity, and which no order of the same work goes below
+-- - a bound, which is that of its capacity, and which no order of the same work goes below: its capacity is
+--   the first of all capacities of the plan with the greatest bound
 pub record IsStory (plan : PlanParts) (history : List Entry) (story : Story) : Type 0 where
   pub entries : story.entries ≡ history
   pub times : story.times ≡ least_times history
@@ -67,3 +69,4 @@ pub record IsStory (plan : PlanParts) (history : List Entry) (story : Story) : T
   pub waits : story.waits ≡ waits_of plan history story.chain
   pub exact : IsExact plan history story.bound
   pub shortest : NoneIsShorter plan history story.bound
+  pub first : IsFirstOfAll plan (done_in history) story.bound.capacity

@@ -71,7 +71,8 @@ why_text plan StopIsDue = codes "a stop is due"
 why_text plan NoStopIsDue = codes "no stop is due"
 why_text plan (NoTest test) = numbered (codes "no test ") test
 why_text plan (IsFinal test) = codes "test " ++ decimal test ++ codes " is final"
-why_text plan (Waited test wait) = codes "test " ++ decimal test ++ codes " waited for " ++ wait_text plan wait
+why_text plan (Waited test wait) =
+    codes "test " ++ decimal test ++ codes " waited for " ++ wait_text plan wait
 why_text plan (MayNotStart test) = codes "test " ++ decimal test ++ codes " may not start"
 why_text plan NoSuchStart = codes "no such start is open"
 why_text plan (MayNotBeSettled test) = codes "test " ++ decimal test ++ codes " may not be settled so"

@@ -1,7 +1,7 @@
 -- What a Start waits for: the first condition of a Start that it does not meet. Source: CMake manual,
 -- cmake-properties(7), DEPENDS, FIXTURES_REQUIRED, RUN_SERIAL, PROCESSORS, RESOURCE_LOCK; ctest(1), Resource
 -- Allocation. The order of the conditions is this project's own.
-use Rattle.std.specs.Prelude.{ℕ, ◌+◌, ◌-◌, min, Bool, not, ◌&&◌, ◌||◌, List, [], ◌∷◌, ◌++◌, fold, filter, find, map, nat_le, Option, Some, None, option_map, option_and_then, is_none, if◌then◌else◌}
+use Rattle.std.specs.Prelude.{◌≡◌, ℕ, ◌+◌, ◌-◌, min, Bool, true, false, not, ◌&&◌, ◌||◌, List, [], ◌∷◌, ◌++◌, fold, filter, find, map, nat_le, Option, Some, None, option_map, option_and_then, is_none, if◌then◌else◌}
 use Rattle.std.specs.Option.{unwrap_or}
 use Rattle.std.specs.List.{list_any}
 use Rattle.std.specs.Ordering.{nat_cmp, is_lt}
@@ -15,11 +15,11 @@ use Rattle.ct_history.specs.declared.plan.PlanTest.{PlanTest}
 use Rattle.ct_history.specs.declared.plan.PlanParts.{PlanParts}
 use Rattle.ct_history.specs.declared.history.Entry.{Entry}
 use Rattle.ct_history.specs.Plan.{test_at}
-use Rattle.ct_history.specs.History.{Running, open_starts}
+use Rattle.ct_history.specs.History.{Running, has_stop, is_busy_in, open_starts}
 use Rattle.ct_history.specs.Seen.{is_busy_with, processors_used, slots_used}
 use Rattle.ct_history.specs.Verdicts.{verdict_of_test}
-use Rattle.ct_history.specs.Rules.{is_serial, locks_of, shared_of}
-use Rattle.ct_history.specs.Legal.{is_next_attempt}
+use Rattle.ct_history.specs.Rules.{first_unpassed, follows_finals, has_processors, is_excluded, is_pending, is_placed, is_serial, locks_of, shared_of}
+use Rattle.ct_history.specs.Legal.{is_next_attempt, is_stop_due}
 use Rattle.ct_explain.specs.declared.wait.Wait.{Wait}
 use Rattle.ct_explain.specs.declared.wait.Wait.TheVariants.{Attempt, Predecessor, Serial, Processors, Lock, Resource as Slots, Worker, Nothing}
 
@@ -64,7 +64,8 @@ names lock test = holds_lock lock test || is_among lock (shared_of test)
 
 -- two tests exclude each other on a lock: both name it, and one of them holds it alone
 abbrev pub exclude_on : List ℕ → Option PlanTest → Option PlanTest → Bool
-exclude_on lock one other = (holds_lock lock one && names lock other) || (names lock one && holds_lock lock other)
+exclude_on lock one other =
+    (holds_lock lock one && names lock other) || (names lock one && holds_lock lock other)
 
 -- the lesser one of two names, in byte order, where there is a first one
 abbrev pub lesser_name : Option (List ℕ) → List ℕ → Option (List ℕ)
@@ -140,3 +141,25 @@ wait_of plan front t attempt worker placement =
     (option_map Attempt (unless (is_next_attempt t attempt front) (attempt - 1))
     ∷ option_map Predecessor (unfinished plan t front)
     ∷ waits_beside plan (open_starts front) t worker placement)
+
+-- a Start meets each condition that it could wait for: its attempt is the next one, the tests in front of it
+-- are final, no open test excludes it, its processors and its placement fit, and its worker is idle
+pub record MeetsEach (plan : PlanParts) (front : List Entry) (t : PlanTest) (attempt worker : ℕ)
+    (placement : Option Placement) : Type 0 where
+  pub next : is_next_attempt t attempt front ≡ true
+  pub final : follows_finals plan t front ≡ true
+  pub apart : is_excluded plan.tests t front ≡ false
+  pub processors : has_processors plan t front ≡ true
+  pub fits : full_place plan.resources (slots_used (open_starts front)) placement ≡ None
+  pub idle : is_busy_in worker front ≡ false
+
+-- nothing forbids a Start of the test beside what it could wait for: no Stop is due and none stands, the test
+-- is neither final nor open, its setups have passed, it has no fixed cause, and its placement is one for it
+pub record IsElseReady (plan : PlanParts) (front : List Entry) (t : PlanTest) (placement : Option Placement)
+    : Type 0 where
+  pub no_stop_due : is_stop_due plan front ≡ false
+  pub goes_on : has_stop front ≡ false
+  pub pending : is_pending plan t front ≡ true
+  pub setups : first_unpassed plan t front ≡ None
+  pub fixed : t.fixed ≡ None
+  pub placed : is_placed plan.resources t.needs (λ place. 0) placement ≡ true

@@ -94,7 +94,8 @@ fn put_finding<S: Sink>(
     plan: &Plan,
     finding: &Finding,
 ) -> Result<(), SinkFault>
-    ensures { PutsLines (finding_lines picture plan.now finding.now) (S.tells sink.old) (S.tells sink.new) result }
+    ensures { PutsLines (finding_lines picture plan.now finding.now)
+        (S.tells sink.old) (S.tells sink.new) result }
 {
     match finding {
         Finding::Told(story) => put_story(alloc, sink, picture, plan, story),
@@ -110,7 +111,8 @@ fn put_story<S: Sink>(
     plan: &Plan,
     story: &Story,
 ) -> Result<(), SinkFault>
-    ensures { PutsLines (story_lines picture plan.now story.now) (S.tells sink.old) (S.tells sink.new) result }
+    ensures { PutsLines (story_lines picture plan.now story.now)
+        (S.tells sink.old) (S.tells sink.new) result }
 {
     if picture {
         put_picture(alloc, sink, plan, story)
@@ -126,7 +128,8 @@ fn put_refused<S: Sink>(
     line: u32,
     why: &Why,
 ) -> Result<(), SinkFault>
-    ensures { PutsLines (refusal_line plan.now line why.now ∷ []) (S.tells sink.old) (S.tells sink.new) result }
+    ensures { PutsLines (refusal_line plan.now line why.now ∷ [])
+        (S.tells sink.old) (S.tells sink.new) result }
 {
     let text = refusal_line(alloc, plan, line, why)?;
     sink.put(text.bytes())?;

@@ -1,4 +1,5 @@
 ghost use Rattle.std.specs.Prelude.{◌≡◌, ◌≤◌, ◌<◌, ◌++◌, ◌==◌, slice_get, ℕ, nat_eq, length, IfOk, OnOk, Some, if◌then◌else◌};
+ghost use Rattle.std.specs.List.Sorted.{IsNonDecreasing};
 ghost use Rattle.std.specs.Option.{option_copied};
 ghost use Rattle.indexmap.specs.IndexMap.{get};
 ghost use Rattle.ct_explain.specs.Picture as Drawn;
@@ -64,7 +65,8 @@ pub(crate) fn bar_line(
     chained: &Chained,
     bar: &Bar,
 ) -> Result<Blob, NoMemory>
-    requires { Drawn.AreChained story.now.chain chained.now }
+    requires chained { Drawn.AreChained story.now.chain chained.now }
+    requires ascend { IsNonDecreasing workers.now }
     ensures { IfOk result (λ line. line ≡ Drawn.bar_line plan.now story.now workers.now bar.now) }
 {
     let place = chained_at(chained, bar.link.end);
@@ -110,10 +112,11 @@ fn chain_mark(place: Option<usize>) -> &'static [u8]
 
 /// Returns in which row a worker stands, from 0: how many of the workers have a lesser number.
 pub(crate) fn worker_place(workers: &[u32], worker: u32) -> usize
+    requires { IsNonDecreasing workers.now }
     ensures is { result ≡ Drawn.worker_place workers.now worker }
     ensures within { result ≤ length workers.now }
 {
-    workers.iter().filter(|other| **other < worker).count()
+    workers.partition_point(|other| *other < worker)
 }
 
 /// Returns what the attempt at this place of the chain waited for; the first waited for nothing.

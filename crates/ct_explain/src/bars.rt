@@ -1,4 +1,5 @@
 ghost use Rattle.std.specs.Prelude.{◌≡◌, ◌++◌, ℕ, nat_eq, IfOk, OnOk};
+ghost use Rattle.std.specs.List.Sorted.{IsNonDecreasing};
 ghost use Rattle.std.specs.Option.{option_to_list};
 ghost use Rattle.indexmap.specs.IndexMap.{get};
 ghost use Rattle.ct_explain.specs.Bars as Drawn;
@@ -24,7 +25,8 @@ type Begins = IndexMap<u32, usize>;
 
 /// Returns the workers that have a Start, each once, in ascending order.
 pub(crate) fn workers_of(alloc: Global, entries: &[Entry]) -> Result<List<u32>, NoMemory>
-    ensures { IfOk result (λ workers. workers ≡ Drawn.workers entries.now) }
+    ensures workers { IfOk result (λ workers. workers ≡ Drawn.workers entries.now) }
+    ensures ascend { IfOk result IsNonDecreasing }
 {
     let mut kept = BTreeSet::new(alloc);
     for entry in entries {
@@ -44,7 +46,8 @@ fn keep_starter(kept: &mut BTreeSet<u32>, entry: &Entry) -> Result<(), NoMemory>
 }
 
 fn listed(alloc: Global, kept: BTreeSet<u32>) -> Result<List<u32>, NoMemory>
-    ensures { IfOk result (λ workers. workers ≡ kept.keys) }
+    ensures keys { IfOk result (λ workers. workers ≡ kept.keys) }
+    ensures ascend { IfOk result IsNonDecreasing }
 {
     let mut workers = List::new(alloc);
     for worker in kept {

@@ -60,8 +60,10 @@ pub fn explain_main<F: Files, S: Sink>(
     mut sink: S,
 ) -> Explained<F, S>
     requires few { length words.now < 2 ^ 32 - 1 }
-    ensures answer { AnswersExplain words.now (F.tells files) (F.tells result.files) (S.tells sink) (S.tells result.sink) result.outcome result.status }
-    ensures complete { CompletesExplain words.now (F.tells files) (F.tells result.files) (S.tells sink) (S.tells result.sink) result.outcome }
+    ensures answer { AnswersExplain words.now (F.tells files) (F.tells result.files) (S.tells sink)
+        (S.tells result.sink) result.outcome result.status }
+    ensures complete { CompletesExplain words.now (F.tells files) (F.tells result.files) (S.tells sink)
+        (S.tells result.sink) result.outcome }
     ensures kept { Becomes (F.tells files).held (F.tells result.files).held SameHeld }
 {
     let found = explain_words(alloc, journal_words(words), &mut files);

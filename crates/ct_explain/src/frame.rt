@@ -1,4 +1,5 @@
 ghost use Rattle.std.specs.Prelude.{◌≡◌, ◌++◌, map, IfOk, OnOk};
+ghost use Rattle.std.specs.List.Sorted.{IsNonDecreasing};
 ghost use Rattle.ct_explain.specs.Picture as Drawn;
 
 use crate::bar_lines::{ROW, worker_place};
@@ -28,6 +29,7 @@ pub(crate) fn frame_lines(
     story: &Story,
     workers: &[u32],
 ) -> Result<List<Blob>, NoMemory>
+    requires { IsNonDecreasing workers.now }
     ensures { IfOk result (λ lines. lines ≡ Drawn.frame_lines plan.now story.now workers.now) }
 {
     let mut lines = front_lines(alloc, plan, story, workers.len())?;
@@ -106,6 +108,7 @@ fn time_line(alloc: Global, front: &[u8], micros: u128) -> Result<Blob, NoMemory
 
 /// Writes the row of each worker behind the lines.
 fn push_rows(alloc: Global, lines: &mut List<Blob>, workers: &[u32]) -> Result<(), NoMemory>
+    requires { IsNonDecreasing workers.now }
     ensures { OnOk result (lines.new ≡ lines.old ++ map (Drawn.row_line workers.now) workers.now) }
 {
     for worker in workers {

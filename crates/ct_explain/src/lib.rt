@@ -5,10 +5,10 @@
 //! It names no crate of the scheduler.
 //!
 //! Hands up: `explain_main`, which puts the report or the picture of the run whose journal a file holds, or
-//! says which line of the file is refused and why; and the laws of `picture_laws`: each attempt that ended has
-//! one bar, and the bars of one worker do not overlap.
-//! Read first: `specs/Waits.antt`, `specs/Reasons.antt`, `specs/Reading.antt`, `specs/Report.antt`,
-//! `specs/Picture.antt`, `specs/Explain.antt`, then `explain.rt`.
+//! says which line of the file is refused and why; and the laws of `picture_laws`: each attempt that
+//! ended has one bar, and the bars of one worker do not overlap. Read first: `specs/Waits.antt`,
+//! `specs/Reasons.antt`, `specs/Reading.antt`, `specs/Report.antt`, `specs/Picture.antt`,
+//! `specs/Explain.antt`, then `explain.rt`.
 #![tactic(auto)]
 
 mod answer;

@@ -33,7 +33,8 @@ fn lock_wait_on(
     starts: &[OpenStart],
     lock: &Name,
 ) -> Result<Option<Wait>, NoMemory>
-    ensures { IfOk result (λ wait. wait ≡ Waits.lock_wait_on plan.now.tests test.now (runs starts.now) lock.now) }
+    ensures { IfOk result
+        (λ wait. wait ≡ Waits.lock_wait_on plan.now.tests test.now (runs starts.now) lock.now) }
 {
     match least_on(plan, test, starts, lock) {
         Some(number) => Ok(Some(Wait::Lock {
@@ -104,7 +105,8 @@ fn is_excluded_on(plan: &Plan, test: &PlanTest, starts: &[OpenStart], lock: &Nam
 
 /// Returns the least test of these starts that excludes the test on a lock.
 fn least_on(plan: &Plan, test: &PlanTest, starts: &[OpenStart], lock: &Name) -> Option<u32>
-    ensures { result ≡ Waits.least_open (λ x. Waits.exclude_on lock.now (Some test.now) (test_at plan.now.tests x)) (runs starts.now) }
+    ensures { result ≡ Waits.least_open
+        (λ x. Waits.exclude_on lock.now (Some test.now) (test_at plan.now.tests x)) (runs starts.now) }
 {
     let mut least = None;
     for at in 0..starts.len() {

@@ -1,4 +1,5 @@
 ghost use Rattle.std.specs.Prelude.{◌≡◌, ◌<◌, ◌∷◌, [], Some, length, map, slice_get};
+ghost use Rattle.std.specs.List.Sorted.{IsNonDecreasing};
 ghost use Rattle.ct_report.specs.PutLines.{PutsLines};
 ghost use Rattle.ct_explain.specs.Picture as Drawn;
 
@@ -20,7 +21,8 @@ pub(crate) fn put_picture<S: Sink>(
     plan: &Plan,
     story: &Story,
 ) -> Result<(), SinkFault>
-    ensures { PutsLines (Drawn.picture_lines plan.now story.now) (S.tells sink.old) (S.tells sink.new) result }
+    ensures { PutsLines (Drawn.picture_lines plan.now story.now)
+        (S.tells sink.old) (S.tells sink.new) result }
 {
     let workers = workers_of(alloc, story.entries.as_slice())?;
     let frame = frame_lines(alloc, plan, story, workers.as_slice())?;
@@ -56,7 +58,9 @@ fn put_bars<S: Sink>(
     story: &Story,
     workers: &[u32],
 ) -> Result<(), SinkFault>
-    ensures { PutsLines (Drawn.bar_lines plan.now story.now workers.now) (S.tells sink.old) (S.tells sink.new) result }
+    requires { IsNonDecreasing workers.now }
+    ensures { PutsLines (Drawn.bar_lines plan.now story.now workers.now)
+        (S.tells sink.old) (S.tells sink.new) result }
 {
     let bars = bars_of(alloc, story.entries.as_slice(), story.times.as_slice())?;
     let chained = chained_of(alloc, story.chain.as_slice())?;
@@ -73,8 +77,10 @@ fn put_each<S: Sink>(
     chained: &Chained,
     bars: &[Bar],
 ) -> Result<(), SinkFault>
-    requires { Drawn.AreChained story.now.chain chained.now }
-    ensures { PutsLines (map (Drawn.bar_line plan.now story.now workers.now) bars.now) (S.tells sink.old) (S.tells sink.new) result }
+    requires chained { Drawn.AreChained story.now.chain chained.now }
+    requires ascend { IsNonDecreasing workers.now }
+    ensures { PutsLines (map (Drawn.bar_line plan.now story.now workers.now) bars.now)
+        (S.tells sink.old) (S.tells sink.new) result }
 {
     for at in 0..bars.len() {
         let bar = expect_bar(bars, at);

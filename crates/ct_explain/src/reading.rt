@@ -135,7 +135,8 @@ fn why_line(
     count: u32,
     line: &[u8],
 ) -> Result<Why, NoMemory>
-    ensures { (front : List Entry) → IsAuditOf plan.now front audit.now → is_allowed_so_far plan.now front ≡ true →
+    ensures { (front : List Entry) → IsAuditOf plan.now front audit.now →
+        is_allowed_so_far plan.now front ≡ true →
         count ≡ length front → IfOk result (λ why. IsWhy plan.now front line.now why) }
 {
     let said = read_line(alloc, line)?;

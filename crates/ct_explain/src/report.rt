@@ -59,7 +59,8 @@ fn put_times<S: Sink>(alloc: Global, sink: &mut S, story: &Story) -> Result<(), 
 }
 
 fn put_programs<S: Sink>(alloc: Global, sink: &mut S, story: &Story) -> Result<(), SinkFault>
-    ensures { PutsLines (seconds_line (codes "Time of programs: ") (programs_micros story.now.entries) ∷ []) (S.tells sink.old) (S.tells sink.new) result }
+    ensures { PutsLines (seconds_line (codes "Time of programs: ")
+        (programs_micros story.now.entries) ∷ []) (S.tells sink.old) (S.tells sink.new) result }
 {
     let micros = programs_micros(story.entries.as_slice());
     put_seconds(alloc, sink, b"Time of programs: ", micros)
@@ -137,7 +138,8 @@ fn put_explained<S: Sink>(
     plan: &Plan,
     story: &Story,
 ) -> Result<(), SinkFault>
-    ensures { PutsLines (chain_lines plan.now story.now ++ bound_lines plan.now story.now) (S.tells sink.old) (S.tells sink.new) result }
+    ensures { PutsLines (chain_lines plan.now story.now ++ bound_lines plan.now story.now)
+        (S.tells sink.old) (S.tells sink.new) result }
 {
     put_chain(alloc, sink, plan, story)?;
     put_bound(alloc, sink, plan, story)
@@ -169,7 +171,8 @@ fn put_attempts<S: Sink>(
     plan: &Plan,
     story: &Story,
 ) -> Result<(), SinkFault>
-    ensures { PutsLines (attempt_lines plan.now story.now.chain story.now.waits) (S.tells sink.old) (S.tells sink.new) result }
+    ensures { PutsLines (attempt_lines plan.now story.now.chain story.now.waits)
+        (S.tells sink.old) (S.tells sink.new) result }
 {
     put_all(
         alloc,
@@ -189,7 +192,8 @@ fn put_all<S: Sink>(
     links: &[Link],
     waits: &[Wait],
 ) -> Result<(), SinkFault>
-    ensures { PutsLines (attempt_lines plan.now links.now waits.now) (S.tells sink.old) (S.tells sink.new) result }
+    ensures { PutsLines (attempt_lines plan.now links.now waits.now)
+        (S.tells sink.old) (S.tells sink.new) result }
 {
     match links {
         [first, others @ ..] => put_from(alloc, sink, plan, first, others, waits),
@@ -205,7 +209,8 @@ fn put_from<S: Sink>(
     others: &[Link],
     waits: &[Wait],
 ) -> Result<(), SinkFault>
-    ensures { PutsLines (attempt_lines plan.now (first.now ∷ others.now) waits.now) (S.tells sink.old) (S.tells sink.new) result }
+    ensures { PutsLines (attempt_lines plan.now (first.now ∷ others.now) waits.now)
+        (S.tells sink.old) (S.tells sink.new) result }
 {
     put_attempt(alloc, sink, plan, first, None)?;
     put_waited(alloc, sink, plan, others, waits)
@@ -219,7 +224,8 @@ fn put_waited<S: Sink>(
     links: &[Link],
     waits: &[Wait],
 ) -> Result<(), SinkFault>
-    ensures { PutsLines (waited_lines plan.now waits.now 0 links.now) (S.tells sink.old) (S.tells sink.new) result }
+    ensures { PutsLines (waited_lines plan.now waits.now 0 links.now)
+        (S.tells sink.old) (S.tells sink.new) result }
 {
     for at in 0..links.len() {
         put_attempt(alloc, sink, plan, &links[at], wait_at(waits, at))?;
@@ -240,7 +246,8 @@ fn put_attempt<S: Sink>(
     link: &Link,
     wait: Option<&Wait>,
 ) -> Result<(), SinkFault>
-    ensures { PutsLines (attempt_line plan.now link.now (option_copied wait.entry) ∷ []) (S.tells sink.old) (S.tells sink.new) result }
+    ensures { PutsLines (attempt_line plan.now link.now (option_copied wait.entry) ∷ [])
+        (S.tells sink.old) (S.tells sink.new) result }
 {
     let line = attempt_line(alloc, plan, link, wait)?;
     sink.put(line.bytes())?;
@@ -354,7 +361,8 @@ fn put_bound_title<S: Sink>(alloc: Global, sink: &mut S, story: &Story) -> Resul
 }
 
 fn put_bound_line<S: Sink>(alloc: Global, sink: &mut S, story: &Story) -> Result<(), SinkFault>
-    ensures { PutsLines (bound_line story.now.bound story.now.length ∷ []) (S.tells sink.old) (S.tells sink.new) result }
+    ensures { PutsLines (bound_line story.now.bound story.now.length ∷ [])
+        (S.tells sink.old) (S.tells sink.new) result }
 {
     let line = bound_line(alloc, &story.bound, story.length)?;
     sink.put(line.bytes())?;
@@ -383,7 +391,8 @@ fn append_bound(alloc: Global, text: &mut Blob, micros: u128, length: u128) -> R
 }
 
 fn append_less(alloc: Global, text: &mut Blob, micros: u128) -> Result<(), NoMemory>
-    ensures { OnOk result (text.new ≡ text.old ++ (codes "takes less than " ++ micros_text micros ++ codes " sec: ")) }
+    ensures { OnOk result
+        (text.new ≡ text.old ++ (codes "takes less than " ++ micros_text micros ++ codes " sec: ")) }
 {
     text.append(b"takes less than ")?;
     append_seconds(alloc, text, micros)?;
@@ -423,7 +432,8 @@ fn put_works<S: Sink>(
     plan: &Plan,
     story: &Story,
 ) -> Result<(), SinkFault>
-    ensures { PutsLines (works_lines plan.now story.now plan.now.tests) (S.tells sink.old) (S.tells sink.new) result }
+    ensures { PutsLines (works_lines plan.now story.now plan.now.tests)
+        (S.tells sink.old) (S.tells sink.new) result }
 {
     put_each(alloc, sink, plan, story, plan.parts().tests.as_slice())
 }
@@ -435,7 +445,8 @@ fn put_each<S: Sink>(
     story: &Story,
     tests: &[PlanTest],
 ) -> Result<(), SinkFault>
-    ensures { PutsLines (works_lines plan.now story.now tests.now) (S.tells sink.old) (S.tells sink.new) result }
+    ensures { PutsLines (works_lines plan.now story.now tests.now)
+        (S.tells sink.old) (S.tells sink.new) result }
 {
     for test in tests {
         put_work(alloc, sink, plan, story, test)?;
@@ -452,7 +463,8 @@ fn put_work<S: Sink>(
     story: &Story,
     test: &PlanTest,
 ) -> Result<(), SinkFault>
-    ensures { PutsLines (work_lines plan.now story.now test.now) (S.tells sink.old) (S.tells sink.new) result }
+    ensures { PutsLines (work_lines plan.now story.now test.now)
+        (S.tells sink.old) (S.tells sink.new) result }
 {
     if counts_for(plan.parts(), &story.works, &story.bound, test) {
         put_work_line(alloc, sink, test, work_at(&story.works, test.number))

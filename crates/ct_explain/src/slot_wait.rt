@@ -15,7 +15,8 @@ pub(crate) fn full_place(
     starts: &[OpenStart],
     placement: Option<&Placement>,
 ) -> Option<usize>
-    ensures { result ≡ Waits.full_place plan.now.resources (slots_used (runs starts.now)) (option_copied placement.entry) }
+    ensures { result ≡ Waits.full_place plan.now.resources (slots_used (runs starts.now))
+        (option_copied placement.entry) }
 {
     match (&plan.parts().resources, placement) {
         (Some(resources), Some(placement)) => {

@@ -116,7 +116,8 @@ fn note_until(
 /// Returns what a Start waits for behind the entries that the audit has noted. Any other entry waits for
 /// nothing.
 fn wait_at(alloc: Global, plan: &Plan, audit: &Audit, entry: &Entry) -> Result<Wait, NoMemory>
-    ensures { (front : List Entry) → IsAuditOf plan.now front audit.now → is_allowed_so_far plan.now front ≡ true →
+    ensures { (front : List Entry) → IsAuditOf plan.now front audit.now →
+        is_allowed_so_far plan.now front ≡ true →
         IfOk result (λ wait. wait ≡ Stories.entry_wait plan.now front (Some entry.now)) }
 {
     match entry {

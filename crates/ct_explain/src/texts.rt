@@ -82,7 +82,8 @@ fn append_numbered(
 }
 
 fn append_processors(alloc: Global, text: &mut Blob, used: u64, level: u32) -> Result<(), NoMemory>
-    ensures { OnOk result (text.new ≡ text.old ++ (codes "processors: " ++ decimal used ++ level_text level)) }
+    ensures { OnOk result
+        (text.new ≡ text.old ++ (codes "processors: " ++ decimal used ++ level_text level)) }
 {
     text.append(b"processors: ")?;
     text.append_number(alloc, u128::from(used))?;
@@ -99,7 +100,8 @@ fn append_level(alloc: Global, text: &mut Blob, level: u32) -> Result<(), NoMemo
 }
 
 fn append_lock(alloc: Global, text: &mut Blob, name: &Name, test: u32) -> Result<(), NoMemory>
-    ensures { OnOk result (text.new ≡ text.old ++ (codes "lock " ++ name.now ++ codes " of test #" ++ decimal test)) }
+    ensures { OnOk result
+        (text.new ≡ text.old ++ (codes "lock " ++ name.now ++ codes " of test #" ++ decimal test)) }
 {
     text.append(b"lock ")?;
     text.append(name.bytes())?;
@@ -218,7 +220,8 @@ fn append_waited(
     test: u32,
     wait: &Wait,
 ) -> Result<(), NoMemory>
-    ensures { OnOk result (text.new ≡ text.old ++ (codes "test " ++ decimal test ++ codes " waited for " ++ wait_text plan.now wait.now)) }
+    ensures { OnOk result (text.new ≡ text.old
+        ++ (codes "test " ++ decimal test ++ codes " waited for " ++ wait_text plan.now wait.now)) }
 {
     append_of_test(alloc, text, test, b" waited for ")?;
     append_wait(alloc, text, plan, wait)?;

@@ -48,8 +48,10 @@ pub(crate) fn wait_of(
     worker: u32,
     placement: Option<&Placement>,
 ) -> Result<Wait, NoMemory>
-    ensures { (front : List Entry) → IsAuditOf plan.now front audit.now → is_allowed_so_far plan.now front ≡ true →
-        IfOk result (λ wait. wait ≡ Waits.wait_of plan.now front test.now attempt worker (option_copied placement.entry)) }
+    ensures { (front : List Entry) → IsAuditOf plan.now front audit.now →
+        is_allowed_so_far plan.now front ≡ true →
+        IfOk result (λ wait. wait
+        ≡ Waits.wait_of plan.now front test.now attempt worker (option_copied placement.entry)) }
 {
     hand_out_times(plan.parts());
     if !audit.is_next(test.number, attempt) {
@@ -91,7 +93,8 @@ fn wait_for_room(
     placement: Option<&Placement>,
 ) -> Result<Wait, NoMemory>
     ensures { Seen.processors_used plan.now.tests (runs starts.now) ≤ plan.now.level →
-        IfOk result (λ wait. wait ≡ Waits.first_wait (Waits.waits_beside plan.now (runs starts.now) test.now worker (option_copied placement.entry))) }
+        IfOk result (λ wait. wait ≡ Waits.first_wait
+        (Waits.waits_beside plan.now (runs starts.now) test.now worker (option_copied placement.entry))) }
 {
     if let Some(number) = open_serial(plan, test, starts) {
         return Ok(Wait::Serial(number));

@@ -50,7 +50,8 @@ pub(crate) fn why_not(
     count: u64,
     line: Option<JournalLine>,
 ) -> Result<Why, NoMemory>
-    ensures { (front : List Entry) → IsAuditOf plan.now front audit.now → is_allowed_so_far plan.now front ≡ true →
+    ensures { (front : List Entry) → IsAuditOf plan.now front audit.now →
+        is_allowed_so_far plan.now front ≡ true →
         count ≡ length front → IfOk result (λ why. why ≡ Reasons.first_reason plan.now front line) }
 {
     match line {
@@ -84,7 +85,8 @@ fn why_not_entry(
     audit: &Audit,
     line: EntryLine,
 ) -> Result<Why, NoMemory>
-    ensures { (front : List Entry) → IsAuditOf plan.now front audit.now → is_allowed_so_far plan.now front ≡ true →
+    ensures { (front : List Entry) → IsAuditOf plan.now front audit.now →
+        is_allowed_so_far plan.now front ≡ true →
         IfOk result (λ why. why ≡ Reasons.why_not_by plan.now front line (Reasons.line_test line)) }
 {
     let Some(number) = test_of(&line) else {
@@ -124,7 +126,8 @@ fn why_not_of(
     test: &PlanTest,
     line: EntryLine,
 ) -> Result<Why, NoMemory>
-    ensures { (front : List Entry) → IsAuditOf plan.now front audit.now → is_allowed_so_far plan.now front ≡ true →
+    ensures { (front : List Entry) → IsAuditOf plan.now front audit.now →
+        is_allowed_so_far plan.now front ≡ true →
         IfOk result (λ why. why ≡ Reasons.why_not_of plan.now front test.now line) }
 {
     match line {
@@ -175,7 +178,8 @@ fn placement_on(
     test: &PlanTest,
     places: &[u32],
 ) -> Result<Option<Placement>, NoMemory>
-    ensures { IfOk result (λ found. found ≡ option_map of_picks (picks_by resources.now test.now.needs places.now)) }
+    ensures { IfOk result
+        (λ found. found ≡ option_map of_picks (picks_by resources.now test.now.needs places.now)) }
 {
     Ok(placement_at(alloc, resources, test.needs.as_slice(), places)?)
 }

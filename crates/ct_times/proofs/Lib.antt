@@ -13,3 +13,10 @@ pub mod ShareLemmas
 pub mod MeasureLemmas
 pub mod WalkLemmas
 pub mod RanLemmas
+pub mod FirstLemmas
+pub mod WeightLemmas
+pub mod OrderLemmas
+pub mod AskedLemmas
+pub mod LockLemmas
+pub mod LockStepLemmas
+pub mod LockBoundLemmas

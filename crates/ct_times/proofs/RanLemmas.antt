@@ -14,7 +14,7 @@ or_none true = refl
 or_none false = refl
 
 -- some item is among the first ones of a list, with the next one
-any_next : {A : Type 0} (p : A → Bool) (xs : List A) (at : ℕ) (x : A) → at < length xs → x ≡ get_or xs at x → list_any p (take (at + 1) xs) ≡ (list_any p (take at xs) || p x)
+pub any_next : {A : Type 0} (p : A → Bool) (xs : List A) (at : ℕ) (x : A) → at < length xs → x ≡ get_or xs at x → list_any p (take (at + 1) xs) ≡ (list_any p (take at xs) || p x)
 any_next p xs at x lt is =
     ap (list_any p) (next_in xs at x lt is)
     ∙ list_any-append p (take at xs) (x ∷ [])

@@ -11,7 +11,8 @@ use Rattle.ct_history.proofs.ProgressLemmas.{all_found}
 use Rattle.ct_times.specs.Amounts.{comes_behind, is_path}
 use Rattle.ct_times.specs.Bounds.{greatest, heaviest, heaviest_before}
 
-self : (n : ℕ) → (n == n) ≡ true
+-- a number is itself
+pub self : (n : ℕ) → (n == n) ≡ true
 self n = grind (arith, nat_tests)
 
 same_way : (m n : ℕ) → (m == n) ≡ (n == m)
@@ -48,17 +49,6 @@ path_more tests (k ∷ j ∷ keys) n m is behind =
 pub record IsOnWay (tests : List PlanTest) (keys : List ℕ) (next : Option ℕ) : Type 0 where
   pub path : is_path tests keys ≡ true
   pub goes_on : IfSome next (λ (n : ℕ). is_path tests (keys ++ n ∷ []) ≡ true)
-
-pub way_begins : (tests : List PlanTest) (keys : List ℕ) (end : ℕ) → keys ≡ [] → IsOnWay tests keys (Some end)
-way_begins tests keys end none = subst (λ (ks : List ℕ). IsOnWay tests ks (Some end)) (sym none) (record { path = refl; goes_on = refl })
-
--- the keys with one more, which is new
-pub new_key : (keys : List ℕ) (n : ℕ) (new : List ℕ) (added : Bool) → added ≡ not (list_any (nat_eq n) keys) → new ≡ cond (list_any (nat_eq n) keys) keys (keys ++ n ∷ []) → added ≡ true → new ≡ keys ++ n ∷ []
-new_key keys n new added says is was = by_known (list_any (nat_eq n) keys) says is
-  where
-    by_known : (b : Bool) → added ≡ not b → new ≡ cond b keys (keys ++ n ∷ []) → new ≡ keys ++ n ∷ []
-    by_known true none held = absurd (true≢false (sym was ∙ none))
-    by_known false none held = held
 
 pub way_more : (tests : List PlanTest) (weight : ℕ → ℕ) (keys new : List ℕ) (n : ℕ) (next : Option ℕ) → IsOnWay tests keys (Some n) → new ≡ keys ++ n ∷ [] → next ≡ heaviest_before weight (test_at tests n) → IsOnWay tests new next
 way_more tests weight keys new n next way is leads =

@@ -1,6 +1,6 @@
 -- The capacities of a plan by what its tests take: a path, processors, wide tests, a lock, slots in blocks.
--- Source: CMake manual, cmake-properties(7), DEPENDS, FIXTURES_REQUIRED, PROCESSORS, RESOURCE_LOCK, RUN_SERIAL;
--- ctest(1), Resource Allocation. That they bound a run is this project's own.
+-- Source: CMake manual, cmake-properties(7), DEPENDS, FIXTURES_REQUIRED, PROCESSORS, RESOURCE_LOCK,
+-- RUN_SERIAL; ctest(1), Resource Allocation. That they bound a run is this project's own.
 use Rattle.std.specs.Prelude.{ℕ, ◌*◌, ◌/◌, Bool, true, false, ◌&&◌, ◌||◌, List, [], ◌∷◌, filter, sum_by, bytes_eq, nat_le, nat_lt, Option, Some, None, ◌==◌, if◌then◌else◌}
 use Rattle.std.specs.List.{list_any}
 use Rattle.ct_base.specs.declared.defs.Resource.{Resource}

@@ -77,7 +77,9 @@ blocks_needed kind block n = if bytes_eq n.kind kind then n.slots / block else 0
 -- and never more than the size
 abbrev pub amount_by : ℕ → Done → Capacity → ℕ → PlanTest → ℕ
 amount_by level done capacity size t =
-    if done.has_run t.number then (if is_lone level t then size else min (amount_taken level capacity t) size) else 0
+    if done.has_run t.number
+    then (if is_lone level t then size else min (amount_taken level capacity t) size)
+    else 0
 
 -- the resources of a plan, none without any
 abbrev pub plan_resources : PlanParts → List Resource
@@ -103,10 +105,11 @@ bound_in plan done capacity =
 
 -- some test that ran and is not lone takes more than half of the processors
 abbrev pub has_wide : PlanParts → Done → Bool
-has_wide plan done = list_any (λ (t : PlanTest). ran_beside plan.level done t && is_wide plan.level t) plan.tests
+has_wide plan done =
+    list_any (λ (t : PlanTest). ran_beside plan.level done t && is_wide plan.level t) plan.tests
 
--- it is a capacity of the plan: the tests of a path come one behind the other, there are processors, some wide
--- test ran that is not lone, or there are resources with such a block
+-- it is a capacity of the plan: the tests of a path come one behind the other, there are processors, some
+-- wide test ran that is not lone, or there are resources with such a block
 abbrev pub IsOf : PlanParts → Done → Capacity → Type 0
 IsOf plan done (Path path) = is_path plan.tests path.keys ≡ true
 IsOf plan done Processors = 1 ≤ plan.level
@@ -167,10 +170,12 @@ weighing level done tests =
 -- no legal history with the same work of each test is shorter than the bound
 abbrev pub NoneIsShorter : PlanParts → List Entry → Bound → Type 0
 NoneIsShorter plan recorded bound =
-    (other : List Entry) → is_legal plan other ≡ true → HaveSameWork plan recorded other → bound.micros ≤ length_of other
+    (other : List Entry) → is_legal plan other ≡ true → HaveSameWork plan recorded other
+    → bound.micros ≤ length_of other
 
 -- the bound is exactly that of its capacity, where the recorded history is legal, and its length is a number
 -- of 128 bits
 abbrev pub IsExact : PlanParts → List Entry → Bound → Type 0
 IsExact plan recorded bound =
-    is_legal plan recorded ≡ true → length_of recorded < 2 ^ 128 → bound.micros ≡ bound_in plan (done_in recorded) bound.capacity
+    is_legal plan recorded ≡ true → length_of recorded < 2 ^ 128
+    → bound.micros ≡ bound_in plan (done_in recorded) bound.capacity

@@ -42,7 +42,8 @@ amount_open amount entries = sum_by (λ (r : Running). amount r.test) (open_star
 -- any history of the plan that is allowed so far, and so not behind any beginning of a legal history
 pub record IsCapacity (plan : PlanParts) (size : ℕ) (amount : ℕ → ℕ) : Type 0 where
   pub size_is_some : 1 ≤ size
-  pub holds : (entries : List Entry) → is_allowed_so_far plan entries ≡ true → amount_open amount entries ≤ size
+  pub holds : (entries : List Entry) → is_allowed_so_far plan entries ≡ true
+      → amount_open amount entries ≤ size
 
 -- a number over another one, rounded up
 abbrev pub over_up : ℕ → ℕ → ℕ

@@ -6,3 +6,6 @@ pub mod Capacity
 pub mod Amounts
 pub mod Works
 pub mod Bounds
+pub mod First
+pub mod Asked
+pub mod Locks

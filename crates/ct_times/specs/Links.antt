@@ -45,7 +45,8 @@ pub record IsLastStart (entries : List Entry) (test : ℕ) (begin end : ℕ) : T
   pub last : AllWithin (λ e. is_start_of_test test e ≡ false) entries (begin + 1) end
 
 -- a link stands at its places: at `end` the End of its attempt, which is the first entry at the moment at
--- which it is over, and at `begin`, at the moment `start`, its Start, the last one of its test in front of that
+-- which it is over, and at `begin`, at the moment `start`, its Start, the last one of its test in front
+-- of that
 pub record IsPlaced (entries : List Entry) (l : PlacedLink) : Type 0 where
   pub inside : l.end < length entries
   pub ends : HoldsAt (EndsAttempt l.test l.attempt l.micros) entries l.end

@@ -15,7 +15,8 @@ use ct_history::{PlanParts, PlanTest};
 ///
 /// Source: this project's own.
 pub fn counts_for(plan: &PlanParts, works: &Works, bound: &Bound, test: &PlanTest) -> bool
-    ensures { result ≡ nat_lt 0 (Bounds.amount_by plan.now.level (done_by works.now) bound.now.capacity bound.now.size test.now) }
+    ensures { result ≡ nat_lt 0
+        (Bounds.amount_by plan.now.level (done_by works.now) bound.now.capacity bound.now.size test.now) }
 {
     let capacity = &bound.capacity;
     amount_of(plan.level, works, capacity, bound.size, test) > 0
@@ -27,7 +28,8 @@ pub(crate) fn bound_by(plan: &PlanParts, works: &Works, capacity: Capacity, size
     ensures capacity { result.capacity ≡ capacity }
     ensures size { result.size ≡ size }
     ensures micros { result.micros
-        ≡ min (over_up (work_by plan.now.level (done_by works.now) capacity size plan.now.tests) size) (2 ^ 128 - 1) }
+        ≡ min (over_up (work_by plan.now.level (done_by works.now) capacity size plan.now.tests) size)
+        (2 ^ 128 - 1) }
 {
     let tests = plan.tests.as_slice();
     let share = shared_by(plan.level, tests, works, &capacity, size);

@@ -3,13 +3,14 @@ ghost use Rattle.ct_history.specs.declared.history.Entry.{Entry};
 ghost use Rattle.ct_history.specs.Plan.{IsSound};
 ghost use Rattle.ct_times.specs.Bounds as Bounds;
 ghost use Rattle.ct_times.specs.Bounds.{CoversProcessors, CoversWide, HasThoseThatRan, IsExact, IsMeasured, NoneIsShorter, done_by};
+ghost use Rattle.ct_times.specs.First.{Covers, IsFirstOfAll, IsOfHeaviestPath, processor_capacities, wide_capacities};
 ghost use Rattle.ct_times.specs.Works.{AreWorks};
 
 use crate::amounts::{bound_by, is_wide, ran_beside};
 use crate::greatest::greater;
-use crate::locks::longest_lock;
+use crate::locks::or_lock;
 use crate::path::{Path, heaviest_path};
-use crate::slots::{blocks_of_kind, longest_slots};
+use crate::slots::or_slots;
 use crate::works::Works;
 use ct_base::{Name, NoMemory};
 use ct_history::{Plan, PlanParts};
@@ -44,6 +45,7 @@ pub struct Bound {
 /// Source: this project's own.
 pub fn bound_of(alloc: Global, plan: &Plan, works: &Works) -> Result<Bound, NoMemory>
     ensures measured { IfOk result (IsMeasured plan.now (done_by works.now)) }
+    ensures first { IfOk result (λ bound. IsFirstOfAll plan.now (done_by works.now) bound.capacity) }
     ensures processors { IfOk result (CoversProcessors plan.now (done_by works.now)) }
     ensures wide { IfOk result (CoversWide plan.now (done_by works.now)) }
     ensures exact { IfOk result (λ bound. (recorded : List Entry) → AreWorks works.now recorded →
@@ -63,7 +65,8 @@ pub fn bound_of(alloc: Global, plan: &Plan, works: &Works) -> Result<Bound, NoMe
 /// Measures the heaviest path.
 fn path_bound(alloc: Global, plan: &PlanParts, works: &Works) -> Result<Bound, NoMemory>
     requires { IsSound plan.now }
-    ensures { IfOk result (IsMeasured plan.now (done_by works.now)) }
+    ensures measured { IfOk result (IsMeasured plan.now (done_by works.now)) }
+    ensures heaviest { IfOk result (λ bound. IsOfHeaviestPath plan.now (done_by works.now) bound.capacity) }
 {
     let path = heaviest_path(alloc, plan, works)?;
     Ok(bound_by(plan, works, Capacity::Path(path), 1))
@@ -75,6 +78,7 @@ fn or_processors(plan: &PlanParts, works: &Works, bound: Bound) -> Bound
     ensures measured { IsMeasured plan.now (done_by works.now) result }
     ensures grew { bound.micros ≤ result.micros }
     ensures covers { CoversProcessors plan.now (done_by works.now) result }
+    ensures first { Covers plan.now (done_by works.now) bound (processor_capacities plan.now) result }
 {
     if plan.level == 0 {
         return bound;
@@ -89,6 +93,8 @@ fn or_wide(plan: &PlanParts, works: &Works, bound: Bound) -> Bound
     ensures measured { IsMeasured plan.now (done_by works.now) result }
     ensures grew { bound.micros ≤ result.micros }
     ensures covers { CoversWide plan.now (done_by works.now) result }
+    ensures first { Covers plan.now (done_by works.now) bound
+        (wide_capacities plan.now (done_by works.now)) result }
 {
     if !has_wide(plan, works) {
         return bound;
@@ -103,38 +109,4 @@ fn has_wide(plan: &PlanParts, works: &Works) -> bool
     let level = plan.level;
     let mut tests = plan.tests.as_slice().iter();
     tests.any(|test| ran_beside(level, works, test) && is_wide(level, test))
-}
-
-/// Takes the longest lock in place of this bound, if there is one, and it has a greater one.
-fn or_lock(alloc: Global, plan: &PlanParts, works: &Works, bound: Bound) -> Result<Bound, NoMemory>
-    requires { IsMeasured plan.now (done_by works.now) bound }
-    ensures measured { IfOk result (IsMeasured plan.now (done_by works.now)) }
-    ensures grew { IfOk result (λ greater. bound.micros ≤ greater.micros) }
-{
-    let Some((name, sharer)) = longest_lock(alloc, plan, works)? else {
-        return Ok(bound);
-    };
-    let capacity = Capacity::Lock { name, sharer };
-    Ok(greater(bound, bound_by(plan, works, capacity, 1)))
-}
-
-/// Takes the longest slots in place of this bound, if there are some, and they have a greater one.
-fn or_slots(alloc: Global, plan: &PlanParts, works: &Works, bound: Bound) -> Result<Bound, NoMemory>
-    requires { IsMeasured plan.now (done_by works.now) bound }
-    ensures measured { IfOk result (IsMeasured plan.now (done_by works.now)) }
-    ensures grew { IfOk result (λ greater. bound.micros ≤ greater.micros) }
-{
-    let Some(resources) = &plan.resources else {
-        return Ok(bound);
-    };
-    let Some((kind, block)) = longest_slots(alloc, plan, works, resources.as_slice())? else {
-        return Ok(bound);
-    };
-    match blocks_of_kind(resources.as_slice(), &kind, block) {
-        Some(size) if size > 0 && block > 0 => {
-            let capacity = Capacity::Slots { kind, block };
-            Ok(greater(bound, bound_by(plan, works, capacity, size)))
-        }
-        _ => Ok(bound),
-    }
 }

@@ -5,8 +5,10 @@
 //! capacity. It speaks of the durations that a history records, and claims nothing of real time.
 //! `chain_of` hands up the chain: each `Link` is an attempt with the places of its Start and End
 //! (`specs/Links.antt`).
-//! `bound_of` finds the greatest bound of a run, and `counts_for` its tests: `specs/Bounds.antt`.
-//! Read first: `specs/Times.antt`, `specs/Chain.antt`, `specs/Capacity.antt`, `specs/Amounts.antt`, then `laws.rt`.
+//! `bound_of` finds the greatest bound of a run, and `counts_for` its tests: `specs/Bounds.antt`. The
+//! capacity that it tells is the first of all with that bound, in the order of `specs/First.antt`.
+//! Read first: `specs/Times.antt`, `specs/Chain.antt`, `specs/Capacity.antt`, `specs/Amounts.antt`, then
+//! `laws.rt`.
 #![tactic(auto)]
 
 mod amounts;

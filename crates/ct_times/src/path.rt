@@ -1,9 +1,13 @@
-ghost use Rattle.std.specs.Prelude.{◌≡◌, ◌==◌, ◌&&◌, [], true, map, nat_lt, IfOk, OnOk};
+ghost use Rattle.std.specs.Prelude.{◌≡◌, ◌==◌, ◌&&◌, true, ℕ, map, nat_lt, IfOk, OnOk, IsPermutation, if◌then◌else◌};
+ghost use Rattle.std.specs.Borrow.{Bor};
 ghost use Rattle.std.specs.List.{list_all, list_any};
+ghost use Rattle.std.specs.List.Sorted.{IsNonDecreasingBy};
+ghost use Rattle.ct_history.specs.declared.plan.PlanTest.{PlanTest};
 ghost use Rattle.ct_history.specs.Plan.{IsAscendingFrom, IsSound, has_sound_links, test_at};
 ghost use Rattle.ct_times.specs.Amounts.{is_path};
 ghost use Rattle.ct_times.specs.Bounds as Bounds;
 ghost use Rattle.ct_times.specs.Bounds.{done_by};
+ghost use Rattle.ct_times.specs.First.{AreWeights, GoesBack, IsHeaviestPath, weight_with};
 ghost use Rattle.ct_times.specs.Works.{kept_at};
 
 use crate::amounts::ran_beside;
@@ -24,37 +28,61 @@ pub(crate) fn heaviest_path(
     works: &Works,
 ) -> Result<Path, NoMemory>
     requires { IsSound plan.now }
-    ensures { IfOk result (λ path. is_path plan.now.tests path.keys ≡ true) }
+    ensures path { IfOk result (λ path. is_path plan.now.tests path.keys ≡ true) }
+    ensures heaviest { IfOk result (λ path. IsHeaviestPath plan.now (done_by works.now) path.keys) }
 {
     let weights = weights_of(alloc, plan, works)?;
-    let mut path = IndexSet::new(alloc);
-    if let Some(end) = heaviest_end(alloc, plan, works, &weights)? {
-        walk_back(plan.tests.as_slice(), &weights, end, &mut path)?;
-    }
+    let end = heaviest_end(alloc, plan, works, &weights)?;
+    let path = walk_back(alloc, plan.tests.as_slice(), &weights, end)?;
     Ok(path)
 }
 
 /// Weighs each test: its own work and the greatest weight of those before it.
-fn weights_of(alloc: Global, plan: &PlanParts, works: &Works) -> Result<Works, NoMemory> {
+fn weights_of(alloc: Global, plan: &PlanParts, works: &Works) -> Result<Works, NoMemory>
+    requires { IsSound plan.now }
+    ensures { IfOk result (λ weights. AreWeights plan.now (done_by works.now) (kept_at weights)) }
+{
+    let sorted = by_rank(alloc, plan.tests.as_slice())?;
     let mut weights: Works = IndexMap::new(alloc);
-    for test in by_rank(alloc, plan.tests.as_slice())? {
-        let weight = own_weight(plan.level, works, test).saturating_add(greatest(
-            &weights,
-            test.before.as_slice(),
-        ));
-        weights.insert(test.number, weight)?;
+    for test in &sorted {
+        weigh(plan.level, works, &mut weights, *test)?;
     }
     Ok(weights)
 }
 
-/// Lists tests such that those before a test come first.
-fn by_rank(alloc: Global, tests: &[PlanTest]) -> Result<Vec<&PlanTest>, NoMemory> {
-    let mut sorted = Vec::new(alloc);
-    for test in tests {
-        sorted.push(test)?;
-    }
+/// Weighs a test, where those before it are weighed.
+fn weigh(level: u32, works: &Works, weights: &mut Works, test: &PlanTest) -> Result<(), NoMemory>
+    ensures { OnOk result ((number : ℕ) → kept_at weights.new number ≡ (if test.now.number == number
+        then weight_with level (done_by works.now)
+        (kept_at weights.old) test.now else kept_at weights.old number)) }
+{
+    let before = greatest(weights, test.before.as_slice());
+    let weight = own_weight(level, works, test).saturating_add(before);
+    weights.insert(test.number, weight)?;
+    Ok(())
+}
+
+/// Lists tests by their ranks, such that those before a test come first.
+fn by_rank(alloc: Global, tests: &[PlanTest]) -> Result<Vec<&PlanTest>, NoMemory>
+    ensures same { IfOk result
+        (λ sorted. IsPermutation tests.now (map (λ (t : Bor PlanTest). t.now) sorted.items)) }
+    ensures sorted { IfOk result
+        (λ sorted. IsNonDecreasingBy (λ (t : Bor PlanTest). t.now.rank) sorted.items) }
+{
+    let mut sorted = lent(alloc, tests)?;
     sorted.sort_unstable_by(|one, other| one.rank.cmp(&other.rank));
     Ok(sorted)
+}
+
+/// Lists these tests.
+fn lent(alloc: Global, tests: &[PlanTest]) -> Result<Vec<&PlanTest>, NoMemory>
+    ensures { IfOk result (λ lent. map (λ (t : Bor PlanTest). t.now) lent.items ≡ tests.now) }
+{
+    let mut lent = Vec::new(alloc);
+    for test in tests {
+        lent.push(test)?;
+    }
+    Ok(lent)
 }
 
 /// Returns what a test weighs by itself: its work, if it ran and is not lone.
@@ -103,7 +131,8 @@ fn heaviest_end(
     works: &Works,
     weights: &Works,
 ) -> Result<Option<u32>, NoMemory>
-    ensures { IfOk result (λ end. end ≡ Bounds.heaviest (kept_at weights.now) (Bounds.weighing plan.now.level (done_by works.now) plan.now.tests)) }
+    ensures { IfOk result (λ end. end ≡ Bounds.heaviest (kept_at weights.now)
+        (Bounds.weighing plan.now.level (done_by works.now) plan.now.tests)) }
 {
     let numbers = weighing(alloc, plan.level, works, plan.tests.as_slice())?;
     Ok(heaviest(weights, numbers.as_slice()))
@@ -127,21 +156,25 @@ fn weighing(
     Ok(numbers)
 }
 
-/// Puts a test on an empty path, and behind it those that lead back from it.
-fn walk_back(tests: &[PlanTest], weights: &Works, end: u32, path: &mut Path) -> Result<(), NoMemory>
+/// Lists a test, if there is one, and behind it those that lead back from it.
+fn walk_back(
+    alloc: Global,
+    tests: &[PlanTest],
+    weights: &Works,
+    end: Option<u32>,
+) -> Result<Path, NoMemory>
     requires ascends { IsAscendingFrom 1 (map (λ t. t.number) tests.now) }
     requires links { list_all (has_sound_links tests.now) tests.now ≡ true }
-    requires empty { path.old.keys ≡ [] }
-    ensures { OnOk result (is_path tests.now path.new.keys ≡ true) }
+    ensures path { IfOk result (λ path. is_path tests.now path.keys ≡ true) }
+    ensures goes_back { IfOk result (λ path. GoesBack (kept_at weights.now) tests.now end path.keys) }
 {
-    let mut next = Some(end);
+    let mut path = IndexSet::new(alloc);
+    let mut next = end;
     'walk: while let Some(number) = next {
-        if !path.insert(number)? {
-            return Ok(());
-        }
+        path.insert(number)?;
         next = heaviest_before(tests, weights, number);
     }
-    Ok(())
+    Ok(path)
 }
 
 /// Finds the heaviest of those before a test.

@@ -43,7 +43,8 @@ fn part_of(factor: u128, amount: u64, size: u64, rest: u64) -> u128
 
 /// Returns the sum over the size, rounded up.
 pub(crate) fn rounded_up(share: Share) -> u128
-    ensures { (size sum : ℕ) → 1 ≤ size → IsShare share size sum → result ≡ min (over_up sum size) (2 ^ 128 - 1) }
+    ensures { (size sum : ℕ) → 1 ≤ size → IsShare share size sum →
+        result ≡ min (over_up sum size) (2 ^ 128 - 1) }
 {
     if share.rest > 0 {
         share.whole.saturating_add(1)

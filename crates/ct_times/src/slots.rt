@@ -1,201 +1,183 @@
-ghost use Rattle.std.specs.Prelude.{◌≡◌, ◌≤◌, IfSome};
+ghost use Rattle.std.specs.Prelude.{◌≡◌, ◌≤◌, ◌<◌, [], ◌∷◌, ◌++◌, IfOk, OnOk, filter, flat_map, get_or, length, map};
+ghost use Rattle.ct_history.specs.declared.plan.PlanTest.{PlanTest};
 ghost use Rattle.ct_times.specs.Amounts.{blocks};
 ghost use Rattle.ct_times.specs.Bounds as Bounds;
+ghost use Rattle.ct_times.specs.Bounds.{IsMeasured, done_by};
+ghost use Rattle.ct_times.specs.First as First;
+ghost use Rattle.ct_times.specs.First.{AreSortedOnce, Covers, CoversSlots, compare_slots, has_block, slot_capacity};
+ghost use Rattle.ct_times.specs.Asked.{as_slots, slots_of_test};
 
-use crate::amounts::{blocks_in, ran_beside};
-use crate::share::{Share, no_share, rounded_up, share_more};
-use crate::works::{Works, work_at};
+use crate::amounts::{blocks_in, bound_by};
+use crate::bounds::{Bound, Capacity};
+use crate::greatest::greater;
+use crate::works::Works;
 use ct_base::{Name, Need, NoMemory, Resource};
-use ct_history::PlanParts;
-use indexmap::IndexMap;
+use ct_history::{PlanParts, PlanTest};
 use std::alloc::Global;
 
-/// The kinds of resources, by their bytes.
-type Kinds<'a> = IndexMap<&'a [u8], Kind>;
-
-/// The resources of a kind, and what the needs of tests ask of it.
-#[derive(Drop)]
-struct Kind {
-    /// The slots of each resource.
-    slots: Vec<u32>,
-    /// For each count of slots that a need asks, the work of the tests beside others that have such needs.
-    asked: Works,
-}
-
-/// A kind and a block of slots, and how long they keep the tests.
-#[derive(Clone, Copy)]
-struct BlockBound<'a> {
+/// A kind of resources, and a count of slots that may be a block of them.
+#[derive(Clone, Copy, PartialEq, Eq, PartialOrd, Ord)]
+pub(crate) struct Asked<'a> {
     kind: &'a [u8],
     block: u32,
-    size: u64,
-    micros: u128,
 }
 
-/// Finds the kind, and the block of its slots, that keep the tests beside others the longest: the first kind
+/// Takes the slots of a kind, in blocks, in place of this bound, if they have a greater one: the first kind
 /// by its bytes, then the least block.
-pub(crate) fn longest_slots(
+pub(crate) fn or_slots(
     alloc: Global,
     plan: &PlanParts,
     works: &Works,
-    resources: &[Resource],
-) -> Result<Option<(Name, u32)>, NoMemory> {
-    let mut kinds = kinds_of(alloc, resources)?;
-    ask_each(&mut kinds, plan, works)?;
-    match longest(&kinds) {
-        Some(longest) => Ok(Some((Name::of(alloc, longest.kind)?, longest.block))),
-        None => Ok(None),
+    bound: Bound,
+) -> Result<Bound, NoMemory>
+    requires { IsMeasured plan.now (done_by works.now) bound }
+    ensures measured { IfOk result (IsMeasured plan.now (done_by works.now)) }
+    ensures grew { IfOk result (λ greater. bound.micros ≤ greater.micros) }
+    ensures first { IfOk result (CoversSlots plan.now (done_by works.now) bound) }
+{
+    let asked = in_order(alloc, plan)?;
+    let bound = or_each(alloc, plan, works, asked.as_slice(), bound)?;
+    Ok(bound)
+}
+
+/// Takes the first of these kinds and counts with the greatest bound in place of this one, if that is
+/// greater.
+fn or_each(
+    alloc: Global,
+    plan: &PlanParts,
+    works: &Works,
+    asked: &[Asked<'_>],
+    bound: Bound,
+) -> Result<Bound, NoMemory>
+    requires { IsMeasured plan.now (done_by works.now) bound }
+    ensures measured { IfOk result (IsMeasured plan.now (done_by works.now)) }
+    ensures grew { IfOk result (λ greater. bound.micros ≤ greater.micros) }
+    ensures first { IfOk result (Covers plan.now (done_by works.now) bound
+        (map slot_capacity (filter (has_block plan.now) (map as_slots asked.now)))) }
+{
+    let mut most = bound;
+    for at in 0..asked.len() {
+        most = or_block(alloc, plan, works, asked_at(asked, at), most)?;
+    }
+    Ok(most)
+}
+
+/// Lends the kind and count at a place.
+fn asked_at<'b, 'a>(asked: &'b [Asked<'a>], at: usize) -> &'b Asked<'a>
+    requires { at < length asked.now }
+    ensures { result.now ≡ get_or asked.now at result.now }
+{
+    &asked[at]
+}
+
+/// Takes the blocks of a kind in place of this bound, if there are some, and they have a greater one.
+fn or_block(
+    alloc: Global,
+    plan: &PlanParts,
+    works: &Works,
+    slots: &Asked<'_>,
+    bound: Bound,
+) -> Result<Bound, NoMemory>
+    requires { IsMeasured plan.now (done_by works.now) bound }
+    ensures measured { IfOk result (IsMeasured plan.now (done_by works.now)) }
+    ensures grew { IfOk result (λ greater. bound.micros ≤ greater.micros) }
+    ensures first { IfOk result (Covers plan.now (done_by works.now) bound
+        (map slot_capacity (filter (has_block plan.now) (as_slots slots.now ∷ [])))) }
+{
+    let size = blocks_of_kind(resources_of(plan), slots)?;
+    if slots.block == 0 || size == 0 {
+        return Ok(bound);
+    }
+    let capacity = Capacity::Slots {
+        kind: Name::of(alloc, slots.kind)?,
+        block: slots.block,
+    };
+    Ok(greater(bound, bound_by(plan, works, capacity, size)))
+}
+
+/// Lends the resources of a plan.
+fn resources_of(plan: &PlanParts) -> &[Resource]
+    ensures { result.now ≡ Bounds.plan_resources plan.now }
+{
+    match &plan.resources {
+        Some(resources) => resources.as_slice(),
+        None => &[],
     }
 }
 
-/// Returns how many blocks the resources of a kind hold, if that is a number of 64 bits.
-pub(crate) fn blocks_of_kind(resources: &[Resource], kind: &Name, block: u32) -> Option<u64>
-    ensures { IfSome result (λ size. size ≡ blocks kind.now block resources.now) }
+/// Returns how many blocks of a kind these resources hold. A count above 64 bits is of more resources than
+/// memory holds.
+fn blocks_of_kind(resources: &[Resource], slots: &Asked<'_>) -> Result<u64, NoMemory>
+    ensures { IfOk result (λ size. size ≡ blocks slots.now.kind.now slots.now.block resources.now) }
 {
     let mut blocks: u64 = 0;
     for resource in resources {
-        blocks = blocks.checked_add(blocks_held(kind, block, resource))?;
+        let Some(more) = blocks.checked_add(blocks_held(slots, resource)) else {
+            return Err(NoMemory);
+        };
+        blocks = more;
     }
-    Some(blocks)
+    Ok(blocks)
 }
 
-/// Returns how many blocks of slots of a kind a resource holds.
-fn blocks_held(kind: &Name, block: u32, resource: &Resource) -> u64
-    ensures { result ≡ Bounds.blocks_held kind.now block resource.now }
+/// Returns how many blocks of a kind a resource holds.
+fn blocks_held(slots: &Asked<'_>, resource: &Resource) -> u64
+    ensures { result ≡ Bounds.blocks_held slots.now.kind.now slots.now.block resource.now }
 {
-    if resource.kind.is(kind) {
-        u64::from(blocks_in(resource.slots, block))
+    if resource.kind.bytes() == slots.kind {
+        u64::from(blocks_in(resource.slots, slots.block))
     } else {
         0
     }
 }
 
-/// Lists the kinds of these resources.
-fn kinds_of(alloc: Global, resources: &[Resource]) -> Result<Kinds<'_>, NoMemory> {
-    let mut kinds = IndexMap::new(alloc);
-    for resource in resources {
-        add_resource(alloc, &mut kinds, resource)?;
-    }
-    Ok(kinds)
-}
-
-/// Adds a resource to those of its kind.
-fn add_resource<'a>(
-    alloc: Global,
-    kinds: &mut Kinds<'a>,
-    resource: &'a Resource,
-) -> Result<(), NoMemory> {
-    if let Some(kind) = kinds.get_mut(resource.kind.bytes()) {
-        kind.slots.push(resource.slots)?;
-        return Ok(());
-    }
-    let mut slots = Vec::new(alloc);
-    slots.push(resource.slots)?;
-    let asked = IndexMap::new(alloc);
-    kinds.insert(resource.kind.bytes(), Kind { slots, asked })?;
-    Ok(())
-}
-
-/// Adds what the needs of the tests ask, with the work of those that ran beside others.
-fn ask_each(kinds: &mut Kinds<'_>, plan: &PlanParts, works: &Works) -> Result<(), NoMemory> {
-    for test in plan.tests.as_slice() {
-        let counts = ran_beside(plan.level, works, test);
-        let work = if counts {
-            work_at(works, test.number)
-        } else {
-            0
-        };
-        ask(kinds, test.needs.as_slice(), work)?;
-    }
-    Ok(())
-}
-
-/// Adds what these needs ask, with the work of their test.
-fn ask(kinds: &mut Kinds<'_>, needs: &[Need], work: u128) -> Result<(), NoMemory> {
-    for need in needs {
-        if let Some(kind) = kinds.get_mut(need.kind.bytes()) {
-            let more = work_at(&kind.asked, need.slots).saturating_add(work);
-            kind.asked.insert(need.slots, more)?;
-        }
-    }
-    Ok(())
-}
-
-/// Finds the kind and the block with the greatest bound.
-fn longest<'a>(kinds: &Kinds<'a>) -> Option<BlockBound<'a>> {
-    let mut found = None;
-    for (name, kind) in kinds {
-        found = longer(found, measured(*name, kind, 1));
-        found = longest_of(*name, kind, found);
-    }
-    found
-}
-
-/// Finds the block of a kind with the greatest bound, unless the one that is found comes in front of it.
-fn longest_of<'a>(
-    name: &'a [u8],
-    kind: &Kind,
-    found: Option<BlockBound<'a>>,
-) -> Option<BlockBound<'a>> {
-    let mut found = found;
-    for block in kind.asked.keys() {
-        found = longer(found, measured(name, kind, *block));
-    }
-    found
-}
-
-/// Returns the one of the two that comes first.
-fn longer<'a>(
-    found: Option<BlockBound<'a>>,
-    other: Option<BlockBound<'a>>,
-) -> Option<BlockBound<'a>> {
-    match (found, other) {
-        (Some(one), Some(two)) if comes_before(one, two) => found,
-        (_, Some(_)) => other,
-        (_, None) => found,
-    }
-}
-
-/// Returns whether the first has the greater bound or, where they are equal, the first name and block.
-fn comes_before(one: BlockBound<'_>, other: BlockBound<'_>) -> bool {
-    if one.micros != other.micros {
-        return one.micros > other.micros;
-    }
-    if one.kind != other.kind {
-        return one.kind < other.kind;
-    }
-    one.block <= other.block
-}
-
-/// Measures a kind in blocks of this many slots, if there is a block.
-fn measured<'a>(name: &'a [u8], kind: &Kind, block: u32) -> Option<BlockBound<'a>> {
-    let size = blocks_of(kind.slots.as_slice(), block)?;
-    if size == 0 {
-        return None;
-    }
-    Some(BlockBound {
-        kind: name,
-        block,
-        size,
-        micros: rounded_up(share_of(&kind.asked, block, size)),
-    })
-}
-
-/// Returns how many blocks these slots of resources hold, if that is a number of 64 bits.
-fn blocks_of(slots: &[u32], block: u32) -> Option<u64> {
-    let mut blocks: u64 = 0;
-    for slots in slots {
-        blocks = blocks.checked_add(u64::from(blocks_in(*slots, block)))?;
-    }
-    Some(blocks)
-}
-
-/// Adds up the work of the tests times the blocks that they ask, over the blocks that there are.
-fn share_of(asked: &Works, block: u32, size: u64) -> Share
-    requires { 1 ≤ size }
+/// Lists the kinds with the counts of slots that may be blocks, in order, each once.
+fn in_order(alloc: Global, plan: &PlanParts) -> Result<Vec<Asked<'_>>, NoMemory>
+    ensures { IfOk result
+        (λ asked. AreSortedOnce compare_slots (First.counts_asked plan.now) (map as_slots asked.items)) }
 {
-    let mut share = no_share();
-    for (slots, work) in asked {
-        share = share_more(share, *work, u64::from(blocks_in(*slots, block)), size);
+    let mut asked = Vec::new(alloc);
+    ask_kinds(&mut asked, resources_of(plan))?;
+    ask_tests(&mut asked, plan.tests.as_slice())?;
+    asked.sort_unstable();
+    asked.dedup();
+    Ok(asked)
+}
+
+/// Adds the kind of each of these resources, in blocks of 1.
+fn ask_kinds<'a>(asked: &mut Vec<Asked<'a>>, resources: &'a [Resource]) -> Result<(), NoMemory>
+    ensures { OnOk result
+        (map as_slots asked.new.items ≡ map as_slots asked.old.items ++ map First.slot_of resources.now) }
+{
+    for resource in resources {
+        let kind = resource.kind.bytes();
+        asked.push(Asked { kind, block: 1 })?;
     }
-    share
+    Ok(())
+}
+
+/// Adds what these tests need.
+fn ask_tests<'a>(asked: &mut Vec<Asked<'a>>, tests: &'a [PlanTest]) -> Result<(), NoMemory>
+    ensures { OnOk result
+        (map as_slots asked.new.items ≡ map as_slots asked.old.items ++ flat_map slots_of_test tests.now) }
+{
+    for test in tests {
+        ask_needs(asked, test.needs.as_slice())?;
+    }
+    Ok(())
+}
+
+/// Adds these needs.
+fn ask_needs<'a>(asked: &mut Vec<Asked<'a>>, needs: &'a [Need]) -> Result<(), NoMemory>
+    ensures { OnOk result
+        (map as_slots asked.new.items ≡ map as_slots asked.old.items ++ map First.slots_of needs.now) }
+{
+    for need in needs {
+        let kind = need.kind.bytes();
+        asked.push(Asked {
+            kind,
+            block: need.slots,
+        })?;
+    }
+    Ok(())
 }

@@ -1,4 +1,3 @@
-use Rattle.std.proofs.Common.{◌≡◌, ◌<◌}
 use Rattle.ct_explain.specs.Bars.{bars}
 use Rattle.ct_explain.proofs.BarLemmas.{bars-more, begins-more}
 use Rattle.ct_explain.proofs.bars.bars_of.Goals as goal

@@ -1,4 +1,3 @@
-use Rattle.std.proofs.Common.{ℕ}
 use Rattle.ct_explain.specs.Picture.{mark_line}
 use Rattle.ct_explain.proofs.SinkLemmas.{pushed-next}
 use Rattle.ct_explain.proofs.frame.push_each.Goals as goal

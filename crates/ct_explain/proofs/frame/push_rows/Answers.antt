@@ -1,4 +1,4 @@
-use Rattle.std.proofs.Common.{◌≡◌, ◌∙◌, ap, ℕ, get_or}
+use Rattle.std.proofs.Common.{◌∙◌, ap, ℕ, get_or}
 use Rattle.ct_explain.specs.Picture.{line_of_row, row_line}
 use Rattle.ct_explain.proofs.SinkLemmas.{pushed-next}
 use Rattle.ct_explain.proofs.frame.push_rows.Goals as goal

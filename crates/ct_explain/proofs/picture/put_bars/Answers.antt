@@ -1,4 +1,4 @@
-use Rattle.std.proofs.Common.{rules, ◌≡◌, ◌∙◌, ℕ, Err}
+use Rattle.std.proofs.Common.{rules, ◌≡◌, Err}
 use Rattle.ct_base.specs.declared.sink.SinkFault.TheVariants as Sinks
 use Rattle.ct_report.proofs.PutLemmas.{lines_none}
 use Rattle.ct_explain.specs.Picture.{bar_lines}

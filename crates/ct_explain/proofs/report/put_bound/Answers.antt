@@ -1,4 +1,4 @@
-use Rattle.std.proofs.Common.{rules, ◌≡◌, ◌∷◌, [], ℕ, Err}
+use Rattle.std.proofs.Common.{rules, ◌≡◌, Err}
 use Rattle.ct_explain.specs.Report.{amount_lines, bound_title_lines}
 use Rattle.ct_report.proofs.PutLemmas.{lines_more, lines_then}
 use Rattle.ct_explain.proofs.report.put_bound.Goals as goal

@@ -1,4 +1,4 @@
-use Rattle.std.proofs.Common.{rules, ◌≡◌, ◌∷◌, [], ℕ, Err, codes}
+use Rattle.std.proofs.Common.{rules, ◌≡◌, ◌∷◌, [], Err, codes}
 use Rattle.ct_explain.specs.Report.{bound_line}
 use Rattle.ct_report.proofs.PutLemmas.{lines_more, lines_then}
 use Rattle.ct_explain.proofs.report.put_bound_title.Goals as goal

@@ -1,4 +1,4 @@
-use Rattle.std.proofs.Common.{rules, ◌≡◌, ◌∷◌, [], ℕ, Err}
+use Rattle.std.proofs.Common.{rules, ◌≡◌, Err}
 use Rattle.ct_explain.specs.Report.{attempt_lines, heading_lines}
 use Rattle.ct_report.proofs.PutLemmas.{lines_more, lines_then}
 use Rattle.ct_explain.proofs.report.put_chain.Goals as goal

@@ -1,4 +1,4 @@
-use Rattle.std.proofs.Common.{rules, ◌≡◌, ◌+◌, ℕ, Err, drop}
+use Rattle.std.proofs.Common.{rules, ◌≡◌, ◌+◌, Err, drop}
 use Rattle.ct_explain.specs.Report.{work_lines, works_lines}
 use Rattle.ct_explain.proofs.PutLemmas.{all_left, less_left, left_fails, none_left}
 use Rattle.ct_explain.proofs.ReportLemmas.{works_left, works_none}

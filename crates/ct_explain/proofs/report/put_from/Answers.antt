@@ -1,4 +1,4 @@
-use Rattle.std.proofs.Common.{rules, ◌≡◌, ◌∷◌, [], ℕ, Err}
+use Rattle.std.proofs.Common.{rules, ◌≡◌, ◌∷◌, [], Err}
 use Rattle.std.specs.Prelude.{None}
 use Rattle.ct_explain.specs.Report.{attempt_line, waited_lines}
 use Rattle.ct_report.proofs.PutLemmas.{lines_more, lines_then}

@@ -1,4 +1,4 @@
-use Rattle.std.proofs.Common.{rules, ◌≡◌, ◌∷◌, [], ℕ, Err, Ok, codes}
+use Rattle.std.proofs.Common.{rules, ◌≡◌, ◌∷◌, [], Err, Ok, codes}
 use Rattle.ct_report.specs.Report.{header_line}
 use Rattle.ct_report.proofs.PutLemmas.{lines_more, lines_then, one_line}
 use Rattle.ct_explain.proofs.report.put_title.Goals as goal

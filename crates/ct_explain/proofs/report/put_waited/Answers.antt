@@ -1,4 +1,4 @@
-use Rattle.std.proofs.Common.{rules, ◌≡◌, ◌+◌, ◌∷◌, [], ℕ, Err, Ok, subst, drop, get_or}
+use Rattle.std.proofs.Common.{rules, ◌≡◌, ◌+◌, ◌∷◌, [], Err, Ok, subst, drop, get_or}
 use Rattle.std.specs.Prelude.{Option, slice_get}
 use Rattle.ct_report.specs.PutLines.{PutsLines}
 use Rattle.ct_explain.specs.declared.wait.Wait.{Wait}

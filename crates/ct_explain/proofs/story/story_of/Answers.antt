@@ -5,8 +5,10 @@ use Rattle.ct_times.specs.Times.{least_times}
 use Rattle.ct_times.specs.Works.{AreWorks}
 use Rattle.ct_times.specs.Chain.{IsChain}
 use Rattle.ct_times.specs.Links.{IsPlaced, as_link}
-use Rattle.ct_times.specs.Bounds.{HasThoseThatRan}
+use Rattle.ct_times.specs.Bounds.{Done, HasThoseThatRan}
+use Rattle.ct_times.specs.First.{IsFirstOfAll}
 use Rattle.ct_times.proofs.CodeLemmas.{last_at}
+use Rattle.ct_times.proofs.FirstLemmas.{same_done}
 use Rattle.ct_explain.specs.Story.{waits_of}
 use Rattle.ct_explain.proofs.StoryLemmas.{may_start}
 use Rattle.ct_explain.proofs.story.story_of.Goals as goal
@@ -33,4 +35,5 @@ returns c =
       waits = c.in_ok-waits.ensures ∙ (λ i. waits_of c.args.plan.now (sixth i) (seventh i));
       exact = c.in_ok-bound.ensures.exact c.args.entries works those;
       shortest = c.in_ok-bound.ensures.shortest c.args.entries works those;
+      first = subst (λ (d : Done). IsFirstOfAll c.args.plan.now d c.in_ok-bound.bound.capacity) (same_done c.in_ok-works.works c.args.entries works those) c.in_ok-bound.ensures.first;
     }

@@ -1,4 +1,4 @@
-use Rattle.std.proofs.Common.{◌≡◌, ◌<◌, ◌≤◌, ◌+◌, ◌-◌, length, get_or, arith}
+use Rattle.std.proofs.Common.{◌<◌, ◌≤◌, ◌+◌, length, get_or, arith}
 use Rattle.ct_times.specs.declared.chain.Link.{Link}
 use Rattle.std.specs.Prelude.{take}
 use Rattle.ct_explain.proofs.StoryLemmas.{front_allowed, told_all, told_more}

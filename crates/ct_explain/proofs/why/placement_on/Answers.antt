@@ -1,4 +1,3 @@
-use Rattle.std.proofs.Common.{◌≡◌}
 use Rattle.ct_journal_text.specs.Completed.{IsPlacementAt}
 use Rattle.ct_explain.proofs.WhyLemmas.{placed_by}
 use Rattle.ct_explain.proofs.why.placement_on.Goals as goal

@@ -1,7 +1,8 @@
-use Rattle.std.proofs.Common.{rules, ◌≡◌, ◌++◌, ◌∷◌, [], ◌<◌, true, ℕ, subst, sym}
-use Rattle.std.specs.Prelude.{Option, Some}
+use Rattle.std.proofs.Common.{rules, ◌≡◌, ◌∙◌, ◌++◌, ◌∷◌, [], ◌<◌, Bool, cond, ℕ, List, ap, refl, subst, sym}
+use Rattle.std.specs.Prelude.{Option, Some, None}
 use Rattle.ct_times.specs.Works.{kept_at}
-use Rattle.ct_times.proofs.WalkLemmas.{IsOnWay, new_key, way_left, way_more, way_shortens}
+use Rattle.ct_times.proofs.WalkLemmas.{IsOnWay, way_left, way_more, way_shortens}
+use Rattle.ct_times.proofs.WeightLemmas.{HasGoneBack, gone_more, gone_new, gone_whole}
 use Rattle.ct_times.proofs.path.walk_back.Goals as goal
 
 pub walk-smaller : goal.walk-smaller
@@ -14,9 +15,20 @@ walk-smaller c =
 pub walk-preserved : goal.walk-preserved
 walk-preserved c =
     let tests = c.args.tests.now in
+    let weight = kept_at c.args.weights.now in
     let n = c.in-Some.number in
     let keys = c.walk.path.keys in
-    let way : IsOnWay tests keys (Some n) = subst (λ (o : Option ℕ). IsOnWay tests keys o) c.in-Some.is c.walk.invariant in
-    let added : c.in_ok-insert.field-0 ≡ true = search rules in
-    let new : c.insert.new.self.keys ≡ keys ++ n ∷ [] = new_key keys n c.insert.new.self.keys c.in_ok-insert.field-0 c.in_ok-insert.ensures.added c.in_ok-insert.ensures.keys added in
-    way_more tests (λ (m : ℕ). kept_at c.args.weights.now m) keys c.insert.new.self.keys n c.heaviest_before-next.result way new c.heaviest_before-next.ensures
+    let next = c.heaviest_before-next.result in
+    let gone : HasGoneBack weight tests c.args.end keys (Some n) = subst (λ (o : Option ℕ). HasGoneBack weight tests c.args.end keys o) c.in-Some.is c.walk.invariant in
+    let new : c.insert.new.self.keys ≡ keys ++ n ∷ [] = c.in_ok-insert.ensures.keys ∙ ap (λ (b : Bool). cond b keys (keys ++ n ∷ [])) (gone_new weight tests c.args.end keys n gone) in
+    let way : IsOnWay tests (keys ++ n ∷ []) next = way_more tests weight keys (keys ++ n ∷ []) n next gone.way refl c.heaviest_before-next.ensures in
+    subst (λ (ks : List ℕ). HasGoneBack weight tests c.args.end ks next) (sym new)
+    (gone_more weight tests c.args.end keys n next c.requires.links gone way c.heaviest_before-next.ensures)
+
+pub returns-clause-goes_back : goal.returns-clause-goes_back
+returns-clause-goes_back c =
+    let tests = c.args.tests.now in
+    let weight = kept_at c.args.weights.now in
+    let keys = c.walk.path.keys in
+    let over : c.walk.next ≡ None = search rules in
+    gone_whole weight tests c.args.end keys (subst (λ (o : Option ℕ). HasGoneBack weight tests c.args.end keys o) over c.walk.invariant)
