@@ -1,13 +1,16 @@
 //! The calls that rows make, over files, gates and a sink in memory, and what they come to.
 
-ghost use Rattle.std.specs.Prelude.{◌<◌, length};
+ghost use Rattle.std.specs.Prelude.{◌<◌, ◌≤◌, IfOk, IfSome, length};
+ghost use Rattle.ct_journal.specs.File.{most_journal_bytes};
 
 use ct_app::{Finished, Listed, Outcome, ctest_main, list_main};
 use ct_base::{List, MemFiles, MemSink, NoMemory};
 use ct_core::ScriptGate;
 use ct_explain::{Explained, explain_main};
 use ct_history::{History, Plan};
-use ct_journal::{Checked, JournalEnd, Recorded, check_main, record_main};
+use ct_journal::{
+    Checked, JournalEnd, MOST_JOURNAL_BYTES, Recorded, check_main, record_main, record_within,
+};
 use ct_trees::{TreesFinished, trees_main};
 use std::alloc::Global;
 use std::io::Print;
@@ -109,19 +112,39 @@ impl Came {
 
 /// Makes the call of a row. `None` where there is no call of this name.
 pub(crate) fn come(rt: &impl Machine, call: &CallRow<'_>) -> Result<Option<Came>, NoMemory> {
+    let alloc = rt.alloc();
     Ok(Some(match call.top {
-        "ctest" => run(rt, call)?,
-        "list" => list(rt.alloc(), call)?,
+        "ctest" => run(rt, call, inputs_of(alloc, call)?)?,
+        "ctest-again" => {
+            let first = run(rt, call, inputs_of(alloc, call)?)?;
+            run(rt, call, inputs_over(alloc, call, first.files)?)?
+        }
+        "list" => list(alloc, call)?,
         "trees" => run_trees(rt, call)?,
-        "record" => record(rt, call)?,
-        "check" => check(rt.alloc(), call)?,
-        "explain" => explain(rt.alloc(), call)?,
+        "record" => record(rt, call, inputs_of(alloc, call)?)?,
+        "record-again" => {
+            let first = record(rt, call, inputs_of(alloc, call)?)?;
+            record(rt, call, inputs_over(alloc, call, first.files)?)?
+        }
+        "check" => check(alloc, call)?,
+        "explain" => explain(alloc, call)?,
         _ => return Ok(None),
     }))
 }
 
+/// Makes what a call is given over the files that another one left.
+fn inputs_over(alloc: Global, call: &CallRow<'_>, left: MemFiles) -> Result<Inputs, NoMemory>
+    ensures { IfOk result (λ inputs. length inputs.words < 200) }
+{
+    let mut inputs = inputs_of(alloc, call)?;
+    inputs.files = left;
+    Ok(inputs)
+}
+
 /// Runs the tests of a folder, or lists them.
-fn run(rt: &impl Machine, call: &CallRow<'_>) -> Result<Came, NoMemory> {
+fn run(rt: &impl Machine, call: &CallRow<'_>, inputs: Inputs) -> Result<Came, NoMemory>
+    requires few { length inputs.words < 200 }
+{
     let alloc = rt.alloc();
     let gates = gates_of(alloc, call, call.gates())?;
     let Inputs {
@@ -129,7 +152,7 @@ fn run(rt: &impl Machine, call: &CallRow<'_>) -> Result<Came, NoMemory> {
         env,
         files,
         sink,
-    } = inputs_of(alloc, call)?;
+    } = inputs;
     let finished = ctest_main(
         rt,
         alloc,
@@ -182,7 +205,9 @@ fn run_trees(rt: &impl Machine, call: &CallRow<'_>) -> Result<Came, NoMemory> {
 }
 
 /// Runs tests, keeps the journal, and checks a journal that was written.
-fn record(rt: &impl Machine, call: &CallRow<'_>) -> Result<Came, NoMemory> {
+fn record(rt: &impl Machine, call: &CallRow<'_>, inputs: Inputs) -> Result<Came, NoMemory>
+    requires few { length inputs.words < 200 }
+{
     let alloc = rt.alloc();
     let gates = gates_of(alloc, call, call.gates())?;
     let Inputs {
@@ -190,17 +215,21 @@ fn record(rt: &impl Machine, call: &CallRow<'_>) -> Result<Came, NoMemory> {
         env,
         files,
         sink,
-    } = inputs_of(alloc, call)?;
-    let recorded = record_main(
-        rt,
-        alloc,
-        words.as_slice(),
-        env.as_slice(),
-        files,
-        gates,
-        sink,
-    );
+    } = inputs;
+    let (words, env) = (words.as_slice(), env.as_slice());
+    let recorded = match most_in(call) {
+        Some(most) => record_within(rt, alloc, most, words, env, files, gates, sink),
+        None => record_main(rt, alloc, words, env, files, gates, sink),
+    };
     recorded_by(alloc, call, recorded)
+}
+
+/// The greatest size of a journal of this call, if it has one of its own.
+fn most_in(call: &CallRow<'_>) -> Option<u64>
+    ensures { IfSome result (λ most. most ≤ most_journal_bytes) }
+{
+    let most: u64 = call.fact("most ")?.parse().ok()?;
+    Some(most.min(MOST_JOURNAL_BYTES))
 }
 
 /// What a run that keeps its journal came to, with the check of a journal that was written.
@@ -213,6 +242,7 @@ fn recorded_by(
         mut finished,
         journal,
         status,
+        ..
     } = recorded;
     let of_run = finished.status;
     finished.status = status;

@@ -111,7 +111,9 @@ fn run_call(
 
 /// Returns whether the files of a row hold behind a call of `ctest` what they held, and prints where not.
 fn keeps(rt: &impl Machine, path: &str, call: &CallRow<'_>, came: &Came) -> anyhow::Result<bool> {
-    if call.top != "ctest" || keeps_files(rt.alloc(), call, &came.files).map_err(wanting)? {
+    if !call.top.starts_with("ctest")
+        || keeps_files(rt.alloc(), call, &came.files).map_err(wanting)?
+    {
         return Ok(true);
     }
     println!(rt; "{path}: {call}: a file has changed")?;

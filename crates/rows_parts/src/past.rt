@@ -10,7 +10,7 @@ ghost use Rattle.ct_history.specs.Verdicts.{are_all_final};
 
 use crate::row::RowFault;
 use ct_base::{List, Name, NoMemory};
-use ct_history::{Entry, History, Plan, PlanTest, are_all_final};
+use ct_history::{Entry, History, Plan, PlanParts, PlanTest, verdict};
 use ct_verdict::{Cause, How, Mode, Repeat, Seen};
 use std::alloc::Global;
 use tests_samples::{Manner, named, parts_of, plan_of};
@@ -55,6 +55,16 @@ fn ended(plan: Plan, entries: Vec<Entry>) -> Result<Record, RowFault>
         plan,
         history: History { entries },
     })
+}
+
+/// Returns whether each test of the plan is final.
+fn are_all_final(plan: &PlanParts, entries: &[Entry]) -> bool
+    ensures { result ≡ are_all_final plan.now entries.now }
+{
+    plan.tests
+        .as_slice()
+        .iter()
+        .all(|test| verdict(&plan.repeat, test, entries).is_some())
 }
 
 fn tests_of(alloc: Global, run: &str) -> Result<List<PlanTest>, NoMemory> {

@@ -100,7 +100,14 @@ struct Writes {
 }
 
 impl Gate for Writes {
-    ghost tells = { λ _. record { world = None; asked = None; sent = None; lent = None; faults = 0 } };
+    ghost tells = { λ _. record {
+      who = None;
+      world = None;
+      asked = None;
+      sent = None;
+      lent = None;
+      faults = 0;
+    } };
 
     fn run<E: Ear>(
         &mut self,

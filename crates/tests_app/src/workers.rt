@@ -1,6 +1,6 @@
 //! Whole runs of tests that have to run at the same time.
 
-ghost use Rattle.std.specs.Prelude.{None};
+ghost use Rattle.std.specs.Prelude.{None, Some};
 
 use crate::calls::{Machine, expect, run_on};
 use ct_base::{Ear, MemSink, NoMemory};
@@ -63,7 +63,14 @@ impl Meeting<'_> {
 }
 
 impl Gate for Meeting<'_> {
-    ghost tells = { λ _. record { world = None; asked = None; sent = None; lent = None; faults = 0 } };
+    ghost tells = { λ gate. record {
+      who = Some gate.place;
+      world = None;
+      asked = None;
+      sent = None;
+      lent = None;
+      faults = 0;
+    } };
 
     fn run<E: Ear>(
         &mut self,

@@ -19,6 +19,7 @@
 //!   `timeout`, `unstarted`, `lacks` (the first required file) or `memory`.
 //! - `fails call 1`: the first call on the files fails. `fails put 1`: the first put fails.
 //! - `gates 1`: there is one gate. Without this fact there is one for each processor of `-j`.
+//! - `most 58`: a journal that is kept has at most 58 bytes.
 //! - `env A=b`: the environment has this variable.
 //! - `costs a 1 2.000000;---;`: the cost file of the last run, with `;` for the end of each line.
 //! - `log 7:a;`: the log of the last run, with `;` for the end of each line.
@@ -225,7 +226,7 @@ fn is_given(line: &str) -> bool {
     match word {
         "#" | "file" | "costs" | "log" => !rest.is_empty(),
         "env" => rest.contains('='),
-        "gates" | "fill" => rest.parse::<usize>().is_ok(),
+        "gates" | "fill" | "most" => rest.parse::<usize>().is_ok(),
         "does" => is_end(rest),
         "fails" => is_failing(rest),
         _ => false,
